@@ -3,6 +3,7 @@
 ghost use Rattle.std.specs.Prelude.{◌≡◌, ◌≢◌, true, [], Some, None, Err, IfOk, OnOk, OnErr};
 ghost use Rattle.std.specs.Result.{result_err};
 ghost use Rattle.ckpt_ids.specs.declared.call.Call.TheVariants as call;
+ghost use Rattle.ckpt_memory.specs.Refusals.{one_more};
 ghost use Rattle.ckpt_model.specs.Soundness.{IsCall};
 ghost use Rattle.ckpt_model.specs.Memory.{may_want_memory};
 ghost use Rattle.ckpt_model.specs.Steps.{step};
@@ -17,6 +18,7 @@ use crate::noted::Noted;
 use crate::past::Past;
 use ckpt_core::Core;
 use ckpt_ids::{Answer, Call, CheckpointId};
+use ckpt_memory::Meter;
 use ckpt_terms::{FenceFault, FencedAnswer, FencedCall, Machine};
 use std::alloc::{AllocError, Global};
 use std::marker::Model;
@@ -73,8 +75,25 @@ impl Logged {
         ensures memory { OnErr result (may_want_memory (core_in self.old.now) call.now ≡ true) }
         ensures unchanged { OnErr result (self.new ≡ self.old) }
     {
+        self.apply_metered(&mut Meter::new(), call)
+    }
+
+    /// [`Logged::apply`], which fails exactly if one more request for memory was refused.
+    pub fn apply_metered(
+        &mut self,
+        meter: &mut Meter,
+        call: &Call,
+    ) -> Result<FencedAnswer, AllocError>
+        ensures done { IfOk result (λ answer. machine_step self.old.now call.now ≡ (self.new.now, answer)) }
+        ensures passes { IfOk result (λ answer. passes (names_in self.old.now) call.now ≡ true → MakesStep self.old.now self.new.now call.now answer) }
+        ensures entered { OnOk result (self.new ≡ told self.old (Plain call.now)) }
+        ensures memory { OnErr result (may_want_memory (core_in self.old.now) call.now ≡ true) }
+        ensures unchanged { OnErr result (self.new ≡ self.old) }
+        ensures none { OnOk result (meter.new ≡ meter.old) }
+        ensures refused { OnErr result (meter.new ≡ one_more meter.old) }
+    {
         recall_call(call);
-        let made = self.machine.apply(call);
+        let made = self.machine.apply_metered(meter, call);
         if made.is_ok() {
             self.events.push(&Noted::plain(call));
         }
@@ -92,7 +111,23 @@ impl Logged {
         ensures memory { OnErr result (may_want_memory (core_in self.old.now) call.now ≡ true) }
         ensures unchanged { OnErr result (self.new ≡ self.old) }
     {
-        match self.apply(call)? {
+        self.pass_metered(&mut Meter::new(), call)
+    }
+
+    /// [`Logged::pass`], which fails exactly if one more request for memory was refused.
+    ///
+    /// Condition: it is no acknowledgement, decline, restore or cancel.
+    pub fn pass_metered(&mut self, meter: &mut Meter, call: &Call) -> Result<Answer, AllocError>
+        requires { is_free call.now ≡ true }
+        ensures done { IfOk result (λ answer. step (core_in self.old.now) call.now ≡ (core_in self.new.now, answer)) }
+        ensures names { names_in self.new.now ≡ names_in self.old.now }
+        ensures entered { OnOk result (self.new ≡ told self.old (Plain call.now)) }
+        ensures memory { OnErr result (may_want_memory (core_in self.old.now) call.now ≡ true) }
+        ensures unchanged { OnErr result (self.new ≡ self.old) }
+        ensures none { OnOk result (meter.new ≡ meter.old) }
+        ensures refused { OnErr result (meter.new ≡ one_more meter.old) }
+    {
+        match self.apply_metered(meter, call)? {
             FencedAnswer::Made { term: _, answer } => Ok(answer),
             FencedAnswer::Reserved(_) | FencedAnswer::Forfeited | FencedAnswer::Fenced(_) => {
                 unreachable!()
@@ -106,7 +141,22 @@ impl Logged {
         ensures memory { OnErr result (may_want_memory (core_in self.old.now) (call.Show id) ≡ true) }
         ensures unchanged { self.new ≡ self.old }
     {
-        self.machine.pass(&Call::Show { id })
+        self.show_metered(&mut Meter::new(), id)
+    }
+
+    /// [`Logged::show`], which fails exactly if one more request for memory was refused.
+    pub fn show_metered(
+        &mut self,
+        meter: &mut Meter,
+        id: CheckpointId,
+    ) -> Result<Answer, AllocError>
+        ensures done { IfOk result (λ answer. answer ≡ (step (core_in self.old.now) (call.Show id)).1) }
+        ensures memory { OnErr result (may_want_memory (core_in self.old.now) (call.Show id) ≡ true) }
+        ensures unchanged { self.new ≡ self.old }
+        ensures none { OnOk result (meter.new ≡ meter.old) }
+        ensures refused { OnErr result (meter.new ≡ one_more meter.old) }
+    {
+        self.machine.pass_metered(meter, &Call::Show { id })
     }
 
     /// Makes a call of the layer of names, as `Terms::apply` does.
@@ -119,7 +169,26 @@ impl Logged {
         ensures memory { OnErr result (named_wants self.old.now call.now ≡ true) }
         ensures unchanged { OnErr result (self.new ≡ self.old) }
     {
-        let made = make_named(&mut self.machine, call);
+        self.make_metered(&mut Meter::new(), call)
+    }
+
+    /// [`Logged::make`], which fails exactly if one more request for memory was refused.
+    ///
+    /// Condition: there are names.
+    pub fn make_metered(
+        &mut self,
+        meter: &mut Meter,
+        call: &FencedCall,
+    ) -> Result<FencedAnswer, AllocError>
+        requires { names_in self.old.now ≢ None }
+        ensures done { IfOk result (λ answer. named_answer self.old.now call.now ≡ Some answer) }
+        ensures entered { OnOk result (self.new ≡ told self.old (Named call.now)) }
+        ensures memory { OnErr result (named_wants self.old.now call.now ≡ true) }
+        ensures unchanged { OnErr result (self.new ≡ self.old) }
+        ensures none { OnOk result (meter.new ≡ meter.old) }
+        ensures refused { OnErr result (meter.new ≡ one_more meter.old) }
+    {
+        let made = make_named(meter, &mut self.machine, call);
         if made.is_ok() {
             self.events.push(&Noted::named(call));
         }
@@ -134,7 +203,25 @@ impl Logged {
         ensures entered { OnOk result (self.new ≡ told self.old (Fence first_name)) }
         ensures unchanged { OnErr result (self.new ≡ self.old) }
     {
-        self.machine.fence(alloc, first_name)?;
+        self.fence_metered(&mut Meter::new(), alloc, first_name)
+    }
+
+    /// [`Logged::fence`], which answers [`FenceFault::Memory`] only if one more request for memory
+    /// was refused.
+    pub fn fence_metered(
+        &mut self,
+        meter: &mut Meter,
+        alloc: Global,
+        first_name: u64,
+    ) -> Result<(), FenceFault>
+        ensures fault { result_err result ≢ Some fault.Memory → result_err result ≡ fence_fault self.old.now first_name }
+        ensures memory { result ≡ Err fault.Memory → names_in self.old.now ≡ None }
+        ensures done { OnOk result (self.new.now ≡ machine_of (core_in self.old.now) (Some (first_names first_name))) }
+        ensures entered { OnOk result (self.new ≡ told self.old (Fence first_name)) }
+        ensures unchanged { OnErr result (self.new ≡ self.old) }
+        ensures cause { result ≡ Err fault.Memory → meter.new ≡ one_more meter.old }
+    {
+        self.machine.fence_metered(meter, alloc, first_name)?;
         self.events.push(&Noted::fence(first_name));
         Ok(())
     }
@@ -171,17 +258,23 @@ impl Logged {
 /// Makes a call of the layer of names.
 ///
 /// Condition: there are names.
-fn make_named(machine: &mut Machine, call: &FencedCall) -> Result<FencedAnswer, AllocError>
+fn make_named(
+    meter: &mut Meter,
+    machine: &mut Machine,
+    call: &FencedCall,
+) -> Result<FencedAnswer, AllocError>
     requires { names_in machine.old ≢ None }
     ensures done { IfOk result (λ answer. named_answer machine.old call.now ≡ Some answer) }
     ensures step { OnOk result (machine.new ≡ named_step machine.old call.now) }
     ensures shape { IsFencedCall call.now }
     ensures memory { OnErr result (named_wants machine.old call.now ≡ true) }
     ensures unchanged { OnErr result (machine.new ≡ machine.old) }
+    ensures none { OnOk result (meter.new ≡ meter.old) }
+    ensures refused { OnErr result (meter.new ≡ one_more meter.old) }
 {
     match machine {
         Machine::Plain(_) => unreachable!(),
-        Machine::Fenced(terms) => terms.apply(call),
+        Machine::Fenced(terms) => terms.apply_metered(meter, call),
     }
 }
 

@@ -14,6 +14,7 @@ pub mod Opening
 pub mod Past
 pub mod Reads
 pub mod Recovery
+pub mod Requested
 pub mod Saying
 pub mod Told
 pub mod Writing

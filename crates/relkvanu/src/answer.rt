@@ -2,9 +2,11 @@
 
 ghost use Rattle.std.specs.Prelude.{◌≡◌};
 ghost use Rattle.relkvanu.specs.Asking.{bad_line};
+ghost use Rattle.relkvanu.specs.Requested.{IsRefused};
 ghost use Rattle.relkvanu.specs.Told.{refusal_told, reply_told, restore_told, tick_told, done, refused, out_of_memory, is_closed, bad_argument};
 ghost use Rattle.relkvanu.specs.Told.{too_short, too_short_for};
 
+use crate::requests::Requests;
 use ckpt_ids::{Choice, FileId, Refusal, Reply, TickEnd};
 
 /// The answer to a call, by value.
@@ -54,9 +56,13 @@ impl Answer {
     }
 
     /// The answer if memory ran out.
-    pub(crate) fn out_of_memory() -> Answer
+    ///
+    /// Condition: a request was refused.
+    pub(crate) fn out_of_memory(requests: &Requests) -> Answer
+        requires { IsRefused requests.now }
         ensures { result ≡ out_of_memory }
     {
+        let _ = requests;
         Answer {
             code: NO_MEMORY,
             what: 0,

@@ -1,19 +1,22 @@
 //! What a line of a log asks of a handle.
 
 ghost use Rattle.std.specs.Prelude.{◌≡◌, ◌≢◌, true, Ok, Err, IfOk, IfErr, IfSome};
+ghost use Rattle.ckpt_lines.specs.declared.fault.LineFault.TheVariants as fault;
 ghost use Rattle.ckpt_terms.specs.declared.call.FencedCall.TheVariants.{Make};
 ghost use Rattle.ckpt_term_lines.specs.TermReading.{term_may_want_memory};
 ghost use Rattle.relkvanu.specs.declared.asked.Asked.TheVariants as ask;
 ghost use Rattle.relkvanu.specs.Asking.{asked_by, line_fault_told, said};
 ghost use Rattle.relkvanu.specs.Calls.{HasNoNumbers};
+ghost use Rattle.relkvanu.specs.Requested.{IsRefused};
 ghost use Rattle.relkvanu.specs.Told.{no_memory};
 
 use crate::answer::Answer;
 use crate::calls::BAD_SHAPE;
 use crate::opening::BAD_CONFIG;
+use crate::requests::Requests;
 use ckpt_ids::Call;
 use ckpt_lines::{Line, LineFault, usual_call};
-use ckpt_term_lines::{TermLine, parse_term_line};
+use ckpt_term_lines::TermLine;
 use ckpt_terms::FencedCall;
 use std::alloc::Global;
 
@@ -56,15 +59,16 @@ pub(crate) fn usual(line: &[u8]) -> Option<Call>
 
 /// What the line asks for, or the answer if it asks for nothing.
 #[tactic(auto, unfolding(crate::specs::Asking::said))]
-pub(crate) fn said(alloc: Global, line: &[u8]) -> Result<Asked, Answer>
+pub(crate) fn said(requests: &mut Requests, alloc: Global, line: &[u8]) -> Result<Asked, Answer>
     ensures value { IfOk result (λ asked. said line.now ≡ Ok asked) }
     ensures fault { IfErr result (λ answer. answer.code ≢ no_memory → said line.now ≡ Err answer) }
     ensures memory { IfErr result (λ answer. answer.code ≡ no_memory → term_may_want_memory line.now ≡ true) }
     ensures numbers { IfErr result HasNoNumbers }
+    ensures cause { IfErr result (λ answer. answer.code ≡ no_memory → IsRefused requests.new) }
 {
-    match parse_term_line(alloc, line) {
+    match requests.line(alloc, line) {
         Ok(read) => asked_by(read),
-        Err(why) => Err(of_line_fault(why)),
+        Err(why) => Err(of_line_fault(requests, why)),
     }
 }
 
@@ -84,7 +88,10 @@ fn asked_by(line: TermLine) -> Result<Asked, Answer>
 }
 
 /// The answer if a line can't be read.
-pub(crate) fn of_line_fault(why: LineFault) -> Answer
+///
+/// Condition: if that is for want of memory, a request was refused.
+pub(crate) fn of_line_fault(requests: &Requests, why: LineFault) -> Answer
+    requires { why ≡ fault.Memory → IsRefused requests.now }
     ensures { result ≡ line_fault_told why }
 {
     match why {
@@ -93,6 +100,6 @@ pub(crate) fn of_line_fault(why: LineFault) -> Answer
         LineFault::Missing => Answer::bad_line(FAULT_MISSING),
         LineFault::Number => Answer::bad_line(FAULT_NUMBER),
         LineFault::Extra => Answer::bad_line(FAULT_EXTRA),
-        LineFault::Memory => Answer::out_of_memory(),
+        LineFault::Memory => Answer::out_of_memory(requests),
     }
 }

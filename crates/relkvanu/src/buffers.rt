@@ -10,12 +10,13 @@ ghost use Rattle.relkvanu.specs.Buffers.{BringsFiles, BringsJson, IsShowTold, St
 ghost use Rattle.relkvanu.specs.Buffers.{json_told, show_reply_told, show_told};
 ghost use Rattle.relkvanu.specs.Calls.{HasNoNumbers, IsAnswered, IsStepTold, StaysAsItWas, StaysClosed, WantsMemory};
 ghost use Rattle.relkvanu.specs.Past.{GrowsBy, IsGrown, plainly};
+ghost use Rattle.relkvanu.specs.Requested.{IsRefused};
 ghost use Rattle.relkvanu.specs.Told.{answer_told, no_memory, reply_told};
 ghost use Rattle.ckpt_terms.specs.Machines.{core_in, names_in};
 
 use crate::answer::Answer;
 use crate::handle::Handle;
-use ckpt_answers::metadata_text;
+use crate::requests::Requests;
 use ckpt_ids::{Answer as Told, Call, CheckpointId, FileId, Metadata, Reply};
 use ckpt_logged::Logged;
 use std::alloc::Global;
@@ -37,7 +38,8 @@ pub extern "C" fn relkvanu_take(alloc: Global, handle: &mut Handle, files: &mut 
     let Some(mut machine) = handle.take(alloc) else {
         return Answer::closed();
     };
-    let answer = take_from(&mut machine, files.len() as u64, files);
+    let most = files.len() as u64;
+    let answer = take_from(&mut Requests::new(), &mut machine, most, files);
     handle.put(alloc, machine);
     answer
 }
@@ -66,7 +68,7 @@ pub extern "C" fn relkvanu_show(
     let Some(mut machine) = handle.take(alloc) else {
         return Answer::closed();
     };
-    let answer = show_from(alloc, &mut machine, id, json);
+    let answer = show_from(&mut Requests::new(), alloc, &mut machine, id, json);
     handle.put(alloc, machine);
     answer
 }
@@ -74,7 +76,12 @@ pub extern "C" fn relkvanu_show(
 /// Fetches at most `most` files.
 ///
 /// Condition: the buffer has a place for each.
-pub(crate) fn take_from(machine: &mut Logged, most: u64, files: &mut [u64]) -> Answer
+pub(crate) fn take_from(
+    requests: &mut Requests,
+    machine: &mut Logged,
+    most: u64,
+    files: &mut [u64],
+) -> Answer
     requires fits { length (files_in (step (core_in machine.old.now) (call.Take most)).1) ≤ length files.old }
     ensures answered { IsStepTold (core_in machine.old.now) (core_in machine.new.now) (call.Take most) result }
     ensures front { result.code ≢ no_memory → StandsInFront (files_in (step (core_in machine.old.now) (call.Take most)).1) files.old files.new }
@@ -84,10 +91,11 @@ pub(crate) fn take_from(machine: &mut Logged, most: u64, files: &mut [u64]) -> A
     ensures names { names_in machine.new.now ≡ names_in machine.old.now }
     ensures past { IsGrown (plainly (call.Take most)) machine.old machine.new result }
     ensures unchanged { result.code ≡ no_memory → machine.new ≡ machine.old }
+    ensures cause { result.code ≡ no_memory → IsRefused requests.new }
 {
-    match machine.pass(&Call::Take { most }) {
+    match machine.pass_metered(&mut requests.meter, &Call::Take { most }) {
         Ok(answer) => with_files(&answer, files),
-        Err(_) => Answer::out_of_memory(),
+        Err(_) => Answer::out_of_memory(requests),
     }
 }
 
@@ -135,56 +143,71 @@ pub(crate) fn write_files(list: &[FileId], files: &mut [u64])
     }
 }
 
-pub(crate) fn show_from(alloc: Global, machine: &mut Logged, id: u64, json: &mut [u8]) -> Answer
+pub(crate) fn show_from(
+    requests: &mut Requests,
+    alloc: Global,
+    machine: &mut Logged,
+    id: u64,
+    json: &mut [u8],
+) -> Answer
     ensures answered { IsShowTold (core_in machine.old.now) id (length json.old) result }
     ensures front { BringsJson (core_in machine.old.now) id json.old json.new result }
     ensures kept { result.code ≢ 0 → json.new ≡ json.old }
     ensures memory { result.code ≡ no_memory → may_want_memory (core_in machine.old.now) (call.Show id) ≡ true }
     ensures numbers { HasNoNumbers result }
     ensures unchanged { machine.new ≡ machine.old }
+    ensures cause { result.code ≡ no_memory → IsRefused requests.new }
 {
-    match machine.show(CheckpointId(id)) {
-        Ok(answer) => with_json_in(alloc, &answer, json),
-        Err(_) => Answer::out_of_memory(),
+    match machine.show_metered(&mut requests.meter, CheckpointId(id)) {
+        Ok(answer) => with_json_in(requests, alloc, &answer, json),
+        Err(_) => Answer::out_of_memory(requests),
     }
 }
 
 /// The answer of the coordinator. Writes its metadata to the start of the buffer if that is long
 /// enough.
-fn with_json_in(alloc: Global, answer: &Told, json: &mut [u8]) -> Answer
+fn with_json_in(requests: &mut Requests, alloc: Global, answer: &Told, json: &mut [u8]) -> Answer
     ensures told { result.code ≢ no_memory → result ≡ show_told answer.now (length json.old) }
     ensures front { result.code ≡ 0 → StandsInFront (json_in answer.now) json.old json.new }
     ensures kept { result.code ≢ 0 → json.new ≡ json.old }
     ensures memory { (id : ℕ) → result.code ≡ no_memory → answer_wants (call.Show id) answer.now ≡ true }
     ensures numbers { HasNoNumbers result }
+    ensures cause { result.code ≡ no_memory → IsRefused requests.new }
 {
     match answer {
-        Told::Done(reply) => with_json(alloc, reply, json),
+        Told::Done(reply) => with_json(requests, alloc, reply, json),
         Told::Refused(why) => Answer::of_refusal(*why),
     }
 }
 
 /// The answer for a reply. Writes its metadata to the start of the buffer if that is long enough.
-fn with_json(alloc: Global, reply: &Reply, json: &mut [u8]) -> Answer
+fn with_json(requests: &mut Requests, alloc: Global, reply: &Reply, json: &mut [u8]) -> Answer
     ensures told { result.code ≢ no_memory → result ≡ show_reply_told reply.now (length json.old) }
     ensures front { result.code ≡ 0 → StandsInFront (json_of_reply reply.now) json.old json.new }
     ensures kept { result.code ≢ 0 → json.new ≡ json.old }
     ensures numbers { HasNoNumbers result }
+    ensures cause { result.code ≡ no_memory → IsRefused requests.new }
 {
     match reply {
-        Reply::Shown(metadata) => write_json(alloc, metadata, json),
+        Reply::Shown(metadata) => write_json(requests, alloc, metadata, json),
         other => Answer::of_reply(other),
     }
 }
 
-fn write_json(alloc: Global, metadata: &Metadata, json: &mut [u8]) -> Answer
+fn write_json(
+    requests: &mut Requests,
+    alloc: Global,
+    metadata: &Metadata,
+    json: &mut [u8],
+) -> Answer
     ensures told { result.code ≢ no_memory → result ≡ json_told (metadata_bytes metadata.now) (length json.old) }
     ensures front { result.code ≡ 0 → StandsInFront (metadata_bytes metadata.now) json.old json.new }
     ensures kept { result.code ≢ 0 → json.new ≡ json.old }
     ensures numbers { HasNoNumbers result }
+    ensures cause { result.code ≡ no_memory → IsRefused requests.new }
 {
-    let Ok(text) = metadata_text(alloc, metadata) else {
-        return Answer::out_of_memory();
+    let Ok(text) = requests.metadata(alloc, metadata) else {
+        return Answer::out_of_memory(requests);
     };
     let bytes = text.as_bytes();
     let needed = bytes.len();

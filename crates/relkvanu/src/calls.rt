@@ -1,6 +1,6 @@
 //! The calls through a handle.
 
-ghost use Rattle.std.specs.Prelude.{◌≡◌, ◌≢◌, ◌↔◌, true, [], None, Some, Err, IfOk};
+ghost use Rattle.std.specs.Prelude.{◌≡◌, ◌≢◌, ◌↔◌, true, [], None, Some, Err, IfOk, OnErr};
 ghost use Rattle.ckpt_ids.specs.Ascending.{ascending};
 ghost use Rattle.ckpt_model.specs.Memory.{may_want_memory};
 ghost use Rattle.ckpt_model.specs.State.{State};
@@ -9,11 +9,13 @@ ghost use Rattle.relkvanu.specs.Calls.{HasNoNumbers, IsAnswered, IsAnsweredPlain
 ghost use Rattle.relkvanu.specs.Calls.{WantsMemory, ack_of, restore_of, takes_no_memory, target_of, subtask_at};
 ghost use Rattle.relkvanu.specs.Fenced.{IsHandled, IsTaken, call_step};
 ghost use Rattle.relkvanu.specs.Past.{GrowsBy, IsGrown, plainly};
+ghost use Rattle.relkvanu.specs.Requested.{IsRefused};
 ghost use Rattle.relkvanu.specs.Told.{bad_shape, no_memory};
 
 use crate::answer::Answer;
 use crate::handle::Handle;
-use ckpt_ids::{Call, CheckpointId, FileId, Files, Shape, ShapeFault, SubtaskId, Target};
+use crate::requests::Requests;
+use ckpt_ids::{Call, CheckpointId, Files, Shape, ShapeFault, SubtaskId, Target};
 use ckpt_logged::Logged;
 use std::alloc::{AllocError, Global};
 
@@ -27,7 +29,12 @@ pub(crate) const BAD_SHAPE: u32 = 3;
 /// when each call is refused.
 ///
 /// Of a handle with names a decline is refused, since it has no term, and a cancel ends the term.
-pub(crate) fn call(alloc: Global, handle: &mut Handle, call: &Call) -> Answer
+pub(crate) fn call(
+    requests: &mut Requests,
+    alloc: Global,
+    handle: &mut Handle,
+    call: &Call,
+) -> Answer
     ensures closed { StaysClosed handle.old.value handle.new.value result }
     ensures answered { passes handle.old.names call.now ≡ true → IsAnswered handle.old.value handle.new.value call.now result }
     ensures handled { IsHandled (λ k. call_step k call.now) handle.old handle.new result }
@@ -38,11 +45,12 @@ pub(crate) fn call(alloc: Global, handle: &mut Handle, call: &Call) -> Answer
     ensures names { passes handle.old.names call.now ≡ true → handle.new.names ≡ handle.old.names }
     ensures names_unchanged { result.code ≡ no_memory → handle.new.names ≡ handle.old.names }
     ensures past { GrowsBy (plainly call.now) handle.old.past handle.new.past result }
+    ensures cause { result.code ≡ no_memory → IsRefused requests.new }
 {
     let Some(mut machine) = handle.take(alloc) else {
         return Answer::closed();
     };
-    let answer = answer(&mut machine, call);
+    let answer = answer(requests, &mut machine, call);
     handle.put(alloc, machine);
     answer
 }
@@ -89,10 +97,11 @@ pub extern "C" fn relkvanu_ack(
     let Some(mut machine) = handle.take(alloc) else {
         return Answer::closed();
     };
+    let mut requests = Requests::new();
     let subtask = SubtaskId { vertex, index };
-    let answer = match ack_of(alloc, now, id, subtask, fresh, reused) {
-        Ok(call) => answer(&mut machine, &call),
-        Err(_) => Answer::out_of_memory(),
+    let answer = match ack_of(&mut requests, alloc, now, id, subtask, fresh, reused) {
+        Ok(call) => answer(&mut requests, &mut machine, &call),
+        Err(_) => Answer::out_of_memory(&requests),
     };
     handle.put(alloc, machine);
     answer
@@ -127,17 +136,18 @@ pub extern "C" fn relkvanu_restore(
     let Some(mut machine) = handle.take(alloc) else {
         return Answer::closed();
     };
-    let answer = match restore_of(alloc, now, savepoint, shape) {
-        Ok(call) => answer(&mut machine, &call),
+    let mut requests = Requests::new();
+    let answer = match restore_of(&mut requests, alloc, now, savepoint, shape) {
+        Ok(call) => answer(&mut requests, &mut machine, &call),
         Err(ShapeFault::BadShape) => Answer::bad_argument(BAD_SHAPE),
-        Err(ShapeFault::Memory) => Answer::out_of_memory(),
+        Err(ShapeFault::Memory) => Answer::out_of_memory(&requests),
     };
     handle.put(alloc, machine);
     answer
 }
 
 /// Makes a call without a term, and returns its answer.
-pub(crate) fn answer(machine: &mut Logged, call: &Call) -> Answer
+pub(crate) fn answer(requests: &mut Requests, machine: &mut Logged, call: &Call) -> Answer
     ensures answered { passes (names_in machine.old.now) call.now ≡ true → IsStepTold (core_in machine.old.now) (core_in machine.new.now) call.now result }
     ensures handled { IsTaken (λ k. call_step k call.now) machine.old.now machine.new.now result }
     ensures memory { result.code ≡ no_memory → may_want_memory (core_in machine.old.now) call.now ≡ true }
@@ -146,14 +156,16 @@ pub(crate) fn answer(machine: &mut Logged, call: &Call) -> Answer
     ensures names { passes (names_in machine.old.now) call.now ≡ true → names_in machine.new.now ≡ names_in machine.old.now }
     ensures past { IsGrown (plainly call.now) machine.old machine.new result }
     ensures unchanged { result.code ≡ no_memory → machine.new ≡ machine.old }
+    ensures cause { result.code ≡ no_memory → IsRefused requests.new }
 {
-    let Ok(answer) = machine.apply(call) else {
-        return Answer::out_of_memory();
+    let Ok(answer) = machine.apply_metered(&mut requests.meter, call) else {
+        return Answer::out_of_memory(requests);
     };
     Answer::of_fenced(0, &answer)
 }
 
 pub(crate) fn ack_of(
+    requests: &mut Requests,
     alloc: Global,
     now: u64,
     id: u64,
@@ -161,18 +173,20 @@ pub(crate) fn ack_of(
     fresh: &[u64],
     reused: &[u64],
 ) -> Result<Call, AllocError>
-    ensures { IfOk result (λ made. made ≡ ack_of now id subtask fresh.now reused.now) }
+    ensures call { IfOk result (λ made. made ≡ ack_of now id subtask fresh.now reused.now) }
+    ensures refused { OnErr result (IsRefused requests.new) }
 {
     Ok(Call::Ack {
         now,
         id: CheckpointId(id),
         subtask,
-        fresh: files_of(alloc, fresh)?,
-        reused: files_of(alloc, reused)?,
+        fresh: files_of(requests, alloc, fresh)?,
+        reused: files_of(requests, alloc, reused)?,
     })
 }
 
 pub(crate) fn restore_of(
+    requests: &mut Requests,
     alloc: Global,
     now: u64,
     savepoint: u64,
@@ -181,12 +195,13 @@ pub(crate) fn restore_of(
     ensures bad { (result ≡ Err ShapeFault.BadShape) ↔ IsBadShape shape.now }
     ensures memory { result ≡ Err ShapeFault.Memory → shape.now ≢ [] }
     ensures value { IfOk result (λ made. made ≡ restore_of now savepoint shape.now) }
+    ensures cause { result ≡ Err ShapeFault.Memory → IsRefused requests.new }
 {
     let target = target_of(savepoint);
     let shape = if shape.is_empty() {
         None
     } else {
-        Some(Shape::new(alloc, shape)?)
+        Some(Shape::new_metered(&mut requests.meter, alloc, shape)?)
     };
     Ok(Call::Restore { now, target, shape })
 }
@@ -202,9 +217,13 @@ fn target_of(savepoint: u64) -> Target
 }
 
 /// The files of these numbers, in ascending order.
-pub(crate) fn files_of(alloc: Global, list: &[u64]) -> Result<Files, AllocError>
-    ensures { IfOk result (λ files. files ≡ ascending list.now) }
+pub(crate) fn files_of(
+    requests: &mut Requests,
+    alloc: Global,
+    list: &[u64],
+) -> Result<Files, AllocError>
+    ensures files { IfOk result (λ files. files ≡ ascending list.now) }
+    ensures refused { OnErr result (IsRefused requests.new) }
 {
-    let numbers: Vec<FileId> = list.iter().map(|number| FileId(*number)).collect(alloc)?;
-    Ok(Files::of(numbers))
+    Ok(Files::of(requests.files(alloc, list)?))
 }

@@ -4,10 +4,12 @@ ghost use Rattle.std.specs.Prelude.{◌≡◌, ◌≢◌, ◌<◌, ◌≤◌, le
 ghost use Rattle.relkvanu.specs.Buffers.{StandsInFront};
 ghost use Rattle.relkvanu.specs.Fenced.{fence_told, fenced, fenced_refusal_told, fenced_told, has_names, no_names};
 ghost use Rattle.relkvanu.specs.Names.{fenced_name};
+ghost use Rattle.relkvanu.specs.Requested.{IsRefused};
 ghost use Rattle.relkvanu.specs.Told.{answer_told, no_memory};
 ghost use Rattle.ckpt_terms.specs.declared.machine.FenceFault.TheVariants as fault;
 
 use crate::answer::{Answer, FENCED};
+use crate::requests::Requests;
 use ckpt_ids::{Answer as Told, FileId};
 use ckpt_terms::{FenceFault, FencedAnswer, FencedRefusal};
 
@@ -98,7 +100,10 @@ impl Answer {
     }
 
     /// The answer if a coordinator gets no names.
-    pub(crate) fn of_fence_fault(why: FenceFault) -> Answer
+    ///
+    /// Condition: if that is for want of memory, a request was refused.
+    pub(crate) fn of_fence_fault(requests: &Requests, why: FenceFault) -> Answer
+        requires { why ≡ fault.Memory → IsRefused requests.now }
         ensures told { result ≡ fence_told (Some why) }
         ensures memory { result.code ≡ no_memory → why ≡ fault.Memory }
     {
@@ -106,7 +111,7 @@ impl Answer {
             FenceFault::HasNames => Answer::has_names(),
             FenceFault::BadName => Answer::bad_argument(BAD_NAME),
             FenceFault::NameInUse => Answer::fenced(10, 0),
-            FenceFault::Memory => Answer::out_of_memory(),
+            FenceFault::Memory => Answer::out_of_memory(requests),
         }
     }
 }

@@ -16,6 +16,7 @@ ghost use Rattle.relkvanu.specs.Fenced.{IsHandled, IsTaken, WantsNames, ack_step
 ghost use Rattle.relkvanu.specs.Naming.{IsNamedOpening, IsNotOpenedNamed, IsOpenedNamed, IsWhyNotNamed};
 ghost use Rattle.relkvanu.specs.Past.{Begins, GrowsBy, IsGrown, in_layer, with_fence};
 ghost use Rattle.relkvanu.specs.Opening.{OpeningWantsMemory, StaysOpen, opening_of};
+ghost use Rattle.relkvanu.specs.Requested.{IsRefused};
 ghost use Rattle.relkvanu.specs.Told.{no_memory};
 
 use crate::answer::Answer;
@@ -24,6 +25,7 @@ use crate::fenced::{BAD_NAME, NAMED, TERM};
 use crate::handle::Handle;
 use crate::images::boxed;
 use crate::opening::{ALREADY_OPEN, BAD_FIRST, BAD_MOMENT, Settings, config_of, job_of};
+use crate::requests::Requests;
 use ckpt_core::OpenFault;
 use ckpt_hash::Secret;
 use ckpt_ids::{Call, CheckpointId, SubtaskId};
@@ -64,7 +66,17 @@ pub extern "C" fn relkvanu_open_fenced(
         return Answer::bad_argument(ALREADY_OPEN);
     }
     let secret = Secret::of(first_word, second_word);
-    match named_of(alloc, settings, shape, now, first, first_name, secret) {
+    let mut requests = Requests::new();
+    match named_of(
+        &mut requests,
+        alloc,
+        settings,
+        shape,
+        now,
+        first,
+        first_name,
+        secret,
+    ) {
         Ok(machine) => {
             handle.put(alloc, machine);
             Answer::done(0, 0, 0)
@@ -75,6 +87,7 @@ pub extern "C" fn relkvanu_open_fenced(
 
 #[tactic(auto, using(crate::proofs::Openings::can_open_named))]
 fn named_of(
+    requests: &mut Requests,
     alloc: Global,
     settings: &Settings,
     shape: &[u64],
@@ -90,14 +103,15 @@ fn named_of(
     ensures memory { IfErr result (OpeningWantsMemory (opening_of settings.now shape.now now first)) }
     ensures numbers { IfErr result HasNoNumbers }
     ensures code { IfErr result (λ answer. answer.code ≢ 0) }
+    ensures cause { IfErr result (λ answer. answer.code ≡ no_memory → IsRefused requests.new) }
 {
     let config = config_of(settings)?;
-    let shape = job_of(alloc, shape)?;
+    let shape = job_of(requests, alloc, shape)?;
     if first_name == 0 || first_name > NAMES_END {
         return Err(Answer::bad_argument(BAD_NAME));
     }
     match Terms::keyed(alloc, config, shape, now, first, first_name, secret) {
-        Ok(terms) => boxed(alloc, Machine::Fenced(terms)),
+        Ok(terms) => boxed(requests, alloc, Machine::Fenced(terms)),
         Err(OpenFault::MomentTooLarge) => Err(Answer::bad_argument(BAD_MOMENT)),
         Err(OpenFault::BadFirst) => Err(Answer::bad_argument(BAD_FIRST)),
     }
@@ -123,7 +137,7 @@ pub extern "C" fn relkvanu_fence(alloc: Global, handle: &mut Handle, first_name:
     let Some(mut machine) = handle.take(alloc) else {
         return Answer::closed();
     };
-    let answer = fence_machine(alloc, &mut machine, first_name);
+    let answer = fence_machine(&mut Requests::new(), alloc, &mut machine, first_name);
     handle.put(alloc, machine);
     answer
 }
@@ -168,7 +182,8 @@ pub extern "C" fn relkvanu_reserve(
     let Some(mut machine) = handle.take(alloc) else {
         return Answer::closed();
     };
-    let answer = in_term(&mut machine, &FencedCall::Reserve { term, count });
+    let call = FencedCall::Reserve { term, count };
+    let answer = in_term(&mut Requests::new(), &mut machine, &call);
     handle.put(alloc, machine);
     answer
 }
@@ -192,9 +207,13 @@ pub extern "C" fn relkvanu_forfeit(
     let Some(mut machine) = handle.take(alloc) else {
         return Answer::closed();
     };
-    let answer = match files_of(alloc, names) {
-        Ok(names) => in_term(&mut machine, &FencedCall::Forfeit { term, names }),
-        Err(_) => Answer::out_of_memory(),
+    let mut requests = Requests::new();
+    let answer = match files_of(&mut requests, alloc, names) {
+        Ok(names) => {
+            let call = FencedCall::Forfeit { term, names };
+            in_term(&mut requests, &mut machine, &call)
+        }
+        Err(_) => Answer::out_of_memory(&requests),
     };
     handle.put(alloc, machine);
     answer
@@ -224,9 +243,14 @@ pub extern "C" fn relkvanu_ack_in(
         return Answer::closed();
     };
     let subtask = SubtaskId { vertex, index };
-    let answer = match ack_of(alloc, now, id, subtask, fresh, reused) {
-        Ok(call) => in_term(&mut machine, &FencedCall::Make { term, call }),
-        Err(_) => Answer::out_of_memory(),
+    let mut requests = Requests::new();
+    let answer = match ack_of(&mut requests, alloc, now, id, subtask, fresh, reused) {
+        Ok(call) => in_term(
+            &mut requests,
+            &mut machine,
+            &FencedCall::Make { term, call },
+        ),
+        Err(_) => Answer::out_of_memory(&requests),
     };
     handle.put(alloc, machine);
     answer
@@ -254,7 +278,8 @@ pub extern "C" fn relkvanu_decline_in(
     let id = CheckpointId(id);
     let subtask = SubtaskId { vertex, index };
     let call = Call::Decline { now, id, subtask };
-    let answer = in_term(&mut machine, &FencedCall::Make { term, call });
+    let call = FencedCall::Make { term, call };
+    let answer = in_term(&mut Requests::new(), &mut machine, &call);
     handle.put(alloc, machine);
     answer
 }
@@ -287,39 +312,41 @@ pub extern "C" fn relkvanu_advance(
         term,
         first: first_name,
     };
-    let answer = in_term(&mut machine, &call);
+    let answer = in_term(&mut Requests::new(), &mut machine, &call);
     handle.put(alloc, machine);
     answer
 }
 
 /// Makes a call with a term, and returns its answer.
-pub(crate) fn in_term(machine: &mut Logged, call: &FencedCall) -> Answer
+pub(crate) fn in_term(requests: &mut Requests, machine: &mut Logged, call: &FencedCall) -> Answer
     ensures handled { IsTaken (λ k. term_step k call.now) machine.old.now machine.new.now result }
     ensures memory { result.code ≡ no_memory → term_wants machine.old.now call.now ≡ true }
     ensures numbers { HasNoNumbers result }
     ensures past { IsGrown (in_layer call.now) machine.old machine.new result }
     ensures unchanged { result.code ≡ no_memory → machine.new ≡ machine.old }
+    ensures cause { result.code ≡ no_memory → IsRefused requests.new }
 {
     match machine.machine() {
         Machine::Plain(_) => Answer::no_names(),
-        Machine::Fenced(_) => make(machine, call),
+        Machine::Fenced(_) => make(requests, machine, call),
     }
 }
 
 /// Makes a call with a term of a coordinator with names.
 ///
 /// Condition: it has names.
-fn make(machine: &mut Logged, call: &FencedCall) -> Answer
+fn make(requests: &mut Requests, machine: &mut Logged, call: &FencedCall) -> Answer
     requires { names_in machine.old.now ≢ None }
     ensures handled { IsTaken (λ k. term_step k call.now) machine.old.now machine.new.now result }
     ensures memory { result.code ≡ no_memory → term_wants machine.old.now call.now ≡ true }
     ensures numbers { HasNoNumbers result }
     ensures past { IsGrown (in_layer call.now) machine.old machine.new result }
     ensures unchanged { result.code ≡ no_memory → machine.new ≡ machine.old }
+    ensures cause { result.code ≡ no_memory → IsRefused requests.new }
 {
-    match machine.make(call) {
+    match machine.make_metered(&mut requests.meter, call) {
         Ok(answer) => Answer::of_fenced(count_of(call), &answer),
-        Err(_) => Answer::out_of_memory(),
+        Err(_) => Answer::out_of_memory(requests),
     }
 }
 
@@ -342,15 +369,21 @@ fn term_of(machine: &Machine) -> Answer
     }
 }
 
-pub(crate) fn fence_machine(alloc: Global, machine: &mut Logged, first_name: u64) -> Answer
+pub(crate) fn fence_machine(
+    requests: &mut Requests,
+    alloc: Global,
+    machine: &mut Logged,
+    first_name: u64,
+) -> Answer
     ensures handled { IsTaken (λ k. fence_step k first_name) machine.old.now machine.new.now result }
     ensures memory { result.code ≡ no_memory → names_in machine.old.now ≡ None }
     ensures numbers { HasNoNumbers result }
     ensures past { IsGrown (with_fence first_name) machine.old machine.new result }
     ensures unchanged { result.code ≡ no_memory → machine.new ≡ machine.old }
+    ensures cause { result.code ≡ no_memory → IsRefused requests.new }
 {
-    match machine.fence(alloc, first_name) {
+    match machine.fence_metered(&mut requests.meter, alloc, first_name) {
         Ok(()) => Answer::done(NAMED, 0, 0),
-        Err(why) => Answer::of_fence_fault(why),
+        Err(why) => Answer::of_fence_fault(requests, why),
     }
 }

@@ -1,6 +1,6 @@
 //! Saves a coordinator into a caller's buffer, and opens a handle with an image.
 
-ghost use Rattle.std.specs.Prelude.{◌≡◌, ◌≢◌, None, Some, IfOk, IfErr, OnOk, length, string_bytes, take};
+ghost use Rattle.std.specs.Prelude.{◌≡◌, ◌≢◌, None, Some, IfOk, IfErr, OnErr, OnOk, length, string_bytes, take};
 ghost use Rattle.core.specs.Str.{IsUtf8};
 ghost use Rattle.ckpt_model.specs.Images.{settled, state_in};
 ghost use Rattle.ckpt_model.specs.State.{State};
@@ -11,6 +11,7 @@ ghost use Rattle.relkvanu.specs.Calls.{HasNoNumbers, StaysAsItWas, StaysClosed};
 ghost use Rattle.relkvanu.specs.Images.{BringsImage, CanBeOpened, IsNamedSave, IsNotOpenedSaved, IsOpenedSaved, IsSaveTold, IsWhyNotOpened};
 ghost use Rattle.relkvanu.specs.Images.{IsWhyNotSaved, OpensAgain, SavedWantsMemory, Tells, TellsNothing, image_by, opened_with, saved_told};
 ghost use Rattle.relkvanu.specs.Opening.{StaysOpen};
+ghost use Rattle.relkvanu.specs.Requested.{IsRefused};
 ghost use Rattle.relkvanu.specs.Told.{bad_argument, bad_image, no_memory, out_of_memory};
 ghost use Rattle.ckpt_core.specs.declared.image.ImageFault.TheVariants as fault;
 ghost use Rattle.ckpt_logged.specs.Chronicles.{begun};
@@ -21,11 +22,12 @@ ghost use Rattle.ckpt_terms.specs.TermsImages.{CanOpenFenced};
 use crate::answer::Answer;
 use crate::handle::Handle;
 use crate::opening::ALREADY_OPEN;
+use crate::requests::Requests;
 use ckpt_core::{Core, Image, ImageFault};
 use ckpt_hash::Secret;
-use ckpt_image::{TextFault, image_text};
+use ckpt_image::TextFault;
 use ckpt_logged::Logged;
-use ckpt_names_image::{SavedImage, names_image_text, parse_names_image};
+use ckpt_names_image::SavedImage;
 use ckpt_terms::{Machine, Terms, TermsImage};
 use std::alloc::{AllocError, Global};
 
@@ -55,7 +57,7 @@ pub extern "C" fn relkvanu_save(alloc: Global, handle: &mut Handle, image: &mut 
     let Some(machine) = handle.take(alloc) else {
         return Answer::closed();
     };
-    let answer = save_machine(alloc, machine.machine(), image);
+    let answer = save_machine(&mut Requests::new(), alloc, machine.machine(), image);
     handle.put(alloc, machine);
     answer
 }
@@ -90,7 +92,7 @@ pub extern "C" fn relkvanu_open_saved(
         return Answer::bad_argument(ALREADY_OPEN);
     }
     let secret = Secret::of(first_word, second_word);
-    match machine_of(alloc, image, secret) {
+    match machine_of(&mut Requests::new(), alloc, image, secret) {
         Ok(machine) => {
             handle.put(alloc, machine);
             Answer::done(0, 0, 0)
@@ -99,63 +101,78 @@ pub extern "C" fn relkvanu_open_saved(
     }
 }
 
-fn save_machine(alloc: Global, machine: &Machine, image: &mut [u8]) -> Answer
+fn save_machine(
+    requests: &mut Requests,
+    alloc: Global,
+    machine: &Machine,
+    image: &mut [u8],
+) -> Answer
     ensures told { names_in machine.now ≡ None → IsSaveTold (core_in machine.now) (length image.old) result }
     ensures front { names_in machine.now ≡ None → BringsImage (core_in machine.now) image.old image.new result }
     ensures named { (n : Issued) → names_in machine.now ≡ Some n → IsNamedSave (core_in machine.now) n image.old image.new result }
     ensures opens { OpensAgain (core_in machine.now) (names_in machine.now) image.new result }
     ensures kept { result.code ≢ 0 → image.new ≡ image.old }
     ensures numbers { HasNoNumbers result }
+    ensures cause { result.code ≡ no_memory → IsRefused requests.new }
 {
     match machine {
-        Machine::Plain(core) => save_from(alloc, core, image),
-        Machine::Fenced(terms) => save_terms(alloc, terms, image),
+        Machine::Plain(core) => save_from(requests, alloc, core, image),
+        Machine::Fenced(terms) => save_terms(requests, alloc, terms, image),
     }
 }
 
-fn save_from(alloc: Global, core: &Core, image: &mut [u8]) -> Answer
+fn save_from(requests: &mut Requests, alloc: Global, core: &Core, image: &mut [u8]) -> Answer
     ensures told { IsSaveTold core.now (length image.old) result }
     ensures front { BringsImage core.now image.old image.new result }
     ensures opens { OpensAgain core.now None image.new result }
     ensures kept { result.code ≢ 0 → image.new ≡ image.old }
     ensures numbers { HasNoNumbers result }
+    ensures cause { result.code ≡ no_memory → IsRefused requests.new }
 {
-    match text_of(alloc, core) {
+    match text_of(requests, alloc, core) {
         Ok(text) => write_text(&text, image),
-        Err(_) => Answer::out_of_memory(),
+        Err(_) => Answer::out_of_memory(requests),
     }
 }
 
-fn text_of(alloc: Global, core: &Core) -> Result<String, AllocError>
+fn text_of(requests: &mut Requests, alloc: Global, core: &Core) -> Result<String, AllocError>
     ensures text { IfOk result (λ text. string_bytes text ≡ image_bytes (settled core.now)) }
     ensures tells { IfOk result (λ text. Tells (string_bytes text) (image_by core.now None)) }
+    ensures refused { OnErr result (IsRefused requests.new) }
 {
-    let image = core.image()?;
-    image_text(alloc, &image)
+    let image = core.image_metered(&mut requests.meter)?;
+    requests.image_text(alloc, &image)
 }
 
-fn save_terms(alloc: Global, terms: &Terms, image: &mut [u8]) -> Answer
+fn save_terms(requests: &mut Requests, alloc: Global, terms: &Terms, image: &mut [u8]) -> Answer
     ensures named { IsNamedSave terms.now.core (issued_by terms.now) image.old image.new result }
     ensures opens { OpensAgain terms.now.core (Some (issued_by terms.now)) image.new result }
     ensures kept { result.code ≢ 0 → image.new ≡ image.old }
     ensures numbers { HasNoNumbers result }
+    ensures cause { result.code ≡ no_memory → IsRefused requests.new }
 {
-    match terms.image() {
-        Ok(saved) => save_image(alloc, &saved, image),
-        Err(_) => Answer::out_of_memory(),
+    match terms.image_metered(&mut requests.meter) {
+        Ok(saved) => save_image(requests, alloc, &saved, image),
+        Err(_) => Answer::out_of_memory(requests),
     }
 }
 
-fn save_image(alloc: Global, saved: &TermsImage, image: &mut [u8]) -> Answer
+fn save_image(
+    requests: &mut Requests,
+    alloc: Global,
+    saved: &TermsImage,
+    image: &mut [u8],
+) -> Answer
     ensures told { result.code ≢ no_memory → result ≡ saved_told (named_bytes (named_in saved.now)) (length image.old) }
     ensures front { result.code ≡ 0 → StandsInFront (named_bytes (named_in saved.now)) image.old image.new }
     ensures tells { result.code ≡ 0 → CanOpenFenced saved.now → Tells (take result.a image.new) (Fenced (named_in saved.now)) }
     ensures kept { result.code ≢ 0 → image.new ≡ image.old }
     ensures numbers { HasNoNumbers result }
+    ensures cause { result.code ≡ no_memory → IsRefused requests.new }
 {
-    match names_image_text(alloc, saved) {
+    match requests.names_image_text(alloc, saved) {
         Ok(text) => write_text(&text, image),
-        Err(_) => Answer::out_of_memory(),
+        Err(_) => Answer::out_of_memory(requests),
     }
 }
 
@@ -175,94 +192,131 @@ fn write_text(text: &str, image: &mut [u8]) -> Answer
     Answer::done(SAVED, needed as u64, 0)
 }
 
-fn machine_of(alloc: Global, bytes: &[u8], secret: Secret) -> Result<Box<Logged>, Answer>
+fn machine_of(
+    requests: &mut Requests,
+    alloc: Global,
+    bytes: &[u8],
+    secret: Secret,
+) -> Result<Box<Logged>, Answer>
     ensures value { IfOk result (λ machine. (s : Saved) → Tells bytes.now s → machine.value ≡ begun (opened_with s)) }
     ensures told { OnOk result (TellsNothing bytes.now → ⊥) }
     ensures fault { IfErr result (IsWhyNotSaved bytes.now) }
     ensures memory { IfErr result (SavedWantsMemory bytes.now) }
     ensures numbers { IfErr result HasNoNumbers }
     ensures code { IfErr result (λ answer. answer.code ≢ 0) }
+    ensures cause { IfErr result (λ answer. answer.code ≡ no_memory → IsRefused requests.new) }
 {
-    let saved = saved_of(alloc, bytes)?;
-    machine_from(alloc, &saved, secret)
+    let saved = saved_of(requests, alloc, bytes)?;
+    machine_from(requests, alloc, &saved, secret)
 }
 
-fn saved_of(alloc: Global, bytes: &[u8]) -> Result<SavedImage, Answer>
+fn saved_of(requests: &mut Requests, alloc: Global, bytes: &[u8]) -> Result<SavedImage, Answer>
     ensures utf8 { IfOk result (λ image. IsUtf8 bytes.now) }
     ensures read { IfOk result (λ image. saved_read bytes.now ≡ Some (saved_in image)) }
     ensures fault { IfErr result (IsWhyNotSaved bytes.now) }
     ensures memory { IfErr result (SavedWantsMemory bytes.now) }
     ensures numbers { IfErr result HasNoNumbers }
     ensures code { IfErr result (λ answer. answer.code ≢ 0) }
+    ensures cause { IfErr result (λ answer. answer.code ≡ no_memory → IsRefused requests.new) }
 {
     let Ok(text) = str::from_utf8(bytes) else {
         return Err(Answer::bad_argument(BAD_IMAGE));
     };
-    match parse_names_image(alloc, text) {
+    match requests.saved(alloc, text) {
         Ok(image) => Ok(image),
-        Err(TextFault::Memory) => Err(Answer::out_of_memory()),
+        Err(TextFault::Memory) => Err(Answer::out_of_memory(requests)),
         Err(_) => Err(Answer::bad_argument(BAD_IMAGE)),
     }
 }
 
-fn machine_from(alloc: Global, saved: &SavedImage, secret: Secret) -> Result<Box<Logged>, Answer>
+fn machine_from(
+    requests: &mut Requests,
+    alloc: Global,
+    saved: &SavedImage,
+    secret: Secret,
+) -> Result<Box<Logged>, Answer>
     ensures value { IfOk result (λ machine. machine.value ≡ begun (opened_with (saved_in saved.now))) }
     ensures sound { OnOk result (CanBeOpened (saved_in saved.now)) }
     ensures fault { IfErr result (IsWhyNotOpened (saved_in saved.now)) }
     ensures numbers { IfErr result HasNoNumbers }
     ensures code { IfErr result (λ answer. answer.code ≢ 0) }
+    ensures cause { IfErr result (λ answer. answer.code ≡ no_memory → IsRefused requests.new) }
 {
     match saved {
-        SavedImage::Plain(image) => plain_from(alloc, image, secret),
-        SavedImage::Fenced(image) => named_from(alloc, image, secret),
+        SavedImage::Plain(image) => plain_from(requests, alloc, image, secret),
+        SavedImage::Fenced(image) => named_from(requests, alloc, image, secret),
     }
 }
 
 #[tactic(auto, unfolding(crate::specs::Images::CanBeOpened, crate::specs::Images::opened_with))]
-fn plain_from(alloc: Global, image: &Image, secret: Secret) -> Result<Box<Logged>, Answer>
+fn plain_from(
+    requests: &mut Requests,
+    alloc: Global,
+    image: &Image,
+    secret: Secret,
+) -> Result<Box<Logged>, Answer>
     ensures value { IfOk result (λ machine. machine.value ≡ begun (opened_with (Plain (state_in image.now)))) }
     ensures sound { OnOk result (CanBeOpened (Plain (state_in image.now))) }
     ensures fault { IfErr result (IsWhyNotOpened (Plain (state_in image.now))) }
     ensures numbers { IfErr result HasNoNumbers }
     ensures code { IfErr result (λ answer. answer.code ≢ 0) }
+    ensures cause { IfErr result (λ answer. answer.code ≡ no_memory → IsRefused requests.new) }
 {
-    match Core::from_image(alloc, image, secret) {
-        Ok(core) => boxed(alloc, Machine::Plain(core)),
-        Err(why) => Err(fault_of(why)),
+    match Core::from_image_metered(&mut requests.meter, alloc, image, secret) {
+        Ok(core) => boxed(requests, alloc, Machine::Plain(core)),
+        Err(why) => Err(fault_of(requests, why)),
     }
 }
 
 #[tactic(auto, unfolding(crate::specs::Images::CanBeOpened, crate::specs::Images::opened_with))]
-fn named_from(alloc: Global, image: &TermsImage, secret: Secret) -> Result<Box<Logged>, Answer>
+fn named_from(
+    requests: &mut Requests,
+    alloc: Global,
+    image: &TermsImage,
+    secret: Secret,
+) -> Result<Box<Logged>, Answer>
     ensures value { IfOk result (λ machine. machine.value ≡ begun (opened_with (Fenced (named_in image.now)))) }
     ensures sound { OnOk result (CanBeOpened (Fenced (named_in image.now))) }
     ensures fault { IfErr result (IsWhyNotOpened (Fenced (named_in image.now))) }
     ensures numbers { IfErr result HasNoNumbers }
     ensures code { IfErr result (λ answer. answer.code ≢ 0) }
+    ensures cause { IfErr result (λ answer. answer.code ≡ no_memory → IsRefused requests.new) }
 {
-    match Terms::from_image(alloc, image, secret) {
-        Ok(terms) => boxed(alloc, Machine::Fenced(terms)),
-        Err(why) => Err(fault_of(why)),
+    match Terms::from_image_metered(&mut requests.meter, alloc, image, secret) {
+        Ok(terms) => boxed(requests, alloc, Machine::Fenced(terms)),
+        Err(why) => Err(fault_of(requests, why)),
     }
 }
 
 /// The box of a coordinator that begins here, or the answer if memory runs out.
-pub(crate) fn boxed(alloc: Global, machine: Machine) -> Result<Box<Logged>, Answer>
+pub(crate) fn boxed(
+    requests: &mut Requests,
+    alloc: Global,
+    machine: Machine,
+) -> Result<Box<Logged>, Answer>
     ensures value { IfOk result (λ boxed. boxed.value ≡ begun machine) }
     ensures sound { OnOk result (IsWell machine) }
     ensures fault { IfErr result (λ answer. answer ≡ out_of_memory) }
+    ensures cause { IfErr result (λ answer. answer.code ≡ no_memory → IsRefused requests.new) }
 {
-    Box::new(alloc, Logged::of(machine)).map_err(|_| Answer::out_of_memory())
+    match requests.boxed(alloc, Logged::of(machine)) {
+        Ok(boxed) => Ok(boxed),
+        Err(_) => Err(Answer::out_of_memory(requests)),
+    }
 }
 
 /// The answer if no coordinator is made from an image.
-fn fault_of(why: ImageFault) -> Answer
+///
+/// Condition: if that is for want of memory, a request was refused.
+fn fault_of(requests: &Requests, why: ImageFault) -> Answer
+    requires { why ≡ fault.Memory → IsRefused requests.now }
+    ensures cause { result.code ≡ no_memory → IsRefused requests.now }
     ensures damaged { result.code ≢ no_memory → (why ≡ fault.Damaged) × (result ≡ bad_argument bad_image) }
     ensures numbers { HasNoNumbers result }
     ensures code { result.code ≢ 0 }
 {
     match why {
         ImageFault::Damaged => Answer::bad_argument(BAD_IMAGE),
-        ImageFault::Memory => Answer::out_of_memory(),
+        ImageFault::Memory => Answer::out_of_memory(requests),
     }
 }

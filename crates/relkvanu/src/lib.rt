@@ -23,6 +23,7 @@ mod plain_calls;
 mod raw_box;
 mod reads;
 mod recovery;
+mod requests;
 mod saying;
 mod sweep;
 mod writing;

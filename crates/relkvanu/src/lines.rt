@@ -16,6 +16,7 @@ ghost use Rattle.relkvanu.specs.Lines.{BringsLineFiles, IsCallTold, IsLineAnswer
 ghost use Rattle.relkvanu.specs.Lines.{line_call_step, line_number, line_numbers, line_step, named_step, named_wants, numbers_told, plain_step};
 ghost use Rattle.relkvanu.specs.Lines.{said_files, said_wants, says_numbers, says_told};
 ghost use Rattle.relkvanu.specs.Past.{GrowsBy, IsGrown, asked_line, by_line, call_line, named_by, plain_line};
+ghost use Rattle.relkvanu.specs.Requested.{IsRefused};
 ghost use Rattle.relkvanu.specs.Told.{no_memory};
 
 use crate::answer::Answer;
@@ -24,11 +25,12 @@ use crate::buffers::{show_from, take_from};
 use crate::calls::answer;
 use crate::fencing::{fence_machine, in_term};
 use crate::handle::Handle;
+use crate::requests::Requests;
 use ckpt_core::Core;
 use ckpt_ids::Call;
 use ckpt_lines::Line;
 use ckpt_logged::Logged;
-use ckpt_term_lines::{TermLine, parse_term_line};
+use ckpt_term_lines::TermLine;
 use ckpt_terms::{FencedCall, Machine};
 use std::alloc::Global;
 
@@ -81,12 +83,18 @@ pub extern "C" fn relkvanu_line(
     let Some(mut machine) = handle.take(alloc) else {
         return Answer::closed();
     };
-    let answer = make_line(alloc, &mut machine, line, files);
+    let answer = make_line(&mut Requests::new(), alloc, &mut machine, line, files);
     handle.put(alloc, machine);
     answer
 }
 
-fn make_line(alloc: Global, machine: &mut Logged, line: &[u8], files: &mut [u64]) -> Answer
+fn make_line(
+    requests: &mut Requests,
+    alloc: Global,
+    machine: &mut Logged,
+    line: &[u8],
+    files: &mut [u64],
+) -> Answer
     ensures answered { IsLineTold machine.old.now machine.new.now (said line.now) (length files.old) result }
     ensures handled { IsTaken (λ k. line_step k (length files.old) line.now) machine.old.now machine.new.now result }
     ensures front { BringsLineFiles (core_in machine.old.now) line.now files.old files.new result }
@@ -96,19 +104,21 @@ fn make_line(alloc: Global, machine: &mut Logged, line: &[u8], files: &mut [u64]
     ensures names { is_free_line (said line.now) ≡ true → names_in machine.new.now ≡ names_in machine.old.now }
     ensures past { IsGrown (by_line (length files.old) line.now) machine.old machine.new result }
     ensures unchanged { result.code ≡ no_memory → machine.new ≡ machine.old }
+    ensures cause { result.code ≡ no_memory → IsRefused requests.new }
 {
     if let Some(call) = usual(line) {
-        return make_plain(alloc, machine, &call, files);
+        return make_plain(requests, alloc, machine, &call, files);
     }
-    match said(alloc, line) {
-        Ok(Asked::Fence { first }) => fence_machine(alloc, machine, first),
-        Ok(Asked::Call(call)) => make_call(alloc, machine, &call, files),
+    match said(requests, alloc, line) {
+        Ok(Asked::Fence { first }) => fence_machine(requests, alloc, machine, first),
+        Ok(Asked::Call(call)) => make_call(requests, alloc, machine, &call, files),
         Err(answer) => answer,
     }
 }
 
 /// Makes what is asked for. `make_line` takes it apart itself, which costs a line less.
 pub(crate) fn make_asked(
+    requests: &mut Requests,
     alloc: Global,
     machine: &mut Logged,
     asked: &Asked,
@@ -123,15 +133,22 @@ pub(crate) fn make_asked(
     ensures names { is_free_line (Ok asked.now) ≡ true → names_in machine.new.now ≡ names_in machine.old.now }
     ensures past { IsGrown (asked_line (length files.old) asked.now) machine.old machine.new result }
     ensures unchanged { result.code ≡ no_memory → machine.new ≡ machine.old }
+    ensures cause { result.code ≡ no_memory → IsRefused requests.new }
 {
     match asked {
-        Asked::Fence { first } => fence_machine(alloc, machine, *first),
-        Asked::Call(call) => make_call(alloc, machine, call, files),
+        Asked::Fence { first } => fence_machine(requests, alloc, machine, *first),
+        Asked::Call(call) => make_call(requests, alloc, machine, call, files),
     }
 }
 
 /// Makes the call of a line. Term 0 is none.
-fn make_call(alloc: Global, machine: &mut Logged, call: &FencedCall, files: &mut [u64]) -> Answer
+fn make_call(
+    requests: &mut Requests,
+    alloc: Global,
+    machine: &mut Logged,
+    call: &FencedCall,
+    files: &mut [u64],
+) -> Answer
     ensures answered { IsLineTold machine.old.now machine.new.now (Ok (ask.Call call.now)) (length files.old) result }
     ensures handled { IsTaken (λ k. line_call_step k (length files.old) call.now) machine.old.now machine.new.now result }
     ensures front { result.code ≡ 0 → StandsInFront (said_files (core_in machine.old.now) (Ok (ask.Call call.now))) files.old files.new }
@@ -141,25 +158,32 @@ fn make_call(alloc: Global, machine: &mut Logged, call: &FencedCall, files: &mut
     ensures names { is_free_line (Ok (ask.Call call.now)) ≡ true → names_in machine.new.now ≡ names_in machine.old.now }
     ensures past { IsGrown (call_line (length files.old) call.now) machine.old machine.new result }
     ensures unchanged { result.code ≡ no_memory → machine.new ≡ machine.old }
+    ensures cause { result.code ≡ no_memory → IsRefused requests.new }
 {
     match call {
         FencedCall::Make { term, call: made } => {
             if *term == 0 {
-                make_plain(alloc, machine, made, files)
+                make_plain(requests, alloc, machine, made, files)
             } else if is_free(made) {
-                make_named(alloc, machine, made, files)
+                make_named(requests, alloc, machine, made, files)
             } else {
-                in_term(machine, call)
+                in_term(requests, machine, call)
             }
         }
-        _ => in_term(machine, call),
+        _ => in_term(requests, machine, call),
     }
 }
 
 /// Makes a call that has a term, and no use for it. Refused if there are no names.
 ///
 /// Condition: it needs no term and ends none.
-fn make_named(alloc: Global, machine: &mut Logged, call: &Call, files: &mut [u64]) -> Answer
+fn make_named(
+    requests: &mut Requests,
+    alloc: Global,
+    machine: &mut Logged,
+    call: &Call,
+    files: &mut [u64],
+) -> Answer
     requires { is_free call.now ≡ true }
     ensures handled { (term : ℕ) → IsTaken (λ k. named_step k (length files.old) term call.now) machine.old.now machine.new.now result }
     ensures front { result.code ≡ 0 → StandsInFront (call_files (core_in machine.old.now) call.now) files.old files.new }
@@ -169,10 +193,11 @@ fn make_named(alloc: Global, machine: &mut Logged, call: &Call, files: &mut [u64
     ensures names { names_in machine.new.now ≡ names_in machine.old.now }
     ensures past { (term : ℕ) → IsGrown (λ c. named_by c.now (length files.old) term call.now c) machine.old machine.new result }
     ensures unchanged { result.code ≡ no_memory → machine.new ≡ machine.old }
+    ensures cause { result.code ≡ no_memory → IsRefused requests.new }
 {
     match machine.machine() {
         Machine::Plain(_) => Answer::no_names(),
-        Machine::Fenced(_) => make_plain(alloc, machine, call, files),
+        Machine::Fenced(_) => make_plain(requests, alloc, machine, call, files),
     }
 }
 
@@ -188,7 +213,13 @@ fn is_free(call: &Call) -> bool
 
 /// Makes a call without a term.
 #[tactic(auto, unfolding(crate::specs::Lines::call_made, crate::specs::Past::plain_line))]
-fn make_plain(alloc: Global, machine: &mut Logged, call: &Call, files: &mut [u64]) -> Answer
+fn make_plain(
+    requests: &mut Requests,
+    alloc: Global,
+    machine: &mut Logged,
+    call: &Call,
+    files: &mut [u64],
+) -> Answer
     ensures answered { IsCallTold machine.old.now machine.new.now call.now (length files.old) result }
     ensures handled { IsTaken (λ k. plain_step k (length files.old) call.now) machine.old.now machine.new.now result }
     ensures front { result.code ≡ 0 → StandsInFront (call_files (core_in machine.old.now) call.now) files.old files.new }
@@ -198,17 +229,23 @@ fn make_plain(alloc: Global, machine: &mut Logged, call: &Call, files: &mut [u64
     ensures names { passes (names_in machine.old.now) call.now ≡ true → names_in machine.new.now ≡ names_in machine.old.now }
     ensures past { IsGrown (plain_line (length files.old) call.now) machine.old machine.new result }
     ensures unchanged { result.code ≡ no_memory → machine.new ≡ machine.old }
+    ensures cause { result.code ≡ no_memory → IsRefused requests.new }
 {
     match call {
-        Call::Take { most } => take_that_fits(machine, *most, files),
-        Call::Show { id } => show_from(alloc, machine, id.0, &mut []),
-        _ => answer(machine, call),
+        Call::Take { most } => take_that_fits(requests, machine, *most, files),
+        Call::Show { id } => show_from(requests, alloc, machine, id.0, &mut []),
+        _ => answer(requests, machine, call),
     }
 }
 
 /// Fetches at most `most` files, or none if the buffer has too few places for them.
 #[tactic(auto, unfolding(crate::specs::Lines::call_made, crate::specs::Past::plain_line))]
-fn take_that_fits(machine: &mut Logged, most: u64, files: &mut [u64]) -> Answer
+fn take_that_fits(
+    requests: &mut Requests,
+    machine: &mut Logged,
+    most: u64,
+    files: &mut [u64],
+) -> Answer
     ensures answered { IsCallTold machine.old.now machine.new.now (call.Take most) (length files.old) result }
     ensures front { result.code ≡ 0 → StandsInFront (files_in (step (core_in machine.old.now) (call.Take most)).1) files.old files.new }
     ensures kept { result.code ≢ 0 → files.new ≡ files.old }
@@ -217,12 +254,13 @@ fn take_that_fits(machine: &mut Logged, most: u64, files: &mut [u64]) -> Answer
     ensures names { names_in machine.new.now ≡ names_in machine.old.now }
     ensures past { IsGrown (plain_line (length files.old) (call.Take most)) machine.old machine.new result }
     ensures unchanged { result.code ≡ no_memory → machine.new ≡ machine.old }
+    ensures cause { result.code ≡ no_memory → IsRefused requests.new }
 {
     let needed = fetchable(machine.core(), most);
     if (files.len() as u64) < needed {
         return Answer::too_short(needed);
     }
-    take_from(machine, most, files)
+    take_from(requests, machine, most, files)
 }
 
 /// How many files a take of at most `most` would fetch.
@@ -248,10 +286,11 @@ pub extern "C" fn relkvanu_line_says(alloc: Global, line: &[u8], numbers: &mut [
     ensures memory { result.code ≡ no_memory → term_may_want_memory line.now ≡ true }
     ensures numbers { HasNoNumbers result }
 {
-    match parse_term_line(alloc, line) {
+    let mut requests = Requests::new();
+    match requests.line(alloc, line) {
         Ok(TermLine::Other(read)) => write_line(&read, numbers),
         Ok(_) => write_numbers(LINE_CALL, &[], numbers),
-        Err(why) => of_line_fault(why),
+        Err(why) => of_line_fault(&requests, why),
     }
 }
 

@@ -10,6 +10,7 @@ ghost use Rattle.relkvanu.specs.Fenced.{IsHandled, IsTaken};
 ghost use Rattle.relkvanu.specs.Lines.{is_free_line, said_step};
 ghost use Rattle.relkvanu.specs.Making.{BringsMade, HandleReports, Reports, asked_if_fits, made_of, making};
 ghost use Rattle.relkvanu.specs.Past.{GrowsBy, IsGrown, said_line};
+ghost use Rattle.relkvanu.specs.Requested.{IsRefused};
 ghost use Rattle.relkvanu.specs.Told.{no_memory};
 ghost use Rattle.relkvanu.specs.Writing.{ReadsBack, SaysBack, call_line_text, given};
 
@@ -17,7 +18,8 @@ use crate::answer::{Answer, DONE};
 use crate::asked::{Asked, FAULT_TOO_LONG};
 use crate::handle::Handle;
 use crate::lines::make_asked;
-use crate::writing::{CallFields, asked_of, text_of};
+use crate::requests::Requests;
+use crate::writing::{CallFields, asked_of};
 use ckpt_core::Core;
 use ckpt_lines::LONGEST_LINE;
 use ckpt_logged::Logged;
@@ -77,7 +79,18 @@ pub extern "C" fn relkvanu_make(
     let Some(mut machine) = handle.take(alloc) else {
         return Answer::closed();
     };
-    let answer = make_given(alloc, &mut machine, call, first, second, files, line, made);
+    let mut requests = Requests::new();
+    let answer = make_given(
+        &mut requests,
+        alloc,
+        &mut machine,
+        call,
+        first,
+        second,
+        files,
+        line,
+        made,
+    );
     handle.put(alloc, machine);
     answer
 }
@@ -85,6 +98,7 @@ pub extern "C" fn relkvanu_make(
 /// Makes what the fields and the lists ask for, and writes its line.
 #[tactic(auto, unfolding(crate::specs::Making::to_make))]
 fn make_given(
+    requests: &mut Requests,
     alloc: Global,
     machine: &mut Logged,
     fields: &CallFields,
@@ -106,19 +120,21 @@ fn make_given(
     ensures past { IsGrown (said_line (length files.old) (making fields.entry.now first.now second.now line.old)) machine.old machine.new result }
     ensures past_kept { result.code ≡ no_memory → machine.new ≡ machine.old }
     ensures unchanged { result.code ≢ 0 → machine.new.now ≡ machine.old.now }
+    ensures cause { result.code ≡ no_memory → IsRefused requests.new }
 {
-    let asked = match asked_of(alloc, fields, first, second) {
+    let asked = match asked_of(requests, alloc, fields, first, second) {
         Ok(asked) => asked,
         Err(answer) => return answer,
     };
-    match text_of(alloc, &asked) {
-        Ok(text) => make_fitting(alloc, machine, &asked, &text, files, line, made),
-        Err(_) => Answer::out_of_memory(),
+    match requests.asked_line(alloc, &asked) {
+        Ok(text) => make_fitting(requests, alloc, machine, &asked, &text, files, line, made),
+        Err(_) => Answer::out_of_memory(requests),
     }
 }
 
 /// Makes what is asked for and writes its text, if that fits a line and the buffer.
 fn make_fitting(
+    requests: &mut Requests,
     alloc: Global,
     machine: &mut Logged,
     asked: &Asked,
@@ -139,6 +155,7 @@ fn make_fitting(
     ensures past { IsGrown (said_line (length files.old) (asked_if_fits asked.now text.now (length line.old))) machine.old machine.new result }
     ensures past_kept { result.code ≡ no_memory → machine.new ≡ machine.old }
     ensures unchanged { result.code ≢ 0 → machine.new.now ≡ machine.old.now }
+    ensures cause { result.code ≡ no_memory → IsRefused requests.new }
 {
     let bytes = text.as_bytes();
     if bytes.len() > LONGEST_LINE {
@@ -148,7 +165,7 @@ fn make_fitting(
         return Answer::too_short_for(0, bytes.len() as u64);
     }
     let waited = machine.core().files_waiting();
-    let answer = make_asked(alloc, machine, asked, files);
+    let answer = make_asked(requests, alloc, machine, asked, files);
     if answer.code == DONE {
         line[..bytes.len()].copy_from_slice(bytes);
         *made = made_of(bytes.len() as u64, waited, machine.core());

@@ -11,11 +11,14 @@ ghost use Rattle.ckpt_terms.specs.declared.machine.Machine.TheVariants as machin
 ghost use Rattle.ckpt_terms.specs.Machines.{core_in, names_in};
 ghost use Rattle.ckpt_logged.specs.Chronicles.{begun};
 ghost use Rattle.relkvanu.specs.Past.{Begins};
+ghost use Rattle.relkvanu.specs.Requested.{IsRefused};
 ghost use Rattle.relkvanu.specs.Told.{bad_argument, bad_config, bad_shape, no_memory};
 
 use crate::answer::Answer;
 use crate::calls::BAD_SHAPE;
 use crate::handle::Handle;
+use crate::images::boxed;
+use crate::requests::Requests;
 use ckpt_core::{Core, OpenFault};
 use ckpt_hash::Secret;
 use ckpt_ids::{Config, ConfigValues, Shape, ShapeFault};
@@ -87,7 +90,15 @@ pub extern "C" fn relkvanu_open(
         return Answer::bad_argument(ALREADY_OPEN);
     }
     let secret = Secret::of(first_word, second_word);
-    match plain_of(alloc, settings, shape, now, first, secret) {
+    match plain_of(
+        &mut Requests::new(),
+        alloc,
+        settings,
+        shape,
+        now,
+        first,
+        secret,
+    ) {
         Ok(machine) => {
             handle.put(alloc, machine);
             Answer::done(0, 0, 0)
@@ -107,6 +118,7 @@ pub extern "C" fn relkvanu_close(alloc: Global, handle: &mut Handle)
 }
 
 fn plain_of(
+    requests: &mut Requests,
     alloc: Global,
     settings: &Settings,
     shape: &[u64],
@@ -122,14 +134,12 @@ fn plain_of(
     ensures memory { IfErr result (OpeningWantsMemory (opening_of settings.now shape.now now first)) }
     ensures numbers { IfErr result HasNoNumbers }
     ensures code { IfErr result (λ answer. answer.code ≢ 0) }
+    ensures cause { IfErr result (λ answer. answer.code ≡ no_memory → IsRefused requests.new) }
 {
     let config = config_of(settings)?;
-    let shape = job_of(alloc, shape)?;
+    let shape = job_of(requests, alloc, shape)?;
     match Core::keyed(alloc, config, shape, now, first, secret) {
-        Ok(core) => {
-            let begun = Logged::of(Machine::Plain(core));
-            Box::new(alloc, begun).map_err(|_| Answer::out_of_memory())
-        }
+        Ok(core) => boxed(requests, alloc, Machine::Plain(core)),
         Err(OpenFault::MomentTooLarge) => Err(Answer::bad_argument(BAD_MOMENT)),
         Err(OpenFault::BadFirst) => Err(Answer::bad_argument(BAD_FIRST)),
     }
@@ -158,16 +168,17 @@ pub(crate) fn config_of(settings: &Settings) -> Result<Config, Answer>
 }
 
 /// The shape of these parallelisms, or the answer if there is no such shape.
-pub(crate) fn job_of(alloc: Global, shape: &[u64]) -> Result<Shape, Answer>
+pub(crate) fn job_of(requests: &mut Requests, alloc: Global, shape: &[u64]) -> Result<Shape, Answer>
     ensures good { IfOk result (λ made. is_shape shape.now ≡ true) }
     ensures value { IfOk result (λ made. made ≡ shape.now) }
     ensures fault { IfErr result (λ answer. answer.code ≢ no_memory → (is_shape shape.now ≡ false) × (answer ≡ bad_argument bad_shape)) }
     ensures memory { IfErr result (λ answer. answer.code ≡ no_memory → is_shape shape.now ≡ true) }
     ensures numbers { IfErr result HasNoNumbers }
+    ensures cause { IfErr result (λ answer. answer.code ≡ no_memory → IsRefused requests.new) }
 {
-    match Shape::new(alloc, shape) {
+    match Shape::new_metered(&mut requests.meter, alloc, shape) {
         Ok(shape) => Ok(shape),
         Err(ShapeFault::BadShape) => Err(Answer::bad_argument(BAD_SHAPE)),
-        Err(ShapeFault::Memory) => Err(Answer::out_of_memory()),
+        Err(ShapeFault::Memory) => Err(Answer::out_of_memory(requests)),
     }
 }

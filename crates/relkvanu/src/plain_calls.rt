@@ -13,6 +13,7 @@ use crate::answer::Answer;
 use crate::calls;
 use crate::handle::Handle;
 use crate::opening::{Settings, config_of};
+use crate::requests::Requests;
 use ckpt_ids::{Call, CheckpointId, FileId, SubtaskId};
 use std::alloc::Global;
 
@@ -27,7 +28,7 @@ pub extern "C" fn relkvanu_tick(alloc: Global, handle: &mut Handle, now: u64) ->
     ensures names { handle.new.names ≡ handle.old.names }
     ensures past { GrowsBy (plainly (call.Tick now)) handle.old.past handle.new.past result }
 {
-    calls::call(alloc, handle, &Call::Tick { now })
+    calls::call(&mut Requests::new(), alloc, handle, &Call::Tick { now })
 }
 
 /// Triggers a checkpoint now, whatever the interval and the pause. Nothing expires in it.
@@ -41,7 +42,7 @@ pub extern "C" fn relkvanu_trigger(alloc: Global, handle: &mut Handle, now: u64)
     ensures names { handle.new.names ≡ handle.old.names }
     ensures past { GrowsBy (plainly (call.Trigger now)) handle.old.past handle.new.past result }
 {
-    calls::call(alloc, handle, &Call::Trigger { now })
+    calls::call(&mut Requests::new(), alloc, handle, &Call::Trigger { now })
 }
 
 /// Triggers a savepoint.
@@ -55,7 +56,8 @@ pub extern "C" fn relkvanu_savepoint(alloc: Global, handle: &mut Handle, now: u6
     ensures names { handle.new.names ≡ handle.old.names }
     ensures past { GrowsBy (plainly (call.Savepoint now)) handle.old.past handle.new.past result }
 {
-    calls::call(alloc, handle, &Call::Savepoint { now })
+    let savepoint = Call::Savepoint { now };
+    calls::call(&mut Requests::new(), alloc, handle, &savepoint)
 }
 
 /// A subtask could not take its part of a record.
@@ -79,7 +81,7 @@ pub extern "C" fn relkvanu_decline(
         id: CheckpointId(id),
         subtask: SubtaskId { vertex, index },
     };
-    calls::call(alloc, handle, &decline)
+    calls::call(&mut Requests::new(), alloc, handle, &decline)
 }
 
 /// A user disposes of a completed savepoint.
@@ -91,13 +93,10 @@ pub extern "C" fn relkvanu_dispose(alloc: Global, handle: &mut Handle, id: u64) 
     ensures names { handle.new.names ≡ handle.old.names }
     ensures past { GrowsBy (plainly (call.Dispose id)) handle.old.past handle.new.past result }
 {
-    calls::call(
-        alloc,
-        handle,
-        &Call::Dispose {
-            id: CheckpointId(id),
-        },
-    )
+    let dispose = Call::Dispose {
+        id: CheckpointId(id),
+    };
+    calls::call(&mut Requests::new(), alloc, handle, &dispose)
 }
 
 /// The job ends for good.
@@ -109,7 +108,7 @@ pub extern "C" fn relkvanu_cancel(alloc: Global, handle: &mut Handle, now: u64) 
     ensures memory { result.code ≢ no_memory }
     ensures past { GrowsBy (plainly (call.Cancel now)) handle.old.past handle.new.past result }
 {
-    calls::call(alloc, handle, &Call::Cancel { now })
+    calls::call(&mut Requests::new(), alloc, handle, &Call::Cancel { now })
 }
 
 /// A fetched file is deleted.
@@ -121,7 +120,8 @@ pub extern "C" fn relkvanu_deleted(alloc: Global, handle: &mut Handle, file: u64
     ensures names { handle.new.names ≡ handle.old.names }
     ensures past { GrowsBy (plainly (call.Deleted file)) handle.old.past handle.new.past result }
 {
-    calls::call(alloc, handle, &Call::Deleted { file: FileId(file) })
+    let deleted = Call::Deleted { file: FileId(file) };
+    calls::call(&mut Requests::new(), alloc, handle, &deleted)
 }
 
 /// A fetched file could not be deleted.
@@ -133,7 +133,8 @@ pub extern "C" fn relkvanu_undeleted(alloc: Global, handle: &mut Handle, file: u
     ensures names { handle.new.names ≡ handle.old.names }
     ensures past { GrowsBy (plainly (call.Undeleted file)) handle.old.past handle.new.past result }
 {
-    calls::call(alloc, handle, &Call::Undeleted { file: FileId(file) })
+    let undeleted = Call::Undeleted { file: FileId(file) };
+    calls::call(&mut Requests::new(), alloc, handle, &undeleted)
 }
 
 /// The number of uses of a file.
@@ -145,7 +146,8 @@ pub extern "C" fn relkvanu_count(alloc: Global, handle: &mut Handle, file: u64) 
     ensures names { handle.new.names ≡ handle.old.names }
     ensures past { GrowsBy (plainly (call.Count file)) handle.old.past handle.new.past result }
 {
-    calls::call(alloc, handle, &Call::Count { file: FileId(file) })
+    let count = Call::Count { file: FileId(file) };
+    calls::call(&mut Requests::new(), alloc, handle, &count)
 }
 
 /// The job has these settings from the moment `now` on, in milliseconds.
@@ -168,7 +170,10 @@ pub extern "C" fn relkvanu_configure(
     ensures past_kept { is_within_limits (configuration_of settings.now) ≡ false → handle.new.past ≡ handle.old.past }
 {
     match config_of(settings) {
-        Ok(config) => calls::call(alloc, handle, &Call::Configure { now, config }),
+        Ok(config) => {
+            let configure = Call::Configure { now, config };
+            calls::call(&mut Requests::new(), alloc, handle, &configure)
+        }
         Err(answer) => calls::refuse(alloc, handle, answer),
     }
 }

@@ -1,7 +1,7 @@
 //! Reads for an engine that recovers. They change nothing, and only the pins of a record and the
 //! taken files take memory.
 
-ghost use Rattle.std.specs.Prelude.{◌≡◌, ◌≢◌, Some, IfOk, IsErr, IsSome, find, length, nat_le, option_map, slice_get};
+ghost use Rattle.std.specs.Prelude.{◌≡◌, ◌≢◌, Some, IfOk, IsErr, IsSome, OnErr, find, length, nat_le, option_map, slice_get};
 ghost use Rattle.ckpt_ids.specs.Ascending.{ascending};
 ghost use Rattle.ckpt_model.specs.Coordinator.{pending_of};
 ghost use Rattle.ckpt_model.specs.Reads.{live_of, pins_in, standing};
@@ -9,12 +9,14 @@ ghost use Rattle.ckpt_model.specs.State.{State};
 ghost use Rattle.relkvanu.specs.Calls.{HasNoNumbers, StaysClosed};
 ghost use Rattle.relkvanu.specs.Reads.{live_told};
 ghost use Rattle.relkvanu.specs.Recovery.{BringsList, IsListTold, acked_by, acked_in, acked_told, files_acked, list_told, standing_told, waiting_told};
+ghost use Rattle.relkvanu.specs.Requested.{IsRefused};
 ghost use Rattle.relkvanu.specs.Told.{no_memory, out_of_memory};
 
 use crate::answer::Answer;
 use crate::buffers::write_files;
 use crate::handle::Handle;
 use crate::reads::of_live;
+use crate::requests::Requests;
 use ckpt_core::{Core, Standing};
 use ckpt_ids::{CheckpointId, FileId, Files, SubtaskId};
 use std::alloc::{AllocError, Global};
@@ -128,7 +130,11 @@ pub extern "C" fn relkvanu_pins_of(
     let Some(machine) = handle.take(alloc) else {
         return Answer::closed();
     };
-    let answer = write_found(machine.core().pins_of(CheckpointId(id)), files);
+    let mut requests = Requests::new();
+    let found = machine
+        .core()
+        .pins_of_metered(&mut requests.meter, CheckpointId(id));
+    let answer = write_found(&requests, found, files);
     handle.put(alloc, machine);
     answer
 }
@@ -174,7 +180,9 @@ pub extern "C" fn relkvanu_taken_files(
     let Some(machine) = handle.take(alloc) else {
         return Answer::closed();
     };
-    let answer = write_found(machine.core().taken_files(), files);
+    let mut requests = Requests::new();
+    let found = machine.core().taken_files_metered(&mut requests.meter);
+    let answer = write_found(&requests, found, files);
     handle.put(alloc, machine);
     answer
 }
@@ -212,7 +220,10 @@ fn write_acked(core: &Core, id: u64, subtask: SubtaskId, files: &mut [u64]) -> A
 }
 
 /// Writes the files of a read, unless it ran out of memory.
-fn write_found(found: Result<Files, AllocError>, files: &mut [u64]) -> Answer
+///
+/// Condition: then a request was refused.
+fn write_found(requests: &Requests, found: Result<Files, AllocError>, files: &mut [u64]) -> Answer
+    requires { OnErr found (IsRefused requests.now) }
     ensures told { IfOk found (λ list. result ≡ list_told list (length files.old)) }
     ensures front { IfOk found (λ list. BringsList list files.old files.new result) }
     ensures kept { result.code ≢ 0 → files.new ≡ files.old }
@@ -221,7 +232,7 @@ fn write_found(found: Result<Files, AllocError>, files: &mut [u64]) -> Answer
 {
     match found {
         Ok(list) => write_list(list.as_slice(), files),
-        Err(_) => Answer::out_of_memory(),
+        Err(_) => Answer::out_of_memory(requests),
     }
 }
 

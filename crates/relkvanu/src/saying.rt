@@ -15,6 +15,7 @@ use crate::answer::Answer;
 use crate::asked::{Asked, said};
 use crate::buffers::write_files;
 use crate::lines::LINE_CALL;
+use crate::requests::Requests;
 use crate::writing::{
     CALL_ACK, CALL_ADVANCE, CALL_CANCEL, CALL_CONFIGURE, CALL_COUNT, CALL_DECLINE, CALL_DELETED,
     CALL_DISPOSE, CALL_FENCE, CALL_FORFEIT, CALL_RESERVE, CALL_RESTORE, CALL_SAVEPOINT, CALL_SHOW,
@@ -58,7 +59,7 @@ pub extern "C" fn relkvanu_line_call(
     ensures memory { result.code ≡ no_memory → term_may_want_memory line.now ≡ true }
     ensures numbers { HasNoNumbers result }
 {
-    match said(alloc, line) {
+    match said(&mut Requests::new(), alloc, line) {
         Ok(asked) => write_call(&asked, call, first, second),
         Err(answer) => answer,
     }

@@ -8,6 +8,7 @@ ghost use Rattle.ckpt_term_lines.specs.TermTexts.{IsTermReadAs};
 ghost use Rattle.relkvanu.specs.Buffers.{StandsInFront};
 ghost use Rattle.relkvanu.specs.Calls.{HasNoNumbers, IsWhyNoCall};
 ghost use Rattle.relkvanu.specs.Opening.{IsWhyNot, OpeningWantsMemory, bad_opening, configuration_of, opening_of};
+ghost use Rattle.relkvanu.specs.Requested.{IsRefused};
 ghost use Rattle.relkvanu.specs.Told.{no_memory};
 ghost use Rattle.relkvanu.specs.Writing.{IsWhyNotGiven, OpeningReadsBack, ReadsBack, SaysBack, asked_text, call_given, call_line_text, call_line_told, configuration_in};
 ghost use Rattle.relkvanu.specs.Writing.{given, line_of_asked, opening_text, opening_told, text_told};
@@ -16,6 +17,7 @@ use crate::answer::Answer;
 use crate::asked::{Asked, FAULT_TOO_LONG};
 use crate::calls::{BAD_SHAPE, ack_of, files_of, restore_of};
 use crate::opening::{BAD_CONFIG, BAD_MOMENT, Settings, config_of, job_of};
+use crate::requests::Requests;
 use ckpt_ids::{Call, CheckpointId, Config, FileId, MOMENTS_END, Shape, ShapeFault, SubtaskId};
 use ckpt_lines::{LONGEST_LINE, config_line, job_line, start_line};
 use ckpt_term_lines::{fence_line, term_line};
@@ -108,25 +110,14 @@ pub extern "C" fn relkvanu_call_line(
     ensures memory { result.code ≡ no_memory → IsOk (given call.entry.now first.now second.now) }
     ensures numbers { HasNoNumbers result }
 {
-    let asked = match asked_of(alloc, call, first, second) {
+    let mut requests = Requests::new();
+    let asked = match asked_of(&mut requests, alloc, call, first, second) {
         Ok(asked) => asked,
         Err(answer) => return answer,
     };
-    match text_of(alloc, &asked) {
+    match requests.asked_line(alloc, &asked) {
         Ok(text) => write_text(&text, line),
-        Err(_) => Answer::out_of_memory(),
-    }
-}
-
-/// The line that asks for this.
-#[inline(always)]
-pub(crate) fn text_of(alloc: Global, asked: &Asked) -> Result<String, AllocError>
-    ensures text { IfOk result (λ text. string_bytes text ≡ asked_text asked.now) }
-    ensures read { IfOk result (λ text. IsTermReadAs (line_of_asked asked.now) (string_bytes text)) }
-{
-    match asked {
-        Asked::Fence { first } => fence_line(alloc, *first),
-        Asked::Call(call) => term_line(alloc, call),
+        Err(_) => Answer::out_of_memory(&requests),
     }
 }
 
@@ -134,6 +125,7 @@ pub(crate) fn text_of(alloc: Global, asked: &Asked) -> Result<String, AllocError
 #[tactic(auto, unfolding(crate::specs::Writing::given))]
 #[inline(always)]
 pub(crate) fn asked_of(
+    requests: &mut Requests,
     alloc: Global,
     fields: &CallFields,
     first: &[u64],
@@ -143,6 +135,7 @@ pub(crate) fn asked_of(
     ensures fault { IfErr result (IsWhyNotGiven (given fields.entry.now first.now second.now)) }
     ensures memory { IfErr result (λ answer. answer.code ≡ no_memory → IsOk (given fields.entry.now first.now second.now)) }
     ensures numbers { IfErr result HasNoNumbers }
+    ensures cause { IfErr result (λ answer. answer.code ≡ no_memory → IsRefused requests.new) }
 {
     let term = fields.term;
     let number = fields.number;
@@ -152,16 +145,16 @@ pub(crate) fn asked_of(
             term,
             count: number,
         })),
-        CALL_FORFEIT => match files_of(alloc, first) {
+        CALL_FORFEIT => match files_of(requests, alloc, first) {
             Ok(names) => Ok(Asked::Call(FencedCall::Forfeit { term, names })),
-            Err(_) => Err(Answer::out_of_memory()),
+            Err(_) => Err(Answer::out_of_memory(requests)),
         },
         CALL_ADVANCE => Ok(Asked::Call(FencedCall::Advance {
             now: fields.now,
             term,
             first: number,
         })),
-        _ => match call_of(alloc, fields, first, second) {
+        _ => match call_of(requests, alloc, fields, first, second) {
             Ok(call) => Ok(Asked::Call(FencedCall::Make { term, call })),
             Err(answer) => Err(answer),
         },
@@ -191,6 +184,7 @@ fn configuration_in(list: &[u64]) -> Option<Config>
 /// The call of a kind that needs no names, or the answer if the fields and the lists give none.
 #[tactic(auto, unfolding(crate::specs::Writing::call_given))]
 fn call_of(
+    requests: &mut Requests,
     alloc: Global,
     fields: &CallFields,
     first: &[u64],
@@ -200,6 +194,7 @@ fn call_of(
     ensures fault { IfErr result (IsWhyNoCall (call_given fields.entry.now first.now second.now)) }
     ensures memory { IfErr result (λ answer. answer.code ≡ no_memory → IsOk (call_given fields.entry.now first.now second.now)) }
     ensures numbers { IfErr result HasNoNumbers }
+    ensures cause { IfErr result (λ answer. answer.code ≡ no_memory → IsRefused requests.new) }
 {
     let now = fields.now;
     let id = CheckpointId(fields.number);
@@ -211,16 +206,16 @@ fn call_of(
     match fields.kind {
         CALL_TICK => Ok(Call::Tick { now }),
         CALL_SAVEPOINT => Ok(Call::Savepoint { now }),
-        CALL_ACK => match ack_of(alloc, now, id.0, subtask, first, second) {
+        CALL_ACK => match ack_of(requests, alloc, now, id.0, subtask, first, second) {
             Ok(call) => Ok(call),
-            Err(_) => Err(Answer::out_of_memory()),
+            Err(_) => Err(Answer::out_of_memory(requests)),
         },
         CALL_DECLINE => Ok(Call::Decline { now, id, subtask }),
         CALL_DISPOSE => Ok(Call::Dispose { id }),
-        CALL_RESTORE => match restore_of(alloc, now, fields.number, first) {
+        CALL_RESTORE => match restore_of(requests, alloc, now, fields.number, first) {
             Ok(call) => Ok(call),
             Err(ShapeFault::BadShape) => Err(Answer::bad_argument(BAD_SHAPE)),
-            Err(ShapeFault::Memory) => Err(Answer::out_of_memory()),
+            Err(ShapeFault::Memory) => Err(Answer::out_of_memory(requests)),
         },
         CALL_CANCEL => Ok(Call::Cancel { now }),
         CALL_TAKE => Ok(Call::Take {
@@ -258,13 +253,19 @@ pub extern "C" fn relkvanu_opening_lines(
     ensures memory { OpeningWantsMemory (opening_of settings.now shape.now now 1) result }
     ensures numbers { HasNoNumbers result }
 {
-    match opening_of(alloc, settings, shape, now) {
+    match opening_of(&mut Requests::new(), alloc, settings, shape, now) {
         Ok(text) => write_text(&text, lines),
         Err(answer) => answer,
     }
 }
 
-fn opening_of(alloc: Global, settings: &Settings, shape: &[u64], now: u64) -> Result<String, Answer>
+fn opening_of(
+    requests: &mut Requests,
+    alloc: Global,
+    settings: &Settings,
+    shape: &[u64],
+    now: u64,
+) -> Result<String, Answer>
     ensures good { IfOk result (λ text. bad_opening (opening_of settings.now shape.now now 1) ≡ None) }
     ensures text { IfOk result (λ text. string_bytes text ≡ opening_text (opening_of settings.now shape.now now 1)) }
     ensures config { IfOk result (λ text. IsReadAs (line_of_config (configuration_of settings.now)) (config_text (configuration_of settings.now))) }
@@ -273,32 +274,17 @@ fn opening_of(alloc: Global, settings: &Settings, shape: &[u64], now: u64) -> Re
     ensures fault { IfErr result (IsWhyNot (opening_of settings.now shape.now now 1)) }
     ensures memory { IfErr result (OpeningWantsMemory (opening_of settings.now shape.now now 1)) }
     ensures numbers { IfErr result HasNoNumbers }
+    ensures cause { IfErr result (λ answer. answer.code ≡ no_memory → IsRefused requests.new) }
 {
     let config = config_of(settings)?;
-    let shape = job_of(alloc, shape)?;
+    let shape = job_of(requests, alloc, shape)?;
     if now >= MOMENTS_END {
         return Err(Answer::bad_argument(BAD_MOMENT));
     }
-    match joined(alloc, &config, &shape, now) {
+    match requests.opening_lines(alloc, &config, &shape, now) {
         Ok(text) => Ok(text),
-        Err(_) => Err(Answer::out_of_memory()),
+        Err(_) => Err(Answer::out_of_memory(requests)),
     }
-}
-
-#[tactic(auto, unfolding(crate::specs::Writing::opening_text))]
-fn joined(alloc: Global, config: &Config, shape: &Shape, now: u64) -> Result<String, AllocError>
-    ensures text { IfOk result (λ text. string_bytes text ≡ opening_text (record { config = config.now; shape = shape.now; start = now; first = 1 })) }
-    ensures config { IfOk result (λ text. IsReadAs (line_of_config config.now) (config_text config.now)) }
-    ensures job { IfOk result (λ text. IsReadAs (line.Job shape.now) (job_text shape.now)) }
-    ensures start { IfOk result (λ text. IsReadAs (line.Start now) (start_text now)) }
-{
-    let mut text = config_line(alloc, config)?;
-    text.push_str("\n")?;
-    text.push_str(&job_line(alloc, shape)?)?;
-    text.push_str("\n")?;
-    text.push_str(&start_line(alloc, now)?)?;
-    text.push_str("\n")?;
-    Ok(text)
 }
 
 /// Writes a text to the start of the buffer, if the buffer is long enough and the text is no longer

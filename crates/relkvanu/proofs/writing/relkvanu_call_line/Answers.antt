@@ -4,8 +4,8 @@ use Rattle.relkvanu.specs.Writing.{ReadsBack, given}
 use Rattle.relkvanu.proofs.SayingLemmas.{says_back}
 use Rattle.relkvanu.proofs.writing.relkvanu_call_line.Goals as goal
 
-pub returns-in-Ok-text_of-clause-said : goal.returns-in-Ok-text_of-clause-said
-returns-in-Ok-text_of-clause-said c =
+pub returns-in-Ok-asked_line-clause-said : goal.returns-in-Ok-asked_line-clause-said
+returns-in-Ok-asked_line-clause-said c =
     let line : List ℕ = take c.write_text.result.a c.write_text.new.line in
     let reads : ReadsBack (given c.args.call.now c.args.first.now c.args.second.now) line c.write_text.result = search rules in
     says_back (given c.args.call.now c.args.first.now c.args.second.now) line c.write_text.result reads

@@ -1,9 +1,9 @@
--- Answers the goals of `Logged::make`.
+-- Answers the goals of `Logged::make_metered`.
 use Rattle.std.proofs.Common.{◌≡◌, true, [], ◌∷◌, ◌++◌, rules}
 use Rattle.std.specs.Prelude.{is_ok}
 use Rattle.ckpt_logged.specs.Events.{Named}
 use Rattle.ckpt_logged.proofs.Entering.{entered, made_named}
-use Rattle.ckpt_logged.proofs.logged.Logged.make.Goals as goal
+use Rattle.ckpt_logged.proofs.logged.Logged.make_metered.Goals as goal
 
 pub invariant_of-self : goal.invariant_of-self
 invariant_of-self c =
