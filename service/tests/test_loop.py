@@ -1,4 +1,4 @@
-"""The loop of an engine and of a task that docs/SERVICE-API.md has: extracted from the page and run, with a small engine around them, and a sweeper
+"""The loop of an engine and of a task that docs/SERVICE-ENGINE.md has: extracted from the page and run, with a small engine around them, and a sweeper
 all the time. At the end its folder has the files that the job knows, and no other."""
 import os
 import subprocess
@@ -16,12 +16,12 @@ NAMES = ["--prefix", "state-", "--suffix", ".bin"]  # as the commands of the pag
 
 def page_code(place, *replaced):
     """A program in Python of the page: the first is the loop, the second a task, the third loads a savepoint of another job."""
-    with open(f"{TOP}/docs/SERVICE-API.md", encoding="utf-8") as it:
+    with open(f"{TOP}/docs/SERVICE-ENGINE.md", encoding="utf-8") as it:
         text = it.read().split("```python\n")[place].partition("```")[0]
     for old, new in replaced:
         assert text.count(old) == 1, (old, text)
         text = text.replace(old, new)
-    return compile(text, "a program of docs/SERVICE-API.md", "exec")
+    return compile(text, "a program of docs/SERVICE-ENGINE.md", "exec")
 
 
 class Engine(threading.Thread):

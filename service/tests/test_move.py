@@ -554,7 +554,7 @@ def empty_again(database, url, path):
     with folder() as at:
         Server(at, url).start().stop()
     assert "has tables of a service already" in move(path, url, status=78)
-    with open(f"{TOP}/docs/SERVICE-BACKUP.md", encoding="utf-8") as it:
+    with open(f"{TOP}/docs/SERVICE-MOVE.md", encoding="utf-8") as it:
         [drop] = re.findall(r"psql\s--dbname=relkvanu --command='(drop owned by relkvanu)'", it.read())
     asked(database, url.replace("relkvanu@", "postgres@"), drop)
 
@@ -801,8 +801,8 @@ def test_a_full_disk():
 
 
 def page_commands(after, at, port):
-    """A block of docs/SERVICE-BACKUP.md, over the databases of the test."""
-    with open(f"{TOP}/docs/SERVICE-BACKUP.md", encoding="utf-8") as it:
+    """A block of docs/SERVICE-MOVE.md, over the databases of the test."""
+    with open(f"{TOP}/docs/SERVICE-MOVE.md", encoding="utf-8") as it:
         block = it.read().partition(after)[2].split("```")[1]
     block = re.sub(r"@db\.example/(\w+)\?passfile=pgpass", rf"@127.0.0.1:{port}/\1", block)
     return block.replace("/var/lib/relkvanu", at)
