@@ -3,7 +3,7 @@ use crate::cli;
 use crate::database::{Database, NoDatabase};
 use crate::exit::{NOT_TO_START, START_AGAIN};
 use crate::log;
-use crate::model::{Job, KeptImage, NoJob, Opening, Phase, Trail};
+use crate::model::{Job, KeptImage, NoJob, Opening, Phase, Shards, Trail};
 use crate::store::{DbError, LiteReader, PgReader, Reader, Unusable};
 use crate::writer::{replay, StartError};
 use serde_json::json;
@@ -101,7 +101,7 @@ fn checked(given: &cli::Check) -> Result<bool, Unchecked> {
 
 /// The phases of the jobs that somebody has stopped.
 fn phases(reader: &mut dyn Reader) -> Result<BTreeMap<i64, Phase>, Unchecked> {
-    match reader.phases() {
+    match reader.phases(Shards::ALL) {
         Ok(phases) => Ok(phases.into_iter().collect()),
         Err(error) if error.is_damage() => Err(Unchecked::Phases(error)),
         Err(error) => Err(error.into()),

@@ -11,6 +11,8 @@ from harness import SERVICE, TOP, folder
 PROGRAMS = {
     "date": 'n=$(($(cat {at}/clock) + 1)); echo $n > {at}/clock; printf "%s0101T00%02d00Z\\n" "$(cat {at}/year)" $n',
     "relkvanu": """case $* in
+"show "*--json*)
+    printf '{{"phase":"%s"}}\\n' "$(cat {at}/phase)";;
 "savepoint "*--json*)
     n=$(($(cat {at}/last) + 1)); echo $n > {at}/last; echo "$n $((1000 + n))" >> {at}/there
     printf '{{"id":%s,"savepoint":"triggered","seq":7}}\\n{{"completed":%s}}\\n' $n $n;;
@@ -36,7 +38,7 @@ def made_up(at, listing=PRINTED):
         with open(f"{at}/bin/{name}", "w", encoding="utf-8") as it:
             it.write(f"#!/bin/sh\n{text.format(at=at, list=listing.format(at=at))}\n")
         os.chmod(f"{at}/bin/{name}", 0o755)
-    for name, text in {"clock": "0\n", "year": "2026\n", "last": "0\n", "there": "", "disposed": ""}.items():
+    for name, text in {"clock": "0\n", "phase": "running", "year": "2026\n", "last": "0\n", "there": "", "disposed": ""}.items():
         with open(f"{at}/{name}", "w", encoding="utf-8") as it:
             it.write(text)
     for name in ("backups", "notes"):
@@ -187,6 +189,18 @@ def test_the_unit_makes_copies():
         assert sorted(os.listdir(f"{at}/backups")) == [f"20260101T00{minute:02}00Z.db" for minute in range(3, 17)], os.listdir(f"{at}/backups")
         check_a_wrong_clock(make, at, environment, ".db")
         return "16 copies, and 6 nights with a clock that is wrong"
+
+
+def test_a_stopped_job_is_backed_up_without_a_savepoint():
+    """It begins from the savepoint of its stop, and is refused another one. The backup goes on."""
+    with folder() as at:
+        environment = made_up(at)
+        with open(f"{at}/phase", "w", encoding="utf-8") as it:
+            it.write("stopped")
+        ran(script(at), at, environment)
+        told = lines(f"{at}/there"), lines(f"{at}/last"), sorted(os.listdir(f"{at}/notes"))
+        assert told == ([], ["0"], ["new"]), told
+        return "no savepoint, and the mark of the backup"
 
 
 def test_the_unit_makes_dumps():

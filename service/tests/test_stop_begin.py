@@ -13,7 +13,7 @@ import requests
 from harness import BUSY, COMMAND, PROGRAM, Server, caught_up, folder, leader_and_standby, lease_of, served, until
 from postgres import postgres
 from preloaded import SHIM, Clocks, built, shim
-from relkvanu_service import Failed, Fenced, Refused, Service, ack, cancel, decline, restore
+from relkvanu_service import Failed, Fenced, OtherLog, Refused, Service, ack, cancel, decline, restore
 from test_operate import NEVER, Tasks, ran, refused
 
 HOUR = 3600
@@ -41,6 +41,55 @@ def take_part(tasks, savepoint, subtasks=("0.0", "0.1")):
     answers = tasks.job.calls([ack(savepoint, subtask, [tasks.number()], term=term) for subtask in subtasks])
     assert all("ack" in one for one in answers), answers
     return answers
+
+
+def test_a_key_is_of_its_path():
+    """The bodies of a stop, a begin and a checkpoint are the same. A script that gives one key to all is told so."""
+    with served(names=True) as server:
+        tasks = Tasks(server, True)
+        tasks.job.stop_job(key="deploy-42")
+        take_part(tasks, tasks.job.state()["stop"]["savepoint"])
+        for call in (tasks.job.begin_job, tasks.job.checkpoint):
+            try:
+                told = call(key="deploy-42")
+            except Failed as failed:
+                told = failed.status
+            assert told == 422, told
+        assert stop_of(tasks.job)[0] == "stopped"
+        tasks.job.begin_job(key="deploy-43")
+        return "a key of a stop, at a begin and a checkpoint"
+
+
+def test_who_waits_for_a_begin_hears_of_a_backup():
+    """An engine waits where its job has stopped. The service goes on from a copy of before the stop: the engine may not go on by itself."""
+    with folder() as at:
+        server = Server(at, names=True).start()
+        tasks, told = Tasks(server, True), []
+        tasks.complete()
+        server.stop()
+        for end in ("", "-wal"):
+            shutil.copy(server.database + end, f"{at}/copy.db{end}")
+        server.start()
+        stops(tasks)
+
+        def wait():
+            try:
+                told.append(tasks.job.until_begun()["phase"])
+            except OtherLog as why:
+                told.append(why)
+
+        waits = threading.Thread(target=wait, daemon=True)
+        waits.start()
+        time.sleep(0.5)
+        server.stop()
+        os.remove(f"{server.database}-shm")
+        for end in ("", "-wal"):
+            shutil.copy(f"{at}/copy.db{end}", server.database + end)
+        server.start()
+        waits.join(BUSY * 120)
+        server.stop()
+        assert len(told) == 1 and isinstance(told[0], OtherLog), told
+        return "a backup of before the stop"
 
 
 def stopped_and_begun(names):

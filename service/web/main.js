@@ -63,7 +63,7 @@ function showJob(told, rows) {
   at("hint").textContent = views.hint(job);
   at("hint").hidden = at("hint").textContent === "";
   const doing = views.doing(job);
-  for (const id of ["do-checkpoint", "do-savepoint"]) at(id).disabled = job.mode !== "running" || doing === "stopped";
+  for (const id of ["do-checkpoint", "do-savepoint"]) at(id).disabled = doing !== "running";
   at("do-stop").disabled = doing !== "running";
   at("do-begin").disabled = doing !== "stopped";
   at("do-restore").disabled = job.mode === "cancelled" || doing === "stopped";

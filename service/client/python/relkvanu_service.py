@@ -463,12 +463,16 @@ class Job:
         return self._service.request("POST", f"{self._path}/advance", {"term": term, "first_name": str(first_name)}, key)
 
     def until_begun(self):
-        """Waits as long as the job has stopped: an engine that starts does so before `begin`. Returns the state of the job."""
-        while (state := self.state()).get("phase") == "stopped":
-            try:
-                self.poll(state["seq"], _LONG_POLL)
-            except Gone:
-                pass  # the state says what came instead of the events
+        """Waits as long as the job has stopped: an engine that starts does so before `begin`. Returns the state of the job. Raises `OtherLog` if a
+        backup of the service was restored meanwhile."""
+        state = self.state()
+        if state.get("phase") != "stopped":
+            return state
+        follower = self.follower(state["seq"], state.get("log"))
+        while state.get("phase") == "stopped":
+            follower.next(_LONG_POLL)
+            state = self.state()
+        follower.next(0)  # the state may be that of the backup
         return state
 
     def garbage(self, files):

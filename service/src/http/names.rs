@@ -44,7 +44,7 @@ pub async fn advance(app: &App, caller: &Caller, job: String, request: Request<B
     let name = key_name(request.headers())?;
     let (bytes, _room) = read_body(app, caller, request.into_body()).await?;
     let (term, first_name) = wire::advance(&bytes).map_err(|why| invalid(&why))?;
-    let key = name.map(|name| Key { name, digest: sha256(&bytes) });
+    let key = name.map(|name| Key { name, digest: sha256(&[b"advance", &bytes[..]].concat()) });
     let (at, calls) = (job.clone(), vec![Call::Advance { term, first_name }]);
     let did = Did::of(&calls);
     let done = app.ask(|reply| Message::Calls { job, calls, key, reply }).await?;

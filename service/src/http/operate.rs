@@ -21,11 +21,21 @@ pub async fn one(
     let name = key_name(request.headers())?;
     let (bytes, _room) = read_body(app, caller, request.into_body()).await?;
     wire::nothing(&bytes).map_err(|why| invalid(&why))?;
-    let key = name.map(|name| Key { name, digest: sha256(&bytes) });
+    // the paths have the same body: a key of one makes nothing for another
+    let key = name.map(|name| Key { name, digest: sha256(&[word(&call).as_bytes(), &bytes].concat()) });
     let (at, calls) = (job.clone(), vec![call]);
     let did = Did::of(&calls);
     let done = app.ask(|reply| Message::Calls { job, calls, key, reply }).await?;
     Ok(answered(app, &at, done, did))
+}
+
+/// What tells the body of a path from those of others.
+fn word(call: &Call) -> &'static str {
+    match call {
+        Call::Stop => "stop",
+        Call::Begin => "begin",
+        _ => "checkpoint",
+    }
 }
 
 /// Changes the settings that the body names. A repeat changes nothing more, so it needs no key.

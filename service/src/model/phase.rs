@@ -44,7 +44,7 @@ pub enum Phase {
     Running,
     /// It runs on, since the last stop failed.
     NotStopped(Stop, StopFailed),
-    /// It runs until the savepoint is complete. The timer rests.
+    /// It runs until the savepoint is complete. Nothing is triggered.
     Stopping(Stop),
     /// The savepoint is what the job begins from, in this term or a later one. Nobody runs.
     Stopped(Stop, Option<u64>),

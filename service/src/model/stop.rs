@@ -22,6 +22,7 @@ impl Job {
             Call::Stop => self.stop(now, &mut made),
             Call::Begin => self.begin(now, &mut made),
             call if self.phase.is_stopped() && needs_tasks(call) => Outcome::Unable(Unable::Stopped),
+            call if self.is_too_early(call, now) => Outcome::Unable(Unable::Stopping),
             Call::Restore { target: Target::Checkpoint(id), shape } => {
                 self.go_back(*id, shape.as_deref(), now, &mut made)
             }
@@ -103,6 +104,16 @@ impl Job {
         match self.complete_stop() {
             Some(_) => stop.at,
             None => stop.at.saturating_add(self.settings.timeout),
+        }
+    }
+
+    /// Whether a call would trigger while the job stops. Sinks would publish what such a record completes, and publish it again after the begin.
+    /// Only the tick that is due goes through: the savepoint expires in it.
+    fn is_too_early(&self, call: &Call, now: u64) -> bool {
+        match (self.phase, call) {
+            (Phase::Stopping(_), Call::Trigger | Call::Savepoint) => true,
+            (Phase::Stopping(stop), Call::Tick) => now < self.stop_wakes(stop),
+            _ => false,
         }
     }
 
@@ -218,6 +229,28 @@ mod tests {
         assert_eq!((&outcome.json()["restore"], &outcome.json()["id"]), (&"savepoint".into(), &2.into()));
         assert_eq!(job.wake(), Some(9_000_100));
         assert_eq!(job.operate(&Call::Begin, 9_000_000).0, Outcome::Unable(Unable::NotStopped));
+        Ok(())
+    }
+
+    #[test]
+    fn nothing_is_triggered_while_a_job_stops() -> Result<(), Box<dyn Error>> {
+        let mut job = stopping()?;
+        let (seq, image) = (job.seq, job.engine().image());
+        for call in [Call::Trigger, Call::Savepoint, Call::Tick] {
+            // the interval is long over, and the savepoint expires a moment later
+            let (outcome, made) = job.operate(&call, 5149);
+            assert_eq!((outcome, made.len()), (Outcome::Unable(Unable::Stopping), 0), "{call:?}");
+        }
+        assert_eq!((job.seq, job.engine().image(), job.wake()), (seq, image, Some(5150)));
+        job.operate(&Call::Tick, 5150);
+        assert_eq!(job.phase, Phase::NotStopped(STOP, StopFailed::Expired));
+        assert!(is_made(&job.operate(&Call::Savepoint, 5150).0));
+        // one that was triggered before still completes
+        let mut job = running()?;
+        job.operate(&Call::Trigger, 140);
+        job.operate(&Call::Stop, 150);
+        (0..2).for_each(|index| assert!(is_made(&job.operate(&ack(2, index), 160).0)));
+        assert_eq!((job.engine().choice(), job.phase.word()), (Choice::Checkpoint(2), "stopping"));
         Ok(())
     }
 

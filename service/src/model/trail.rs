@@ -193,7 +193,6 @@ mod tests {
             Call::Advance { term: 7, first_name: 90 },
             Call::Begin,
             Call::Stop,
-            Call::Tick,
             Call::Cancel,
         ];
         tried.is_itself();

@@ -24,6 +24,8 @@ const SETTLE_FOR: Duration = Duration::from_secs(10);
 /// Deletes the parts of images that were not written whole.
 const FORGET_PARTS: &str = "delete from image_part
     where not exists (select 1 from image where image.job = image_part.job and image.seq = image_part.seq)";
+/// Pages of the write-ahead log after which a commit brings it into the file, as SQLite has it by itself.
+const CHECKPOINT_PAGES: i64 = 1000;
 /// No lease has to be renewed: this only bounds how long the writer sleeps.
 const BEAT: Duration = Duration::from_secs(5);
 
@@ -77,9 +79,10 @@ impl Lite {
 
 impl Lite {
     /// Deletes in one transaction, and waits for no sync: what comes back after a loss of power is deleted again. The next commit syncs this
-    /// one too.
+    /// one too, and fails if it can't. So nothing else may sync it: a checkpoint of SQLite's own would not tell that it failed.
     fn without_sync<T>(&mut self, work: impl FnOnce(&Connection) -> rusqlite::Result<T>) -> Result<T, DbError> {
         self.is_lax = true;
+        self.connection.pragma_update(None, "wal_autocheckpoint", 0)?;
         self.connection.pragma_update(None, "synchronous", "normal")?;
         let worked = self.connection.transaction().and_then(|within| {
             let done = work(&within)?;
@@ -94,6 +97,7 @@ impl Lite {
     fn sync_again(&mut self) -> rusqlite::Result<()> {
         if self.is_lax {
             self.connection.pragma_update(None, "synchronous", "full")?;
+            self.connection.pragma_update(None, "wal_autocheckpoint", CHECKPOINT_PAGES)?;
             self.is_lax = false;
         }
         Ok(())
@@ -219,10 +223,9 @@ impl Store for Lite {
         })
     }
 
-    fn note(&mut self, at: u64) -> Result<(), DbError> {
+    fn note(&mut self, at: u64) -> Result<(), Failure> {
         let sql = "insert into clock values(1, ?) on conflict (one) do update set at = excluded.at";
-        self.connection.execute(sql, [signed(at)])?;
-        Ok(())
+        self.connection.execute(sql, [signed(at)]).map(|_| ()).map_err(failure)
     }
 
     fn beat(&self) -> Duration {
@@ -267,19 +270,21 @@ mod tests {
         let folder = std::env::temp_dir().join(format!("relkvanu-lite-{}", std::process::id()));
         std::fs::create_dir(&folder)?;
         let mut lite = Lite::open(&folder.join("it.db")).map_err(|why| why.to_string())?;
-        let level = |lite: &Lite| lite.connection.pragma_query_value(None, "synchronous", |row| row.get::<_, i64>(0));
-        assert_eq!(level(&lite)?, 2);
-        let within =
-            lite.without_sync(|within| within.pragma_query_value(None, "synchronous", |row| row.get::<_, i64>(0)));
-        assert_eq!((within?, level(&lite)?), (1, 2));
+        // how commits are synced, and after how many pages one brings the log into the file
+        let level = |of: &Connection| -> rusqlite::Result<(i64, i64)> {
+            let told = |name| of.pragma_query_value(None, name, |row| row.get(0));
+            Ok((told("synchronous")?, told("wal_autocheckpoint")?))
+        };
+        assert_eq!(level(&lite.connection)?, (2, 1000));
+        assert_eq!((lite.without_sync(level)?, level(&lite.connection)?), ((1, 0), (2, 1000)));
         assert!(lite.without_sync(|within| within.execute("delete from nothing", [])).is_err());
-        assert_eq!((level(&lite)?, lite.is_lax), (2, false));
+        assert_eq!((level(&lite.connection)?, lite.is_lax), ((2, 1000), false));
         // as if memory had run out before it was set again
         lite.connection.pragma_update(None, "synchronous", "normal")?;
         lite.is_lax = true;
         let gone = vec![super::super::rows::GoneJob { job: 7, name: "a".to_string(), at: 1 }];
         lite.commit(&Group { gone, ..Group::default() }).map_err(|why| why.to_string())?;
-        assert_eq!((level(&lite)?, lite.is_lax), (2, false));
+        assert_eq!((level(&lite.connection)?, lite.is_lax), ((2, 1000), false));
         drop(lite);
         Ok(std::fs::remove_dir_all(&folder)?)
     }

@@ -131,7 +131,7 @@ impl Reader for LiteReader {
         self.all("select job, is_empty from gone_job", [])
     }
 
-    fn phases(&mut self) -> Result<Vec<(i64, Phase)>, DbError> {
+    fn phases(&mut self, _: Shards) -> Result<Vec<(i64, Phase)>, DbError> {
         self.all("select job, phase, record, at, term, failed from phase", [])
     }
 

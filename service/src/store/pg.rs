@@ -185,11 +185,12 @@ impl Store for Pg {
         })?)
     }
 
-    fn note(&mut self, at: u64) -> Result<(), DbError> {
+    fn note(&mut self, at: u64) -> Result<(), Failure> {
         let sql = "insert into clock select true, $1::bigint from member where name = $2
             on conflict (one) do update set at = excluded.at";
-        self.connection.query(sql, &[&at.to_string(), &self.name])?;
-        Ok(())
+        // a moment that is lost is written down again, and a commit tells what is wrong with the connection
+        let noted = self.connection.query(sql, &[&at.to_string(), &self.name]);
+        noted.map(|_| ()).map_err(|why| Failure::Again(why.into()))
     }
 
     fn beat(&self) -> Duration {

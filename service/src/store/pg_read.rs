@@ -154,8 +154,9 @@ impl Reader for PgReader {
         self.all("select job, is_empty from gone_job", &[])
     }
 
-    fn phases(&mut self) -> Result<Vec<(i64, Phase)>, DbError> {
-        self.all("select job, phase, record, at, term, failed from phase", &[])
+    fn phases(&mut self, shards: Shards) -> Result<Vec<(i64, Phase)>, DbError> {
+        let sql = format!("select job, phase, record, at, term, failed from phase where {OF_SHARDS}");
+        self.all(&sql, &[&shards.bits().to_string()])
     }
 
     fn call_bytes(&mut self, jobs: &[i64]) -> Result<Vec<(i64, u64)>, DbError> {

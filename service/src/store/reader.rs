@@ -55,8 +55,8 @@ pub trait Reader: Send {
     /// The numbers of jobs that were deleted, and 1 if nothing is left of it.
     fn gone(&mut self) -> Result<Vec<(i64, u64)>, DbError>;
 
-    /// The phases of the jobs that somebody has stopped.
-    fn phases(&mut self) -> Result<Vec<(i64, Phase)>, DbError>;
+    /// The phases of the jobs of shards that somebody has stopped.
+    fn phases(&mut self, shards: Shards) -> Result<Vec<(i64, Phase)>, DbError>;
 
     /// How many bytes the lines and files of the last calls of jobs have on average.
     fn call_bytes(&mut self, jobs: &[i64]) -> Result<Vec<(i64, u64)>, DbError>;

@@ -187,7 +187,7 @@ pub trait Store: Send {
     fn forget_job(&mut self, job: i64) -> Result<bool, DbError>;
 
     /// Writes down that the service runs at this moment.
-    fn note(&mut self, at: u64) -> Result<(), DbError>;
+    fn note(&mut self, at: u64) -> Result<(), Failure>;
 
     /// How long the writer may wait before it has to commit again, an empty group too.
     fn beat(&self) -> Duration;

@@ -75,7 +75,7 @@ impl Writer {
     /// Sends the answers to what was committed. A client may have gone away.
     pub(super) fn answer(&mut self, round: Round) {
         // a refusal needs no commit, but only a leader may answer it
-        if !round.done.is_empty() || !round.created.is_empty() {
+        if !round.done.is_empty() || !round.created.is_empty() || !round.undeleted.is_empty() {
             self.renew();
         }
         for place in &round.touched {
@@ -89,6 +89,9 @@ impl Writer {
         }
         for (created, reply) in round.created {
             let _ = reply.send(created);
+        }
+        for (why, reply) in round.undeleted {
+            let _ = reply.send(why);
         }
         for (read, reply) in round.reads {
             self.renew();

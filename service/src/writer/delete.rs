@@ -16,7 +16,7 @@ pub struct Delete {
 }
 
 impl Writer {
-    /// Looks at the deletions of a round once its calls are made. Those that may be made are committed with these; the others are answered.
+    /// Looks at the deletions of a round once its calls are made. Those that may be made are committed with these; the others are answered after the commit.
     pub(super) fn consider(&mut self, round: &mut Round) {
         for delete in std::mem::take(&mut round.deletions) {
             match self.refusal(&delete, round) {
@@ -24,9 +24,7 @@ impl Writer {
                     round.group.gone.extend(gone);
                     round.deletions.push(delete);
                 }
-                Err(why) => {
-                    let _ = delete.reply.send(why);
-                }
+                Err(why) => round.undeleted.push((why, delete.reply)),
             }
         }
     }

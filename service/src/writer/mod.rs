@@ -34,7 +34,7 @@ pub use state::{JobState, RecordState};
 use crate::log;
 use crate::metrics::Metrics;
 use crate::model::{millis, nearer, Call, Change, Clock, Keeping, Moment, Outcome};
-use crate::store::Store;
+use crate::store::{Failure, Store};
 use batch::{calls_of, Answered};
 use commit::lose;
 use keeper::Keeper;
@@ -221,8 +221,11 @@ impl Writer {
         }
         if self.noted.elapsed() >= NOTE_EACH {
             self.noted = Moment::now();
-            if let Err(why) = self.store.note(self.clock.now()) {
-                log::warn(&format!("the moment is not written down: {why}"));
+            match self.store.note(self.clock.now()) {
+                Ok(()) => {}
+                // after a sync that failed nobody knows what the log has
+                Err(why @ Failure::Lost(_)) => lose(&why),
+                Err(why) => log::warn(&format!("the moment is not written down: {why}")),
             }
         }
     }

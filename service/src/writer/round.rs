@@ -2,7 +2,7 @@
 use super::delete::Delete;
 use super::jobs::Jobs;
 use super::keeper::Upkeep;
-use super::message::{CallsDone, Created, ForKeeping, Key, Names, Read, ReadDone};
+use super::message::{CallsDone, Created, Deletion, ForKeeping, Key, Names, Read, ReadDone};
 use super::moves::Adoption;
 use crate::model::{Call, NoJob, Opening, Settings, Shards};
 use crate::store::{Group, Keyed};
@@ -29,6 +29,8 @@ pub struct Round {
     pub reads: Vec<(Read, Sender<ReadDone>)>,
     pub given: Vec<(ForKeeping, Sender<bool>)>,
     pub deletions: Vec<Delete>,
+    /// Deletions that are not made, and why.
+    pub undeleted: Vec<(Deletion, Sender<Deletion>)>,
     pub adoptions: Vec<Adoption>,
     pub given_up: Vec<(Shards, Sender<Vec<String>>)>,
     /// The places of jobs that were called.

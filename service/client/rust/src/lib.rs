@@ -30,7 +30,7 @@ pub use session::Session;
 pub use start::{file_numbers, Start};
 
 use call::texts;
-use follow::{events_of, GONE};
+use follow::events_of;
 use http::{Asked, Manner, Requests, Told};
 use serde_json::{json, Value};
 use std::sync::Arc;
@@ -196,19 +196,22 @@ impl Job {
         self.operate("begin").await
     }
 
-    /// Waits as long as the job has stopped: an engine that starts does so before [`begin`](Self::begin). Returns the state of the job.
+    /// Waits as long as the job has stopped: an engine that starts does so before [`begin`](Self::begin). Returns the state of the job. Fails
+    /// with [`Error::OtherLog`] if a backup of the service was restored meanwhile.
     pub async fn until_begun(&self) -> Result<Value, Error> {
-        loop {
-            let state = self.state().await?;
-            if state["phase"] != "stopped" {
-                return Ok(state);
-            }
-            match self.events(state["seq"].as_u64().unwrap_or_default(), LONG_POLL).await {
-                // the state says what came instead of the events
-                Ok(_) | Err(Error::Status { status: GONE, .. }) => {}
-                Err(error) => return Err(error),
-            }
+        let mut state = self.state().await?;
+        if state["phase"] != "stopped" {
+            return Ok(state);
         }
+        let after = state["seq"].as_u64().ok_or(Error::Answer("has no seq".to_string()))?;
+        let mut follower = self.follower_at(after, state["log"].as_str().unwrap_or_default());
+        while state["phase"] == "stopped" {
+            follower.next(LONG_POLL).await?;
+            state = self.state().await?;
+        }
+        // the state may be that of the backup
+        follower.next(0).await?;
+        Ok(state)
     }
 
     /// Lets the job go on from an older copy of the service's log, as a backup: it begins again, as by [`begin`](Self::begin), in a term above

@@ -64,7 +64,7 @@ impl Reader for Memory {
     fn gone(&mut self) -> Result<Vec<(i64, u64)>, DbError> {
         Ok(vec![])
     }
-    fn phases(&mut self) -> Result<Vec<(i64, Phase)>, DbError> {
+    fn phases(&mut self, _: Shards) -> Result<Vec<(i64, Phase)>, DbError> {
         Ok(Vec::new())
     }
 

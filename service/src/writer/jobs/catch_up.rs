@@ -42,7 +42,7 @@ impl Jobs {
 
     /// Reads the phases of jobs, whose calls have all been made here.
     fn take_phases(&mut self, reader: &mut dyn Reader) -> Result<(), StartError> {
-        for (number, phase) in reader.phases()? {
+        for (number, phase) in reader.phases(self.shards)? {
             if let Some(place) = self.place_of(number) {
                 self.jobs[place].phase = phase;
             }
