@@ -944,16 +944,17 @@ class Store:
             for name in place.manifests():
                 each(with_each, name.encode())
 
-        self._place = (
+        functions = (
             store_header.relkvanu_store_check_place(guarded(place.check)),
             store_header.relkvanu_store_put_named(guarded(lambda name, at, length: place.put_manifest(name.decode(), ctypes.string_at(at, length)))),
             store_header.relkvanu_store_remove_named(guarded(lambda name: place.remove_manifest(name.decode()))),
             store_header.relkvanu_store_list_named(guarded(tell_names)))
         self.manifest_fault = None
         try:
-            self._made(_library.relkvanu_store_keep_manifests, *self._place, None)
+            self._made(_library.relkvanu_store_keep_manifests, *functions, None)
         except StoreError as error:
             raise (self.manifest_fault or error) from None
+        self._place = functions  # a call that is refused leaves those that C has
 
     @staticmethod
     def recover_listed(path: Path, listing: Path, record: int = 0) -> Recovered:
