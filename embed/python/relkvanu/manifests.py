@@ -310,13 +310,18 @@ def carry_file(source: Place, target: Place, part: pathlib.Path, file: int, size
         raise StoreError("Damaged", f"{source.url}: file {file} is not as long as its manifest says", False)
 
 
+def cancel(tasks: List["concurrent.futures.Future[None]"]) -> None:
+    """Those that have not begun. Python 3.8 has no cancel_futures."""
+    for it in tasks:
+        it.cancel()
+
+
 def carry_files(source: Place, target: Place, part: pathlib.Path, files: Dict[int, Optional[int]]) -> None:
     with concurrent.futures.ThreadPoolExecutor(THREADS) as pool:
         tasks = [pool.submit(carry_file, source, target, part, file, size) for file, size in files.items()]
         for it in concurrent.futures.as_completed(tasks):
             if it.exception() is not None:
-                for other in tasks:
-                    other.cancel()
+                cancel(tasks)
                 it.result()
 
 
