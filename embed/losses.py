@@ -254,7 +254,7 @@ class PutBack:
     A loss before leaves what it can put back again."""
 
     name = "relkvanu-store put-back"
-    syncs = (("the new file", lambda path: path.startswith("job.db.new")), ("its folder", lambda path: path == ""))
+    syncs = (("the new file", lambda path: path.startswith(".job.db.relkvanu-new")), ("its folder", lambda path: path == ""))
 
     def __init__(self, samples):
         self.samples, self.root = samples, samples.work / "power-put_back"

@@ -564,12 +564,19 @@ typedef struct {
  * is refused. Savepoints that have all their files live on under new numbers. What the other records have is garbage to the next sweep: so is the
  * state of a record that was complete and has no manifest.
  *
- * Killed at any moment it has done nothing, or all: make the same call again. Then open the job with options.storage as ever: it is one that was
+ * A process that was told to end may not have ended, so it is fenced before the record is chosen for good: the marker names a later opening then. That alone
+ * takes nothing from a job whose file is lost; but an older file of it is refused from then on, also if the recovery did not come to its end.
+ *
+ * Killed at any moment it has done nothing, that alone, or all: make the same call again. Then open the job with options.storage as ever: it is one that was
  * recovered, with its steps. Sinks are told of the choice under the number that they know.
  *
  * RELKVANU_STORE_PRESENT: there is a job at path, or PATH-wal without it; RELKVANU_STORE_ABSENT: no record with a manifest has all its files;
- * RELKVANU_STORE_STORAGE: the folder or its marker is not there; RELKVANU_STORE_IN_USE: another process opens or recovers it; RELKVANU_STORE_FAILED and the
- * statuses after it, RELKVANU_STORE_NO_MEMORY. Nothing has changed then. */
+ * RELKVANU_STORE_DAMAGED: a manifest is damaged, or one that is damaged or of a later version of the library has a greater number than the record: message
+ * names it. Such a one may be of a later record, and says neither which terms nor which names were given out since. With the number of a record the
+ * recovery goes on, above the number of that manifest, unless it is 2^20 or more above all others. RELKVANU_STORE_STORAGE: the folder or its marker is not
+ * there; RELKVANU_STORE_IN_USE: another process opens or recovers it. Nothing has changed then. RELKVANU_STORE_FAILED and the statuses after it,
+ * RELKVANU_STORE_NO_MEMORY: nothing has changed, but that the old job may be fenced. If it is the sync or the marker behind the last step that fails, the job
+ * is there: the same call says RELKVANU_STORE_PRESENT, and the first opening writes the marker. */
 int relkvanu_store_recover(const char *path, const char *folder, uint64_t record, relkvanu_store_recovered *recovered);
 
 /* The same for a job whose manifests relkvanu_store_keep_manifests has kept, so that no folder is opened with it. `listing` is a folder that stands for the place:
@@ -604,7 +611,7 @@ int relkvanu_store_import(const char *from, uint64_t record, const char *path, c
  * still has it puts and deletes nothing more. If `folder` is `from`, its files stay in place: a job that has a marker there keeps its identity, as by
  * relkvanu_store_recover; a job over an exported folder gets one of its own. Otherwise it is relkvanu_store_import, after which the files leave `from`, but
  * for those that another record there has, and last of all the manifest. An exported folder that is empty then is removed. Other records of `from` stay
- * there, without a job.
+ * there, without a job. If relkvanu_store_import has made the job already, the same record leaves `from` in the same way, and its old job is fenced first too.
  *
  * Killed at any moment it has done nothing, a part that the same call finishes, or all. If the old job was fenced and nothing else is done, the same call goes
  * on too. Statuses as those of relkvanu_store_import: RELKVANU_STORE_PRESENT and RELKVANU_STORE_ABSENT come before anything is fenced. */

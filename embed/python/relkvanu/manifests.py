@@ -18,13 +18,14 @@ import shutil
 import sys
 import tempfile
 import time
-import urllib.parse
 import zlib
-from typing import Any, Dict, Iterator, List, NamedTuple, Optional, Set, Union
+from typing import Any, Dict, Iterator, List, NamedTuple, Optional, Union
+
+from botocore.exceptions import BotoCoreError
 
 from relkvanu.errors import Error
 from relkvanu.s3 import OWNER, Bucket, client
-from relkvanu.storage import Marker, NotThere, StorageError
+from relkvanu.storage import Marker, NotThere, StorageError, bucket_and_prefix
 from relkvanu.store import Carried, Record, Recovered, Store, StoreError
 
 MARKER, PART = ".relkvanu-job", ".relkvanu-part"
@@ -92,9 +93,8 @@ class InBucket:
     """Manifests and files below s3://BUCKET/PREFIX."""
 
     def __init__(self, url: str, s3: Any) -> None:
-        where = urllib.parse.urlsplit(url)
-        prefix = where.path.strip("/")
-        self.url, self.bucket, self.prefix, self.s3 = url, where.netloc, f"{prefix}/" if prefix else "", s3
+        self.url, self.s3 = url, s3
+        self.bucket, self.prefix = bucket_and_prefix(url)
         self._bucket = _Bucket(self.bucket, "any", prefix=self.prefix, s3=s3, keeps_versions=True, marker=Marker(MARKER, "any"))
 
     def owner(self) -> Optional[Owner]:
@@ -271,6 +271,11 @@ def recover(job: Path, source: Place, record: int = 0) -> Recovered:
         return Store.recover(job, source.path, record)
     if source.owner() is None:
         raise StoreError("Storage", f"{source.url}: it has no marker of a job", False)
+    if has_job(job) or has_job(f"{os.fspath(job)}-wal"):
+        raise StoreError("Present", f"{os.fspath(job)}: there is a job, or its -wal", False)
+    with listed(source) as folder:
+        chosen(source, folder, record)
+    fence(source)  # a process that was told to end may not have ended
     with listed(source) as folder:
         found = Store.recover_listed(job, folder, record)
         owner = InFolder(folder).owner()
@@ -280,6 +285,14 @@ def recover(job: Path, source: Place, record: int = 0) -> Recovered:
 
 
 # To carry a record.
+
+
+def pieces_of(contents: Any, file: int, source: Place) -> Iterator[bytes]:
+    """The connection may also end while the contents come."""
+    try:
+        yield from iter(functools.partial(contents.read, PIECE), b"")
+    except BotoCoreError as error:
+        raise StorageError(errno.EIO, str(error), f"{source.url}: file {file}") from error
 
 
 def carry_file(source: Place, target: Place, part: pathlib.Path, file: int, size: Optional[int]) -> None:
@@ -292,9 +305,15 @@ def carry_file(source: Place, target: Place, part: pathlib.Path, file: int, size
         if isinstance(target, InBucket):
             target.put(file, contents)
             return
-        length = make_file(part / str(file), iter(functools.partial(contents.read, PIECE), b""))
+        length = make_file(part / str(file), pieces_of(contents, file, source))
     if size is not None and length != size:
         raise StoreError("Damaged", f"{source.url}: file {file} is not as long as its manifest says", False)
+
+
+def cancel(tasks: List["concurrent.futures.Future[None]"]) -> None:
+    """Those that have not begun. Python 3.8 has no cancel_futures."""
+    for it in tasks:
+        it.cancel()
 
 
 def carry_files(source: Place, target: Place, part: pathlib.Path, files: Dict[int, Optional[int]]) -> None:
@@ -302,7 +321,7 @@ def carry_files(source: Place, target: Place, part: pathlib.Path, files: Dict[in
         tasks = [pool.submit(carry_file, source, target, part, file, size) for file, size in files.items()]
         for it in concurrent.futures.as_completed(tasks):
             if it.exception() is not None:
-                pool.shutdown(wait=True, cancel_futures=True)
+                cancel(tasks)
                 it.result()
 
 
@@ -313,23 +332,44 @@ def manifest_of(source: Place, record: Record, job: Optional[str]) -> bytes:
     return text if job is None else of_job(text, job)
 
 
+def is_named(descriptor: int, path: pathlib.Path) -> bool:
+    try:
+        return os.path.samestat(os.fstat(descriptor), os.lstat(path))
+    except FileNotFoundError:
+        return False
+
+
+def locked_part(part: pathlib.Path) -> int:
+    """Opens the folder, which nobody else removes or names while it is open here. Another command may have done so before the lock was had."""
+    for _ in range(TRIES):
+        with contextlib.suppress(FileExistsError):
+            part.mkdir(mode=0o700)
+        try:
+            lock = os.open(part, os.O_RDONLY | os.O_DIRECTORY | os.O_NOFOLLOW)
+        except FileNotFoundError:
+            continue
+        try:
+            fcntl.flock(lock, fcntl.LOCK_EX | fcntl.LOCK_NB)
+        except BlockingIOError:
+            os.close(lock)
+            break
+        if is_named(lock, part):
+            return lock
+        os.close(lock)
+    raise StoreError("InUse", f"{part}: another export or import writes it", False)
+
+
 @contextlib.contextmanager
 def part_folder(target: InFolder) -> Iterator[pathlib.Path]:
     """A folder beside the target that nobody else makes meanwhile. It is removed unless it was given its name."""
     part = pathlib.Path(f"{target.url.rstrip('/')}.part")
-    with contextlib.suppress(FileExistsError):
-        part.mkdir(mode=0o700)
-    lock = os.open(part, os.O_RDONLY | os.O_DIRECTORY | os.O_NOFOLLOW)
+    lock = locked_part(part)
     try:
-        try:
-            fcntl.flock(lock, fcntl.LOCK_EX | fcntl.LOCK_NB)
-        except BlockingIOError:
-            raise StoreError("InUse", f"{part}: another export or import writes it", False) from None
         for it in part.iterdir():
             it.unlink()
         yield part
     finally:
-        if part.exists() and os.path.samestat(os.fstat(lock), os.stat(part)):
+        if is_named(lock, part):
             shutil.rmtree(part)
         os.close(lock)
 
@@ -450,15 +490,13 @@ def import_job(source: Place, job: Path, target: Place, record: int = 0) -> Reco
 
 def leave(source: Place, record: int) -> None:
     """The files of the record leave the source, but for those that another record has, and then its manifest."""
-    texts = manifests_of(source)
-    others: Set[int] = set()
-    for id, text in texts.items():
-        if id != record:
-            if not files_in(text):
-                raise StoreError("Damaged", f"{source.url}: another manifest can't be read: the files of the record stay there too", False)
-            others |= set(files_in(text))
-    if record in texts:
-        source.drop(sorted(set(files_in(texts[record])) - others))
+    with listed(source) as folder:
+        found = Store.records(folder)
+        if any(it.damage is not None for it in found):
+            raise StoreError("Damaged", f"{source.url}: a manifest there can't be read: the files of the record stay there too", False)
+        files = {it.id: set(files_in((folder / name_of(it.id)).read_bytes())) for it in found}
+    if record in files:
+        source.drop(sorted(files.pop(record).difference(*files.values())))
         source.remove(name_of(record))
     if source.owner() is None:
         source.remove_itself()
@@ -501,11 +539,12 @@ def claim(source: Place, job: Path, target: Place, record: int = 0) -> Recovered
 
 
 def go_on(source: Place, job: Path, target: Place) -> Recovered:
-    """A claim whose job is there already, as the same call has left it before it ended."""
+    """A claim whose job is there already, as the same call has left it before it ended, or an import: then the old job runs, and is fenced first."""
     record = imported(source, target)
     if record is None:
         raise StoreError("Present", f"{os.fspath(job)}: there is a job", False)
     it = members(manifests_of(target)[record])
+    fence(source)
     leave(source, record)
     return Recovered(record, it["kind"] == "savepoint", it["files"], it["bytes"], 0, 0, 0, 0, max(it["below"]["number"], record + 1))
 
@@ -579,7 +618,7 @@ def main(words: Optional[List[str]] = None) -> int:
     try:
         run(given)
         sys.stdout.flush()
-    except (Error, OSError) as error:
+    except (Error, OSError, ValueError) as error:
         print(f"relkvanu-store: {error}", file=sys.stderr)
         return 1
     return 0

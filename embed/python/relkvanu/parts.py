@@ -8,7 +8,6 @@ import functools
 import os
 import pickle
 import threading
-import urllib.parse
 import zlib
 from dataclasses import dataclass, field
 from typing import Any, Callable, Dict, Iterable, Iterator, List, NamedTuple, Optional, Sequence, Tuple, Union
@@ -17,7 +16,7 @@ import cloudpickle
 import xxhash
 
 from relkvanu.errors import Error
-from relkvanu.storage import Folder, Marker
+from relkvanu.storage import Folder, Marker, bucket_and_prefix
 
 Pieces = List[memoryview]
 Dumps = Callable[[Any], Union[bytes, Pieces]]
@@ -46,14 +45,13 @@ class Place(NamedTuple):
     marker: Optional[Tuple[str, str]] = None
 
     def open(self, is_new: bool = False) -> Any:
-        where = urllib.parse.urlsplit(self.url)
         marker = None if self.marker is None else Marker(*self.marker)
-        if where.scheme != "s3":
+        if not self.url.startswith("s3://"):
             return Folder(self.url, self.job, is_new, marker=marker)
         from relkvanu.s3 import Bucket, client
 
-        prefix = where.path.strip("/")
-        return Bucket(where.netloc, self.job, is_new, f"{prefix}/" if prefix else "", s3=client(self.endpoint, self.region), marker=marker)
+        bucket, prefix = bucket_and_prefix(self.url)
+        return Bucket(bucket, self.job, is_new, prefix, s3=client(self.endpoint, self.region), marker=marker)
 
 
 def place_of(storage: Union[str, "os.PathLike[str]", Place], job: str) -> Place:

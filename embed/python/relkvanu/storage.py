@@ -19,6 +19,15 @@ PART = ".part"  # behind the name of a file that is not whole yet
 PAGE = 1000
 
 
+def bucket_and_prefix(url: str) -> Tuple[str, str]:
+    """Of s3://BUCKET/PREFIX, whose prefix ends with a slash unless it is empty. Behind a # or a ? there would be no prefix, but other parts of an address."""
+    if "#" in url or "?" in url:
+        raise ValueError(f"{url}: an address of a bucket has no # and no ?")
+    bucket, _, path = url[len("s3://"):].partition("/")
+    prefix = path.strip("/")
+    return bucket, f"{prefix}/" if prefix else ""
+
+
 class StorageError(Error, OSError):
     """A file was not put, deleted or listed. It may be there, or not."""
 

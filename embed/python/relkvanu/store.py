@@ -955,6 +955,7 @@ class Store:
             self._made(_library.relkvanu_store_keep_manifests, *functions, None)
         except StoreError as error:
             raise (self.manifest_fault or error) from None
+        self._place = functions  # a call that is refused leaves those that C has
 
     @staticmethod
     def recover_listed(path: Path, listing: Path, record: int = 0) -> Recovered:
@@ -969,8 +970,8 @@ class Store:
         all its files, or from the record with this number. Each task and process of the old job has been told to end. Killed at any moment it
         has done nothing, or all. Then Store(path, .., storage=storage) recovers the job as ever.
 
-        Raises StoreError "Present" (there is a job), "Absent" (no record with a manifest has all its files), "Storage" or "InUse", and nothing has
-        changed."""
+        Raises StoreError "Present" (there is a job), "Absent" (no record with a manifest has all its files), "Damaged" (a manifest that can't be read is
+        later: give a record), "Storage" or "InUse", and nothing has changed."""
         found = store_header.relkvanu_store_recovered()
         status = _library.relkvanu_store_recover(_bytes(path), _bytes(storage), _u64(record), ctypes.byref(found))
         _check(status, found.message)

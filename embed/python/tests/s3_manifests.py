@@ -279,6 +279,33 @@ class Carrying(OnAServer):
         self.imports(self.url("d"), self.url("e"), later, CLAIM)
         self.assertEqual(self.keys("d/"), [])
 
+    def test_a_claim_after_an_import(self):
+        """The old job runs until it is fenced, and that comes before its files leave."""
+        self.bases()
+        with self.opened() as (job, files):
+            manifests.import_job(self.at("orders"), self.work / "new.db", self.at("a"))
+            made = manifests.claim(self.at("orders"), self.work / "new.db", self.at("a"))
+            self.assertEqual(made.files, TASKS)
+            self.assertFalse(set(self.numbers("orders/")) & set(self.of_bucket))
+            with self.assertRaises(OtherJob):
+                files.put(5000, b"x")
+
+    def test_beside_a_damaged_manifest(self):
+        """A manifest whose sum is wrong may name any file. One of tasks without files is whole."""
+        in_bucket, _ = self.bases()
+        (other,) = [it.id for it in manifests.records(self.at("orders")) if it.is_savepoint]
+        key = f"orders/record-{other}.manifest"
+        text = self.s3.get_object(Bucket=self.bucket, Key=key)["Body"].read()
+        self.s3.put_object(Bucket=self.bucket, Key=key, Body=text.replace(b'"sum":"', b'"sum":"0'))
+        with self.assertRaisesRegex(StoreError, "can't be read"):
+            manifests.leave(self.at("orders"), in_bucket)
+        self.assertLessEqual(set(self.of_bucket), set(self.numbers("orders/")))
+
+    def test_an_address_with_more(self):
+        for url in (self.url("orders#eu"), self.url("orders?eu")):
+            status, told = self.runs("show", url)
+            self.assertEqual((status, "no # and no ?" in told), (1, True), told)
+
     def test_claims_in_place(self):
         in_bucket, _ = self.bases()
         self.assertEqual(self.runs("export", self.url("orders"), self.url("d"))[0], 0)

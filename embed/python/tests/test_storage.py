@@ -7,7 +7,7 @@ from unittest import mock
 
 from folders import InFolder
 from relkvanu import Coordinator, Error, FileCounts, Settings
-from relkvanu.storage import Exists, Folder, Names, NotThere, OtherJob, StorageError, discard, sweep, unknown
+from relkvanu.storage import Exists, Folder, Names, NotThere, OtherJob, StorageError, bucket_and_prefix, discard, sweep, unknown
 
 
 # What a sync may say, but for EINVAL.
@@ -32,6 +32,18 @@ class WithStorage(InFolder):
         folder = Folder(self.path, job, is_new, **words)
         self.addCleanup(folder.close)
         return folder
+
+
+class AddressesOfBuckets(unittest.TestCase):
+    def test_their_parts(self):
+        self.assertEqual(bucket_and_prefix("s3://b/orders"), ("b", "orders/"))
+        self.assertEqual(bucket_and_prefix("s3://b/of/orders/"), ("b", "of/orders/"))
+        self.assertEqual(bucket_and_prefix("s3://b"), ("b", ""))
+
+    def test_no_part_is_left_out(self):
+        for url in ("s3://b/orders#eu/", "s3://b/orders?eu", "s3://b/orders#"):
+            with self.assertRaisesRegex(ValueError, "no # and no"):
+                bucket_and_prefix(url)
 
 
 class NamesOfTwoJobs(unittest.TestCase):

@@ -128,9 +128,11 @@ static int leave(void *with, const struct rks_part *part) {
  * file, so beside such a one all stay. */
 static int leave_all(struct claim *c, uint64_t record) {
     char name[RKS_MANIFEST_NAME];
+    bool is_there = false; /* a job that ran until it was fenced may have ended it */
     int status = RELKVANU_STORE_OK;
     for (size_t i = 0; i < c->all.len && status == RELKVANU_STORE_OK; i++) {
         const struct rks_manifest *it = &c->all.at[i];
+        is_there = is_there || it->id == record;
         if (it->id != record) {
             status = it->status == RELKVANU_STORE_OK ? rks_manifest_parts(&c->all, c->from->folder, it->id, note_other, c) : it->status;
         }
@@ -140,7 +142,7 @@ static int leave_all(struct claim *c, uint64_t record) {
                                                   : told(c, RELKVANU_STORE_DAMAGED, c->from_name,
                                                         "another manifest can't be read: the files of the record stay there too");
     }
-    status = rks_manifest_parts(&c->all, c->from->folder, record, leave, c);
+    status = is_there ? rks_manifest_parts(&c->all, c->from->folder, record, leave, c) : status;
     rks_manifest_name(record, "", name);
     if (status == RELKVANU_STORE_OK && (fsync(c->from->folder) != 0 || (unlinkat(c->from->folder, name, 0) != 0 && errno != ENOENT))) {
         status = rks_file_fault(c->from, name, errno);
@@ -169,16 +171,20 @@ static int own(struct claim *c, uint64_t record) {
     return status == RELKVANU_STORE_OK ? rks_write_marker(c->from, c->from_name, 1) : status;
 }
 
+/* The recovery lists and chooses again, once the old job is fenced. */
 static int claim_in_place(struct claim *c, uint64_t record, const char *path) {
-    int status = c->has_marker ? RELKVANU_STORE_OK : own(c, record);
+    int status = c->has_marker ? fence(c) : own(c, record);
     return status == RELKVANU_STORE_OK ? relkvanu_store_recover(path, c->from_name, record, c->told) : status;
 }
 
-/* A claim whose job is there already, as the same call has left it before it ended. */
+/* A claim whose job is there already, as the same call has left it before it ended. An import may have left it too: then the old job runs, and is fenced
+ * before anything leaves. */
 static int go_on(struct claim *c, const char *path, const char *folder) {
     struct rks_manifests there = {0};
     const struct rks_manifest *one = imported(c, &there, folder);
-    int status = one == NULL ? told(c, RELKVANU_STORE_PRESENT, path, "there is a job") : leave_all(c, one->id);
+    int status = one == NULL ? told(c, RELKVANU_STORE_PRESENT, path, "there is a job") : fence(c);
+    status = status == RELKVANU_STORE_OK ? list(c) : status;
+    status = status == RELKVANU_STORE_OK ? leave_all(c, one->id) : status;
     if (status == RELKVANU_STORE_OK) {
         c->told->record = one->id;
         c->told->is_savepoint = one->is_savepoint;
@@ -209,8 +215,7 @@ static int claim_elsewhere(struct claim *c, uint64_t record, const char *path, c
 
 static int claim(struct claim *c, uint64_t record, const char *path, const char *folder) {
     int status = rks_open_folder(c->from, c->from_name);
-    c->has_marker = status == RELKVANU_STORE_OK && rks_read_owner(c->from, c->from_name, &c->epoch) == RELKVANU_STORE_OK;
-    c->from->fault[0] = status == RELKVANU_STORE_OK ? 0 : c->from->fault[0];
+    status = status == RELKVANU_STORE_OK ? rks_find_owner(c->from, c->from_name, &c->epoch, &c->has_marker) : status;
     status = status == RELKVANU_STORE_OK ? list(c) : status;
     if (status != RELKVANU_STORE_OK) {
         return status;

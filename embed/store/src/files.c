@@ -68,6 +68,13 @@ char *rks_folder_of(const char *path) {
     return slash == NULL ? strdup(".") : strndup(path, slash == path ? 1 : (size_t)(slash - path));
 }
 
+char *rks_scratch_name(const char *path, const char *end) {
+    const char *slash = strrchr(path, '/');
+    size_t len = slash == NULL ? 0 : (size_t)(slash - path) + 1;
+    char *name;
+    return asprintf(&name, "%.*s.%s.relkvanu-new%s", (int)len, path, path + len, end) < 0 ? NULL : name;
+}
+
 int rks_sync_folder_of(relkvanu_store *s, const char *path) {
     char *name = rks_folder_of(path);
     if (name == NULL) {

@@ -142,19 +142,19 @@ static int owner_of(const relkvanu_store *s) {
     return place->put != NULL ? place->check(place->with) : rks_owner(s);
 }
 
-/* A manifest elsewhere is whole and durable once its put has returned. */
+/* A manifest elsewhere is whole and durable once its put has returned. A later opening may have taken the place since the last one. */
 static bool is_put(const relkvanu_store *s, uint64_t id, const struct rks_text *text) {
     const struct rks_place *place = &s->kept.place;
     char name[RKS_MANIFEST_NAME];
     rks_manifest_name(id, "", name);
-    return place->put(place->with, name, text->at, text->len) == RELKVANU_STORAGE_OK;
+    return place->check(place->with) == RELKVANU_STORAGE_OK && place->put(place->with, name, text->at, text->len) == RELKVANU_STORAGE_OK;
 }
 
 /* Removes a manifest. One that could not be removed is left to a sweep, or to the next opening. */
 static void drop(const relkvanu_store *s, const char *name) {
     const struct rks_place *place = &s->kept.place;
     if (place->put != NULL) {
-        (void)place->remove(place->with, name);
+        (void)(place->check(place->with) == RELKVANU_STORAGE_OK && place->remove(place->with, name) == RELKVANU_STORAGE_OK);
     } else {
         unlinkat(s->folder, name, 0);
     }

@@ -194,6 +194,16 @@ int rks_read_owner(relkvanu_store *s, const char *folder, uint64_t *marked) {
     return status != RELKVANU_STORE_OK || is_marker ? status : storage_fault(s, folder, "its marker names no job", "");
 }
 
+int rks_find_owner(relkvanu_store *s, const char *folder, uint64_t *marked, bool *has_marker) {
+    struct stat found;
+    *has_marker = is_there(s, MARKER, &found) || errno != ENOENT;
+    if (!*has_marker) {
+        s->identity[0] = 0;
+        return RELKVANU_STORE_OK;
+    }
+    return rks_read_owner(s, folder, marked);
+}
+
 int rks_check_marker(relkvanu_store *s, const char *folder, uint64_t epoch) {
     uint64_t marked = 0;
     int status = rks_read_marker(s, folder, &marked);

@@ -238,6 +238,9 @@ void rks_unlist(relkvanu_store *s);
 int rks_status_of_errno(int error);
 int rks_file_fault(relkvanu_store *s, const char *what, int error);
 char *rks_folder_of(const char *path);
+
+/* The name beside a job's file under which a recovery, or a backup that is put back, makes another one: PATH.new may be a job. NULL: no memory. */
+char *rks_scratch_name(const char *path, const char *end);
 int rks_sync_folder_of(relkvanu_store *s, const char *path);
 int rks_write_again(relkvanu_store *s);
 
@@ -270,6 +273,9 @@ int rks_read_marker(relkvanu_store *s, const char *folder, uint64_t *marked);
 
 /* The same of any job, whose identity the store gets. */
 int rks_read_owner(relkvanu_store *s, const char *folder, uint64_t *marked);
+
+/* The same where a marker may be absent: then *has_marker is false, and the store has no identity. A marker that can't be read is a fault. */
+int rks_find_owner(relkvanu_store *s, const char *folder, uint64_t *marked, bool *has_marker);
 bool rks_has_marker(const relkvanu_store *s);
 
 /* Whether the folder of the storage is also that of PATH; whether the name is that of one of the job's own files there. */

@@ -260,10 +260,12 @@ static int set_all_aside(struct putting *p, const char *folder) {
     return status == RELKVANU_STORE_OK ? rks_sync_folder_of(p->old, p->old->path) : status;
 }
 
-/* No engine starts while there is no file of the job. */
+/* No engine starts while there is no file of the job. That it has gone is on the disk before its -wal goes: without that the file lacks calls. */
 static int replace(struct putting *p) {
-    static const char *const ends[] = {"", "-wal", "-shm"};
+    static const char *const ends[] = {"-wal", "-shm"};
     int status = rks_drop_tail(p->old);
+    status = status == RELKVANU_STORE_OK ? drop(p, p->old->path, "") : status;
+    status = status == RELKVANU_STORE_OK ? rks_sync_folder_of(p->old, p->old->path) : status;
     for (size_t i = 0; i < sizeof ends / sizeof *ends && status == RELKVANU_STORE_OK; i++) {
         status = drop(p, p->old->path, ends[i]);
     }
@@ -276,8 +278,8 @@ static int replace(struct putting *p) {
 
 static bool has_names(struct putting *p) {
     char *within = rks_folder_of(p->old->path);
-    p->path = joined(p->old->path, ".new");
-    p->folder = joined(p->old->path, ".new-state");
+    p->path = rks_scratch_name(p->old->path, "");
+    p->folder = rks_scratch_name(p->old->path, "-state");
     p->aside = joined(within, "/aside-XXXXXX");
     free(within);
     return p->path != NULL && p->folder != NULL && p->aside != NULL;
@@ -299,9 +301,11 @@ static int put_back(struct putting *p, const char *backup, const char *path, con
     status = status == RELKVANU_STORE_OK ? set_all_aside(p, folder) : status;
     status = status == RELKVANU_STORE_OK ? replace(p) : status;
     char fault[RKS_MESSAGE];
+    int error = errno;
     memcpy(fault, p->old->fault, sizeof fault);
     clean(p, true);
     memcpy(p->old->fault, fault, sizeof fault);
+    errno = error;
     return status;
 }
 

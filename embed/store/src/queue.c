@@ -42,12 +42,14 @@ int rks_enter(relkvanu_store *s, struct rks_waiter *w) {
     return RELKVANU_STORE_OK;
 }
 
-/* The head, and if it calls, the calls behind it up to the first read. */
+/* The head, and if it calls, the calls behind it up to the first read, or the first stop. So at most one stop ends in a group: rks_make has room for one
+ * restore that it ends with. */
 struct rks_waiter *rks_take_group(relkvanu_store *s) {
     pthread_mutex_lock(&s->mutex);
     struct rks_waiter *group = s->head, **end = &group->next;
     size_t len = group->calls_len;
-    while (group->calls != NULL && *end != NULL && (*end)->calls != NULL && len + (*end)->calls_len <= RELKVANU_STORE_MOST_CALLS) {
+    while (group->calls != NULL && *end != NULL && (*end)->calls != NULL && (*end)->verb != RKS_STOPS &&
+           len + (*end)->calls_len <= RELKVANU_STORE_MOST_CALLS) {
         len += (*end)->calls_len;
         end = &(*end)->next;
     }

@@ -373,11 +373,13 @@ static void tell(
 static int tell_records(relkvanu_store *s, const char *folder, relkvanu_store_each_record each, void *with) {
     struct rks_manifests all = {0};
     uint64_t marked = 0;
+    bool has_marker = false;
     int status = rks_open_folder(s, folder);
+    status = status == RELKVANU_STORE_OK ? rks_find_owner(s, folder, &marked, &has_marker) : status;
     if (status != RELKVANU_STORE_OK) {
         return status;
     }
-    const char *job = rks_read_owner(s, folder, &marked) == RELKVANU_STORE_OK ? s->identity : NULL;
+    const char *job = has_marker ? s->identity : NULL;
     status = rks_list_manifests(s->folder, &all);
     if (status == RELKVANU_STORE_OK) {
         tell(&all, rks_choose_manifest(&all, job, 0), job, each, with);

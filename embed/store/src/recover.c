@@ -15,6 +15,9 @@
 
 enum { LIST = 4096, LIST_FILES = 65536 }; /* calls, and files, of a list */
 
+/* Numbers that may be told before a manifest says so again; numbers that a recovery passes at most for a manifest that can't be read. */
+enum { SOME_NUMBERS = 1024, MOST_PASSED = 1 << 20 };
+
 /* The acknowledgement of a subtask: its files that no record has had, and the others. */
 struct ack {
     uint16_t vertex, index;
@@ -33,6 +36,7 @@ struct recovery {
     struct rks_manifests all;
     struct rks_below below;
     uint64_t epoch;
+    uint64_t unread;   /* the greatest number of a manifest that can't be read; 0: none */
     bool is_elsewhere; /* the storage: the folder only says what is in it */
     void *known;       /* the files that its records have: a tree of search.h */
     struct numbers fresh, reused;
@@ -325,32 +329,73 @@ static uint64_t greater(uint64_t a, uint64_t b) {
     return a > b ? a : b;
 }
 
-/* What the manifests of the job say that somebody was told. */
+/* What the manifests of the job say that somebody was told. One that can't be read may be the job's, and then its number was told. */
 static void gather(struct recovery *r) {
+    uint64_t epoch = r->epoch;
+    r->told->passed = r->unread = 0;
     for (size_t i = 0; i < r->all.len; i++) {
         const struct rks_manifest *it = &r->all.at[i];
         if (it->status == RELKVANU_STORE_OK && strcmp(it->job, r->old->identity) == 0) {
             r->below.number = greater(r->below.number, it->below.number);
             r->below.term = greater(r->below.term, it->below.term);
             r->below.name = greater(r->below.name, it->below.name);
-            r->epoch = greater(r->epoch, it->epoch);
+            epoch = greater(epoch, it->epoch);
             r->told->passed += it->missing != 0;
-        } else {
-            r->told->passed += it->status == RELKVANU_STORE_DAMAGED;
+        } else if (it->status != RELKVANU_STORE_OK) {
+            r->unread = greater(r->unread, it->id);
+            r->told->passed++;
         }
     }
-    r->epoch += RKS_UNMARKED;
+    r->epoch = epoch;
 }
 
-static int recover(struct recovery *r, uint64_t record) {
+/* A manifest that can't be read says neither which record was the choice, nor which terms and names were told after that. So nobody but who gives the
+ * number of a record passes over one that is later than the choice. */
+static int check_unread(struct recovery *r, const struct rks_manifest *choice, uint64_t record) {
+    char words[200];
+    if (r->unread <= choice->id) {
+        return RELKVANU_STORE_OK;
+    }
+    bool is_far = r->unread > greater(r->below.number, choice->id) + MOST_PASSED;
+    snprintf(words, sizeof words, "record-%" PRIu64 ".manifest is damaged or of a later version: %s", r->unread,
+        is_far ? "its number is far above the others, so move it away if it is none of the job's"
+               : "give the number of a record to go on from an earlier one");
+    if (is_far || record == 0) {
+        return told(r, RELKVANU_STORE_DAMAGED, words);
+    }
+    r->below.number = greater(r->below.number, r->unread + 1 + SOME_NUMBERS);
+    return RELKVANU_STORE_OK;
+}
+
+/* Lists the manifests, and chooses the record. */
+static int choose(struct recovery *r, uint64_t record, struct rks_manifest **choice) {
+    rks_free_manifests(&r->all);
     int status = rks_list_manifests(r->old->folder, &r->all);
     if (status != RELKVANU_STORE_OK) {
         return status == RELKVANU_STORE_NO_MEMORY ? status : rks_file_fault(r->old, "the storage folder", errno);
     }
     gather(r);
-    struct rks_manifest *choice = rks_choose_manifest(&r->all, r->old->identity, record);
-    if (choice == NULL) {
+    *choice = rks_choose_manifest(&r->all, r->old->identity, record);
+    if (*choice == NULL) {
         return told(r, RELKVANU_STORE_ABSENT, "no record that has a manifest in the storage folder has all its files there");
+    }
+    return check_unread(r, *choice, record);
+}
+
+/* A process that was told to end may not have ended: it puts and deletes nothing more before the record is chosen for good. */
+static int fence(struct recovery *r) {
+    r->epoch += RKS_UNMARKED;
+    int status = rks_write_marker(r->old, "the storage folder", r->epoch);
+    return status == RELKVANU_STORE_FULL ? RELKVANU_STORE_OK : status;
+}
+
+static int recover(struct recovery *r, uint64_t record) {
+    struct rks_manifest *choice = NULL;
+    int status = choose(r, record, &choice);
+    status = status == RELKVANU_STORE_OK ? fence(r) : status;
+    status = status == RELKVANU_STORE_OK ? choose(r, record, &choice) : status;
+    if (status != RELKVANU_STORE_OK) {
+        return status;
     }
     r->told->record = choice->id;
     r->told->is_savepoint = choice->is_savepoint;
@@ -387,16 +432,17 @@ static int recover_at(struct recovery *r, const char *path, const char *folder, 
     int status = rks_lock(r->old, path);
     status = status == RELKVANU_STORE_OK ? check_absent(r) : status;
     status = status == RELKVANU_STORE_OK ? read_owner(r, folder) : status;
-    if (status == RELKVANU_STORE_OK && asprintf(&r->path, "%s.new", r->old->path) < 0) {
-        r->path = NULL;
+    if (status == RELKVANU_STORE_OK && (r->path = rks_scratch_name(r->old->path, "")) == NULL) {
         status = RELKVANU_STORE_NO_MEMORY;
     }
     status = status == RELKVANU_STORE_OK ? recover(r, record) : status;
     if (r->path != NULL) {
         char fault[RKS_MESSAGE];
+        int error = errno;
         memcpy(fault, r->old->fault, sizeof fault);
         clean(r, true);
         memcpy(r->old->fault, fault, sizeof fault);
+        errno = error;
     }
     return status;
 }

@@ -118,20 +118,50 @@ static int remove_folder(struct transfer *t, const char *name) {
     return error == 0 || error == ENOENT ? RELKVANU_STORE_OK : failed(t, name, error);
 }
 
-/* Opens the part, which nobody else removes or names while it is open here. */
-static int lock_part(struct transfer *t) {
+static bool is_same(const struct stat *one, const struct stat *other) {
+    return one->st_ino == other->st_ino && one->st_dev == other->st_dev;
+}
+
+/* Whether the part that is open and locked still has its name: another call may have finished it, or removed it, before the lock was had. */
+static bool has_name(const struct transfer *t) {
+    struct stat held, named;
+    return fstat(t->to, &held) == 0 && lstat(t->part, &named) == 0 && is_same(&held, &named);
+}
+
+static bool is_from(const struct transfer *t) {
+    struct stat held, from;
+    return fstat(t->to, &held) == 0 && fstat(t->from->folder, &from) == 0 && is_same(&held, &from);
+}
+
+/* Opens the part, and locks it. RELKVANU_STORE_NOT_NOW: it has lost its name meanwhile. */
+static int open_part(struct transfer *t) {
     t->to = open(t->part, O_RDONLY | O_DIRECTORY | O_NOFOLLOW | O_CLOEXEC);
     if (t->to < 0) {
         return errno == ENOENT ? RELKVANU_STORE_OK : failed(t, t->part, errno);
     }
-    if (flock(t->to, LOCK_EX | LOCK_NB) == 0) {
-        return RELKVANU_STORE_OK;
+    int status = RELKVANU_STORE_OK;
+    if (is_from(t)) {
+        status = told(t, RELKVANU_STORE_PRESENT, t->part, "it is the folder to carry from, and would be made anew");
+    } else if (flock(t->to, LOCK_EX | LOCK_NB) != 0) {
+        status = errno == EWOULDBLOCK ? told(t, RELKVANU_STORE_IN_USE, t->part, "another export or import writes it")
+                                      : failed(t, t->part, errno);
+    } else if (!has_name(t)) {
+        status = RELKVANU_STORE_NOT_NOW;
     }
-    int status =
-        errno == EWOULDBLOCK ? told(t, RELKVANU_STORE_IN_USE, t->part, "another export or import writes it") : failed(t, t->part, errno);
-    close(t->to);
-    t->to = -1;
+    if (status != RELKVANU_STORE_OK) {
+        close(t->to);
+        t->to = -1;
+    }
     return status;
+}
+
+/* Opens the part, which nobody else removes or names while it is open here. */
+static int lock_part(struct transfer *t) {
+    int status = RELKVANU_STORE_NOT_NOW;
+    for (int tries = 0; tries < TRIES && status == RELKVANU_STORE_NOT_NOW; tries++) {
+        status = open_part(t);
+    }
+    return status == RELKVANU_STORE_NOT_NOW ? told(t, RELKVANU_STORE_IN_USE, t->part, "other exports or imports write it") : status;
 }
 
 /* Makes the part anew. */
@@ -233,11 +263,9 @@ static char *without_slashes(const char *path) {
 
 static int open_from(struct transfer *t) {
     uint64_t marked = 0;
+    bool has_marker; /* an exported folder has none */
     int status = rks_open_folder(t->from, t->from_name);
-    if (status == RELKVANU_STORE_OK && rks_read_owner(t->from, t->from_name, &marked) != RELKVANU_STORE_OK) {
-        t->from->identity[0] = t->from->fault[0] = 0; /* an exported folder has no marker */
-    }
-    return status;
+    return status == RELKVANU_STORE_OK ? rks_find_owner(t->from, t->from_name, &marked, &has_marker) : status;
 }
 
 /* Makes the folder. With a job it is the storage of that one, and has its marker. */

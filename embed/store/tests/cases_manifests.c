@@ -44,7 +44,8 @@ static void recovers(uint64_t record, int status) {
     int got = relkvanu_store_recover(in("x.db"), in("storage"), record, &recovered);
     CHECK(got == status, "status %d, not %d: %s", got, status, recovered.message);
     CHECK((recovered.message[0] == 0) == (status == RELKVANU_STORE_OK), "%s", recovered.message);
-    CHECK(!has("x.db.new") && !has("x.db.new-wal") && !has("x.db.new-shm") && !has("x.db.new.lock"), "a new file is left");
+    CHECK(!has(".x.db.relkvanu-new") && !has(".x.db.relkvanu-new-wal") && !has(".x.db.relkvanu-new-shm") && !has(".x.db.relkvanu-new.lock"),
+        "a new file is left");
 }
 
 /* A job with names over the storage folder, which has manifests. */
@@ -376,8 +377,81 @@ static void damaged_manifests(void) {
         CHECK(ftruncate(file, len) == 0 && list_records() == 2 && records[1].status == RELKVANU_STORE_DAMAGED, "%ld bytes", (long)len);
     }
     close(file);
-    recovers(0, RELKVANU_STORE_OK);
+    recovers(0, RELKVANU_STORE_DAMAGED);
+    CHECK(strstr(recovered.message, "record-2.manifest") != NULL && strstr(recovered.message, "number of a record") != NULL && !has("x.db"),
+        "%s", recovered.message);
+    recovers(1, RELKVANU_STORE_OK);
     CHECK(recovered.record == 1 && recovered.is_savepoint && recovered.passed == 1, "record %" PRIu64, recovered.record);
+    CHECK(recovered.next_number > 2 + 1024, "number %" PRIu64 " may be told again", recovered.next_number);
+}
+
+/* A later version wrote the manifest, far above what the others say was told. One that is earlier than the choice says nothing of it. */
+static void manifests_that_cannot_be_read(void) {
+    relkvanu_store_options options = manifests(RELKVANU_STORE_CREATE);
+    relkvanu_store *store = opens(&options, RELKVANU_STORE_OK);
+    uint64_t id = completes(store, 1, RELKVANU_CALL_SAVEPOINT, NULL) + 1;
+    CHECK(completes(store, 1, RELKVANU_CALL_TRIGGER, NULL) == id, "the number");
+    relkvanu_store_close(store);
+    lose_job();
+    CHECK(truncate(in("storage/record-1.manifest"), 7) == 0, "an earlier one");
+    FILE *to = fopen(in("storage/record-5000.manifest"), "w");
+    CHECK(to != NULL && fputs("written by a later version", to) >= 0 && fclose(to) == 0, "a later one");
+    recovers(0, RELKVANU_STORE_DAMAGED);
+    CHECK(strstr(recovered.message, "record-5000.manifest") != NULL, "%s", recovered.message);
+    CHECK(rename(in("storage/record-5000.manifest"), in("storage/record-18446744073709551615.manifest")) == 0, "the greatest number");
+    recovers(id, RELKVANU_STORE_DAMAGED);
+    CHECK(strstr(recovered.message, "far above") != NULL, "%s", recovered.message);
+    CHECK(rename(in("storage/record-18446744073709551615.manifest"), in("storage/record-5000.manifest")) == 0, "it again");
+    recovers(id, RELKVANU_STORE_OK);
+    CHECK(recovered.passed == 2 && recovered.next_number > 5000 + 1024, "number %" PRIu64, recovered.next_number);
+    lose_job();
+    CHECK(unlink(in("storage/record-5000.manifest")) == 0, "the later one");
+    recovers(0, RELKVANU_STORE_OK);
+    CHECK(recovered.record == id && recovered.passed == 1, "record %" PRIu64, recovered.record);
+}
+
+/* What has the name that a new file had in earlier versions may be a job. */
+static void a_job_beside_a_recovery(void) {
+    relkvanu_store_options options = manifests(RELKVANU_STORE_CREATE);
+    relkvanu_store *store = opens(&options, RELKVANU_STORE_OK), *other;
+    completes(store, 1, RELKVANU_CALL_TRIGGER, NULL);
+    relkvanu_store_close(store);
+    lose_job();
+    relkvanu_store_options beside = job_options(RELKVANU_STORE_CREATE, 0);
+    CHECK(relkvanu_store_open(&other, in("x.db.new"), &beside, &report) == RELKVANU_STORE_OK, "%s", report.message);
+    relkvanu_store_close(other);
+    recovers(0, RELKVANU_STORE_OK);
+    CHECK(has("x.db.new"), "the job beside it is gone");
+}
+
+/* A process that was told to end may not have ended. It puts nothing more once the record is chosen, also if the recovery then comes to an end. */
+static void a_recovery_fences_first(void) {
+    relkvanu_store_options options = manifests(RELKVANU_STORE_CREATE);
+    relkvanu_store *store = opens(&options, RELKVANU_STORE_OK);
+    completes(store, 1, RELKVANU_CALL_TRIGGER, NULL);
+    CHECK(relkvanu_store_recover(in("z.db"), in("storage"), 9, &recovered) == RELKVANU_STORE_ABSENT, "%s", recovered.message);
+    CHECK(relkvanu_store_put(store, 5000, "x", 1) == RELKVANU_STORE_OK, "a recovery that was refused has fenced it");
+    fail_syncs("/.z.db.relkvanu-new", EIO);
+    CHECK(relkvanu_store_recover(in("z.db"), in("storage"), 0, &recovered) != RELKVANU_STORE_OK && !has("z.db"), "no sync fails");
+    fail_syncs("", 0);
+    CHECK(relkvanu_store_put(store, 5001, "x", 1) == RELKVANU_STORE_STORAGE, "the old job puts a file");
+    relkvanu_store_close(store);
+    CHECK(relkvanu_store_recover(in("z.db"), in("storage"), 0, &recovered) == RELKVANU_STORE_OK, "%s", recovered.message);
+}
+
+/* No marker is one that is absent, and not one that can't be read: then the record of another job might be taken. */
+static void a_marker_that_cannot_be_read(void) {
+    relkvanu_store_options options = manifests(RELKVANU_STORE_CREATE);
+    relkvanu_store *store = opens(&options, RELKVANU_STORE_OK);
+    relkvanu_store_carried carried;
+    completes(store, 1, RELKVANU_CALL_TRIGGER, NULL);
+    relkvanu_store_close(store);
+    CHECK(rename(in("storage/.relkvanu-job"), in("storage/kept")) == 0 && symlink("kept", in("storage/.relkvanu-job")) == 0, "a link");
+    CHECK(relkvanu_store_export(in("storage"), 0, in("out"), &carried) == RELKVANU_STORE_STORAGE && !has("out"), "%s", carried.message);
+    CHECK(
+        relkvanu_store_claim(in("storage"), 0, in("y.db"), in("elsewhere"), &recovered) == RELKVANU_STORE_STORAGE, "%s", recovered.message);
+    CHECK(relkvanu_store_records(in("storage"), note_record, records, message, sizeof message) == RELKVANU_STORE_STORAGE, "%s", message);
+    CHECK(unlink(in("storage/.relkvanu-job")) == 0 && list_records() == 1 && records[0].missing == 0, "what is left");
 }
 
 /* Savepoints live on, with the files that they share, and with another shape. */
@@ -551,7 +625,7 @@ static void an_export(void) {
 static void imports(const char *from, uint64_t record, int status) {
     int got = relkvanu_store_import(in(from), record, in("y.db"), in("elsewhere"), &recovered);
     CHECK(got == status, "status %d, not %d: %s", got, status, recovered.message);
-    CHECK(!has("elsewhere.part") && !has("y.db.new") && (recovered.message[0] == 0) == (status == RELKVANU_STORE_OK), "%s",
+    CHECK(!has("elsewhere.part") && !has(".y.db.relkvanu-new") && (recovered.message[0] == 0) == (status == RELKVANU_STORE_OK), "%s",
         recovered.message);
 }
 
@@ -610,7 +684,7 @@ static void an_import_that_goes_on(void) {
 static void claims(const char *from, uint64_t record, const char *folder, int status) {
     int got = relkvanu_store_claim(in(from), record, in("y.db"), in(folder), &recovered);
     CHECK(got == status, "status %d, not %d: %s", got, status, recovered.message);
-    CHECK(!has("elsewhere.part") && !has("y.db.new") && (recovered.message[0] == 0) == (status == RELKVANU_STORE_OK), "%s",
+    CHECK(!has("elsewhere.part") && !has(".y.db.relkvanu-new") && (recovered.message[0] == 0) == (status == RELKVANU_STORE_OK), "%s",
         recovered.message);
 }
 
@@ -673,6 +747,32 @@ static void a_claim_that_goes_on(void) {
     relkvanu_store_close(other);
 }
 
+/* An import, and then a claim of the same record: the old job runs meanwhile, so it is fenced before its files leave. */
+static void a_claim_after_an_import(void) {
+    relkvanu_store_options options = manifests(RELKVANU_STORE_CREATE);
+    relkvanu_store *store = opens(&options, RELKVANU_STORE_OK);
+    uint64_t first = 0, id = completes(store, 1, RELKVANU_CALL_TRIGGER, &first);
+    imports("storage", 0, RELKVANU_STORE_OK);
+    CHECK(relkvanu_store_put(store, 5000, "x", 1) == RELKVANU_STORE_OK, "an import fences it");
+    claims("storage", 0, "elsewhere", RELKVANU_STORE_OK);
+    CHECK(recovered.record == id && !has_bytes("storage", first, 1) && has_bytes("elsewhere", first, 1), "the files");
+    CHECK(relkvanu_store_put(store, 5001, "x", 1) == RELKVANU_STORE_STORAGE, "a job without its files puts more");
+    relkvanu_store_close(store);
+}
+
+/* The part of a folder may be the folder to carry from. */
+static void an_export_over_itself(void) {
+    relkvanu_store_options options = manifests(RELKVANU_STORE_CREATE);
+    relkvanu_store *store = opens(&options, RELKVANU_STORE_OK);
+    relkvanu_store_carried carried;
+    uint64_t first = 0;
+    completes(store, 1, RELKVANU_CALL_TRIGGER, &first);
+    relkvanu_store_close(store);
+    CHECK(rename(in("storage"), in("out.part")) == 0, "the folder");
+    CHECK(relkvanu_store_export(in("out.part"), 0, in("out"), &carried) == RELKVANU_STORE_PRESENT && !has("out"), "%s", carried.message);
+    CHECK(has_bytes("out.part", first, 1), "its files are gone");
+}
+
 /* In place: the job of a storage folder keeps its identity, that of an exported one gets its own. */
 static void a_claim_in_place(void) {
     relkvanu_store_options options = manifests(RELKVANU_STORE_CREATE);
@@ -701,7 +801,8 @@ static struct object {
     char *text;
     size_t len;
 } objects[MOST_OBJECTS];
-static int check_status, place_status, puts_made;
+static int check_status, place_status, puts_made,
+    checks_left = -1; /* checks_left: after so many another opening has the place; -1: none has */
 
 static struct object *object_of(const char *name) {
     for (size_t i = 0; i < MOST_OBJECTS; i++) {
@@ -714,6 +815,10 @@ static struct object *object_of(const char *name) {
 
 static int check_place(void *with) {
     CHECK(with == objects, "the pointer");
+    if (checks_left >= 0 && checks_left-- == 0) {
+        check_status = RELKVANU_STORAGE_OTHER_JOB;
+        checks_left = -1;
+    }
     return check_status != RELKVANU_STORAGE_OK ? check_status : place_status;
 }
 
@@ -829,6 +934,24 @@ static void manifests_elsewhere(void) {
     relkvanu_store_close(store);
 }
 
+/* Another opening may take the place between two requests: then nothing more is put or removed there. */
+static void a_place_that_is_taken(void) {
+    relkvanu_store *store = opens_without_folder(RELKVANU_STORE_CREATE);
+    CHECK(keeps(store) == RELKVANU_STORE_OK, "it keeps none");
+    uint64_t id = completes_elsewhere(store, 1);
+    checks_left = 2; /* those before the work and before the put */
+    puts_made = 0;
+    uint64_t next = completes_elsewhere(store, 1);
+    CHECK(puts_made == 1 && manifest_elsewhere(next) != NULL && manifest_elsewhere(id) != NULL, "it removes what another opening has");
+    check_status = RELKVANU_STORAGE_OK;
+    checks_left = 1;
+    puts_made = 0;
+    uint64_t last = completes_elsewhere(store, 1);
+    CHECK(puts_made == 0 && manifest_elsewhere(last) == NULL, "it puts over what another opening has");
+    check_status = RELKVANU_STORAGE_OK;
+    relkvanu_store_close(store);
+}
+
 /* Writes a folder that stands for the place, with its files, but for one. */
 static void list_place(uint64_t epoch, uint64_t first, uint64_t lacking) {
     char name[PATHS];
@@ -870,9 +993,12 @@ static void a_lost_job_elsewhere(void) {
 const struct test manifest_cases[] = {{"manifests_of_records", manifests_of_records}, {"manifests_are_asked_for", manifests_are_asked_for},
     {"a_sweep_of_manifests", a_sweep_of_manifests}, {"manifests_that_fail", manifests_that_fail}, {"a_lost_job", a_lost_job},
     {"lost_again", lost_again}, {"nothing_to_recover", nothing_to_recover}, {"damaged_manifests", damaged_manifests},
-    {"savepoints_live_on", savepoints_live_on}, {"a_rolled_back_job", a_rolled_back_job}, {"numbers_that_failed", numbers_that_failed},
-    {"a_plain_job_that_is_lost", a_plain_job_that_is_lost}, {"another_jobs_manifest", another_jobs_manifest}, {"an_export", an_export},
-    {"an_import", an_import}, {"an_import_that_goes_on", an_import_that_goes_on}, {"a_claim", a_claim},
-    {"a_claim_of_shared_files", a_claim_of_shared_files}, {"a_claim_that_goes_on", a_claim_that_goes_on},
-    {"a_claim_in_place", a_claim_in_place}, {"manifests_elsewhere", manifests_elsewhere}, {"a_lost_job_elsewhere", a_lost_job_elsewhere},
-    {NULL, NULL}};
+    {"manifests_that_cannot_be_read", manifests_that_cannot_be_read}, {"a_job_beside_a_recovery", a_job_beside_a_recovery},
+    {"a_recovery_fences_first", a_recovery_fences_first}, {"a_marker_that_cannot_be_read", a_marker_that_cannot_be_read},
+    {"a_claim_after_an_import", a_claim_after_an_import}, {"an_export_over_itself", an_export_over_itself},
+    {"a_place_that_is_taken", a_place_that_is_taken}, {"savepoints_live_on", savepoints_live_on}, {"a_rolled_back_job", a_rolled_back_job},
+    {"numbers_that_failed", numbers_that_failed}, {"a_plain_job_that_is_lost", a_plain_job_that_is_lost},
+    {"another_jobs_manifest", another_jobs_manifest}, {"an_export", an_export}, {"an_import", an_import},
+    {"an_import_that_goes_on", an_import_that_goes_on}, {"a_claim", a_claim}, {"a_claim_of_shared_files", a_claim_of_shared_files},
+    {"a_claim_that_goes_on", a_claim_that_goes_on}, {"a_claim_in_place", a_claim_in_place}, {"manifests_elsewhere", manifests_elsewhere},
+    {"a_lost_job_elsewhere", a_lost_job_elsewhere}, {NULL, NULL}};

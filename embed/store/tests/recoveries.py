@@ -130,7 +130,7 @@ def goes_on(it, folder, complete):
     is_there = (folder / "job.db").exists()
     told = it.recovers(folder)
     assert told.returncode == is_there and ("there is a job" in told.stdout) == is_there, (is_there, told.stdout)
-    assert not list(folder.glob("*.new*")), list(folder.iterdir())
+    assert not list(folder.glob("*.relkvanu-new*")), list(folder.iterdir())
     with Store(folder / "job.db", Settings(interval=10), [2], storage=folder / "state", manifests=True) as job, job.read() as reads:
         choice = reads.choice()
         assert choice.id in (complete, complete + 1), (choice, complete)
@@ -198,7 +198,7 @@ def imports_at_each_end(it):
         assert told.returncode != 0, f"no end at call {place}"
         is_there, told = (folder / "new.db").exists(), it.runs(*imports(folder))
         assert told.returncode == is_there and ("there is a job" in told.stdout) == is_there, told.stdout
-        assert not list(folder.glob("new.db.new*")) and not (folder / "new.part").exists(), list(folder.iterdir())
+        assert not list(folder.glob(".new.db.relkvanu-new*")) and not (folder / "new.part").exists(), list(folder.iterdir())
         with Store(folder / "new.db", Settings(interval=10), [2], storage=folder / "new", manifests=True) as job, job.read() as reads:
             assert reads.choice().id in (complete, complete + 1), reads.choice()
             for task in range(2):
@@ -215,7 +215,7 @@ def is_claimed(it, folder, complete):
     """The same command goes on. The record is in the new folder, and nowhere else."""
     ended, told = (folder / "new.db").exists(), it.runs(*claim(folder))
     assert told.returncode == 0 or (ended and "there is a job" in told.stdout), told.stdout  # it had done all but say so
-    assert not list(folder.glob("new.db.new*")) and not (folder / "new.part").exists(), list(folder.iterdir())
+    assert not list(folder.glob(".new.db.relkvanu-new*")) and not (folder / "new.part").exists(), list(folder.iterdir())
     with Store(folder / "new.db", Settings(interval=10), [2], storage=folder / "new", manifests=True) as job, job.read() as reads:
         assert reads.choice().id in (complete, complete + 1), reads.choice()
         used = [file for task in range(2) for file in reads.files_of(reads.choice().id, 0, task)]

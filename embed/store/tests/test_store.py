@@ -2,6 +2,7 @@
 import asyncio
 import dataclasses
 import errno
+import gc
 import os
 import pathlib
 import resource
@@ -9,6 +10,7 @@ import tempfile
 import threading
 import time
 import unittest
+import weakref
 from unittest import mock
 
 from relkvanu import (
@@ -46,6 +48,41 @@ class Folder(unittest.TestCase):
         for index in range(2):
             job.ack(id, 0, index, [file + index], now=due)
         return id
+
+
+class Place:
+    """Manifests in memory."""
+
+    def __init__(self):
+        self.texts = {}
+
+    def check(self):
+        pass
+
+    def put_manifest(self, name, text):
+        self.texts[name] = text
+
+    def remove_manifest(self, name):
+        self.texts.pop(name, None)
+
+    def manifests(self):
+        return list(self.texts)
+
+
+class ManifestsElsewhere(Folder):
+    def test_a_second_place_is_refused(self):
+        """The library still calls the functions of the first one."""
+        with self.open() as job:
+            first = Place()
+            texts, is_kept = first.texts, weakref.ref(first)
+            job.keep_manifests(first)
+            del first
+            with self.assertRaises((StoreError, BadArgument)):
+                job.keep_manifests(Place())
+            gc.collect()
+            self.assertIsNotNone(is_kept())
+            id = self.complete(job, 1)
+            self.assertEqual(list(texts), [f"record-{id}.manifest"])
 
 
 class Calls(Folder):
