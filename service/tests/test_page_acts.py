@@ -1,5 +1,6 @@
 """What a user does on the page: the calls that it makes, after a question, with a token, by the keyboard; a record's times, and older
 records."""
+import json
 import time
 from decimal import ROUND_HALF_UP, Decimal
 
@@ -187,6 +188,48 @@ def test_a_stop_and_older_checkpoints():
         page.quit()
 
 
+def test_settings_are_changed():
+    """The form has the settings of now, the request those that differ, and what is refused stays on the page with its reason."""
+    page = test_page.started(1200, 1000)
+    try:
+        with served() as server:
+            return settings_changed(page, server, Service(server.url).open("orders", SETTINGS, [1]))
+    finally:
+        page.quit()
+
+
+def settings_changed(page, server, job):
+    from selenium.webdriver.common.keys import Keys
+
+    def typed(field, text):
+        page.execute_script("const it = document.getElementById(arguments[0]); it.focus(); it.select()", field)
+        keys(page, text)
+
+    page.get(f"{server.url}/#/jobs/orders")
+    opened(page, "#do-settings")
+    assert nameless(page) == [], nameless(page)
+    before = job.state()["settings"]
+    assert page.execute_script("return document.getElementById('set-interval').value") == str(before["interval"])
+    typed("set-interval", "30000")
+    typed("set-retained", "0")
+    page.execute_script("document.getElementById('set-keep').focus()")
+    keys(page, Keys.SPACE)
+    wanted = {"interval": 30_000, "retained": 0, "keep_on_cancel": not before["keep_on_cancel"]}
+    method, body = said(page).split("\n", 1)
+    assert (method, json.loads(body)) == ("PATCH /v1/jobs/orders/settings", wanted), said(page)
+    page.execute_script("document.getElementById('ask-yes').focus()")
+    keys(page, Keys.ENTER)
+    until(lambda: "retained" in test_page.texts(page, "#ask-wrong")[0], 10, told=lambda: test_page.texts(page, "#ask-wrong"))
+    assert job.state()["settings"] == before
+    typed("set-retained", "2")
+    keys(page, Keys.ENTER)
+    until(lambda: not is_asking(page), 10, told=lambda: test_page.texts(page, "#ask-wrong"))
+    assert test_page.texts(page, "#done") == ["The settings are changed, as call 1."], test_page.texts(page, "#done")
+    assert job.state()["settings"] == {**before, **wanted, "retained": 2}
+    until(lambda: "30" in test_page.texts(page, "[data-fact='Interval']")[0], 10, told=lambda: test_page.texts(page, "[data-fact='Interval']"))
+    return "an interval, a number that is refused, and a choice"
+
+
 def stopped_and_back(page, server, job):
     from selenium.webdriver.common.keys import Keys
 
@@ -208,7 +251,7 @@ def stopped_and_back(page, server, job):
     are("running", True, False, True, True)
     done("#do-stop", "The job stops: savepoint 1 is triggered, as call 1.")
     assert said(page) == "POST /v1/jobs/orders/stop\n{}", said(page)
-    are("stopping", False, False, True, True)
+    are("stopping", False, False, True, False)
     assert "waits for the acknowledgements of savepoint 1" in test_page.texts(page, "#hint")[0]
     job.call(ack(1, "0.0", [1]))
     are("stopped", False, True, False, False)

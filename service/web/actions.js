@@ -49,6 +49,38 @@ export function begin(job) {
   };
 }
 
+// The numbers of a job's settings, and what each is called here.
+const NUMBERS = [
+  ["interval", "Interval, in milliseconds"],
+  ["pause", "Pause, in milliseconds"],
+  ["at_once", "Pending at once, at most"],
+  ["timeout", "Timeout, in milliseconds"],
+  ["tolerable", "Failures in a row that are tolerated"],
+  ["retained", "Checkpoints that are retained"],
+];
+
+export function settings(job) {
+  const numbers = NUMBERS.map(([name, words]) => {
+    const input = element("input", { id: `set-${name}`, type: "number", min: 0, step: 1, required: "", value: job.settings[name] });
+    return { name, words, input };
+  });
+  const keep = element("input", { id: "set-keep", type: "checkbox" });
+  keep.checked = job.settings.keep_on_cancel;
+  const given = () => [...numbers.map(({ name, input }) => [name, Number(input.value)]), ["keep_on_cancel", keep.checked]];
+  return {
+    title: `Change settings of ${job.name}`,
+    question: "The job has them from its next tick on. If it retains fewer checkpoints, the older ones end at once.",
+    button: "Change them",
+    fields: [
+      ...numbers.map(({ name, words, input }) => element("p", {}, element("label", { for: `set-${name}` }, `${words} `), input)),
+      element("p", {}, keep, element("label", { for: "set-keep" }, " checkpoints are kept when the job is cancelled")),
+    ],
+    // those that differ
+    request: () => ({ method: "PATCH", path: `/jobs/${job.name}/settings`, body: Object.fromEntries(given().filter(([name, value]) => value !== job.settings[name])) }),
+    outcome: (told) => [`The settings are changed, as call ${told.seq}.`, true],
+  };
+}
+
 export function dispose(job, id) {
   return {
     title: `Dispose of savepoint ${id} of ${job.name}`,

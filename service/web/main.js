@@ -66,6 +66,7 @@ function showJob(told, rows) {
   for (const id of ["do-checkpoint", "do-savepoint"]) at(id).disabled = doing !== "running";
   at("do-stop").disabled = doing !== "running";
   at("do-begin").disabled = doing !== "stopped";
+  at("do-settings").disabled = job.mode === "cancelled";
   at("do-restore").disabled = job.mode === "cancelled" || doing === "stopped";
   at("do-cancel").disabled = job.mode === "cancelled";
   at("do-delete").disabled = job.mode === "running";
@@ -202,6 +203,7 @@ at("do-checkpoint").addEventListener("click", () => act(actions.checkpoint(shown
 at("do-savepoint").addEventListener("click", () => act(actions.savepoint(shown.told.job)));
 at("do-stop").addEventListener("click", () => act(actions.stop(shown.told.job)));
 at("do-begin").addEventListener("click", () => act(actions.begin(shown.told.job)));
+at("do-settings").addEventListener("click", () => act(actions.settings(shown.told.job)));
 at("do-restore").addEventListener("click", () => act(actions.restore(shown.told.job, shown.told.savepoints)));
 at("do-cancel").addEventListener("click", () => act(actions.cancel(shown.told.job)));
 at("do-delete").addEventListener("click", () => act(actions.remove(shown.told.job)));
