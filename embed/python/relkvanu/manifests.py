@@ -21,7 +21,7 @@ import time
 import zlib
 from typing import Any, Dict, Iterator, List, NamedTuple, Optional, Union
 
-from botocore.exceptions import BotoCoreError
+from botocore.exceptions import BotoCoreError  # type: ignore[import]
 
 from relkvanu.errors import Error
 from relkvanu.s3 import OWNER, Bucket, client
