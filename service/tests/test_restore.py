@@ -3,6 +3,7 @@ import glob
 import itertools
 import json
 import os
+import pathlib
 import re
 import shlex
 import shutil
@@ -240,13 +241,13 @@ DAMAGED = {name: f"damaged {name}" for name in ("relkvanu.db", "relkvanu.db-wal"
 
 
 class Place:
-    """A folder in which the commands of docs/SERVICE-BACKUP.md that put a copy in place run, with a program that does nothing, and a service that
+    """A folder in which the commands of docs/SERVICE-BACKUP.md and SERVICE-MOVE.md that put a copy in place run, with a program that does nothing, and a service that
     writes a log beside its database."""
 
     def __init__(self, at, after):
         self.at, self.lib = at, f"{at}/lib/relkvanu"
-        with open(f"{TOP}/docs/SERVICE-BACKUP.md", encoding="utf-8") as it:
-            block = it.read().partition(after)[2].split("```")[1].strip()
+        pages = [pathlib.Path(TOP, "docs", page).read_text(encoding="utf-8") for page in ("SERVICE-BACKUP.md", "SERVICE-MOVE.md")]
+        block = "".join(pages).partition(after)[2].split("```")[1].strip()
         for old, new in (("/var/lib", f"{at}/lib"), ("/usr/local/bin", f"{at}/bin"), ("/run/", f"{at}/run/")):
             block = block.replace(old, new)
         self.lines = block.splitlines()

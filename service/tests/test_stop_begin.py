@@ -1,5 +1,6 @@
 """A job that stops with a savepoint and begins again, over the API, the client and the commands; and what an operator does, while the service is
 killed at each of its writes."""
+import contextlib
 import json
 import os
 import shutil
@@ -310,7 +311,7 @@ class Steps:
         self.given = prepared(tasks)
         caught_up(tasks.job)
         # what the history saves in the database comes at any time: a trial shall have nothing to save
-        with sqlite3.connect(f"{at}/base/history") as history:
+        with contextlib.closing(sqlite3.connect(f"{at}/base/history")) as history:
             until(lambda: history.execute("select count(*) from record where gone is not null and saved = 0").fetchone() == (0,))
         assert server.stop() == 0
         self.before = found(f"{at}/base")
@@ -336,7 +337,7 @@ class Steps:
 
 def found(at):
     """The calls without their moments, and the phase of the job."""
-    with sqlite3.connect(f"{at}/relkvanu.db") as base:
+    with contextlib.closing(sqlite3.connect(f"{at}/relkvanu.db")) as base:
         calls = list(base.execute("select seq, record, substr(line, 1, instr(line || ' ', ' ')), ended, waiting from call order by seq"))
         return calls, list(base.execute("select phase, record, failed from phase"))
 
