@@ -1,7 +1,9 @@
 -- The lemmas that the proofs use.
+pub mod GroupWorlds
 pub mod Lists
 pub mod NamesOnce
 pub mod Operating
 pub mod Reading
+pub mod Standing
 pub mod TermsOnce
 pub mod Worlds

@@ -17,7 +17,7 @@ made_names m (Forfeit term names) = omega arith
 made_names m (Make term its) = omega arith
 made_names m (Advance now term first) = advance_by m now term first (λ (n : Fenced). m.next_name ≤ n.next_name) (λ _. omega arith) (λ _. omega arith)
 
-names_rise : (m : Fenced) (call : FencedCall) → m.next_name ≤ (fenced_step m call).0.next_name
+pub names_rise : (m : Fenced) (call : FencedCall) → m.next_name ≤ (fenced_step m call).0.next_name
 names_rise m call = fenced_step_by m call (λ (x : FencedStepped). m.next_name ≤ x.0.next_name) (λ _. omega arith) (λ _. made_names m call)
 
 abbrev is_reserved : FencedAnswer → Bool
@@ -33,7 +33,7 @@ reserved_at (answer.Forfeited) = 0
 reserved_at (answer.Made after its) = 0
 
 -- a reservation gives the next names
-gives : (m : Fenced) (term count first : ℕ) → (fenced_step m (Reserve term count)).1 ≡ answer.Reserved first
+pub gives : (m : Fenced) (term count first : ℕ) → (fenced_step m (Reserve term count)).1 ≡ answer.Reserved first
     → (m.next_name ≡ first) × ((fenced_step m (Reserve term count)).0.next_name ≡ m.next_name + count)
 gives m term count first =
     fenced_step_by m (Reserve term count) (λ (x : FencedStepped). x.1 ≡ answer.Reserved first → (m.next_name ≡ first) × (x.0.next_name ≡ m.next_name + count))

@@ -26,16 +26,16 @@ made_terms m (Advance now term first) =
     (λ _. let up : max m.term term ≤ (if is_accepted (step m.core (restart now)).1 && true then max m.term term + 1 else max m.term term) = rise_if (is_accepted (step m.core (restart now)).1 && true) (max m.term term) in omega (arith, up))
     (λ _. rise_if (is_accepted (step m.core (restart now)).1 && true) m.term)
 
-terms_rise : (m : Fenced) (call : FencedCall) → m.term ≤ (fenced_step m call).0.term
+pub terms_rise : (m : Fenced) (call : FencedCall) → m.term ≤ (fenced_step m call).0.term
 terms_rise m call = fenced_step_by m call (λ (x : FencedStepped). m.term ≤ x.0.term) (λ _. omega arith) (λ _. made_terms m call)
 
-abbrev has_term : FencedAnswer → Bool
+abbrev pub has_term : FencedAnswer → Bool
 has_term (answer.Made after its) = true
 has_term (answer.Fenced why) = false
 has_term (answer.Forfeited) = false
 has_term (answer.Reserved first) = false
 
-abbrev term_in : FencedAnswer → ℕ
+abbrev pub term_in : FencedAnswer → ℕ
 term_in (answer.Made after its) = after
 term_in (answer.Fenced why) = 0
 term_in (answer.Forfeited) = 0
@@ -56,7 +56,7 @@ advance_ends m now term first h =
     (λ a. ended_above (is_accepted (step m.core (restart now)).1 && true) m.term (max m.term term) (ap (λ (b : Bool). b && true) a) (omega arith))
     (λ a. absurd (both_ways true (sym h ∙ a) refl))
 
-tells : (m : Fenced) (call : FencedCall) → Tells m call (fenced_step m call)
+pub tells : (m : Fenced) (call : FencedCall) → Tells m call (fenced_step m call)
 tells m (Reserve term count) = fenced_step_by m (Reserve term count) (Tells m (Reserve term count)) (λ why e. absurd (both_ways true (sym e) refl)) (λ _ e. absurd (both_ways true (sym e) refl))
 tells m (Forfeit term names) = fenced_step_by m (Forfeit term names) (Tells m (Forfeit term names)) (λ why e. absurd (both_ways true (sym e) refl)) (λ _ e. absurd (both_ways true (sym e) refl))
 tells m (Make term its) =

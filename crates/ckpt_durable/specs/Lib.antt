@@ -1,4 +1,5 @@
 -- The definitions that contracts cite.
 pub mod Crashes
+pub mod Groups
 pub mod Operations
 pub mod WorkedExamples

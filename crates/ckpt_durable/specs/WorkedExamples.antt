@@ -1,6 +1,6 @@
 -- Worked examples: what callers were told and what is synced after lists of events, computed by the definitions. The expected values were
 -- written by hand, from the rules.
-use Rattle.std.specs.Prelude.{◌≡◌, ℕ, List, [], ◌∷◌, refl, false, None}
+use Rattle.std.specs.Prelude.{◌≡◌, ℕ, List, [], ◌∷◌, map, refl, false, None}
 use Rattle.ckpt_ids.specs.Configuration.{Configuration}
 use Rattle.ckpt_ids.specs.declared.call.Call.TheVariants.{Restore}
 use Rattle.ckpt_ids.specs.declared.call.Target.TheVariants as target
@@ -14,6 +14,12 @@ use Rattle.ckpt_terms.specs.declared.call.FencedAnswer.{FencedAnswer}
 use Rattle.ckpt_terms.specs.declared.call.FencedAnswer.TheVariants as answer
 use Rattle.ckpt_terms.specs.declared.call.FencedRefusal.TheVariants.{OldTerm}
 use Rattle.ckpt_terms.specs.Fencing.{Fenced, fenced, fenced_step}
+use Rattle.ckpt_terms.specs.declared.machine.Machine.{Machine}
+use Rattle.ckpt_terms.specs.declared.machine.Machine.TheVariants as machine
+use Rattle.ckpt_model.specs.State.{opened}
+use Rattle.ckpt_logged.specs.Events.{Fence, Named}
+use Rattle.ckpt_durable.specs.Groups as group
+use Rattle.ckpt_durable.specs.Groups.{synced, world as group_world}
 use Rattle.ckpt_durable.specs.Crashes.{Event, Made, Committed, Crashed, world}
 use Rattle.ckpt_durable.specs.Operations.{Operation, Makes, Commits, FailsToMake, Ends, returned, asked}
 
@@ -112,3 +118,24 @@ fails_returned = refl
 
 pub fails_asked : asked fails ≡ three ∷ two ∷ two ∷ []
 fails_asked = refl
+
+-- The same in groups, of a coordinator that gets its names on the way.
+
+abbrev plain_job : Machine
+plain_job = machine.Plain (opened (record { config = usual; shape = 1 ∷ []; start = 0; first = 1 }))
+
+-- Names from 5 on are told, and three of them are reserved. An image stands for the first of these two entries, and the crash cuts a third.
+abbrev imaged : List group.Turn
+imaged =
+    group.Made (Fence 5) ∷ group.Made (Named three) ∷ group.Committed ∷ group.Imaged 1 ∷ group.Made (Named two) ∷ group.Looked ∷ group.Crashed 0 ∷ group.Looked
+    ∷ group.Committed ∷ []
+
+pub imaged_synced : synced (group_world plain_job imaged) ≡ Fence 5 ∷ Named three ∷ []
+imaged_synced = refl
+
+pub imaged_kept : (group_world plain_job imaged).life.kept ≡ Named three ∷ []
+imaged_kept = refl
+
+-- The reservation that was lost was told to nobody, nor was what was read behind it. What was read after the crash was told.
+pub imaged_told : map (λ r. r.entry) (group_world plain_job imaged).told ≡ (Fence 5 ∷ []) ∷ (Named three ∷ []) ∷ [] ∷ []
+imaged_told = refl

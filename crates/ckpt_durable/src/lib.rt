@@ -2,6 +2,7 @@
 #![tactic(auto)]
 
 pub mod durable;
+pub mod group_laws;
 pub mod journal;
 pub mod laws;
 

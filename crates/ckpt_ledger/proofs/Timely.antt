@@ -21,7 +21,7 @@ IsTimely a (Acts action ∷ moments) = IsTimely (after a action) moments
 IsTimely a (Told n ∷ moments) = CutsAbove n a moments × IsTimely a moments
 
 -- where a record was cut
-abbrev Found : ℕ → Alignment → List Action → Type 0
+abbrev pub Found : ℕ → Alignment → List Action → Type 0
 Found n a xs = (front : List Action) × (x : Action) × (back : List Action) × (xs ≡ front ++ x ∷ back) × (cut_by (replay a front) x ≡ Some n)
 
 is_cut : (n : ℕ) (o : Option ℕ) → is_number n o ≡ true → o ≡ Some n
@@ -33,7 +33,7 @@ found_by : (n : ℕ) (a : Alignment) (y : Action) (ys : List Action) (is : Bool)
 found_by n a y ys true e h rest = ([], y, ys, refl, is_cut n (cut_by a y) e)
 found_by n a y ys false e h rest = let f : Found n (after a y) ys = rest h in (y ∷ f.0, f.1, f.2, ap (λ (zs : List Action). y ∷ zs) f.3, f.4)
 
-found : (n : ℕ) (a : Alignment) (xs : List Action) → has_cut n a xs ≡ true → Found n a xs
+pub found : (n : ℕ) (a : Alignment) (xs : List Action) → has_cut n a xs ≡ true → Found n a xs
 found n a [] h = absurd (both_ways true (sym h) refl)
 found n a (Ends ∷ ys) h = absurd (both_ways true (sym h) refl)
 found n a (Reads i item ∷ ys) h = let y : Action = Reads i item in found_by n a y ys (is_number n (cut_by a y)) refl h (found n (after a y) ys)

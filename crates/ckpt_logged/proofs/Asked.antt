@@ -3,10 +3,10 @@ use Rattle.std.proofs.Common.{◌≡◌, ℕ, List, [], ◌∷◌, ◌++◌, ref
 use Rattle.std.specs.Prelude.{Option, Some, None}
 use Rattle.ckpt_ids.specs.declared.call.Call.{Call}
 use Rattle.ckpt_model.specs.State.{State}
-use Rattle.ckpt_model.specs.Steps.{step}
 use Rattle.ckpt_model.specs.Histories.{replay}
 use Rattle.ckpt_model.specs.Laws.{AreCalls}
 use Rattle.ckpt_model.specs.Soundness.{IsSound}
+use Rattle.ckpt_model.proofs.Histories.Replays as history
 use Rattle.ckpt_model.proofs.Soundness.Calls.{step_keeps}
 use Rattle.ckpt_terms.specs.declared.call.FencedCall.{FencedCall}
 use Rattle.ckpt_terms.specs.declared.call.FencedCall.TheVariants.{Reserve, Forfeit, Make, Advance}
@@ -48,10 +48,6 @@ calls-split (call ∷ before) after a = let rest : AreCalls before × AreCalls a
 calls-join : (before after : List Call) → AreCalls before → AreCalls after → AreCalls (before ++ after)
 calls-join [] after a b = b
 calls-join (call ∷ before) after a b = (a.0, calls-join before after a.1 b)
-
-core-append : (m : State) (before after : List Call) → replay m (before ++ after) ≡ replay (replay m before) after
-core-append m [] after = refl
-core-append m (call ∷ before) after = core-append (step m call).0 before after
 
 pub fenced-split : (before after : List FencedCall) → AreFencedCalls (before ++ after) → AreFencedCalls before × AreFencedCalls after
 fenced-split [] after a = (tt, a)
@@ -113,7 +109,7 @@ reaches m (event ∷ events) a =
     let one = reach m event a.0 in
     let rest = reaches n events a.1 in (
       calls-join (reached m event) (calls_in n events) one.0 rest.0,
-      rest.1 ∙ ap (λ (k : State). replay k (calls_in n events)) one.1 ∙ sym (core-append (core_in m) (reached m event) (calls_in n events)),
+      rest.1 ∙ ap (λ (k : State). replay k (calls_in n events)) one.1 ∙ sym (history.replay-append (core_in m) (reached m event) (calls_in n events)),
     )
 
 -- where there are names, it is the replay of calls of the layer

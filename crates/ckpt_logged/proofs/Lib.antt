@@ -5,3 +5,4 @@ pub mod Crossings
 pub mod Entering
 pub mod Once
 pub mod Shows
+pub mod Since

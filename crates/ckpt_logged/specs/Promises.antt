@@ -1,16 +1,22 @@
 -- What every chronicle promises.
-use Rattle.std.specs.Prelude.{◌≡◌, ℕ, ◌+◌, true, List, [], ◌∷◌, ◌++◌, count_by}
+use Rattle.std.specs.Prelude.{◌≡◌, ℕ, ◌+◌, ◌≤◌, ◌⊎◌, ◌↔◌, true, false, List, [], ◌∷◌, ◌++◌, count_by, length, Option, Some, None}
+use Rattle.std.specs.List.{range_with_len}
 use Rattle.ckpt_ids.specs.declared.ack.Acked.{Acked}
 use Rattle.ckpt_ids.specs.declared.call.Call.{Call}
+use Rattle.ckpt_ids.specs.declared.call.Call.TheVariants.{Ack}
+use Rattle.ckpt_ids.specs.declared.reply.Refusal.TheVariants.{FileGone}
 use Rattle.ckpt_ids.specs.declared.subtask.SubtaskId.{SubtaskId}
+use Rattle.ckpt_ids.specs.Acknowledged.{put_ack}
 use Rattle.ckpt_ids.specs.Counting.{one_if, times}
 use Rattle.ckpt_ids.specs.Ordered.{IsIn}
 use Rattle.ckpt_ids.specs.Records.{Record, count, is_present, uses}
 use Rattle.ckpt_ids.specs.Shapes.{is_subtask, same_subtask}
-use Rattle.ckpt_model.specs.State.{State, Opening, opened}
+use Rattle.ckpt_model.specs.State.{State, choice_of, chosen, files_of, in_outbox, is_checkpoint, record_of}
+use Rattle.ckpt_model.specs.Refusals.{refusal}
 use Rattle.ckpt_model.specs.Histories.{replay}
-use Rattle.ckpt_model.specs.Laws.{Accounted, Acknowledgements, AreCalls, CanOpen, ChoiceIsLive, Handed, NoneAgain, Numbers, Outbox, Part, Pinned, Savepoints}
-use Rattle.ckpt_model.specs.Laws.{UsedNoMore, ack_of, along, deleted_by, handed_by, registered_by}
+use Rattle.ckpt_model.specs.Keeping.{TakesNewest}
+use Rattle.ckpt_model.specs.Laws.{AreCalls, IsNeverDisposed, NoneAgain, Part}
+use Rattle.ckpt_model.specs.Laws.{accepted_by, ack_of, along, deleted_by, given_by, handed_by, id_of_choice, registered_by}
 use Rattle.ckpt_terms.specs.declared.call.FencedCall.{FencedCall}
 use Rattle.ckpt_terms.specs.declared.call.FencedCall.TheVariants.{Make}
 use Rattle.ckpt_terms.specs.declared.machine.Machine.TheVariants as machine
@@ -19,6 +25,10 @@ use Rattle.ckpt_terms.specs.FencedLaws.{IssuesOnce, given_in, is_taken_in}
 use Rattle.ckpt_terms.specs.Machines.{core_in}
 use Rattle.ckpt_logged.specs.Events.{Event, IsWell, calls_named, events_replay}
 use Rattle.ckpt_logged.specs.Chronicles.{Chronicle, calls_of}
+
+-- no live record uses the file
+abbrev pub IsUnused : State → ℕ → Type 0
+IsUnused m f = count (uses m.records) f ≡ 0
 
 -- From an opening or an image, with names or without.
 
@@ -49,6 +59,89 @@ LeaksNone c =
     → times f (along registered_by m (calls_of c)) + one_if (is_present (uses m.records) f) + times f (m.waiting ++ m.taken)
     ≡ times f (along deleted_by m (calls_of c)) + times f (n.waiting ++ n.taken) + one_if (is_present (uses n.records) f)
 
+-- the acknowledgements of a record, if there is one
+abbrev pub acks_in : Option Record → List Acked
+acks_in None = []
+acks_in (Some r) = r.acks
+
+-- these acknowledgements, and further ones, each put in its place
+abbrev pub put_all : List Acked → List Acked → List Acked
+put_all acks [] = acks
+put_all acks (a ∷ more) = put_all (put_ack a acks) more
+
+-- A live record's acknowledgements are those that it had at the beginning, if it was there, and those accepted for its number since.
+abbrev pub AreAcknowledged : Chronicle → Type 0
+AreAcknowledged c =
+    let m : State = core_in c.begin in
+    (r : Record) → IsIn r (core_in c.now).records → r.acks ≡ put_all (acks_in (record_of m r.id)) (along (accepted_by r.id) m (calls_of c))
+
+-- numbers are given from the next one on, each the one after the one before
+abbrev pub NumbersRise : Chronicle → Type 0
+NumbersRise c =
+    let m : State = core_in c.begin in
+    let given : List ℕ = along given_by m (calls_of c) in
+    given ≡ range_with_len m.next (length given)
+
+-- a savepoint that is done at some moment stays, unchanged, until an accepted Dispose of its number
+abbrev pub SavepointsStay : Chronicle → Type 0
+SavepointsStay c =
+    (before after : List Call)
+    → calls_of c ≡ before ++ after
+    → let n : State = replay (core_in c.begin) before in
+    (r : Record) → IsIn r n.records → r.done ≡ true → is_checkpoint r ≡ false → IsNeverDisposed r.id n after → IsIn r (core_in c.now).records
+
+-- the record that the choice names is live and done, and its files are present
+abbrev pub ChoiceStands : State → Type 0
+ChoiceStands m =
+    (id : ℕ)
+    → id_of_choice (choice_of m) ≡ Some id
+    → (r : Record)
+    × (record_of m id ≡ Some r)
+    × (r.done ≡ true)
+    × ((f : ℕ) → IsIn f (files_of (Some r)) → is_present (uses m.records) f ≡ true)
+
+-- An acknowledgement for a pending record that was triggered since the beginning, and that reuses only files of the choice at the trigger,
+-- is never refused FileGone.
+abbrev pub PinsHold : Chronicle → Type 0
+PinsHold c =
+    (before after : List Call) (call : Call) (id now : ℕ) (subtask : SubtaskId) (fresh reused : List ℕ) (f : ℕ)
+    → calls_of c ≡ before ++ call ∷ after
+    → let n : State = replay (core_in c.begin) before in
+    given_by n call ≡ id ∷ []
+    → ((g : ℕ) → IsIn g reused → IsIn g (files_of (chosen (choice_of n) n)))
+    → refusal (core_in c.now) (Ack now id subtask fresh reused) ≡ Some (FileGone f)
+    → ⊥
+
+-- each file is in at most one of present, waiting and taken, and there once
+abbrev pub AreInOnePlace : State → Type 0
+AreInOnePlace m = (f : ℕ) → one_if (is_present (uses m.records) f) + times f (m.waiting ++ m.taken) ≤ 1
+
+-- a registered file that no live record uses waits for deletion, or was fetched for it, or was reported as deleted
+abbrev pub AreAccounted : Chronicle → Type 0
+AreAccounted c =
+    let m : State = core_in c.begin in
+    let n : State = core_in c.now in
+    (f : ℕ) → IsIn f (along registered_by m (calls_of c)) → IsUnused n f → in_outbox n f ≡ false → IsIn f (along deleted_by m (calls_of c))
+
+-- If no deleted file is reported as new again, a file was handed out exactly if it was registered, or present at the beginning, and no
+-- live record uses it.
+abbrev pub AreHandedOut : Chronicle → Type 0
+AreHandedOut c =
+    let m : State = core_in c.begin in
+    NoneAgain [] m (calls_of c)
+    → (f : ℕ)
+    → IsIn f (along handed_by m (calls_of c))
+    ↔ ((IsIn f (along registered_by m (calls_of c)) ⊎ (is_present (uses m.records) f ≡ true)) × IsUnused (core_in c.now) f)
+
+-- and no live record uses a file that was handed out by some moment
+abbrev pub UsesNoMore : Chronicle → Type 0
+UsesNoMore c =
+    let m : State = core_in c.begin in
+    (before after : List Call)
+    → calls_of c ≡ before ++ after
+    → NoneAgain [] m (calls_of c)
+    → (f : ℕ) → IsIn f (along handed_by m before) → IsUnused (core_in c.now) f
+
 -- What holds between any moment with names, after the events `before`, and now.
 
 -- no live record uses a file that might be deleted then
@@ -57,7 +150,7 @@ AreDeletedSafely c =
     (before after : List Event) (m : Fenced)
     → c.events ≡ before ++ after
     → events_replay c.begin before ≡ machine.Fenced m
-    → (f : ℕ) → may_be_deleted m f ≡ true → count (uses (core_in c.now).records) f ≡ 0
+    → (f : ℕ) → may_be_deleted m f ≡ true → IsUnused (core_in c.now) f
 
 -- Each acknowledgement that was accepted for a pending record was made in the term of the call that triggered it.
 abbrev pub HaveOneTerm : Chronicle → Type 0
@@ -79,26 +172,9 @@ AreIssuedOnce c =
     → events_replay c.begin before ≡ machine.Fenced m
     → (c.now ≡ machine.Fenced (fenced_replay m (calls_named after))) × IssuesOnce m (calls_named after)
 
--- With names from the beginning on, no deleted file is reported as new again: the premise of `Handed` and of `UsesNoMore` holds.
+-- With names from the beginning on, no deleted file is reported as new again: the premise of `AreHandedOut` and of `UsesNoMore` holds.
 abbrev pub NeverAgain : Chronicle → Type 0
 NeverAgain c = (m : Fenced) → c.begin ≡ machine.Fenced m → NoneAgain [] m.core (calls_of c)
-
--- From an opening, with names or without.
-
-abbrev pub FromOpening : Chronicle → (Opening → List Call → Type 0) → Type 0
-FromOpening c holds = (o : Opening) → CanOpen o → core_in c.begin ≡ opened o → holds o (calls_of c)
-
--- no live record uses a file that was handed out by then
-abbrev pub UsesNoMore : Opening → List Call → Type 0
-UsesNoMore o calls = (before after : List Call) → calls ≡ before ++ after → UsedNoMore o before after
-
--- a savepoint that was done by then is still there, unless it was disposed of since
-abbrev pub SavepointsStay : Opening → List Call → Type 0
-SavepointsStay o calls = (before after : List Call) → calls ≡ before ++ after → Savepoints o before after
-
--- no acknowledgement is refused FileGone for a file that the job would have been restored from at the trigger
-abbrev pub PinsHold : Opening → List Call → Type 0
-PinsHold o calls = (before : List Call) (call : Call) (after : List Call) → calls ≡ before ++ call ∷ after → Pinned o before call after
 
 -- What holds of each coordinator with its history.
 pub record Promises (c : Chronicle) : Type 0 where
@@ -111,20 +187,20 @@ pub record Promises (c : Chronicle) : Type 0 where
   pub core : core_in c.now ≡ replay (core_in c.begin) (calls_of c)
   -- from an opening or an image, with names or without
   pub exactly_one : OneOfEach (core_in c.now)
+  pub acknowledgements : AreAcknowledged c
+  pub numbers : NumbersRise c
+  pub savepoints : SavepointsStay c
+  pub choice : ChoiceStands (core_in c.now)
+  pub latest : TakesNewest (core_in c.now)
+  pub pinned : PinsHold c
   pub balance : IsBalanced c
   pub no_leak : LeaksNone c
+  pub accounted : AreAccounted c
+  pub outbox : AreInOnePlace (core_in c.now)
+  pub handed : AreHandedOut c
+  pub used_no_more : UsesNoMore c
   -- between any moment with names and now
   pub safe : AreDeletedSafely c
   pub one_term : HaveOneTerm c
   pub once : AreIssuedOnce c
   pub never_again : NeverAgain c
-  -- from an opening, with names or without
-  pub acknowledgements : FromOpening c Acknowledgements
-  pub numbers : FromOpening c Numbers
-  pub savepoints : FromOpening c SavepointsStay
-  pub handed : FromOpening c Handed
-  pub used_no_more : FromOpening c UsesNoMore
-  pub accounted : FromOpening c Accounted
-  pub outbox : FromOpening c Outbox
-  pub choice : FromOpening c ChoiceIsLive
-  pub pinned : FromOpening c PinsHold

@@ -239,15 +239,6 @@ impl Logged {
         ensures promised { Promises self.now }
     {
         // These do nothing: their contracts are the laws.
-        ckpt_model::laws::acknowledgements();
-        ckpt_model::laws::numbers();
-        ckpt_model::laws::savepoints();
-        ckpt_model::laws::handed();
-        ckpt_model::laws::used_no_more();
-        ckpt_model::laws::accounted();
-        ckpt_model::laws::outbox();
-        ckpt_model::laws::choice();
-        ckpt_model::laws::pinned();
         ckpt_terms::laws::deletions_are_safe();
         ckpt_terms::laws::one_term();
         ckpt_terms::laws::issued_once();

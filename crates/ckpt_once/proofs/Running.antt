@@ -50,7 +50,7 @@ run_moves job (e ∷ h) t = run_moves_by job e h t (same_subtask e.task t) refl 
 
 -- what a task did before its cut
 
-abbrev turns_of : ℕ → Job → States → SubtaskId → List Turn → List Turn
+abbrev pub turns_of : ℕ → Job → States → SubtaskId → List Turn → List Turn
 turns_of n job from t turns = turns_before n (job.program t) (from t) (opened (job.inputs t)) turns
 
 abbrev stops : ℕ → Job → States → SubtaskId → List Turn → Bool
@@ -79,7 +79,7 @@ before_turns_by n job from e h t true same k =
 before_turns_by n job from e h t false other k =
     of_if_there t e (before_cuts n job from h) (has_stopped n ((network job from (e ∷ h)).task e.task)) other ∙ k ∙ ap (turns_of n job from t) (sym (of_there t e h other))
 
-before_turns : (n : ℕ) (job : Job) (from : States) (h : History) (t : SubtaskId) → of t (before_cuts n job from h) ≡ turns_of n job from t (of t h)
+pub before_turns : (n : ℕ) (job : Job) (from : States) (h : History) (t : SubtaskId) → of t (before_cuts n job from h) ≡ turns_of n job from t (of t h)
 before_turns n job from [] t = refl
 before_turns n job from (e ∷ h) t = before_turns_by n job from e h t (same_subtask e.task t) refl (before_turns n job from h t)
 

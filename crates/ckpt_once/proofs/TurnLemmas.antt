@@ -16,7 +16,7 @@ replay_sendings : (a : Alignment) (es : List Emitted) → replay a (sendings es)
 replay_sendings a [] = refl
 replay_sendings a (e ∷ es) = replay_sendings a es
 
-taken_sendings : (j : ℕ) (a : Alignment) (es : List Emitted) → taken j a (sendings es) ≡ []
+pub taken_sendings : (j : ℕ) (a : Alignment) (es : List Emitted) → taken j a (sendings es) ≡ []
 taken_sendings j a [] = refl
 taken_sendings j a (e ∷ es) = taken_sendings j a es
 
@@ -24,7 +24,7 @@ has_cut_sendings : (n : ℕ) (a : Alignment) (es : List Emitted) → has_cut n a
 has_cut_sendings n a [] = refl
 has_cut_sendings n a (e ∷ es) = has_cut_sendings n a es
 
-has_ended_sendings : (es : List Emitted) → has_ended (sendings es) ≡ false
+pub has_ended_sendings : (es : List Emitted) → has_ended (sendings es) ≡ false
 has_ended_sendings [] = refl
 has_ended_sendings (e ∷ es) = has_ended_sendings es
 
@@ -140,7 +140,7 @@ or_false true c e = grind (arith, common_steps)
 or_false false c e = (refl, e)
 
 -- a task that has not stopped has only turns before its cut
-turns_all : (n : ℕ) (p : Program) (s : ℕ) (a : Alignment) (turns : List Turn) → stopped n a (actions p s a turns) ≡ false → turns_before n p s a turns ≡ turns
+pub turns_all : (n : ℕ) (p : Program) (s : ℕ) (a : Alignment) (turns : List Turn) → stopped n a (actions p s a turns) ≡ false → turns_before n p s a turns ≡ turns
 turns_all n p s a [] e = refl
 turns_all n p s a (turn ∷ turns) e =
     let xs : List Action = actions p s a turns in

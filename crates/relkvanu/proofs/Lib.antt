@@ -1,6 +1,8 @@
 -- The lemmas that the proofs use.
+pub mod AsEvents
 pub mod BoxWords
 pub mod Given
+pub mod GroupPrograms
 pub mod InputBytes
 pub mod Openings
 pub mod Saves

@@ -28,11 +28,12 @@ use Rattle.ckpt_terms.specs.declared.machine.Machine.TheVariants as machine
 use Rattle.ckpt_terms.specs.Fencing.{Fenced, FencedStepped, fenced_step, is_accepted, made, restart}
 use Rattle.ckpt_terms.specs.Machines.{core_in, fence_fault, is_free, machine_of, names_in}
 use Rattle.ckpt_terms.proofs.Stepping.{fenced_step_by}
+use Rattle.ckpt_logged.specs.Events.{named_from}
 use Rattle.relkvanu.specs.declared.answer.Answer.{Answer}
 use Rattle.relkvanu.specs.declared.asked.Asked.{Asked}
 use Rattle.relkvanu.specs.declared.asked.Asked.TheVariants as ask
 use Rattle.relkvanu.specs.Buffers.{files_in}
-use Rattle.relkvanu.specs.Fenced.{IsTaken, call_step, count_of, fence_told, fenced_told, named_unless, term_step}
+use Rattle.relkvanu.specs.Fenced.{IsTaken, call_step, count_of, fence_told, fenced_told, term_step}
 use Rattle.relkvanu.specs.Lines.{asked_step, call_made, core_step, line_call_step, named_step, plain_step}
 use Rattle.relkvanu.specs.Told.{answer_told, no_memory, restore_told, too_short}
 use Rattle.ckpt_logged.proofs.Shows.{whole}
@@ -206,11 +207,11 @@ line_call_leaves k places (Reserve term count) = term_leaves k (Reserve term cou
 line_call_leaves k places (Forfeit term names) = term_leaves k (Forfeit term names)
 line_call_leaves k places (Advance now term first) = term_leaves k (Advance now term first)
 
-fence_leaves : (k : Machine) (first : ℕ) (why : Option FenceFault) → Leaves k (named_unless k first why, fence_told why)
+fence_leaves : (k : Machine) (first : ℕ) (why : Option FenceFault) → Leaves k (named_from k first why, fence_told why)
 fence_leaves k first None unmade = absurd (unmade refl)
 fence_leaves k first (Some why) unmade = refl
 
-asked_leaves : (k : Machine) (places : ℕ) (asked : Asked) → Leaves k (asked_step k places asked)
+pub asked_leaves : (k : Machine) (places : ℕ) (asked : Asked) → Leaves k (asked_step k places asked)
 asked_leaves k places (ask.Fence first) = fence_leaves k first (fence_fault k first)
 asked_leaves k places (ask.Call call) = line_call_leaves k places call
 

@@ -14,8 +14,9 @@ use Rattle.ckpt_terms.specs.declared.machine.Machine.TheVariants as machine
 use Rattle.ckpt_terms.specs.declared.machine.FenceFault.{FenceFault}
 use Rattle.ckpt_terms.specs.declared.machine.FenceFault.TheVariants as fault
 use Rattle.ckpt_terms.specs.Fencing.{FencedStepped, fenced_step, is_garbage}
-use Rattle.ckpt_terms.specs.Machines.{Issued, core_in, fence_fault, fenced_of, first_names, machine_of, machine_step, names_in}
+use Rattle.ckpt_terms.specs.Machines.{Issued, core_in, fence_fault, fenced_of, machine_of, machine_step, names_in}
 use Rattle.ckpt_terms.specs.Wants.{wants_memory}
+use Rattle.ckpt_logged.specs.Events.{named_from}
 use Rattle.relkvanu.specs.declared.answer.Answer.{Answer}
 use Rattle.relkvanu.specs.declared.handle.Handle.{Handle}
 use Rattle.relkvanu.specs.Buffers.{StandsInFront}
@@ -105,13 +106,9 @@ fence_told (Some fault.BadName) = bad_argument bad_name
 fence_told (Some fault.NameInUse) = fenced 10 0
 fence_told (Some fault.Memory) = out_of_memory
 
-abbrev pub named_unless : Machine → ℕ → Option FenceFault → Machine
-named_unless k first None = machine_of (core_in k) (Some (first_names first))
-named_unless k first (Some why) = k
-
 -- a coordinator gets names from this one on
 abbrev pub fence_step : Machine → ℕ → Machine × Answer
-fence_step k first = (named_unless k first (fence_fault k first), fence_told (fence_fault k first))
+fence_step k first = (named_from k first (fence_fault k first), fence_told (fence_fault k first))
 
 -- the term that runs, and the next name
 abbrev pub term_told : Option Issued → Answer

@@ -4,6 +4,8 @@ pub mod Asking
 pub mod Buffers
 pub mod Calls
 pub mod Fenced
+pub mod GroupPrograms
+pub mod Groups
 pub mod Images
 pub mod Kept
 pub mod Lines

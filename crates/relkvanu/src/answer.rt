@@ -2,6 +2,7 @@
 
 ghost use Rattle.std.specs.Prelude.{◌≡◌};
 ghost use Rattle.relkvanu.specs.Asking.{bad_line};
+ghost use Rattle.relkvanu.specs.Fenced.{fenced};
 ghost use Rattle.relkvanu.specs.Requested.{IsRefused};
 ghost use Rattle.relkvanu.specs.Told.{refusal_told, reply_told, restore_told, tick_told, done, refused, out_of_memory, is_closed, bad_argument};
 ghost use Rattle.relkvanu.specs.Told.{too_short, too_short_for};
@@ -11,18 +12,20 @@ use ckpt_ids::{Choice, FileId, Refusal, Reply, TickEnd};
 
 /// The answer to a call, by value.
 ///
-/// `relkvanu.h` names the codes, the replies and the refusals.
+/// `relkvanu.h` names the codes, the replies and the refusals. Only the functions below write its
+/// numbers, and of these only [`Answer::out_of_memory`] writes [`NO_MEMORY`]: its caller has to show
+/// a refused request.
 #[repr(C)]
 #[derive(Clone, Copy, Debug, PartialEq, Eq)]
 pub struct Answer {
     /// One of the codes below.
-    pub code: u32,
+    code: u32,
     /// Which reply, refusal, argument or fault it is.
-    pub what: u32,
+    what: u32,
     /// Its first number, or 0.
-    pub a: u64,
+    a: u64,
     /// Its second number, or 0.
-    pub b: u64,
+    b: u64,
 }
 
 /// The call was made.
@@ -53,6 +56,20 @@ impl Answer {
             a,
             b,
         }
+    }
+
+    /// Its code.
+    pub(crate) fn code(&self) -> u32
+        ensures { result ≡ self.now.code }
+    {
+        self.code
+    }
+
+    /// Which reply, refusal, argument or fault it is.
+    pub(crate) fn what(&self) -> u32
+        ensures { result ≡ self.now.what }
+    {
+        self.what
     }
 
     /// The answer if memory ran out.
@@ -127,6 +144,18 @@ impl Answer {
             code: BAD_LINE,
             what,
             a: 0,
+            b: 0,
+        }
+    }
+
+    /// The answer if a term or the names refuse a call, with its file if it has one.
+    pub(crate) fn fenced(what: u32, file: u64) -> Answer
+        ensures { result ≡ fenced what file }
+    {
+        Answer {
+            code: FENCED,
+            what,
+            a: file,
             b: 0,
         }
     }

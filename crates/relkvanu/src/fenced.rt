@@ -2,13 +2,13 @@
 
 ghost use Rattle.std.specs.Prelude.{◌≡◌, ◌≢◌, ◌<◌, ◌≤◌, length, Some};
 ghost use Rattle.relkvanu.specs.Buffers.{StandsInFront};
-ghost use Rattle.relkvanu.specs.Fenced.{fence_told, fenced, fenced_refusal_told, fenced_told, has_names, no_names};
+ghost use Rattle.relkvanu.specs.Fenced.{fence_told, fenced_refusal_told, fenced_told, has_names, no_names};
 ghost use Rattle.relkvanu.specs.Names.{fenced_name};
 ghost use Rattle.relkvanu.specs.Requested.{IsRefused};
 ghost use Rattle.relkvanu.specs.Told.{answer_told, no_memory};
 ghost use Rattle.ckpt_terms.specs.declared.machine.FenceFault.TheVariants as fault;
 
-use crate::answer::{Answer, FENCED};
+use crate::answer::Answer;
 use crate::requests::Requests;
 use ckpt_ids::{Answer as Told, FileId};
 use ckpt_terms::{FenceFault, FencedAnswer, FencedRefusal};
@@ -33,18 +33,6 @@ const NO_NAMES: u32 = 8;
 const HAS_NAMES: u32 = 9;
 
 impl Answer {
-    /// The answer if a term or the names refuse a call, with its file if it has one.
-    fn fenced(what: u32, file: u64) -> Answer
-        ensures { result ≡ fenced what file }
-    {
-        Answer {
-            code: FENCED,
-            what,
-            a: file,
-            b: 0,
-        }
-    }
-
     /// The answer of a handle without names.
     pub(crate) fn no_names() -> Answer
         ensures { result ≡ no_names }

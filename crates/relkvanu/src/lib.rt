@@ -13,6 +13,7 @@ mod buffers;
 mod calls;
 mod fenced;
 mod fencing;
+mod group;
 mod handle;
 mod images;
 mod lines;

@@ -166,7 +166,7 @@ fn make_fitting(
     }
     let waited = machine.core().files_waiting();
     let answer = make_asked(requests, alloc, machine, asked, files);
-    if answer.code == DONE {
+    if answer.code() == DONE {
         line[..bytes.len()].copy_from_slice(bytes);
         *made = made_of(bytes.len() as u64, waited, machine.core());
     }

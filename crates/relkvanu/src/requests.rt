@@ -23,7 +23,7 @@ use ckpt_ids::{Config, FileId, Metadata, Shape};
 use ckpt_image::{TextFault, image_text};
 use ckpt_lines::{LineFault, config_line, job_line, start_line};
 use ckpt_logged::Logged;
-use ckpt_memory::Meter;
+use ckpt_memory::{Meter, list};
 use ckpt_names_image::{SavedImage, names_image_text, parse_names_image};
 use ckpt_term_lines::{TermLine, fence_line, parse_term_line, term_line};
 use ckpt_terms::TermsImage;
@@ -75,14 +75,19 @@ impl Requests {
     }
 
     /// A list of files with these numbers.
-    pub(crate) fn files(&mut self, alloc: Global, list: &[u64]) -> Result<Vec<FileId>, AllocError>
-        ensures items { IfOk result (λ files. files.items ≡ list.now) }
+    pub(crate) fn files(
+        &mut self,
+        alloc: Global,
+        numbers: &[u64],
+    ) -> Result<Vec<FileId>, AllocError>
+        ensures items { IfOk result (λ files. files.items ≡ numbers.now) }
         ensures refused { OnErr result (IsRefused self.new) }
     {
-        match list.iter().map(|number| FileId(*number)).collect(alloc) {
-            Ok(files) => Ok(files),
-            Err(_) => Err(self.refuse()),
+        let mut files = list::with_capacity(&mut self.meter, alloc, numbers.len())?;
+        for place in 0..numbers.len() {
+            files.push_reserved(FileId(numbers[place]));
         }
+        Ok(files)
     }
 
     /// Reads a line, as [`parse_term_line`] does.

@@ -80,7 +80,7 @@ fn write_call(asked: &Asked, call: &mut CallFields, first: &mut [u64], second: &
         return Answer::of_refusal(Refusal::NoSuchSavepoint);
     }
     let answer = write_lists(asked, first, second);
-    if answer.what == LINE_CALL {
+    if answer.what() == LINE_CALL {
         recall_given(asked);
         *call = fields_of(asked);
     }

@@ -1,10 +1,18 @@
 -- Answers the goals of `Logged::machine`.
-use Rattle.std.proofs.Common.{◌≡◌, List, [], ◌∷◌, ◌++◌, refl, sym, subst, ap, ◌∙◌, arith}
-use Rattle.ckpt_ids.specs.Records.{count, uses}
-use Rattle.ckpt_model.specs.State.{State}
+use Rattle.std.proofs.Common.{◌≡◌, ℕ, true, false, List, [], ◌∷◌, ◌++◌, refl, sym, subst, ap, ◌∙◌, ◌⊎◌, arith}
+use Rattle.std.specs.Prelude.{Some, ◌↔◌}
+use Rattle.ckpt_ids.specs.declared.call.Call.{Call}
+use Rattle.ckpt_ids.specs.declared.call.Call.TheVariants.{Ack}
+use Rattle.ckpt_ids.specs.declared.reply.Refusal.TheVariants.{FileGone}
+use Rattle.ckpt_ids.specs.Ordered.{IsIn}
+use Rattle.ckpt_ids.specs.Records.{count, is_present, uses}
+use Rattle.ckpt_model.specs.State.{State, in_outbox}
 use Rattle.ckpt_model.specs.Histories.{replay}
-use Rattle.ckpt_model.specs.Laws.{Accounted, Acknowledgements, AreCalls, ChoiceIsLive, Handed, NoneAgain, Numbers, Outbox, ack_of}
+use Rattle.ckpt_model.specs.Laws.{AreCalls, NoneAgain, ack_of, along, deleted_by, handed_by, registered_by}
+use Rattle.ckpt_model.specs.Refusals.{refusal}
 use Rattle.ckpt_model.specs.Soundness.{IsSound}
+use Rattle.ckpt_model.specs.Steps.{step}
+use Rattle.ckpt_model.proofs.Histories.Numbers.{numbers_from}
 use Rattle.ckpt_terms.specs.declared.call.FencedCall.{FencedCall}
 use Rattle.ckpt_terms.specs.declared.call.FencedCall.TheVariants.{Make}
 use Rattle.ckpt_terms.specs.declared.machine.Machine.{Machine}
@@ -14,11 +22,16 @@ use Rattle.ckpt_terms.specs.FencedLaws.{AreFencedCalls, IsFenced}
 use Rattle.ckpt_terms.specs.Machines.{core_in}
 use Rattle.ckpt_logged.specs.Events.{AreEvents, Event, IsWell, calls_in, calls_named, events_replay}
 use Rattle.ckpt_logged.specs.Chronicles.{Chronicle, IsChronicle, calls_of}
-use Rattle.ckpt_logged.specs.Promises.{AreDeletedSafely, AreIssuedOnce, FromOpening, HaveOneTerm, IsBalanced, LeaksNone, NeverAgain, OneOfEach, PinsHold}
-use Rattle.ckpt_logged.specs.Promises.{SavepointsStay, UsesNoMore}
-use Rattle.ckpt_logged.proofs.Asked.{calls-split, events-split, fenced-split, reached_named, reaches, replay-append, replay_named, replay_well}
+use Rattle.ckpt_logged.specs.Promises.{AreAccounted, AreAcknowledged, AreDeletedSafely, AreHandedOut, AreIssuedOnce, HaveOneTerm, IsBalanced, LeaksNone}
+use Rattle.ckpt_logged.specs.Promises.{NeverAgain, OneOfEach, PinsHold, SavepointsStay, UsesNoMore}
+use Rattle.ckpt_logged.proofs.Asked as asked
+use Rattle.ckpt_logged.proofs.Asked.{calls-split, events-split, fenced-split, reached_named, reaches, replay_named, replay_well}
+use Rattle.ckpt_model.proofs.Histories.Replays.{replay-append}
+use Rattle.ckpt_model.proofs.Keeping.Latest.{takes_newest}
+use Rattle.ckpt_model.proofs.Soundness.Histories.{replay_keeps}
 use Rattle.ckpt_logged.proofs.Counts.{balanced, flowing}
 use Rattle.ckpt_logged.proofs.Once.{one_of_each}
+use Rattle.ckpt_logged.proofs.Since.{accounted, acknowledged, choice_stands, handed_before, handed_out, in_one_place, pinned, savepoints_stay}
 use Rattle.ckpt_logged.proofs.logged.Logged.machine.Goals as goal
 
 its : (c : goal.After-self) → IsChronicle c.args.self.now
@@ -52,6 +65,53 @@ no_leak_here c f =
     let s : IsSound m = its_core k.begin (its c).begin in
     rw (core_here c) (omega (arith, balanced m (calls_of k) (calls_here c) s f, flowing m (calls_of k) (calls_here c) s f))
 
+-- since the beginning
+
+first_sound : (c : goal.After-self) → IsSound (core_in c.args.self.now.begin)
+first_sound c = its_core c.args.self.now.begin (its c).begin
+
+acknowledgements_here : (c : goal.After-self) → AreAcknowledged c.args.self.now
+acknowledgements_here c r h =
+    let k : Chronicle = c.args.self.now in
+    acknowledged (core_in k.begin) (calls_of k) (first_sound c) (calls_here c) r (subst (λ (n : State). IsIn r n.records) (core_here c) h)
+
+savepoints_here : (c : goal.After-self) → SavepointsStay c.args.self.now
+savepoints_here c before after split r there done savepoint never =
+    let k : Chronicle = c.args.self.now in
+    let both : AreCalls before × AreCalls after = calls-split before after (subst AreCalls split (calls_here c)) in
+    subst (λ (n : State). IsIn r n.records) (sym (core_here c ∙ ap (replay (core_in k.begin)) split ∙ replay-append (core_in k.begin) before after))
+    (savepoints_stay (replay (core_in k.begin) before) after r (replay_keeps (core_in k.begin) before both.0 (first_sound c)) both.1 there done savepoint never)
+
+pinned_here : (c : goal.After-self) → PinsHold c.args.self.now
+pinned_here c before after call id now subtask fresh reused f split given among gone =
+    let k : Chronicle = c.args.self.now in
+    let both : AreCalls before × AreCalls (call ∷ after) = calls-split before (call ∷ after) (subst AreCalls split (calls_here c)) in
+    let n : State = replay (core_in k.begin) before in
+    let here : core_in k.now ≡ replay (step n call).0 after = core_here c ∙ ap (replay (core_in k.begin)) split ∙ replay-append (core_in k.begin) before (call ∷ after) in
+    pinned n call after (replay_keeps (core_in k.begin) before both.0 (first_sound c)) both.1.0 both.1.1 id now subtask fresh reused f given among
+    (subst (λ (m : State). refusal m (Ack now id subtask fresh reused) ≡ Some (FileGone f)) here gone)
+
+accounted_here : (c : goal.After-self) → AreAccounted c.args.self.now
+accounted_here c =
+    let k : Chronicle = c.args.self.now in
+    subst (λ (n : State). (f : ℕ) → IsIn f (along registered_by (core_in k.begin) (calls_of k)) → count (uses n.records) f ≡ 0 → in_outbox n f ≡ false → IsIn f (along deleted_by (core_in k.begin) (calls_of k)))
+    (sym (core_here c)) (accounted (core_in k.begin) (calls_of k) (first_sound c) (calls_here c))
+
+handed_here : (c : goal.After-self) → AreHandedOut c.args.self.now
+handed_here c none f =
+    let k : Chronicle = c.args.self.now in
+    let m : State = core_in k.begin in
+    subst (λ (n : State). IsIn f (along handed_by m (calls_of k)) ↔ ((IsIn f (along registered_by m (calls_of k)) ⊎ (is_present (uses m.records) f ≡ true)) × (count (uses n.records) f ≡ 0)))
+    (sym (core_here c)) (handed_out m (calls_of k) (first_sound c) (calls_here c) none f)
+
+used_no_more_here : (c : goal.After-self) → UsesNoMore c.args.self.now
+used_no_more_here c before after split none f h =
+    let k : Chronicle = c.args.self.now in
+    let m : State = core_in k.begin in
+    let all : IsIn f (along handed_by m (calls_of k)) =
+    subst (λ (calls : List Call). IsIn f (along handed_by m calls)) (sym split) (handed_before m before after f h) in
+    ((handed_here c none f).0 all).1
+
 -- a moment with names: what always holds then, the calls since, and the state now
 
 is_fenced : (c : goal.After-self) (before after : List Event) (m : Fenced) → c.args.self.now.events ≡ before ++ after → events_replay c.args.self.now.begin before ≡ machine.Fenced m → IsFenced m
@@ -67,7 +127,7 @@ now_is : (c : goal.After-self) (before after : List Event) (m : Fenced) → c.ar
     → c.args.self.now.now ≡ machine.Fenced (fenced_replay m (calls_named after))
 now_is c before after m split at =
     let k : Chronicle = c.args.self.now in
-    (its c).replay ∙ ap (events_replay k.begin) split ∙ replay-append k.begin before after ∙ ap (λ (n : Machine). events_replay n after) at
+    (its c).replay ∙ ap (events_replay k.begin) split ∙ asked.replay-append k.begin before after ∙ ap (λ (n : Machine). events_replay n after) at
     ∙ (replay_named m after (calls_since c before after split)).1
 
 safe_here : (c : goal.After-self) → AreDeletedSafely c.args.self.now
@@ -93,39 +153,6 @@ never_again_here c m at =
     let these : calls_of k ≡ core_calls m (calls_named k.events) = ap (λ (n : Machine). calls_in n k.events) at ∙ reached_named m k.events in
     subst (NoneAgain [] m.core) (sym these) (once_here c [] k.events m refl at).1.none_again
 
--- from an opening: the laws are about each opening and list
-
-acknowledgements_here : (c : goal.After-self) → FromOpening c.args.self.now Acknowledgements
-acknowledgements_here c o can at = c.acknowledgements.ensures o (calls_of c.args.self.now) can (calls_here c)
-
-numbers_here : (c : goal.After-self) → FromOpening c.args.self.now Numbers
-numbers_here c o can at = c.numbers.ensures o (calls_of c.args.self.now)
-
-savepoints_here : (c : goal.After-self) → FromOpening c.args.self.now SavepointsStay
-savepoints_here c o can at before after split =
-    let both : AreCalls before × AreCalls after = calls-split before after (subst AreCalls split (calls_here c)) in
-    c.savepoints.ensures o before after can both.0 both.1
-
-handed_here : (c : goal.After-self) → FromOpening c.args.self.now Handed
-handed_here c o can at = c.handed.ensures o (calls_of c.args.self.now) can (calls_here c)
-
-used_no_more_here : (c : goal.After-self) → FromOpening c.args.self.now UsesNoMore
-used_no_more_here c o can at before after split = c.used_no_more.ensures o before after can (subst AreCalls split (calls_here c))
-
-accounted_here : (c : goal.After-self) → FromOpening c.args.self.now Accounted
-accounted_here c o can at = c.accounted.ensures o (calls_of c.args.self.now) can (calls_here c)
-
-outbox_here : (c : goal.After-self) → FromOpening c.args.self.now Outbox
-outbox_here c o can at = c.outbox.ensures o (calls_of c.args.self.now) can (calls_here c)
-
-choice_here : (c : goal.After-self) → FromOpening c.args.self.now ChoiceIsLive
-choice_here c o can at = c.choice.ensures o (calls_of c.args.self.now) can (calls_here c)
-
-pinned_here : (c : goal.After-self) → FromOpening c.args.self.now PinsHold
-pinned_here c o can at before call after split =
-    let both : AreCalls before × AreCalls (call ∷ after) = calls-split before (call ∷ after) (subst AreCalls split (calls_here c)) in
-    c.pinned.ensures o before call after can both.0 both.1.0 both.1.1
-
 pub returns-clause-promised : goal.returns-clause-promised
 returns-clause-promised c = record {
   replayed = (its c).replay;
@@ -134,19 +161,20 @@ returns-clause-promised c = record {
   calls = calls_here c;
   core = core_here c;
   exactly_one = exactly_one_here c;
+  acknowledgements = acknowledgements_here c;
+  numbers = numbers_from (core_in c.args.self.now.begin) (calls_of c.args.self.now);
+  savepoints = savepoints_here c;
+  choice = choice_stands (core_in c.args.self.now.now) (its_core c.args.self.now.now (sound_here c));
+  latest = takes_newest (core_in c.args.self.now.now) (its_core c.args.self.now.now (sound_here c));
+  pinned = pinned_here c;
   balance = balance_here c;
   no_leak = no_leak_here c;
+  accounted = accounted_here c;
+  outbox = in_one_place (core_in c.args.self.now.now) (its_core c.args.self.now.now (sound_here c));
+  handed = handed_here c;
+  used_no_more = used_no_more_here c;
   safe = safe_here c;
   one_term = one_term_here c;
   once = once_here c;
   never_again = never_again_here c;
-  acknowledgements = acknowledgements_here c;
-  numbers = numbers_here c;
-  savepoints = savepoints_here c;
-  handed = handed_here c;
-  used_no_more = used_no_more_here c;
-  accounted = accounted_here c;
-  outbox = outbox_here c;
-  choice = choice_here c;
-  pinned = pinned_here c;
 }

@@ -1,5 +1,4 @@
 -- Answers the goals of `Logged::show_metered`.
-use Rattle.std.proofs.Common.{◌≡◌}
 use Rattle.ckpt_logged.proofs.Shows.{shown, still, still_is}
 use Rattle.ckpt_logged.proofs.logged.Logged.show_metered.Goals as goal
 

@@ -1,0 +1,6 @@
+-- The definitions that contracts cite.
+pub mod Finished
+pub mod Loose
+pub mod Stops
+pub mod Unaligned
+pub mod WorkedExamples

@@ -1,0 +1,69 @@
+-- Worked examples: a task that does not hold, one that has ended, and one that takes its snapshot at once. The expected
+-- values were written by hand.
+use Rattle.std.specs.Prelude.{◌≡◌, ◌==◌, ℕ, if◌then◌else◌, List, [], ◌∷◌, true, false, refl}
+use Rattle.ckpt_ids.specs.declared.subtask.SubtaskId.{SubtaskId}
+use Rattle.ckpt_align.specs.Alignment.{opened}
+use Rattle.ckpt_align.specs.Histories.{Element, Barrier, End, Action, Reads, Ends, before_cut, elements, has_cut, taken}
+use Rattle.ckpt_align.specs.Laws.{Channel}
+use Rattle.ckpt_align.specs.Steps.{step, settled, barrier}
+use Rattle.ckpt_other_cuts.specs.Loose.{let_through}
+use Rattle.ckpt_other_cuts.specs.Stops.{EndsWithout, has_stop}
+use Rattle.ckpt_other_cuts.specs.Unaligned.{Deed, Net, before_snap, channel_part, puts, taken_before}
+use Rattle.ckpt_other_cuts.specs.Unaligned as deed
+
+-- Input 0 has delivered the barrier of record 7, and input 1 has not. The task takes element 13 of input 0 all the same.
+-- So its snapshot has 13, which comes again after a restart.
+abbrev joined : List Action
+joined = Reads 0 (Element 11) ∷ Reads 0 (Barrier 7) ∷ Reads 0 (Element 13) ∷ Reads 1 (Element 21) ∷ Reads 1 (Barrier 7) ∷ Reads 0 (Element 14) ∷ []
+
+pub joined_lets : let_through 0 (opened 2) joined ≡ (Element 11 ∷ Barrier 7 ∷ Element 13 ∷ Element 14 ∷ [])
+unfolding step barrier settled
+joined_lets = refl
+
+pub joined_too : elements (let_through 0 (opened 2) (before_cut 7 (opened 2) joined)) ≡ 11 ∷ 13 ∷ []
+unfolding step barrier settled
+joined_too = refl
+
+-- A task ends with its input, before any barrier of record 7.
+abbrev finished : List Action
+finished = Reads 0 (Element 11) ∷ Reads 0 (Element 12) ∷ Reads 0 End ∷ Ends ∷ []
+
+pub finished_cuts_none : has_cut 7 (opened 1) finished ≡ false
+unfolding step barrier settled
+finished_cuts_none = refl
+
+pub finished_part : EndsWithout 7 (taken 0 (opened 1) (before_cut 7 (opened 1) finished))
+unfolding step barrier settled
+finished_part = (Element 11 ∷ Element 12 ∷ [], refl, refl)
+
+-- With the barrier of record 7 among what it took, it has no part of that record: another task has cut it.
+pub not_without : has_stop 7 (Element 11 ∷ Barrier 7 ∷ Element 12 ∷ []) ≡ true
+not_without = refl
+
+pub other_record : has_stop 7 (Element 11 ∷ Barrier 6 ∷ Element 12 ∷ []) ≡ false
+other_record = refl
+
+-- The receiver takes its snapshot while 12 and the barrier are on the way: 12 is the channel's part of the record.
+abbrev subtask : ℕ → SubtaskId
+subtask vertex = record { vertex = vertex; index = 0 }
+
+abbrev line : Channel
+line = record { sender = subtask 0; output = 0; receiver = subtask 1; input = 0 }
+
+abbrev sender : List Deed
+sender = deed.Sends 0 11 ∷ deed.Sends 0 12 ∷ deed.Snaps 7 ∷ deed.Sends 0 13 ∷ []
+
+abbrev receiver : List Deed
+receiver = deed.Takes 0 (Element 11) ∷ deed.Snaps 7 ∷ deed.Takes 0 (Element 12) ∷ deed.Takes 0 (Barrier 7) ∷ []
+
+abbrev net : Net
+net = record { deeds = λ s. if s.vertex == 0 then sender else receiver; channels = line ∷ [] }
+
+pub sent_part : elements (puts 0 (before_snap 7 sender)) ≡ 11 ∷ 12 ∷ []
+sent_part = refl
+
+pub taken_part : taken_before 7 net line ≡ Element 11 ∷ []
+taken_part = refl
+
+pub on_the_way : channel_part 7 net line ≡ 12 ∷ []
+on_the_way = refl

@@ -1,0 +1,194 @@
+-- What an engine does with tasks over channels is a history.
+use Rattle.std.proofs.Common.{◌≡◌, ℕ, Bool, true, false, List, [], ◌∷◌, ◌++◌, ◌∙◌, refl, sym, ap, subst, arith, if◌then◌else◌, Option, Some, None}
+use Rattle.std.specs.Prelude.{drop, length, ◌==◌, ◌&&◌}
+use Rattle.std.proofs.lemmas.Grind.{common_steps}
+use Rattle.std.proofs.lemmas.List.{append-nil, append_assoc}
+use Rattle.ckpt_ids.specs.declared.subtask.SubtaskId.{SubtaskId}
+use Rattle.ckpt_ids.specs.Ordered.{IsIn}
+use Rattle.ckpt_ids.specs.Shapes.{same_subtask}
+use Rattle.ckpt_ids.proofs.OrderLemmas.{same_subtask-Decides}
+use Rattle.ckpt_align.specs.Alignment.{Alignment, opened}
+use Rattle.ckpt_align.specs.Histories.{Item, Action, Reads, GivesUp, after, answer_to, is_taken, sent, taken}
+use Rattle.ckpt_align.specs.Laws.{Channel, sent_on, taken_from}
+use Rattle.ckpt_once.specs.Programs.{Emitted, Move, Program, Turn, Offered, GivenUp, Drawn, Ended, acts, actions, aligned, emitted_by, move_in, moves_in, sendings, state, with_one}
+use Rattle.ckpt_once.specs.Jobs.{By, History, IsHistory, Job, States, network, of}
+use Rattle.ckpt_once.proofs.ActionLemmas.{sent-append, taken-append}
+use Rattle.ckpt_once.proofs.Running.{of_here, of_there}
+use Rattle.ckpt_once.proofs.TurnLemmas.{aligned_is, taken_sendings}
+use Rattle.ckpt_task.specs.Engines.{IsAtFront, IsWorking, engine, put_by, taken_by}
+use Rattle.ckpt_task.specs.Laws.{MakesHistory}
+use Rattle.ckpt_task.specs.Turns.{At, puts, takes, turned}
+
+-- a task after turns
+
+abbrev at_as : ℕ → Alignment → At
+at_as s a = record { state = s; alignment = a }
+
+abbrev at_of : Program → ℕ → Alignment → List Turn → At
+at_of p s a turns = at_as (state p s (moves_in a turns)) (aligned a turns)
+
+abbrev at : Job → States → History → SubtaskId → At
+at job from h t = at_of (job.program t) (from t) (opened (job.inputs t)) (of t h)
+
+state_one : (p : Program) (s : ℕ) (o : Option Move) (moves : List Move) → state p s (with_one o moves) ≡ state p (state p s moves) (with_one o [])
+state_one p s None moves = refl
+state_one p s (Some move) moves = refl
+
+turned_is : (p : Program) (s : ℕ) (a : Alignment) (turns : List Turn) (turn : Turn) → turned p (at_of p s a turns) turn ≡ at_of p s a (turn ∷ turns)
+turned_is p s a turns turn = ap (λ (k : ℕ). at_as k (aligned a (turn ∷ turns))) (sym (state_one p s (move_in (aligned a turns) turn) (moves_in a turns)))
+
+task_by : (job : Job) (from : States) (e : By Turn) (h : History) (t : SubtaskId) (b : Bool) → same_subtask e.task t ≡ b → (engine job from h).task t ≡ at job from h t → (engine job from (e ∷ h)).task t ≡ at job from (e ∷ h) t
+task_by job from e h t true same k =
+    let p : Program = job.program t in
+    let a : Alignment = opened (job.inputs t) in
+    let before : At = (engine job from h).task t in
+    ap (λ b. if b then turned p before e.what else before) same
+    ∙ ap (λ (m : At). turned p m e.what) k
+    ∙ turned_is p (from t) a (of t h) e.what
+    ∙ ap (at_of p (from t) a) (sym (of_here t e h ((same_subtask-Decides e.task t).0 same)))
+task_by job from e h t false other k =
+    let p : Program = job.program t in
+    let a : Alignment = opened (job.inputs t) in
+    let before : At = (engine job from h).task t in
+    ap (λ b. if b then turned p before e.what else before) other ∙ k ∙ ap (at_of p (from t) a) (sym (of_there t e h other))
+
+task_is : (job : Job) (from : States) (h : History) (t : SubtaskId) → (engine job from h).task t ≡ at job from h t
+task_is job from [] t = refl
+task_is job from (e ∷ h) t = task_by job from e h t (same_subtask e.task t) refl (task_is job from h t)
+
+-- what a turn puts on a channel, and takes from it
+
+puts_is : (c : ℕ) (p : Program) (s : ℕ) (a : Alignment) (turns : List Turn) (turn : Turn) → sent c a (actions p s a (turn ∷ turns)) ≡ sent c a (actions p s a turns) ++ puts p (at_of p s a turns) turn c
+puts_is c p s a turns turn =
+    let xs : List Action = actions p s a turns in
+    let zs : List Action = acts p (state p s (moves_in a turns)) (aligned a turns) turn in
+    sent-append c a xs zs ∙ ap (λ (k : Alignment). sent c a xs ++ sent c k zs) (aligned_is p s a turns)
+
+takes_is : (j : ℕ) (p : Program) (s : ℕ) (a : Alignment) (turns : List Turn) (turn : Turn) → taken j a (actions p s a (turn ∷ turns)) ≡ taken j a (actions p s a turns) ++ takes p (at_of p s a turns) turn j
+takes_is j p s a turns turn =
+    let xs : List Action = actions p s a turns in
+    let zs : List Action = acts p (state p s (moves_in a turns)) (aligned a turns) turn in
+    taken-append j a xs zs ∙ ap (λ (k : Alignment). taken j a xs ++ taken j k zs) (aligned_is p s a turns)
+
+put_more : (job : Job) (from : States) (e : By Turn) (h : History) (c : Channel) (b : Bool) → same_subtask e.task c.sender ≡ b → sent_on (network job from (e ∷ h)) c ≡ sent_on (network job from h) c ++ put_by job (engine job from h) e c
+put_more job from e h c true same =
+    let t : SubtaskId = c.sender in
+    let p : Program = job.program t in
+    let a : Alignment = opened (job.inputs t) in
+    let before : List Item = sent_on (network job from h) c in
+    let now : At = (engine job from h).task t in
+    ap (λ turns. sent c.output a (actions p (from t) a turns)) (of_here t e h ((same_subtask-Decides e.task t).0 same))
+    ∙ puts_is c.output p (from t) a (of t h) e.what
+    ∙ ap (λ (m : At). before ++ puts p m e.what c.output) (sym (task_is job from h t))
+    ∙ ap (λ b. before ++ (if b then puts p now e.what c.output else [])) (sym same)
+put_more job from e h c false other =
+    let t : SubtaskId = c.sender in
+    let p : Program = job.program t in
+    let a : Alignment = opened (job.inputs t) in
+    let before : List Item = sent_on (network job from h) c in
+    let now : At = (engine job from h).task t in
+    ap (λ turns. sent c.output a (actions p (from t) a turns)) (of_there t e h other)
+    ∙ sym (append-nil before)
+    ∙ ap (λ b. before ++ (if b then puts p now e.what c.output else [])) (sym other)
+
+took_more : (job : Job) (from : States) (e : By Turn) (h : History) (c : Channel) (b : Bool) → same_subtask e.task c.receiver ≡ b → taken_from (network job from (e ∷ h)) c ≡ taken_from (network job from h) c ++ taken_by job (engine job from h) e c
+took_more job from e h c true same =
+    let t : SubtaskId = c.receiver in
+    let p : Program = job.program t in
+    let a : Alignment = opened (job.inputs t) in
+    let before : List Item = taken_from (network job from h) c in
+    let now : At = (engine job from h).task t in
+    ap (λ turns. taken c.input a (actions p (from t) a turns)) (of_here t e h ((same_subtask-Decides e.task t).0 same))
+    ∙ takes_is c.input p (from t) a (of t h) e.what
+    ∙ ap (λ (m : At). before ++ takes p m e.what c.input) (sym (task_is job from h t))
+    ∙ ap (λ b. before ++ (if b then takes p now e.what c.input else [])) (sym same)
+took_more job from e h c false other =
+    let t : SubtaskId = c.receiver in
+    let p : Program = job.program t in
+    let a : Alignment = opened (job.inputs t) in
+    let before : List Item = taken_from (network job from h) c in
+    let now : At = (engine job from h).task t in
+    ap (λ turns. taken c.input a (actions p (from t) a turns)) (of_there t e h other)
+    ∙ sym (append-nil before)
+    ∙ ap (λ b. before ++ (if b then takes p now e.what c.input else [])) (sym other)
+
+-- what is taken stands at the front
+
+abbrev Splits : List Item → List Item → Type 0
+Splits took on = on ≡ took ++ drop (length took) on
+
+splits_none : (on : List Item) → Splits [] on
+splits_none on = refl
+
+splits_one : (item : Item) (rest on : List Item) → on ≡ item ∷ rest → Splits (item ∷ []) on
+splits_one item rest on e = subst (λ (l : List Item). Splits (item ∷ []) l) (sym e) refl
+
+is_same : (m n : ℕ) → (m == n) ≡ true → m ≡ n
+is_same m n e = grind (arith, common_steps)
+
+splits_by : (j i : ℕ) (item : Item) (same is : Bool) (more on : List Item) → (i == j) ≡ same → more ≡ [] → (i ≡ j → (rest : List Item) × (on ≡ item ∷ rest)) → Splits ((if same && is then item ∷ [] else []) ++ more) on
+splits_by j i item true true more on e none front = let f = front (is_same i j e) in subst (λ (l : List Item). Splits (item ∷ l) on) (sym none) (splits_one item f.0 on f.1)
+splits_by j i item true false more on e none front = subst (λ (l : List Item). Splits l on) (sym none) (splits_none on)
+splits_by j i item false is more on e none front = subst (λ (l : List Item). Splits l on) (sym none) (splits_none on)
+
+splits_no : (took on : List Item) → took ≡ [] → Splits took on
+splits_no took on none = subst (λ (l : List Item). Splits l on) (sym none) (splits_none on)
+
+takes_front : (p : Program) (m : At) (turn : Turn) (j : ℕ) (on : List Item) → IsAtFront turn j on → Splits (takes p m turn j) on
+takes_front p m (Offered i item) j on front =
+    let a : Alignment = m.alignment in
+    let es : List Emitted = emitted_by p m.state (move_in a (Offered i item)) in
+    let b : Alignment = after a (Reads i item) in
+    splits_by j i item (i == j) (is_taken (answer_to a i item)) (taken j b (sendings es)) on refl (taken_sendings j b es) front
+takes_front p m (GivenUp id) j on front = splits_no (takes p m (GivenUp id) j) on (taken_sendings j (after m.alignment (GivesUp id)) [])
+takes_front p m Drawn j on front = splits_no (takes p m Drawn j) on (taken_sendings j m.alignment (emitted_by p m.state (move_in m.alignment Drawn)))
+takes_front p m Ended j on front = splits_no (takes p m Ended j) on (taken_sendings j m.alignment [])
+
+front_by : (job : Job) (from : States) (e : By Turn) (h : History) (c : Channel) (b : Bool) → same_subtask e.task c.receiver ≡ b → (e.task ≡ c.receiver → IsAtFront e.what c.input ((engine job from h).on c))
+    → Splits (if b then takes (job.program c.receiver) ((engine job from h).task c.receiver) e.what c.input else []) ((engine job from h).on c)
+front_by job from e h c true same front = takes_front (job.program c.receiver) ((engine job from h).task c.receiver) e.what c.input ((engine job from h).on c) (front ((same_subtask-Decides e.task c.receiver).0 same))
+front_by job from e h c false other front = splits_none ((engine job from h).on c)
+
+-- the channel, one turn later
+
+gives : (sent_now took took_now on rest : List Item) (one : List Item) → sent_now ≡ took ++ on → took_now ≡ took ++ one → on ≡ one ++ rest → sent_now ≡ took_now ++ rest
+gives sent_now took took_now on rest one in_order more front = in_order ∙ ap (λ l. took ++ l) front ∙ sym (append_assoc took one rest) ∙ ap (λ l. l ++ rest) (sym more)
+
+keeps : (sent_now sent_later took_now rest put : List Item) → sent_now ≡ took_now ++ rest → sent_later ≡ sent_now ++ put → sent_later ≡ took_now ++ (rest ++ put)
+keeps sent_now sent_later took_now rest put in_order more = more ∙ ap (λ l. l ++ put) in_order ∙ append_assoc took_now rest put
+
+abbrev OnChannels : Job → States → History → Type 0
+OnChannels job from h = (c : Channel) → IsIn c job.channels → sent_on (network job from h) c ≡ taken_from (network job from h) c ++ (engine job from h).on c
+
+gives_in_order : (job : Job) (from : States) (e : By Turn) (h : History) (c : Channel) → IsIn c job.channels → OnChannels job from h → (e.task ≡ c.receiver → IsAtFront e.what c.input ((engine job from h).on c))
+    → sent_on (network job from h) c ≡ taken_from (network job from (e ∷ h)) c ++ drop (length (taken_by job (engine job from h) e c)) ((engine job from h).on c)
+gives_in_order job from e h c has so front =
+    let on : List Item = (engine job from h).on c in
+    let one : List Item = taken_by job (engine job from h) e c in
+    gives (sent_on (network job from h) c) (taken_from (network job from h) c) (taken_from (network job from (e ∷ h)) c) on (drop (length one) on) one (so c has) (took_more job from e h c (same_subtask e.task c.receiver) refl)
+    (front_by job from e h c (same_subtask e.task c.receiver) refl front)
+
+on_channels : (job : Job) (from : States) (h : History) → IsWorking job from h → OnChannels job from h
+on_channels job from [] works c has = refl
+on_channels job from (e ∷ h) works c has =
+    let on : List Item = (engine job from h).on c in
+    let one : List Item = taken_by job (engine job from h) e c in
+    keeps (sent_on (network job from h) c) (sent_on (network job from (e ∷ h)) c) (taken_from (network job from (e ∷ h)) c) (drop (length one) on) (put_by job (engine job from h) e c)
+    (gives_in_order job from e h c has (on_channels job from h works.0) (works.3 c has))
+    (put_more job from e h c (same_subtask e.task c.sender) refl)
+
+is_history : (job : Job) (from : States) (h : History) → IsWorking job from h → IsHistory job from h
+is_history job from [] works = tt
+is_history job from (e ∷ h) works = (
+  is_history job from h works.0,
+  works.1,
+  λ c has. (drop (length (taken_by job (engine job from h) e c)) ((engine job from h).on c), gives_in_order job from e h c has (on_channels job from h works.0) (works.3 c has)),
+)
+
+pub makes_history : (job : Job) (from : States) (h : History) → MakesHistory job from h
+makes_history job from h works = record {
+  is_history = is_history job from h works;
+  states = λ t. ap (λ (m : At). m.state) (task_is job from h t);
+  aligners = λ t. ap (λ (m : At). m.alignment) (task_is job from h t);
+  on_channels = on_channels job from h works;
+}

@@ -1,0 +1,7 @@
+-- The definitions that contracts cite.
+pub mod Engines
+pub mod Laws
+pub mod Saving
+pub mod SinkTurns
+pub mod Turns
+pub mod WorkedExamples

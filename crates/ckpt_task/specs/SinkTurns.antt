@@ -1,0 +1,24 @@
+-- What the turns of a sink enter into its ledger.
+use Rattle.std.specs.Prelude.{ℕ, Bool, map}
+use Rattle.ckpt_ledger.specs.Ledgers.{Acts, Cuts, Held, Writes, after_entries, after_entry, entries}
+use Rattle.ckpt_once.specs.Programs.{Program, Turn, acts, on_output}
+use Rattle.ckpt_task.specs.declared.turn.Outcome.{Outcome}
+use Rattle.ckpt_task.specs.declared.turn.Outcome.TheVariants.{Moved, Cut}
+use Rattle.ckpt_task.specs.Turns.{At}
+
+-- the task of a sink, its ledger, its own output, and whether memory ran out in the middle of a turn
+pub record SinkAt : Type 0 where
+  pub task : At
+  pub held : Held
+  pub output : ℕ
+  pub has_failed : Bool
+
+-- the ledger after a turn: it is told each write and each cut
+abbrev pub after_turn : Program → SinkAt → Turn → Held
+after_turn p m turn = after_entries m.held (entries m.output m.task.alignment (map Acts (acts p m.task.state m.task.alignment turn)))
+
+-- and after an outcome of the code
+abbrev pub after_outcome : ℕ → Held → Outcome → Held
+after_outcome o h (Moved ones) = after_entries h (map Writes (on_output o ones.items))
+after_outcome o h (Cut n) = after_entry h (Cuts n)
+after_outcome o h other = h

@@ -1,0 +1,75 @@
+-- What a program does with a handle, a group, and a log of its own, by the contracts of the functions that it calls.
+use Rattle.std.specs.Prelude.{◌≡◌, ◌<◌, ℕ, false, List, [], ◌∷◌, ◌++◌, length, map, set}
+use Rattle.ckpt_durable.specs.Groups.{Life, Receipt, Made, Looked, Committed, Imaged, Crashed, Turn, lives, started, world}
+use Rattle.ckpt_logged.specs.Events.{Event}
+use Rattle.ckpt_terms.specs.declared.machine.Machine.{Machine}
+use Rattle.relkvanu.specs.declared.answer.Answer.{Answer}
+use Rattle.relkvanu.specs.declared.group.Group.{Group}
+use Rattle.relkvanu.specs.Groups.{IsRoom, all_told, fresh, one_more, told_by}
+
+-- Asks: something was made, its entry is appended, and its answer was held: relkvanu_group_make has said so, or relkvanu_group_hold got the
+-- answer of another function.
+-- Looks: the same of something that was read or refused, for which nothing is appended.
+-- Syncs: a sync of all entries has succeeded, and relkvanu_group_synced was called.
+-- Images n: the log begins behind its first n synced entries, with an image of the state there.
+-- Ends n: the process has ended, or the group has failed, and another one begins: the handle is opened with the image, and makes what is found.
+-- That is all that was synced, and n of the entries behind it, as many as there are at most.
+pub data Operation : Type 0 where
+  Asks : Event → Answer → Operation
+  Looks : Answer → Operation
+  Syncs : Operation
+  Images : ℕ → Operation
+  Ends : ℕ → Operation
+
+-- the coordinator and its log, a group, and the buffer of answers
+pub record Program : Type 0 where
+  pub life : Life
+  pub group : Group
+  pub held : List Answer
+
+abbrev pub Performs : Program → Operation → Program → Type 0
+Performs p (Asks event a) q =
+    IsRoom p.group (length p.held) × (q ≡ record { life = lives p.life (Made event); group = one_more p.group; held = set p.held p.group.waiting a })
+Performs p (Looks a) q = IsRoom p.group (length p.held) × (q ≡ record { life = lives p.life Looked; group = one_more p.group; held = set p.held p.group.waiting a })
+Performs p Syncs q = (p.group.has_failed ≡ false) × (q ≡ record { life = lives p.life Committed; group = all_told p.group; held = p.held })
+Performs p (Images n) q = q ≡ record { life = lives p.life (Imaged n); group = p.group; held = p.held }
+Performs p (Ends n) q = (held : List Answer) × (q ≡ record { life = lives p.life (Crashed n); group = fresh; held = held })
+
+-- an answer that was held, and its receipt
+abbrev pub Held : Type 0
+Held = Answer × Receipt
+
+-- those behind the last sync, and those that a sync has covered
+pub record Notes : Type 0 where
+  pub waiting : List Held
+  pub synced : List Held
+
+abbrev pub noted : Life → Notes → Operation → Notes
+noted l b (Asks event a) = record { waiting = b.waiting ++ (a, record { state = l.now; entry = event ∷ [] }) ∷ []; synced = b.synced }
+noted l b (Looks a) = record { waiting = b.waiting ++ (a, record { state = l.now; entry = [] }) ∷ []; synced = b.synced }
+noted l b Syncs = record { waiting = []; synced = b.synced ++ b.waiting }
+noted l b (Images n) = b
+noted l b (Ends n) = record { waiting = []; synced = b.synced }
+
+abbrev pub Performed : Program → Notes → List Operation → Program → Notes → Type 0
+Performed p b [] q c = (p ≡ q) × (b ≡ c)
+Performed p b (operation ∷ operations) q c = (next : Program) × Performs p operation next × Performed next (noted p.life b operation) operations q c
+
+-- a program that begins with this coordinator
+abbrev pub program : Machine → List Answer → Program
+program m held = record { life = (started m).life; group = fresh; held = held }
+
+abbrev pub nothing : Notes
+nothing = record { waiting = []; synced = [] }
+
+abbrev pub receipts : List Held → List Receipt
+receipts held = map (λ h. h.1) held
+
+-- So the program is a list of turns, of which all laws of groups hold. What callers were told there are the receipts that a sync has covered.
+-- And what relkvanu_group_answer tells is an answer that was held with one of these receipts.
+abbrev pub TellsWhatIsSynced : Machine → List Answer → List Operation → Program → Notes → Type 0
+TellsWhatIsSynced m held operations p b =
+    Performed (program m held) nothing operations p b
+    → ((turns : List Turn) × ((world m turns).life ≡ p.life) × ((world m turns).told ≡ receipts b.synced))
+    × ((receipt : ℕ) → p.group.has_failed ≡ false → receipt < p.group.told
+    → (before : List Held) × (h : Held) × (after : List Held) × (b.synced ≡ before ++ h ∷ after) × (told_by p.group p.held receipt ≡ h.0))
