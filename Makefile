@@ -31,8 +31,8 @@ filled = sed -e 's|@PREFIX@|$(PREFIX)|g' -e 's|@LIBDIR@|$(patsubst $(PREFIX)/%,$
 BUILT = $(wildcard $(PROGRAMS:%=build/bin/%) $(foreach it,$(PROGRAMS),crates/$(it)/out/$(it)))
 
 # The sources of the packages of Rust and Go are installed, and so the samples that name their folders find them there.
-GO_SOURCES = $(filter-out %_test.go,$(wildcard embed/go/*.go)) embed/go/example_test.go
-OF_CRATES = Cargo.toml durable-rust/Cargo.toml go/go.mod
+GO_SOURCES = $(filter-out %_test.go,$(wildcard bindings/go/*.go)) bindings/go/example_test.go
+OF_CRATES = Cargo.toml durable-rust/Cargo.toml mini-rust/Cargo.toml go/go.mod
 
 # The manual pages of the service, which a release may have.
 MANUAL = $(wildcard service/deploy/man/*.1)
@@ -57,19 +57,19 @@ ifneq ($(filter install,$(MAKECMDGOALS)),)
 	@exit 1
 else
 	@echo 'make: proving $(ARCHIVE), which $(if $(wildcard $(ARCHIVE)),is older than $(firstword $?),is not there)'
-	embed/archive
+	bindings/build_archive
 endif
 
-build/librelkvanu.a: $(ARCHIVE) embed/archive embed/c/nulls.c embed/c/heap.c embed/c/text.c embed/c/version.c include/relkvanu.h include/relkvanu_alloc.h packaging/relkvanu.map packaging/link
-	embed/library build $(ARCHIVE)
+build/librelkvanu.a: $(ARCHIVE) bindings/build_archive bindings/c/nulls.c bindings/c/heap.c bindings/c/text.c bindings/c/version.c include/relkvanu.h include/relkvanu_alloc.h packaging/relkvanu.map packaging/link
+	bindings/build_library build $(ARCHIVE)
 
 build/librelkvanu.so.0: build/librelkvanu.a
 
-build/librelkvanu-store.a: build/librelkvanu.a $(wildcard embed/store/src/* embed/store/command/*) include/relkvanu_store.h include/relkvanu_storage.h
-	embed/store/library build
+build/librelkvanu-store.a: build/librelkvanu.a $(wildcard store/src/* store/command/*) include/relkvanu_store.h include/relkvanu_storage.h
+	store/build_library build
 
-$(PAGES)/docs: $(wildcard docs/*.md) $(wildcard packaging/man/*.3) $(HEADERS) embed/samples packaging/pages packaging/man_pages
-	packaging/pages $(PAGES)
+$(PAGES)/docs: $(wildcard docs/*.md) $(wildcard packaging/man/*.3) $(HEADERS) checks/build_samples packaging/write_pages packaging/write_man_pages
+	packaging/write_pages $(PAGES)
 	touch $@
 else
 PAGES = .
@@ -101,14 +101,14 @@ install: $(LIBRARY) $(STORE) $(PAGES)/docs
 	cp -R $(PAGES)/samples/. $(into)/share/doc/relkvanu/examples/engine
 	chmod -R u=rwX,go=rX $(into)/share/doc/relkvanu/examples/engine
 	$(INSTALL) -d $(into)/share/relkvanu/rust $(into)/share/gocode/src/relkvanu
-	$(INSTALL) -m 644 embed/rust/Cargo.toml embed/rust/Cargo.lock $(into)/share/relkvanu/rust
-	cp -R embed/rust/relkvanu embed/rust/relkvanu-sys $(into)/share/relkvanu/rust
+	$(INSTALL) -m 644 bindings/rust/Cargo.toml bindings/rust/Cargo.lock $(into)/share/relkvanu/rust
+	cp -R bindings/rust/relkvanu bindings/rust/relkvanu-sys $(into)/share/relkvanu/rust
 	$(INSTALL) -d $(into)/share/relkvanu/service
 	$(INSTALL) -m 644 service/client/python/relkvanu_service.py $(into)/share/relkvanu/service
 	chmod -R u=rwX,go=rX $(into)/share/relkvanu
-	$(INSTALL) -m 644 embed/go/go.mod $(GO_SOURCES) $(into)/share/gocode/src/relkvanu
+	$(INSTALL) -m 644 bindings/go/go.mod $(GO_SOURCES) $(into)/share/gocode/src/relkvanu
 	for it in $(OF_CRATES); do \
-	    sed -e 's|"[./]*embed/rust/|"$(PREFIX)/share/relkvanu/rust/|' -e 's|=> [./]*embed/go$$|=> $(PREFIX)/share/gocode/src/relkvanu|' $(PAGES)/samples/$$it | \
+	    sed -e 's|"[./]*bindings/rust/|"$(PREFIX)/share/relkvanu/rust/|' -e 's|=> [./]*bindings/go$$|=> $(PREFIX)/share/gocode/src/relkvanu|' $(PAGES)/samples/$$it | \
 	        $(INSTALL) -m 644 /dev/stdin $(into)/share/doc/relkvanu/examples/engine/$$it || exit 1; \
 	done
 	if [ -f build/relkvanu.jar ]; then \
@@ -142,7 +142,7 @@ uninstall:
 # What only the repository has.
 ifneq ($(wildcard crates),)
 dist: $(LIBRARY) $(STORE)
-	packaging/dist build $(VERSION)
+	packaging/build_dist build $(VERSION)
 
 first:
 	cd crates/ckpt_job && rt try < ../../examples/first-checkpoint.script
@@ -163,7 +163,7 @@ check:
 	bash .ci/run
 
 note:
-	@packaging/release_note $(VERSION)
+	@packaging/print_release_note $(VERSION)
 
 clean:
 	rm -rf build

@@ -110,6 +110,13 @@ typedef struct {
     uint64_t taken;   /* files that were fetched, and are not yet reported */
 } relkvanu_made;
 
+/* How many answers a caller's buffer holds back, beside these answers. Plain memory of the caller. {0}: none */
+typedef struct {
+    uint64_t waiting; /* answers that wait for a sync, from the first place on */
+    uint64_t told;    /* answers that may be told, from the first place on */
+    bool has_failed;  /* no answer is held back or told any more */
+} relkvanu_group;
+
 /* The alignment of a task, beside the bytes of its inputs. Plain memory of the caller, which relkvanu_align_open fills. */
 typedef struct {
     uint64_t latest; /* the greatest record that an alignment began for; 0 before the first */
@@ -205,6 +212,11 @@ typedef struct {
 #define RELKVANU_NAMED 59u   /* the handle has names now */
 #define RELKVANU_GARBAGE 60u /* of relkvanu_garbage a, b: the files at the start of garbage and of unissued */
 
+/* what, if a call on a group is RELKVANU_DONE */
+#define RELKVANU_APPEND 62u    /* a: receipt. The call was made: its line is to be appended, and its answer is held back */
+#define RELKVANU_HELD_BACK 63u /* a: receipt. Nothing is to be appended, and the answer is held back */
+#define RELKVANU_SYNCED 64u    /* a: answers that may be told */
+
 /* what, if code is RELKVANU_REFUSED; they are checked in this order */
 #define RELKVANU_MOMENT_TOO_LARGE 1u     /* the moment is above its limit */
 #define RELKVANU_NOT_RUNNING 2u          /* the job has failed or was cancelled */
@@ -244,6 +256,8 @@ typedef struct {
 #define RELKVANU_BAD_KIND 6u     /* the kind of a call that is to be written */
 #define RELKVANU_BAD_IMAGE 7u    /* the bytes are not an image, or the state is not sound, or no coordinator could be opened so */
 #define RELKVANU_BAD_NAME 8u     /* the first name is 0 or above 2^62 */
+#define RELKVANU_BAD_GROUP 9u    /* the group has failed: open the handle again, from the log */
+#define RELKVANU_BAD_RECEIPT 10u /* no answer may be told by the receipt, or there is no place for another answer */
 
 /* what, if code is RELKVANU_BAD_LINE: the first fault from the left */
 #define RELKVANU_FAULT_TOO_LONG 1u /* a line has at most 131072 bytes */
@@ -367,7 +381,10 @@ enum relkvanu_reply {
     relkvanu_reply_forfeited = RELKVANU_FORFEITED,
     relkvanu_reply_term = RELKVANU_TERM,
     relkvanu_reply_named = RELKVANU_NAMED,
-    relkvanu_reply_garbage = RELKVANU_GARBAGE
+    relkvanu_reply_garbage = RELKVANU_GARBAGE,
+    relkvanu_reply_append = RELKVANU_APPEND,
+    relkvanu_reply_held_back = RELKVANU_HELD_BACK,
+    relkvanu_reply_synced = RELKVANU_SYNCED
 };
 
 /* Why a call was refused: the first of these that applies. */
@@ -413,7 +430,9 @@ enum relkvanu_argument {
     relkvanu_argument_bad_first = RELKVANU_BAD_FIRST,
     relkvanu_argument_bad_kind = RELKVANU_BAD_KIND,
     relkvanu_argument_bad_image = RELKVANU_BAD_IMAGE,
-    relkvanu_argument_bad_name = RELKVANU_BAD_NAME
+    relkvanu_argument_bad_name = RELKVANU_BAD_NAME,
+    relkvanu_argument_bad_group = RELKVANU_BAD_GROUP,
+    relkvanu_argument_bad_receipt = RELKVANU_BAD_RECEIPT
 };
 
 /* What is wrong with a line: the first fault from the left. */
@@ -683,6 +702,51 @@ RELKVANU_NODISCARD relkvanu_answer relkvanu_make(relkvanu *handle, const relkvan
  * the same argument: RELKVANU_BAD_CONFIG, RELKVANU_BAD_SHAPE or RELKVANU_BAD_MOMENT. Only RELKVANU_WRITTEN changes the buffer. Takes
  * memory. */
 RELKVANU_NODISCARD relkvanu_answer relkvanu_opening_lines(const relkvanu_settings *settings, const uint64_t *shape, size_t shape_len, uint64_t now, uint8_t *lines, size_t lines_len);
+
+/* Groups, for programs with a log of their own: an answer is told only when what was made is synced. docs/C-LOG.md has a worked example.
+ *
+ * An answer that is told before its line is synced may be lost in a crash, and what it told is then told to somebody else: a record's number,
+ * names of files, files to be deleted. A group keeps the order:
+ * 1. relkvanu_group_make makes calls, and holds back their answers. Append the line of each call that says RELKVANU_APPEND, in this order.
+ * 2. Sync the log. Then say so with relkvanu_group_synced. If an append or the sync has failed, call relkvanu_group_failed, close the handle,
+ *    and begin again: open it with the image, make the calls of the log, and sync the log as one that was not synced.
+ * 3. relkvanu_group_answer tells the answers.
+ *
+ * A group has no handle. It is memory of the caller, a relkvanu_group and a place for each answer, which only these functions write. Each such
+ * memory is a group. Make one call at a time for each. A log that keeps answers beside its lines may copy them from there. None of these
+ * functions takes memory, but relkvanu_group_make does what relkvanu_make does.
+ *
+ * Conditions for the caller: while a group is in use, no other function changes the handle, unless its answer is held back by
+ * relkvanu_group_hold, and its line is appended in its place. Nobody is told what comes from elsewhere. relkvanu_group_synced is called only
+ * when all lines so far are synced. */
+
+/* Makes a call and writes its line as relkvanu_make does, and holds its answer back.
+ *
+ * The first of these that applies: RELKVANU_BAD_ARGUMENT with RELKVANU_BAD_GROUP, or with RELKVANU_BAD_RECEIPT if waiting is held_len;
+ * RELKVANU_APPEND if relkvanu_make would return RELKVANU_DONE; RELKVANU_HELD_BACK if it would return RELKVANU_REFUSED or RELKVANU_FENCED; what
+ * it would return. Only RELKVANU_APPEND changes the handle, files, line and made. Only it and RELKVANU_HELD_BACK change the group and held. The
+ * first of them behind a sync ends what was told of that sync. */
+RELKVANU_NODISCARD relkvanu_answer relkvanu_group_make(relkvanu *handle, relkvanu_group *group, relkvanu_answer *held, size_t held_len, const relkvanu_call *call, const uint64_t *first, size_t first_len, const uint64_t *second, size_t second_len, uint64_t *files, size_t files_len, uint8_t *line, size_t line_len, relkvanu_made *made);
+
+/* Holds back the answer of any other function: of a read, or of a call whose line the program writes itself.
+ *
+ * RELKVANU_HELD_BACK; RELKVANU_BAD_ARGUMENT with RELKVANU_BAD_GROUP, or with RELKVANU_BAD_RECEIPT if waiting is held_len. */
+RELKVANU_NODISCARD relkvanu_answer relkvanu_group_hold(relkvanu_group *group, relkvanu_answer *held, size_t held_len, const relkvanu_answer *answer);
+
+/* All lines so far are synced: what was held back may be told, until another answer is held back. What might be told before may be told no
+ * more.
+ *
+ * RELKVANU_SYNCED; RELKVANU_BAD_ARGUMENT with RELKVANU_BAD_GROUP. */
+RELKVANU_NODISCARD relkvanu_answer relkvanu_group_synced(relkvanu_group *group);
+
+/* An append or a sync has failed: from now on the group holds nothing back, and tells nothing. */
+void relkvanu_group_failed(relkvanu_group *group);
+
+/* Returns the answer that was held back with this receipt, if it may be told.
+ *
+ * RELKVANU_BAD_ARGUMENT with RELKVANU_BAD_GROUP, or with RELKVANU_BAD_RECEIPT if it waits for a sync, was told of a sync before, or was never
+ * held back. Such an answer may be one that was held back too, of another function. */
+RELKVANU_NODISCARD relkvanu_answer relkvanu_group_answer(const relkvanu_group *group, const relkvanu_answer *held, size_t held_len, uint64_t receipt);
 
 /* Images: save a coordinator, and open it again. docs/IMAGE.md has the format. */
 

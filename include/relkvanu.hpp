@@ -59,7 +59,7 @@ using shape = span<const std::uint64_t>;
 
 /* Why a call changed nothing: the header's code and what, as one number. */
 /* clang-format off */
-/* embed/bindings makes the errors */
+/* bindings/generate makes the errors */
 enum class error : int {
     moment_too_large = RELKVANU_REFUSED << 8 | RELKVANU_MOMENT_TOO_LARGE, /* The moment is above its limit. */
     not_running = RELKVANU_REFUSED << 8 | RELKVANU_NOT_RUNNING, /* The job has failed or was cancelled. */
@@ -87,6 +87,8 @@ enum class error : int {
     bad_kind = RELKVANU_BAD_ARGUMENT << 8 | RELKVANU_BAD_KIND, /* The kind of a call that is to be written. */
     bad_image = RELKVANU_BAD_ARGUMENT << 8 | RELKVANU_BAD_IMAGE, /* The bytes are not an image, or the state is not sound, or no coordinator could be opened so. */
     bad_name = RELKVANU_BAD_ARGUMENT << 8 | RELKVANU_BAD_NAME, /* The first name is 0 or above 2^62. */
+    bad_group = RELKVANU_BAD_ARGUMENT << 8 | RELKVANU_BAD_GROUP, /* The group has failed: open the handle again, from the log. */
+    bad_receipt = RELKVANU_BAD_ARGUMENT << 8 | RELKVANU_BAD_RECEIPT, /* No answer may be told by the receipt, or there is no place for another answer. */
     too_short = RELKVANU_TOO_SHORT << 8, /* The buffer needs more places. */
     line_too_long = RELKVANU_BAD_LINE << 8 | RELKVANU_FAULT_TOO_LONG, /* A line has at most 131072 bytes. */
     line_word = RELKVANU_BAD_LINE << 8 | RELKVANU_FAULT_WORD, /* A word that does not belong there. */
@@ -111,11 +113,11 @@ enum class error : int {
 constexpr bool has_what(std::uint32_t code) noexcept {
     return code == RELKVANU_REFUSED || code == RELKVANU_BAD_ARGUMENT || code == RELKVANU_BAD_LINE || code == RELKVANU_FENCED;
 }
-/* embed/bindings: end */
+/* bindings/generate: end */
 /* clang-format on */
 
 /* clang-format off */
-/* embed/bindings makes the messages */
+/* bindings/generate makes the messages */
 inline const char *message_of(error it) noexcept {
     switch (it) {
     case error::no_memory: return "out of memory";
@@ -128,6 +130,8 @@ inline const char *message_of(error it) noexcept {
     case error::bad_kind: return "BadKind";
     case error::bad_image: return "BadImage";
     case error::bad_name: return "BadName";
+    case error::bad_group: return "BadGroup";
+    case error::bad_receipt: return "BadReceipt";
     case error::too_short: return "the buffer is too short";
     case error::line_too_long: return "TooLong";
     case error::line_word: return "Word";
@@ -148,7 +152,7 @@ inline const char *message_of(error it) noexcept {
     default: return "unknown";
     }
 }
-/* embed/bindings: end */
+/* bindings/generate: end */
 /* clang-format on */
 
 class error_category_type final : public std::error_category {
@@ -202,7 +206,7 @@ inline refused refusal(relkvanu_answer told) noexcept {
 }
 
 /* clang-format off */
-/* embed/bindings makes the replies */
+/* bindings/generate makes the replies */
 struct triggered { std::uint64_t expired, id; }; /* A checkpoint was triggered. */
 struct held_interval { std::uint64_t expired; }; /* No checkpoint is due yet. */
 struct held_at_once { std::uint64_t expired; }; /* As many checkpoints are pending as may be. */
@@ -218,7 +222,7 @@ struct decline_late {}; /* The record was done or had ended. */
 struct disposed { std::uint64_t released; }; /* The savepoint is gone. */
 struct cancelled { std::uint64_t dropped, released; }; /* The job has ended for good. */
 struct configured { std::uint64_t checkpoints, released; }; /* The job has the new settings. */
-/* embed/bindings: end */
+/* bindings/generate: end */
 /* clang-format on */
 struct reported {
     std::uint64_t file;
@@ -241,14 +245,14 @@ struct restored {
 
 /* The answer to each call. The last alternative says that nothing has changed. */
 /* clang-format off */
-/* embed/bindings makes the answers */
+/* bindings/generate makes the answers */
 using tick_answer = std::variant<triggered, held_interval, held_at_once, held_pause, failed, refused>;
 using ack_answer = std::variant<ack_pending, ack_completed, ack_late, refused>;
 using decline_answer = std::variant<decline_aborted, decline_failed, decline_late, refused>;
 using savepoint_answer = std::variant<savepoint_triggered, refused>;
 using dispose_answer = std::variant<disposed, refused>;
 using cancel_answer = std::variant<cancelled, refused>;
-/* embed/bindings: end */
+/* bindings/generate: end */
 /* clang-format on */
 using restore_answer = std::variant<restored, refused>;
 using take_answer = std::variant<files, refused>;
@@ -291,7 +295,7 @@ struct said_call {
 using line_call_answer = std::variant<skipped, said_call, refused>;
 
 /* clang-format off */
-/* embed/bindings makes the modes */
+/* bindings/generate makes the modes */
 enum class mode { running, failed, cancelled, unknown };
 
 inline mode mode_of(std::uint32_t what) noexcept {
@@ -302,13 +306,13 @@ inline mode mode_of(std::uint32_t what) noexcept {
     default: return mode::unknown;
     }
 }
-/* embed/bindings: end */
+/* bindings/generate: end */
 /* clang-format on */
 
 /* What a number is. A live record has it (pending or done), or one that is no longer live had it. Or no record has had it yet. Or none
  * ever has it, because it is below the first number of the opening. */
 /* clang-format off */
-/* embed/bindings makes the standings */
+/* bindings/generate makes the standings */
 enum class standing { pending, done, ended, not_yet, never, unknown };
 
 inline standing standing_of(std::uint32_t what) noexcept {
@@ -321,7 +325,7 @@ inline standing standing_of(std::uint32_t what) noexcept {
     default: return standing::unknown;
     }
 }
-/* embed/bindings: end */
+/* bindings/generate: end */
 /* clang-format on */
 
 /* The files that a read returns, in ascending order, for reads that take memory. */
@@ -345,7 +349,7 @@ struct live_record {
 /* The answers of relkvanu.h as those of this header. */
 
 /* clang-format off */
-/* embed/bindings makes what tells the answers */
+/* bindings/generate makes what tells the answers */
 inline tick_answer tick_of(relkvanu_answer told) noexcept {
     if (told.code != RELKVANU_DONE) {
         return refusal(told);
@@ -395,7 +399,7 @@ inline dispose_answer dispose_of(relkvanu_answer told) noexcept {
 inline cancel_answer cancel_of(relkvanu_answer told) noexcept {
     return is_reply(told, RELKVANU_CANCELLED) ? cancel_answer(cancelled{told.a, told.b}) : refusal(told);
 }
-/* embed/bindings: end */
+/* bindings/generate: end */
 /* clang-format on */
 
 inline restore_answer restore_of(relkvanu_answer told) noexcept {
@@ -597,7 +601,7 @@ public:
     void set_most_ahead(std::uint64_t milliseconds) noexcept { most_ahead_ = milliseconds; }
 
     /* clang-format off */
-    /* embed/bindings makes the calls of one number */
+    /* bindings/generate makes the calls of one number */
     /* Time has passed: records that are too old expire, and a checkpoint is triggered if one is due. */
     [[nodiscard]] tick_answer tick(std::uint64_t now) noexcept {
         if (is_ahead(now)) {
@@ -645,7 +649,7 @@ public:
         }
         return tick_of(relkvanu_trigger(&handle_, now));
     }
-    /* embed/bindings: end */
+    /* bindings/generate: end */
     /* clang-format on */
 
     /* After a refusal the task may delete a file only if no accepted acknowledgement ever named it: after already_acknowledged it

@@ -1,6 +1,6 @@
 /* The allocator of librelkvanu.a: three functions that a program may define itself.
  *
- * The installed archive has them over malloc, realloc and free, in a member of their own (embed/c/heap.c). The linker leaves that
+ * The installed archive has them over malloc, realloc and free, in a member of their own (bindings/c/heap.c). The linker leaves that
  * member out if the program defines all three. The archive that `rt lib` builds has none of them. librelkvanu.so has its own, over
  * malloc.
  *

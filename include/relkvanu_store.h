@@ -10,7 +10,7 @@
  * on a local file system, not on NFS. The folder options.storage may be on another one, where a rename is atomic and fsync of a file and of a folder makes both durable. A
  * network file system that promises this will do; none has been tested.
  *
- * A job has names unless it was made with RELKVANU_STORE_PLAIN. Then its files are safe as follows:
+ * Files are safe as follows:
  * - A task is started with the term from the answer to the restore before it (relkvanu_store_call.term), or report.term if the job is new. It never
  *   asks for a term, and no barrier carries one: a task that should be dead would go on with it. Its calls have the term (relkvanu_call.term).
  * - It reserves names (RELKVANU_CALL_RESERVE), makes a file by each (relkvanu_store_put), and acknowledges them. What it does not acknowledge, as after
@@ -21,7 +21,7 @@
  * Conditions for the caller:
  * - A failed job is restored by the engine: when the mode is failed (relkvanu_store_await_tick tells it, and so do the answers) it ends all tasks,
  *   restores, sweeps, tells the sinks again and starts the tasks. A task that ends while the job runs needs the same: no task starts alone.
- *   For the files of a job with names it is enough that the old tasks are told to end: what they send later is refused with RELKVANU_OLD_TERM.
+ *   It is enough that the old tasks are told to end: what they send later is refused with RELKVANU_OLD_TERM.
  * - A read (relkvanu_store_read) sees committed calls only, whichever thread made them.
  * - Nobody acts on an answer unless the status is RELKVANU_STORE_OK and its code is RELKVANU_DONE: no file is deleted or kept, no barrier
  *   is sent. With any other status each answer is RELKVANU_STORE_NOT_MADE.
@@ -54,20 +54,21 @@ typedef struct relkvanu_store relkvanu_store;
 #define RELKVANU_STORE_IN_USE 3       /* open: another process, or this one, has the job open. The message names it */
 #define RELKVANU_STORE_ABSENT 4       /* open: there is no job, and the flags do not allow one to be made */
 #define RELKVANU_STORE_PRESENT 5      /* open: there is a job, and RELKVANU_STORE_CREATE_ONLY forbids it; put: there is a file of this number, or a part of one; backup: there is a file of this name */
-#define RELKVANU_STORE_NOT_A_STORE 6  /* open: another kind of file, or one of a later version */
+#define RELKVANU_STORE_NOT_A_STORE 6  /* open: another kind of file, one of a later version, or a job without names, which an earlier version made */
 #define RELKVANU_STORE_DIFFERS 7      /* open: a call of the log gets another answer, or is refused. The message says which */
 #define RELKVANU_STORE_DAMAGED 8      /* open: an image, a call, a page or the -wal is damaged, or the log lacks calls that were answered. The message says which */
 #define RELKVANU_STORE_STORAGE 9      /* the storage is gone, or another's; open: also a new job's has files, or PATH is an older copy or a backup */
 #define RELKVANU_STORE_CLOSED 10      /* an earlier commit failed */
 #define RELKVANU_STORE_FORKED 11      /* this process is a child of the one that opened the store */
 #define RELKVANU_STORE_TIMED_OUT 12   /* await, discard: the time is up */
-#define RELKVANU_STORE_NOT_NOW 13     /* unknown: no sweep of a job without names is safe now; discard: another thread discards; backup: another one writes this file; stop_job, begin_job: the phase of the job does not allow it */
+#define RELKVANU_STORE_NOT_NOW 13     /* discard: another thread discards; backup: another one writes this file; stop_job, begin_job: the phase of the job does not allow it */
 #define RELKVANU_STORE_STOPPED 14     /* await, discard: relkvanu_store_stop was called */
 #define RELKVANU_STORE_NOT_PUT 15     /* put, backup: the file was not made, and errno says why */
 #define RELKVANU_STORE_NOT_RUNNING 21 /* await: the job has failed or was cancelled, so no tick is due */
 #define RELKVANU_STORE_NOT_DONE 22    /* sweep: part of it was not done, and errno and relkvanu_store_why say why: the same again later */
 #define RELKVANU_STORE_JOB_STOPPED 23 /* await: the job is stopped (relkvanu_store_stop_job), so no tick is due until it begins again */
 #define RELKVANU_STORE_NOT_STOPPED 24 /* await: a stop of the job has failed, and relkvanu_store_phase says why: tasks that hold go on */
+#define RELKVANU_STORE_FILE_LOST 25   /* load: a file of the record is not in the storage */
 /* What failed at an opening, or in a commit, which closes the store: these five do, and no other. */
 #define RELKVANU_STORE_FAILED 16        /* a read, write or sync */
 #define RELKVANU_STORE_FULL 17          /* the disk is full */
@@ -84,7 +85,6 @@ typedef struct relkvanu_store relkvanu_store;
 #define RELKVANU_STORE_CREATE_ONLY 2u   /* makes a job, and there may be none */
 #define RELKVANU_STORE_ADOPT 4u         /* makes a job also if the storage folder has files. THE NEXT SWEEP DELETES THEM ALL, if their names are numbers */
 #define RELKVANU_STORE_EARLIER_IMAGE 8u /* begins with the image before the last one, which is damaged. The log after it is whole. The pages of the file are not checked */
-#define RELKVANU_STORE_PLAIN 16u        /* a job that is made has no names: the engine gives out the numbers of files, and sweeps only when no task runs */
 #define RELKVANU_STORE_BACKUP 32u       /* PATH is a backup: READ relkvanu_store_backup FIRST. Makes no job */
 #define RELKVANU_STORE_MANIFESTS 64u    /* the folder of the storage gets a manifest of each complete record, for relkvanu_store_recover. With each opening, or not at all */
 
@@ -95,6 +95,11 @@ typedef struct relkvanu_store relkvanu_store;
 #define RELKVANU_STORE_NO_IMAGES UINT64_MAX
 #define RELKVANU_STORE_MOST_CALLS 4096 /* of a list */
 #define RELKVANU_STORE_MESSAGE 512     /* no message is longer, with the zero at its end */
+#define RELKVANU_STORE_MOST_PAYLOAD 4096 /* bytes of a subtask's payload */
+#define RELKVANU_STORE_MOST_REASON 200   /* bytes of the reason of a decline */
+#define RELKVANU_STORE_MOST_ENDED 2200   /* no call ends more records */
+#define RELKVANU_STORE_MOST_HISTORY 1000 /* records that have ended or are complete, of which the history tells */
+#define RELKVANU_STORE_MOST_VERTICES 256 /* of a shape */
 
 typedef struct {
     uint32_t flags;
@@ -113,10 +118,10 @@ typedef struct {
  * publishes when a checkpoint completes. When a savepoint completes it publishes nothing: a restart goes back to the checkpoint before it, and
  * would publish the same again. What it prepared for a savepoint is published when a later checkpoint completes, or when a restore begins from
  * that savepoint. What a sink prepared for records after the one that a restore returned is given up. */
-#define RELKVANU_STORE_END_TASKS 1u   /* with names: tell the earlier tasks to end, and wait for none. Without: make sure that none runs, and that no message of one arrives */
+#define RELKVANU_STORE_END_TASKS 1u   /* tell the earlier tasks to end, and wait for none */
 #define RELKVANU_STORE_RESTORE 2u     /* make a RELKVANU_CALL_RESTORE: its answer says where the job begins again. Load all files of that record, or look that each
     is there, before the sweep: an opening does not. If one is missing, end the process, and sweep nothing */
-#define RELKVANU_STORE_SWEEP 3u       /* relkvanu_store_sweep; or delete the files that relkvanu_store_unknown returns */
+#define RELKVANU_STORE_SWEEP 3u       /* relkvanu_store_sweep; or delete the files that relkvanu_store_garbage returns */
 #define RELKVANU_STORE_START_TASKS 4u /* start tasks, a timer (relkvanu_store_await_tick) and a discarder (relkvanu_store_discard) */
 #define RELKVANU_STORE_DISCARD 5u     /* start a discarder alone: the job is cancelled, or stopped (report.phase) */
 #define RELKVANU_STORE_MOST_STEPS 8
@@ -134,8 +139,8 @@ typedef struct {
     uint64_t moment;      /* the greatest moment so far */
     relkvanu_answer mode, choice;
     char message[RELKVANU_STORE_MESSAGE]; /* what went wrong and where, if the status is not RELKVANU_STORE_OK; otherwise empty */
-    uint64_t term;      /* that runs: of a new job, its tasks are started with it. 0: the job has no names */
-    uint64_t next_name; /* that will be given out; 0: the job has no names */
+    uint64_t term;      /* that runs: of a new job, its tasks are started with it */
+    uint64_t next_name; /* that will be given out */
     uint32_t phase, stop_failed; /* as in relkvanu_store_job_phase */
     uint64_t savepoint;
 } relkvanu_store_report;
@@ -144,9 +149,8 @@ typedef struct {
  * the last call that was answered, for this one file: after a kill an opening has each answered call, or is RELKVANU_STORE_DAMAGED.
  * *store is NULL unless the status is RELKVANU_STORE_OK. The lock is kept until relkvanu_store_close or the end of the process.
  *
- * A new job gives out names from 1 on, or from above each number of a file that it adopts in options.storage. A recovered one keeps what it has:
- * RELKVANU_STORE_PLAIN is read for a new job only. A job that was made without names, also by an earlier version of the library, gets names by
- * one RELKVANU_CALL_FENCE (see relkvanu_store_calls). A library that knows no names refuses the file of a job with names: RELKVANU_STORE_NOT_A_STORE.
+ * A new job gives out names from 1 on, or from above each number of a file that it adopts in options.storage. A file of a job without names, which an
+ * earlier version of the library made, is refused: RELKVANU_STORE_NOT_A_STORE.
  *
  * With options.storage a new job puts its marker, the file .relkvanu-job (.relkvanu-job.new while it is written), into the folder, and a recovery
  * looks for it. So it refuses a folder of another job and one that is not mounted. A symbolic link in the place of the marker is refused too, and
@@ -157,10 +161,10 @@ typedef struct {
  * that it lacks.
  *
  * With options.storage NULL none of this is there: no marker (a folder that is not mounted is not noticed), no refusal of an older copy, no
- * refusal to begin a new job over old files (RELKVANU_STORE_CREATE after PATH was lost begins at epoch 1, gives out names from 1 on, and without
- * names its sweep deletes all), and no sync of the folder in relkvanu_store_discard. The engine does each of them itself (docs/DURABLE-STORAGE.md, A storage
- * for state files, which has all but the refusal of an older copy: never put one back). A job over a storage of the engine's own that has
- * files is made with RELKVANU_STORE_PLAIN, and gets names above all of these by a fence. */
+ * refusal to begin a new job over old files (RELKVANU_STORE_CREATE after PATH was lost begins at epoch 1 and gives out names from 1 on), and no sync
+ * of the folder in relkvanu_store_discard. The engine does each of them itself (docs/DURABLE-STORAGE.md, A storage
+ * for state files, which has all but the refusal of an older copy: never put one back). A new job over a storage of the engine's own that has files
+ * gives out names above all of these after relkvanu_store_advance, before its tasks start: the next sweep deletes them. */
 int relkvanu_store_open(relkvanu_store **store, const char *path, const relkvanu_store_options *options, relkvanu_store_report *report);
 
 /* What the job is: its settings and its shape now. *shape_len is the places of shape, and then how many vertices there are,
@@ -172,6 +176,29 @@ int relkvanu_store_job(relkvanu_store *store, relkvanu_settings *settings, uint6
  * allowed. The end of a process without it loses nothing. */
 void relkvanu_store_close(relkvanu_store *store);
 
+/* The kind of a record. */
+#define RELKVANU_STORE_CHECKPOINT 1u
+#define RELKVANU_STORE_SAVEPOINT 2u
+
+/* What a call has beside its numbers, and what it tells beside its answer: relkvanu_store_call.more. A field for another kind of call is 0, or the call
+ * is RELKVANU_STORE_BAD_ARGUMENT and relkvanu_store_why says which. The fields up to reserved are read; the others are written. All is 0 in them unless the call
+ * was made.
+ *
+ * A payload is the state of a subtask, if it is small: it is committed with its acknowledgement, and is there exactly as long as the record is. So a task
+ * of small state writes no file. relkvanu_store_load gives it back. What an acknowledgement has that comes late (RELKVANU_ACK_LATE) is not kept. */
+typedef struct {
+    const void *payload;     /* ack: at most RELKVANU_STORE_MOST_PAYLOAD bytes */
+    size_t payload_len;
+    uint64_t bytes, millis;  /* ack: of the subtask's snapshot, as its task counts them; relkvanu_store_load and the history tell them */
+    const char *reason;      /* decline: a text for the history, at most RELKVANU_STORE_MOST_REASON bytes, without a zero */
+    size_t reason_len;
+    uint64_t *ended;         /* a buffer for the numbers of records that the call has ended, or NULL */
+    size_t ended_room;
+    uint64_t reserved[4];    /* 0 */
+    size_t ended_len;        /* how many it has ended, in order of their numbers; there may be more than ended_room */
+    uint32_t kind;           /* of the record that was triggered, acknowledged, declined, disposed of or restored; 0: none, or it had ended before */
+} relkvanu_store_more;
+
 /* A call of a list. The fields up to reserved are read; the others are written. */
 typedef struct {
     relkvanu_call call;     /* call.now may be RELKVANU_STORE_NOW */
@@ -181,31 +208,32 @@ typedef struct {
     size_t second_len;
     uint64_t *files;        /* take: the buffer; call.number is at most files_len */
     size_t files_len;
-    uint64_t reserved[2]; /* 0 */
+    relkvanu_store_more *more; /* or NULL; it stays as the lists do */
+    uint64_t reserved[1];      /* 0 */
     relkvanu_answer answer;
     relkvanu_answer choice; /* after a trigger: the record that its barrier names beside it */
     uint64_t place;         /* of the call in the log, from 1; 0 if it changed nothing, and has no line */
-    uint64_t term;          /* after a restore, cancel or fence of a job with names: the term that begins, for whoever starts the tasks; otherwise 0 */
+    uint64_t term;          /* after a restore, cancel or advance: the term that begins, for whoever starts the tasks; otherwise 0 */
 } relkvanu_store_call;
 
 /* Makes 1 to 4096 calls, in this order and with no other in between, and returns once they are committed. A refused call changes
  * nothing, and the next ones are made. After an answer with RELKVANU_NO_MEMORY the later ones are RELKVANU_STORE_NOT_MADE, and the earlier ones
- * stand. RELKVANU_CALL_SHOW and RELKVANU_CALL_COUNT are reads: see relkvanu_store_read.
+ * stand. RELKVANU_CALL_SHOW and RELKVANU_CALL_COUNT are reads: see relkvanu_store_read. RELKVANU_CALL_FENCE is RELKVANU_STORE_BAD_ARGUMENT: each job
+ * has names.
  *
- * In a job with names an acknowledgement and a decline have the term of their task in call.term: RELKVANU_FENCED otherwise, and nothing has changed. A
- * reservation that was answered is durable, and its names are not given out again, whatever happens.
- *
- * RELKVANU_CALL_FENCE gives names to a job without, from call.number on. Make it after a restore and before tasks start, and start them with the term
- * of its answer. Each number that a task was told of has to be below the first name. The store looks at the files in options.storage: a number from
- * the first name on is RELKVANU_FENCED with RELKVANU_NAME_IN_USE, as one that the coordinator knows. RELKVANU_STORE_STORAGE: the folder has no marker;
- * RELKVANU_STORE_NOT_DONE: it can't be read. From then on the file is one of a job with names, for good. */
+ * An acknowledgement and a decline have the term of their task in call.term: RELKVANU_FENCED otherwise, and nothing has changed. A
+ * reservation that was answered is durable, and its names are not given out again, whatever happens. */
 int relkvanu_store_calls(relkvanu_store *store, relkvanu_store_call *calls, size_t calls_len);
 
-/* One acknowledgement, with flat arguments, in a job without names. */
-int relkvanu_store_ack(relkvanu_store *store, uint64_t now, uint64_t id, uint16_t vertex, uint16_t index, const uint64_t *fresh, size_t fresh_len, const uint64_t *reused, size_t reused_len, relkvanu_answer *answer);
-
-/* The same of a task of this term, in a job with names. */
+/* One acknowledgement of a task of this term, with flat arguments. */
 int relkvanu_store_ack_in(relkvanu_store *store, uint64_t term, uint64_t now, uint64_t id, uint16_t vertex, uint16_t index, const uint64_t *fresh, size_t fresh_len, const uint64_t *reused, size_t reused_len, relkvanu_answer *answer);
+
+/* The same with a payload and figures. The record keeps the files in the order in which they are given here: the fresh ones, and then the reused ones. Without `more` it
+ * keeps them in ascending order. */
+int relkvanu_store_ack_with(relkvanu_store *store, uint64_t term, uint64_t now, uint64_t id, uint16_t vertex, uint16_t index, const uint64_t *fresh, size_t fresh_len, const uint64_t *reused, size_t reused_len, relkvanu_store_more *more, relkvanu_answer *answer);
+
+/* A decline of a task of this term, with a reason. */
+int relkvanu_store_decline_with(relkvanu_store *store, uint64_t term, uint64_t now, uint64_t id, uint16_t vertex, uint16_t index, relkvanu_store_more *more, relkvanu_answer *answer);
 
 /* One reservation of 1 to 65536 names, as relkvanu_reserve: RELKVANU_RESERVED has the first one and how many. */
 int relkvanu_store_reserve(relkvanu_store *store, uint64_t term, uint64_t count, relkvanu_answer *answer);
@@ -290,6 +318,65 @@ int relkvanu_store_next_tick(relkvanu_store *store, uint64_t *wait);
  * a stop has failed. At once, to one caller. */
 int relkvanu_store_await_tick(relkvanu_store *store, uint64_t longest, relkvanu_store_call *tick);
 
+/* As relkvanu_store_await_tick, and tells what the tick has ended: more, whose fields up to reserved are 0 but for the buffer, or NULL. What is handed over tells nothing
+ * there: who made the call was told. */
+int relkvanu_store_await_tick_with(relkvanu_store *store, uint64_t longest, relkvanu_store_call *tick, relkvanu_store_more *more);
+
+/* What a subtask has in a record. */
+typedef struct {
+    uint16_t vertex, index;
+    const uint64_t *files; /* in the order in which its acknowledgement gave them (relkvanu_store_ack_with) */
+    size_t files_len;
+    const void *payload;
+    size_t payload_len;
+    uint64_t bytes, millis; /* that its acknowledgement told, or 0 */
+} relkvanu_store_part;
+
+/* Whether it goes on. */
+typedef bool (*relkvanu_store_each_part)(void *with, const relkvanu_store_part *part);
+
+typedef struct {
+    uint64_t id;
+    uint32_t kind; /* RELKVANU_STORE_CHECKPOINT or RELKVANU_STORE_SAVEPOINT; 0: the job begins fresh */
+    uint64_t term; /* that runs; 0: the job has no names. For whoever starts tasks: the answer to its own restore has the term of these */
+    uint64_t lost; /* if the status is RELKVANU_STORE_FILE_LOST: the first file that is not there */
+    size_t shape_len;
+    uint64_t shape[RELKVANU_STORE_MOST_VERTICES]; /* that the record has */
+} relkvanu_store_loaded;
+
+/* A complete record: the one with this number, or the choice (id 0), which a restart begins from. Looks that all its files are in options.storage, and then calls `each`
+ * for each subtask, in their order. What a part points to stays until `each` returns, which makes no call. Without options.storage the engine looks for the files.
+ * After a restore, with the number of its answer, it has all that the tasks begin with: call it before the sweep.
+ *
+ * RELKVANU_STORE_FILE_LOST: a file is not there, and relkvanu_store_why says which. `each` was not called: end the process, and sweep nothing. RELKVANU_STORE_ABSENT: no
+ * complete record has this number, or it has ended meanwhile. With id 0 in a job that begins fresh: RELKVANU_STORE_OK, and the number is 0.
+ * RELKVANU_STORE_DAMAGED: what the record has beside its files is damaged. RELKVANU_STORE_NOT_DONE: the folder can't be read, and errno says why;
+ * RELKVANU_STORE_NO_MEMORY, or as relkvanu_store_read. */
+int relkvanu_store_load(relkvanu_store *store, uint64_t id, relkvanu_store_loaded *loaded, relkvanu_store_each_part each, void *with);
+
+/* What became of a record. */
+#define RELKVANU_STORE_COMPLETED 1u
+#define RELKVANU_STORE_DECLINED 2u /* a subtask has declined it */
+#define RELKVANU_STORE_EXPIRED 3u
+#define RELKVANU_STORE_DROPPED 4u  /* it was pending at a restore or a cancel, when the job failed, or when a later checkpoint completed */
+
+/* A record of the history. Times are in ms. Those of acknowledgements count from its trigger, by the store's clock; each is 0 if there was none since the opening, or
+ * no memory for them. */
+typedef struct {
+    uint64_t id;
+    uint32_t kind, outcome;
+    uint64_t triggered, ended;              /* moments; when it was complete, or failed */
+    uint64_t acks;                          /* subtasks that have acknowledged since the opening */
+    uint64_t first, median, p99, slowest;   /* acknowledgements: the lower median, and the 99th percentile by rank */
+    uint64_t bytes, millis;                 /* the sum of those that the tasks told, and the greatest one */
+    uint64_t reserved[2];
+    char reason[208];                       /* of the decline, with a zero at its end */
+} relkvanu_store_past;
+
+/* Writes at most *len records that are complete or have failed, the last one first, and how many it wrote. A record is told of once its commit is. A recovery from
+ * manifests begins a new history. RELKVANU_STORE_DAMAGED: a row is damaged; otherwise as relkvanu_store_read. */
+int relkvanu_store_history(relkvanu_store *store, relkvanu_store_past *past, size_t *len);
+
 /* What an operator wants of a job that runs. Any thread may call these at any time, also while another one waits for a tick: so an engine passes
  * a command on to them from the handler of a request, and its loop over relkvanu_store_await_tick does the rest (docs/DURABLE-COMMANDS.md has
  * one). Each is one commit: after a crash at any moment all of it was done, or nothing. In call is the answer, and in call->term the term that begins. Nobody acts on it unless the status is RELKVANU_STORE_OK and its code is RELKVANU_DONE.
@@ -331,7 +418,7 @@ int relkvanu_store_configure(relkvanu_store *store, const relkvanu_settings *set
 typedef struct {
     uint32_t phase, stop_failed; /* the second: in the phase running, until the next stop */
     uint64_t savepoint;          /* of the stop; 0: there was none, or the job has begun since */
-    uint64_t term;               /* of a job with names that is stopped: the one that began when it was, of which no task has been told */
+    uint64_t term;               /* of a job that is stopped: the one that began when it was, of which no task has been told */
     uint64_t reserved[2];
 } relkvanu_store_job_phase;
 
@@ -369,27 +456,17 @@ int relkvanu_store_phase(relkvanu_store *store, relkvanu_store_job_phase *phase)
  * RELKVANU_IDS_USED_UP. None of these changes anything. */
 int relkvanu_store_go_back(relkvanu_store *store, uint64_t checkpoint, uint32_t flags, relkvanu_store_call *call);
 
-/* Begins a job with names again that lacks its last calls, as one of a backup does, in place of the first restore: as relkvanu_advance. term is the
+/* Begins a job again that lacks its last calls, as one of a backup does, in place of the first restore: as relkvanu_advance. term is the
  * greatest that any task was told, and names are given out from first_name on. call->term is the term of the tasks. It is not handed over. */
 int relkvanu_store_advance(relkvanu_store *store, uint64_t term, uint64_t first_name, relkvanu_store_call *call);
 
-/* The term that runs, and the next name: RELKVANU_TERM, of what is committed. RELKVANU_FENCED with RELKVANU_NO_NAMES. Whoever starts tasks takes the term
+/* The term that runs, and the next name: RELKVANU_TERM, of what is committed. Whoever starts tasks takes the term
  * from the answer to its own restore: another restore may have ended that one. A task never asks. */
 int relkvanu_store_term(relkvanu_store *store, relkvanu_answer *answer);
 
 /* Those of the files that are garbage, and those whose names were not given out, of what is committed, as relkvanu_garbage. Both buffers have
- * files_len places. RELKVANU_GARBAGE: the engine deletes the first at any time, and the second never. RELKVANU_FENCED with RELKVANU_NO_NAMES. Takes no
- * memory. */
+ * files_len places. RELKVANU_GARBAGE: the engine deletes the first at any time, and the second never. Takes no memory. */
 int relkvanu_store_garbage(relkvanu_store *store, const uint64_t *files, size_t files_len, uint64_t *garbage, uint64_t *unissued, relkvanu_answer *answer);
-
-/* For a sweep: moves those of the files that may be deleted to the front, and writes how many they are. The engine deletes exactly these.
- *
- * In a job with names these are garbage, at any time: a file whose name was not given out is not among them (relkvanu_store_garbage tells it).
- *
- * In a job without names these are the files that the coordinator does not know (neither in use, pinned, waiting nor taken), at one time only.
- * RELKVANU_STORE_NOT_NOW unless the job was restored and no checkpoint was triggered or acknowledged since, or it is cancelled: a task may have
- * written a file whose acknowledgement is on its way. The engine has ended all tasks before: this can't be seen here. */
-int relkvanu_store_unknown(relkvanu_store *store, uint64_t *files, size_t *files_len);
 
 /* The folder options.storage, which stays open: delete by unlinkat in it, so that no deletion reaches a folder that is mounted over it. -1
  * if there is none. */
@@ -425,7 +502,7 @@ int relkvanu_store_discard_for(relkvanu_store *store, size_t batch, uint64_t lon
 
 /* Makes a file: writes it beside its name, syncs it, gives it the name, and syncs the folder. After RELKVANU_STORE_OK a loss of power does not
  * take it, and a task may acknowledge it. After any other status the task forfeits the name and declines. The number is not given again: a sweep
- * deletes what is left. In a job with names the number is one that the task has reserved.
+ * deletes what is left. The number is one that the task has reserved.
  *
  * RELKVANU_STORE_PRESENT: there is a file of this number, or a part of one; RELKVANU_STORE_STORAGE: the folder lacks its marker, or another opening has it:
  * the sweep after the next restore returns the same, and then the process ends;
@@ -451,12 +528,11 @@ size_t relkvanu_store_why(char *text, size_t text_len);
  * relkvanu_store_delete_files, store). That syncs the folder, and looks for the marker. */
 void relkvanu_store_delete_files(void *store, const uint64_t *files, size_t files_len, uint8_t *is_gone);
 
-/* A sweep: deletes the files of the folder that relkvanu_store_unknown returns, also what is there in part, and syncs the folder. Writes how many it could
- * not delete: the next sweep tries them again. A job with names is swept at each restore and whenever the engine likes, also beside tasks that
- * run: relkvanu_store_count then tells how many files it left because their names were not given out. One without is swept at each recovery, each restore and
- * after a cancel, when all tasks have ended.
+/* A sweep: deletes the files of the folder that are garbage (relkvanu_store_garbage), also what is there in part, and syncs the folder. Writes how many it
+ * could not delete: the next sweep tries them again. It runs at each restore and whenever the engine likes, also beside tasks that
+ * run. relkvanu_store_count then tells how many files it left because their names were not given out.
  *
- * RELKVANU_STORE_NOT_NOW as relkvanu_store_unknown; RELKVANU_STORE_STORAGE: the folder lacks its marker, or another opening has it. End this
+ * RELKVANU_STORE_STORAGE: the folder lacks its marker, or another opening has it. End this
  * process: the next opening says which. RELKVANU_STORE_NOT_DONE: it can't be read or synced now, and errno says why: sweep again later.
  * RELKVANU_STORE_NO_MEMORY: part of it may be swept. */
 int relkvanu_store_sweep(relkvanu_store *store, size_t *left);
@@ -528,7 +604,7 @@ int relkvanu_store_keep_manifests(relkvanu_store *store, relkvanu_store_check_pl
 /* A record, as its manifest says it. */
 typedef struct {
     uint64_t id;
-    uint32_t status;   /* RELKVANU_STORE_OK; RELKVANU_STORE_DAMAGED: the manifest is damaged; RELKVANU_STORE_NOT_A_STORE: a later version wrote it. Then all below is 0 */
+    uint32_t status;   /* RELKVANU_STORE_OK; RELKVANU_STORE_DAMAGED: the manifest is damaged; RELKVANU_STORE_NOT_A_STORE: another version wrote it. Then all below is 0 */
     bool is_savepoint; /* otherwise it is a checkpoint */
     bool is_of_job;    /* its job is the one that the marker of the folder names, or there is no marker */
     bool is_next;      /* relkvanu_store_recover, or relkvanu_store_import, begins from it */
@@ -552,7 +628,7 @@ typedef struct {
     uint64_t files, bytes;
     uint64_t passed;     /* manifests of the job that are damaged or lack files */
     uint64_t savepoints; /* that live on beside it, under new numbers. A list of relkvanu_store_records after the first opening has them */
-    uint64_t term, next_name; /* of the job; 0: it has no names */
+    uint64_t term, next_name; /* of the job */
     uint64_t next_number;     /* the least one that a later record gets */
     uint64_t reserved[4];
     char message[RELKVANU_STORE_MESSAGE]; /* what went wrong, if the status is not RELKVANU_STORE_OK */
@@ -571,7 +647,7 @@ typedef struct {
  * recovered, with its steps. Sinks are told of the choice under the number that they know.
  *
  * RELKVANU_STORE_PRESENT: there is a job at path, or PATH-wal without it; RELKVANU_STORE_ABSENT: no record with a manifest has all its files;
- * RELKVANU_STORE_DAMAGED: a manifest is damaged, or one that is damaged or of a later version of the library has a greater number than the record: message
+ * RELKVANU_STORE_DAMAGED: a manifest is damaged, or one that is damaged or of another version of the library has a greater number than the record: message
  * names it. Such a one may be of a later record, and says neither which terms nor which names were given out since. With the number of a record the
  * recovery goes on, above the number of that manifest, unless it is 2^20 or more above all others. RELKVANU_STORE_STORAGE: the folder or its marker is not
  * there; RELKVANU_STORE_IN_USE: another process opens or recovers it. Nothing has changed then. RELKVANU_STORE_FAILED and the statuses after it,

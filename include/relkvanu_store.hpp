@@ -38,6 +38,7 @@ enum class store_error : int {
     not_done = RELKVANU_STORE_NOT_DONE,
     job_stopped = RELKVANU_STORE_JOB_STOPPED,
     not_stopped = RELKVANU_STORE_NOT_STOPPED,
+    file_lost = RELKVANU_STORE_FILE_LOST,
     not_made = RELKVANU_STORE_NOT_MADE, /* a call before it in the same list ran out of memory */
 };
 
@@ -71,6 +72,7 @@ public:
         case store_error::not_done: return "NotDone";
         case store_error::job_stopped: return "JobStopped";
         case store_error::not_stopped: return "NotStopped";
+        case store_error::file_lost: return "FileLost";
         case store_error::not_made: return "NotMade";
         default: return "unknown";
         }
@@ -105,6 +107,27 @@ struct no_backup {
 
 /* Why nothing was made of manifests, and where. */
 using not_made = not_opened;
+
+/* What a subtask has in a record: its files, in their order, its payload and its figures. */
+struct stored_part {
+    std::uint16_t vertex, index;
+    std::vector<std::uint64_t> files;
+    std::string payload;
+    std::uint64_t bytes, millis;
+};
+
+/* A complete record. Its kind is 0 if the job begins fresh. */
+struct whole_record {
+    relkvanu_store_loaded is;
+    std::vector<stored_part> parts; /* in the order of the subtasks */
+};
+
+/* Why the last call, put, sweep or discarder of this thread was not made: relkvanu_store_why. */
+[[nodiscard]] inline std::string why() {
+    std::string text(RELKVANU_STORE_MESSAGE, '\0');
+    text.resize(relkvanu_store_why(text.data(), text.size()));
+    return text;
+}
 
 /* A record of a storage folder, as its manifest says it: relkvanu_store_record. */
 using stored_record = relkvanu_store_record;
@@ -228,7 +251,7 @@ public:
     /* The calls. Without a moment each has that of the store's clock. */
 
     /* clang-format off */
-    /* embed/bindings makes the calls of one number */
+    /* bindings/generate makes the calls of one number */
     /* Time has passed: records that are too old expire, and a checkpoint is triggered if one is due. */
     [[nodiscard]] tick_answer tick(std::uint64_t now = RELKVANU_STORE_NOW) noexcept {
         return one<tick_answer>(call(RELKVANU_CALL_TICK, now), tick_of);
@@ -254,24 +277,10 @@ public:
     [[nodiscard]] tick_answer trigger(std::uint64_t now = RELKVANU_STORE_NOW) noexcept {
         return one<tick_answer>(call(RELKVANU_CALL_TRIGGER, now), tick_of);
     }
-    /* embed/bindings: end */
+    /* bindings/generate: end */
     /* clang-format on */
 
-    [[nodiscard]] ack_answer ack(std::uint64_t id, std::uint16_t vertex, std::uint16_t index, files fresh, files reused = {},
-        std::uint64_t now = RELKVANU_STORE_NOW) noexcept {
-        relkvanu_store_call it = call(RELKVANU_CALL_ACK, now, id, vertex, index);
-        it.first = fresh.data();
-        it.first_len = fresh.size();
-        it.second = reused.data();
-        it.second_len = reused.size();
-        return one<ack_answer>(it, ack_of);
-    }
-
-    decline_answer decline(std::uint64_t id, std::uint16_t vertex, std::uint16_t index, std::uint64_t now = RELKVANU_STORE_NOW) noexcept {
-        return one<decline_answer>(call(RELKVANU_CALL_DECLINE, now, id, vertex, index), decline_of);
-    }
-
-    /* In a job with names, of a task of this term. An acknowledgement that is accepted spends the names of its fresh files. Once more it is refused as
+    /* Of a task of this term. An acknowledgement that is accepted spends the names of its fresh files. Once more it is refused as
      * error::fenced_spent, if it has fresh files: a task deletes no file. */
     [[nodiscard]] ack_answer ack_in(std::uint64_t term, std::uint64_t id, std::uint16_t vertex, std::uint16_t index, files fresh,
         files reused = {}, std::uint64_t now = RELKVANU_STORE_NOW) noexcept {
@@ -286,6 +295,60 @@ public:
     decline_answer decline_in(
         std::uint64_t term, std::uint64_t id, std::uint16_t vertex, std::uint16_t index, std::uint64_t now = RELKVANU_STORE_NOW) noexcept {
         return one<decline_answer>(call(RELKVANU_CALL_DECLINE, now, id, vertex, index, term), decline_of);
+    }
+
+    /* The same with a payload, figures, or a reason, and with what the call has ended: relkvanu_store_more. Refused as store_error::bad_argument if a field of it is wrong; why() says
+     * which. */
+    [[nodiscard]] ack_answer ack_with(std::uint64_t term, std::uint64_t id, std::uint16_t vertex, std::uint16_t index, files fresh,
+        files reused, relkvanu_store_more &more, std::uint64_t now = RELKVANU_STORE_NOW) noexcept {
+        relkvanu_store_call it = call(RELKVANU_CALL_ACK, now, id, vertex, index, term);
+        it.first = fresh.data();
+        it.first_len = fresh.size();
+        it.second = reused.data();
+        it.second_len = reused.size();
+        it.more = &more;
+        return one<ack_answer>(it, ack_of);
+    }
+
+    decline_answer decline_with(std::uint64_t term, std::uint64_t id, std::uint16_t vertex, std::uint16_t index, relkvanu_store_more &more,
+        std::uint64_t now = RELKVANU_STORE_NOW) noexcept {
+        relkvanu_store_call it = call(RELKVANU_CALL_DECLINE, now, id, vertex, index, term);
+        it.more = &more;
+        return one<decline_answer>(it, decline_of);
+    }
+
+    /* The complete record with this number, or the one that a restart begins from (0), with the files and the payload of each subtask, once it has looked that
+     * the files are in the storage folder: relkvanu_store_load. store_error::file_lost: end the process, and sweep nothing. */
+    [[nodiscard]] std::variant<whole_record, not_made> load(std::uint64_t id = 0) {
+        struct loading {
+            whole_record found = {};
+            std::exception_ptr thrown;
+        } all;
+        auto note = [](void *with, const relkvanu_store_part *it) -> bool {
+            auto *to = static_cast<loading *>(with);
+            try {
+                to->found.parts.push_back({it->vertex, it->index, std::vector<std::uint64_t>(it->files, it->files + it->files_len),
+                    it->payload_len != 0 ? std::string(static_cast<const char *>(it->payload), it->payload_len) : std::string(), it->bytes,
+                    it->millis});
+            } catch (...) { /* nothing may be thrown through C */
+                to->thrown = std::current_exception();
+            }
+            return to->thrown == nullptr;
+        };
+        int status = relkvanu_store_load(store_, id, &all.found.is, note, &all);
+        if (all.thrown != nullptr) {
+            std::rethrow_exception(all.thrown);
+        }
+        if (status != RELKVANU_STORE_OK) {
+            return not_made{store_code(status), why()};
+        }
+        return std::move(all.found);
+    }
+
+    /* As many of the last records as there are places: relkvanu_store_history. len: how many there are. */
+    [[nodiscard]] std::error_code history(span<relkvanu_store_past> past, std::size_t &len) noexcept {
+        len = past.size();
+        return store_code(relkvanu_store_history(store_, past.data(), &len));
     }
 
     /* Names for files that the task of this term will write, 1 to 65536. */
@@ -303,12 +366,6 @@ public:
             return refused{store_code(status)};
         }
         return is_reply(told, RELKVANU_FORFEITED) ? forfeit_answer(forfeited{}) : refusal(told);
-    }
-
-    /* Gives names to a job without, from first_name on, in term 1: after a restore and before tasks start. */
-    [[nodiscard]] fence_answer fence(std::uint64_t first_name) noexcept {
-        return one<fence_answer>(call(RELKVANU_CALL_FENCE, 0, first_name),
-            [](relkvanu_answer told) noexcept { return is_reply(told, RELKVANU_NAMED) ? fence_answer(fenced{}) : refusal(told); });
     }
 
     /* The term that runs, and the next name. Whoever starts tasks takes the term from the answer to its restore; a task never asks. */
@@ -468,14 +525,6 @@ public:
     }
     [[nodiscard]] std::error_code phase(relkvanu_store_job_phase &phase) noexcept {
         return store_code(relkvanu_store_phase(store_, &phase));
-    }
-
-    /* For a sweep: leaves those of the files that may be deleted. Of a job without names it is for a recovery's sweep. */
-    [[nodiscard]] std::error_code unknown(std::vector<std::uint64_t> &list) {
-        std::size_t len = list.size();
-        int status = relkvanu_store_unknown(store_, list.data(), &len);
-        list.resize(status == RELKVANU_STORE_OK ? len : 0);
-        return store_code(status);
     }
 
     /* A discarder and a sweep of any storage: the engine's own, or a Folder. */

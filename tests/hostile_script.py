@@ -15,7 +15,7 @@ OF_ONE_ACKNOWLEDGEMENT = 4000
 def chosen(kind, count):
     """This many file numbers of this kind, or nothing if there is no C compiler."""
     with tempfile.TemporaryDirectory() as folder:
-        meeting = built("meeting.c", f"{folder}/meeting")
+        meeting = built("tests/meeting.c", f"{folder}/meeting")
         if not meeting:
             return None
         return subprocess.run([meeting, kind, str(count)], capture_output=True, check=True, text=True).stdout.split()

@@ -19,10 +19,10 @@ def program():
 
 
 def built(source, made, *words):
-    """Builds a C file of this folder, and returns the result, or nothing if there is no C compiler."""
+    """Builds a C file of the repository, and returns the result, or nothing if there is no C compiler."""
     if not shutil.which("cc"):
         return None
-    subprocess.run(["cc", "-O2", "-o", made, f"{TOP}/tests/{source}", *words], check=True)
+    subprocess.run(["cc", "-O2", "-o", made, f"{TOP}/{source}", *words], check=True)
     return made
 
 
@@ -70,7 +70,7 @@ class Tests:
         self.name, self.passed, self.failed = name, 0, 0
         self.program = program()
         self.folder = tempfile.TemporaryDirectory()
-        self.devices = built("devices.c", f"{self.folder.name}/devices.so", "-shared", "-fPIC", "-ldl")
+        self.devices = built("faults/devices.c", f"{self.folder.name}/devices.so", "-shared", "-fPIC", "-ldl")
 
     def run(self, script, **given):
         """Runs a script, with what devices.c is to do, and returns the run and the counts."""

@@ -1,0 +1,217 @@
+"""The kinds, replies, refusals and faults in Go. cgo has the numbers of the header."""
+import re
+import subprocess
+import textwrap
+from typing import Dict, Iterable, List, Optional, Tuple
+
+from generator import calls, header
+from generator.calls import Call
+from generator.header import Number, camel
+
+# Names that Go writes in another way.
+NAMES = {"ids_used_up": "IDsUsedUp"}
+# Codes whose enums have a place and a type of their own.
+PLACED = {"REFUSED": "Refusal", "BAD_ARGUMENT": "BadArgument", "BAD_LINE": "LineFault"}
+Names = List[Tuple[str, Number]]
+
+
+def constants(kind: str, members: Names) -> str:
+    lines = [f"\t{name} {kind} = C.RELKVANU_{it.name}{f' // {it.sentence()}' if it.sentence() else ''}\n" for name, it in members]
+    return "".join(lines)
+
+
+def named(members: Names, texts: List[str]) -> str:
+    return "".join(f'\t{name}: "{text}",\n' for (name, _), text in zip(members, texts))
+
+
+def of(enum: str, before: str = "") -> Names:
+    return [(before + NAMES.get(member, camel(member)), number) for member, number in header.enums()[enum].members]
+
+
+def camels(enum: str) -> List[str]:
+    return [camel(member) for member, _ in header.enums()[enum].members]
+
+
+# Replies and modes whose names Go has without their call, or with another word.
+SHORT = {"TICK_FAILED": "TickFailed", "MODE_CANCELLED": "WasCancelled"}
+
+
+def replies(prefix: str, cut: str) -> Names:
+    """The replies whose names begin so. Their names in Go lack what is cut."""
+    found = [it for it in header.numbers().values() if it.name.startswith(prefix)]
+    return [(SHORT.get(it.name, camel(it.name.removeprefix(cut))), it) for it in found]
+
+
+def ends(prefix: str) -> List[str]:
+    """What scripts print of a tick's end: what follows its numbers."""
+    return [(it.form or "").split("} ")[-1].partition(" {")[0] for _, it in replies(prefix, "")]
+
+
+def new_codes() -> List[Tuple[Number, str]]:
+    """The codes whose enums have no place yet, with the name of that."""
+    return [(code, enum.name) for code, enum in header.codes() if enum and code.name not in PLACED]
+
+
+def new_enum(code: Number, enum: str) -> str:
+    kind, it = camel(enum), header.enums()[enum]
+    members = [(kind + camel(member), number) for member, number in it.members]
+    text = f"// {kind}: {it.comment}\ntype {kind} uint32\n\n// The numbers of {kind}.\nconst (\n{constants(kind, members)})\n\n"
+    text += f"var names{kind} = map[{kind}]string{{\n{named(members, camels(enum))}}}\n\n// String is the name, such as \"{camels(enum)[0]}\".\n"
+    text += f"func (it {kind}) String() string {{ return named(names{kind}, it) }}\n\n"
+    return text + f'func (it {kind}) Error() string {{ return "relkvanu: {header.words(code.name)}: " + it.String() }}\n'
+
+
+def with_file(members: Names) -> List[str]:
+    return [name for name, number in members if "file" in [field for field, _, _ in number.fields()]]
+
+
+def cases() -> str:
+    """The faults of codes whose answers have a number alone, and name no file."""
+    found = [(code.name, PLACED.get(code.name, camel(enum.name))) for code, enum in header.codes() if enum and not with_file(enum.members)]
+    return "".join(f"\tcase C.RELKVANU_{code}:\n\t\treturn {kind}(answer.what)\n" for code, kind in found)
+
+
+# What Go says of a call in its own words.
+SAID = {
+    "tick": "Tick says that time has passed: records past their timeout expire, and a checkpoint is triggered if one is due.",
+    "savepoint": "Savepoint triggers a savepoint for a user.",
+    "dispose": "Dispose disposes of a completed savepoint for a user.",
+    "cancel": "Cancel ends the job for good.",
+}
+# The same of a store, if it differs.
+SAID_OF_STORE = {"tick": "Tick says that time has passed. A timer calls AwaitTick."}
+# What Go says of replies in its own words.
+SAID_OF_REPLIES = {
+    "SAVEPOINT_TRIGGERED": "SavepointTriggered is the reply to a savepoint.",
+    "DISPOSED": "Disposed is the reply to a dispose: so many files were released.",
+    "CANCELLED": "Cancelled is the reply to a cancel: so many records were dropped, and so many files released.",
+}
+ANSWER = "func(handle *C.relkvanu) C.relkvanu_answer"
+
+
+def wrapped(text: str) -> str:
+    return "".join(f"// {it}\n" for it in textwrap.wrap(text, 137))
+
+
+def go_name(field: str) -> str:
+    """A field, or the name of a number in Go."""
+    first, *rest = field.split("_")
+    return first + "".join(it.capitalize() for it in rest)
+
+
+def exported(field: str) -> str:
+    return "ID" if field == "id" else camel(field)
+
+
+def own(found: List[Call]) -> List[Call]:
+    """The calls with a reply of their own."""
+    return [it for it in calls.of_their_own(found) if it.name not in calls.REPORTS]
+
+
+def reply_of(call: Call) -> str:
+    reply = call.reply()
+    return camel(reply.name) if reply else camel(call.family()) + "ed"
+
+
+def c_call(call: Call) -> str:
+    """The function that makes the call. `timed` says by itself that a timer looks again, for calls with a moment."""
+    given = f", C.uint64_t({go_name(call.number)})" if call.number else ""
+    made = f"return C.relkvanu_{call.name}(handle{given})"
+    return f"{ANSWER} {{ {made} }}" if call.has_moment() or call.is_quiet() else f"{ANSWER} {{\nc.owner.moved()\n{made}\n}}"
+
+
+def comment_of(call: Call, own_words: Dict[str, str]) -> str:
+    return wrapped(own_words.get(call.name, f"{camel(call.name)}: {call.comment}"))
+
+
+def signature(call: Call, of: str, number: Optional[str]) -> str:
+    given = f"{go_name(number)} uint64" if number else ""
+    return f"func ({of[0].lower()} *{of}) {camel(call.name)}({given}) ({reply_of(call)}, error)"
+
+
+def method(call: Call) -> str:
+    text, reply = comment_of(call, SAID) + signature(call, "Coordinator", call.number) + " {\n", call.reply()
+    if reply is None:
+        return text + f"\treturn replied(c, now, {reply_of(call).lower()}, {c_call(call)})\n}}\n"
+    how = f"onlyAt(now, C.RELKVANU_{reply.name}, " if call.has_moment() else f"only(C.RELKVANU_{reply.name}, "
+    fields = ", ".join(f"{exported(field)}: uint64(answer.{letter})" for field, letter, _ in reply.fields())
+    given = "answer, err" if fields else "_, err"
+    return text + f"\t{given} := c.{how}{c_call(call)})\n\treturn {reply_of(call)}{{{fields}}}, err\n}}\n"
+
+
+def store_method(call: Call) -> str:
+    number = "" if call.number is None else ", Now: StoreNow" if call.has_moment() else f", Number: {go_name(call.number)}"
+    text = comment_of(call, {**SAID, **SAID_OF_STORE}) + signature(call, "Store", None if call.has_moment() else call.number)
+    return text + f" {{\n\treturn one[{reply_of(call)}](s, Call{{Kind: Call{camel(call.name)}{number}}})\n}}\n"
+
+
+def line(call: Call) -> str:
+    name, number = camel(call.name), go_name(call.number or "")
+    article, given = "an" if call.name[0] in "aeiou" else "a", f"{number} uint64" if number else ""
+    made = f"atMoment(Call{name}, now)" if call.has_moment() else f"ofNumber(Call{name}, {number or 0})"
+    return f"// {name}Line is the line of {article} {name}.\nfunc {name}Line({given}) ([]byte, error) {{ return {made} }}\n"
+
+
+def reply_type(call: Call) -> str:
+    """The type of a reply, which prints as a script does."""
+    it = call.reply()
+    assert it is not None
+    name, fields = camel(it.name), [exported(field) for field, _, _ in it.fields()]
+    told = "; ".join(f"{exported(field)}: {what}" for field, _, what in it.fields())
+    document = SAID_OF_REPLIES.get(it.name, " ".join([f"{name}:"] + [part for part in (it.sentence(), f"{told}." if told else "") if part]))
+    body = f" {', '.join(fields)} uint64 " if fields else ""
+    text = wrapped(document) + f"type {name} struct{{{body}}}\n\nfunc ({name}) isReply() {{}}\n\n"
+    by_letter = {letter: f"r.{exported(field)}" for field, letter, _ in it.fields()}
+    form = header.form_of(it, None, it.name, it)
+    values = ", ".join(by_letter[letter] for letter in re.findall(r"{(\w)}", form))
+    printed = f'fmt.Sprintf("{re.sub("{.}", "%d", form)}", {values})' if values else f'"{form}"'
+    return text + f"func (r {name}) String() string {{ return {printed} }}\n"
+
+
+def case(call: Call) -> str:
+    it = call.reply()
+    assert it is not None
+    return f"\tcase C.RELKVANU_{it.name}:\n\t\treturn {camel(it.name)}{{{', '.join(letter for _, letter, _ in it.fields())}}}, nil\n"
+
+
+def listed(declarations: Iterable[str]) -> str:
+    """Declarations below the comment that names the place, which is not the first one's."""
+    return "".join(f"\n{it}" for it in declarations) + "\n"
+
+
+def made() -> Dict[str, Dict[str, str]]:
+    """What is made, by file and place."""
+    modes, standings, faults, arguments = replies("MODE_", "MODE_"), replies("STANDS_", "STANDS_"), of("line_fault", "Line"), of("argument")
+    ticks = replies("TICK_", "TICK_")
+    return {
+        "errors.go": {
+            "the refusals": constants("Refusal", of("refusal")),
+            "the arguments": constants("BadArgument", arguments), "the names of arguments": named(arguments, camels("argument")),
+            "the faults of lines": constants("LineFault", faults), "the names of faults": named(faults, camels("line_fault")),
+            "the other enums": "\n".join(new_enum(*it) for it in new_codes()), "the codes": cases(),
+            "which refusals name a file": "".join(f"\t{it}: true,\n" for it in with_file(of("refusal"))),
+            "which reasons name a file": "".join(f"\t{it}: true,\n" for it in with_file(of("fenced", "Fenced"))),
+        },
+        "coordinator.go": {"the calls of one number": listed(method(it) for it in calls.stored())},
+        "lines.go": {
+            "the lines of calls of one number": listed(line(it) for it in calls.calls()),
+            "the replies to calls of one number": "".join(case(it) for it in own(calls.plain())),
+        },
+        "store_calls.go": {"the calls of one number": listed(store_method(it) for it in calls.stored())},
+        "calls.go": {"the kinds": constants("CallKind", of("call_kind", "Call"))},
+        "replies.go": {
+            "the ends of ticks": constants("TickEnd", ticks), "the names of ends": named(ticks, ends("TICK_")),
+            "the ends of acknowledgements": constants("AckEnd", replies("ACK_", "")),
+            "the ends of declines": constants("DeclineEnd", replies("DECLINE_", "")),
+            "the replies to calls of one number": listed(reply_type(it) for it in own(calls.plain())),
+        },
+        "reads.go": {
+            "the modes": constants("Mode", modes), "the names of modes": named(modes, [header.words(it.name.removeprefix("MODE_")) for _, it in modes]),
+            "the standings": constants("Standing", standings),
+            "the names of standings": named(standings, [header.words(it.name.removeprefix("STANDS_")) for _, it in standings]),
+        },
+    }
+
+
+def formatted(text: str) -> str:
+    return subprocess.run(["gofmt"], input=text, capture_output=True, text=True, check=True).stdout

@@ -1,0 +1,240 @@
+"""The bindings and the kinds, replies, refusals and faults in Rust."""
+import subprocess
+import textwrap
+from typing import Any, Dict, List, Optional, Tuple
+
+from generator import calls, header
+from generator.calls import Call
+from generator.header import Enum, Number, camel, parameters, pointed
+
+DERIVED = "#[derive(Clone, Copy, Debug, PartialEq, Eq, Hash)]\n"
+UNKNOWN = "    /// A number that this crate does not know: the library is of another version.\n    Unknown(u32),\n"
+
+# Faults whose names and fields are not those of the header, and the sentence of each that says more than the header.
+FAULTS = {
+    "REFUSED": ("Refused(Refusal)", "The call was refused."),
+    "NO_MEMORY": ("Memory", "Memory ran out. Make the same call again. If the log has its line already, make it before any other logged call."),
+    "CLOSED": ("Closed", "The coordinator is closed."),
+    "TOO_SHORT": ("TooShort { places: u64 }", "A `take` line would fetch this many files, and the buffer has fewer places."),
+    "BAD_LINE": ("BadLine(LineFault)", "A line of a script can't be read, or the line of a call would be too long."),
+}
+# Replies with one number that has no name.
+TUPLES = ("SAVEPOINT_TRIGGERED", "DELETED", "UNDELETED", "RESERVED")
+# Replies to calls with names, as a log has them (docs/LOGS.md): how many names a task wanted is in the line of its call.
+LOGGED = {
+    "FORFEITED": 'the names are given up. "forfeited"',
+    "NAMED": 'the job has names, and its first term runs. "term 1"',
+    "RESERVED": 'a: name. From this name on as many are reserved as the call wanted. "reserved {a}"',
+}
+RESTORED = "RESTORED_"
+# What the crate says of a call in its own words.
+SAID = {
+    **calls.SHORT,
+    "tick": "Time has passed: records past their timeout expire, and a checkpoint is triggered if one is due.",
+    "dispose": "A user disposes of a completed savepoint.",
+}
+# The variants of Call that say what they are.
+SAID_OF_LINES = {"fence": "From this call on the job gives out names, from this one on."}
+SAFE = "the handle is as the library last left it, and `&mut self` keeps other calls away."
+
+
+def rust_type(node: Any) -> str:
+    name, depth, is_const = pointed(node)
+    return ("*const " if is_const else "*mut ") * depth + (header.SCALARS[name][1] if name in header.SCALARS else name)
+
+
+def rust_macro(it: Number) -> str:
+    told = f"/// {it.comment}\n" if it.comment else ""
+    value = f"&str = {it.value}" if it.value.startswith('"') else f"u32 = {it.value.rstrip('u')}"
+    return told + f"pub const {it.name}: {value};\n"
+
+
+def rust_function(name: str, function: Any, comment: Optional[str]) -> str:
+    told = f"    /// {comment}\n" if comment else ""
+    given = "".join(f"        {it}: {rust_type(kind)},\n" for it, kind in parameters(function))
+    of = pointed(function.type)
+    result = "" if of[:2] == ("void", 0) else f" -> {rust_type(function.type)}"
+    return f"{told}    pub fn {name}(\n{given}    ){result};\n"
+
+
+def formatted(text: str) -> str:
+    return subprocess.run(["rustfmt", "--edition", "2021"], input=text, capture_output=True, text=True, check=True).stdout
+
+
+def bindings(structs: Dict[str, Any], functions: Dict[str, Any]) -> str:
+    told = header.comments()
+    text = "// What `include/relkvanu.h` says, made from it by `bindings/generate`: change the header, and run that.\n"
+    text += "use std::ffi::{c_char, c_void};\n\n"
+    text += "".join(rust_macro(it) for it in header.macros()) + "\n"
+    for name, fields in structs.items():
+        lines = "".join(f"    pub {it.name}: {rust_type(it.type)},\n" for it in fields)
+        text += f"#[repr(C)]\n#[derive(Clone, Copy, Debug)]\npub struct {name} {{\n{lines}}}\n\n"
+    return formatted(text + 'extern "C" {\n' + "\n".join(rust_function(name, it, told.get(name)) for name, it in functions.items()) + "}\n")
+
+
+def document(sentence: str, indent: str = "    ") -> str:
+    return f"{indent}/// {sentence}\n" if sentence else ""
+
+
+def enum(name: str, comment: str, members: List[Tuple[str, Number]], visible: str = "pub") -> str:
+    """An enum with Unknown for each other number. Those with a number of their own have it in the answer's a."""
+    has_more = any(number.a for _, number in members)
+    given, what = ("told: sys::relkvanu_answer", "told.what") if has_more else ("what: u32", "what")
+    text = f"{document(comment, '')}{DERIVED}#[non_exhaustive]\n{visible} enum {name} {{\n"
+    text += "".join(document(it.sentence()) + f"    {camel(member)}{'(u64)' if it.a else ''},\n" for member, it in members) + UNKNOWN
+    text += f"}}\n\nimpl {name} {{\n    pub(crate) fn of({given}) -> {name} {{\n        match {what} {{\n"
+    text += "".join(f"            sys::{header.OWN}{it.name} => {name}::{camel(member)}{'(told.a)' if it.a else ''},\n" for member, it in members)
+    text += f"            other => {name}::Unknown(other),\n        }}\n    }}\n\n"
+    text += f"    /// The number in the header.\n    {visible} fn number(&self) -> u32 {{\n        match self {{\n"
+    text += "".join(f"            {name}::{camel(member)}{'(_)' if it.a else ''} => sys::{header.OWN}{it.name},\n" for member, it in members)
+    text += f"            {name}::Unknown(what) => *what,\n        }}\n    }}\n"
+    return text + (of_a(name, members) if has_more else "") + "}\n"
+
+
+def of_a(name: str, members: List[Tuple[str, Number]]) -> str:
+    """The number of a refusal."""
+    having = " | ".join(f"{name}::{camel(member)}(of)" for member, it in members if it.a)
+    (field,) = {it.fields()[0][0] for _, it in members if it.a}
+    text = f"\n    /// The {field} that it names, if there is one.\n    pub fn {field}(&self) -> Option<u64> {{\n"
+    return text + f"        match self {{\n            {having} => Some(*of),\n            _ => None,\n        }}\n    }}\n"
+
+
+def fault_of(code: Number, of: Optional[Enum]) -> List[Tuple[str, str, str, str]]:
+    """The faults of a code: declaration, sentence, pattern and expression."""
+    pattern = f"sys::{header.OWN}{code.name}"
+    if code.name == "BAD_ARGUMENT" and of is not None:
+        return [(camel(member), it.sentence(), f"({pattern}, sys::{header.OWN}{it.name})", f"Fault::{camel(member)}") for member, it in of.members]
+    kind = camel(of.name) if of else ""
+    declared, sentence = FAULTS.get(code.name, (camel(code.name) + (f"({kind})" if kind else ""), code.sentence()))
+    made = declared.replace(f"({kind})", f"({kind}::of({'told' if of and any(it.a for _, it in of.members) else 'told.what'}))")
+    return [(declared, sentence, f"({pattern}, _)", "Fault::" + made.replace("u64", "told.a"))]
+
+
+def faults() -> str:
+    found = [it for code, of in header.codes() for it in fault_of(code, of)]
+    text = "/// Why a call has changed nothing. After [`Unknown`](Fault::Unknown) alone it may have been made.\n"
+    text += f"{DERIVED}#[non_exhaustive]\npub enum Fault {{\n" + "".join(document(sentence) + f"    {declared},\n" for declared, sentence, _, _ in found)
+    text += "    /// The library that is linked has this version, which does not fit the crate's.\n    OtherLibrary { library: &'static str },\n"
+    text += "    /// The library gave an answer that this crate does not know, so it is of another version.\n    Unknown { code: u32, what: u32 },\n}\n\n"
+    text += "/// The fault of an answer to a call that was not made.\nfn fault_of(told: sys::relkvanu_answer) -> Fault {\n    match (told.code, told.what) {\n"
+    return text + "".join(f"        {pattern} => {made},\n" for _, _, pattern, made in found) + "        _ => Fault::unknown(told),\n    }\n}\n"
+
+
+class Reply:
+    """A reply to a call, in the enum Answer."""
+
+    def __init__(self, number: Number) -> None:
+        self.number, self.what = number, f"sys::{header.OWN}{number.name}"
+        self.name, self.fields = header.reply_name(number), number.fields()
+
+    def declared(self) -> str:
+        if self.number.name in TUPLES:
+            return f"{self.name}(u64)"
+        return self.name + (" { " + ", ".join(f"{name}: u64" for name, _, _ in self.fields) + " }" if self.fields else "")
+
+    def of(self, how: str) -> str:
+        """The answer as an expression or a pattern, in which `how` gives each field."""
+        if self.number.name.startswith(RESTORED):
+            id = [f"({letter})" for name, letter, _ in self.fields if name == "id"]
+            return f"Restored {{ from: Choice::{camel(self.number.name.removeprefix(RESTORED))}{''.join(id)}, released: a }}"
+        if self.number.name in TUPLES:
+            return f"{self.name}(a)"
+        return self.name + (" { " + ", ".join(how.format(name=name, letter=letter) for name, letter, _ in self.fields) + " }" if self.fields else "")
+
+    def numbers(self) -> str:
+        given = {letter for _, letter, _ in self.fields}
+        return f"({self.what}, {'a' if 'a' in given else '0'}, {'b' if 'b' in given else '0'})"
+
+
+def answers() -> str:
+    logged = [header.number_of(name, header.numbers()[name].value, comment) for name, comment in LOGGED.items()]
+    found = [Reply(it) for it in header.replies() + logged]
+    plain = [it for it in found if not it.number.name.startswith(RESTORED)]
+    text = f"/// The answer to a call that was made.\n{DERIVED}#[non_exhaustive]\npub enum Answer {{\n"
+    text += "".join(document(it.number.sentence()) + f"    {it.declared()},\n" for it in plain)
+    text += "    /// The job begins again from this record.\n    Restored { from: Choice, released: u64 },\n}\n\n"
+    text += "/// The answer to a call that was made and that writes to no buffer.\n"
+    text += "pub(crate) fn answer(told: sys::relkvanu_answer) -> Result<Answer, Fault> {\n    let sys::relkvanu_answer { what, a, b, .. } = told;\n"
+    text += "    Ok(match what {\n" + "".join(f"        {it.what} => Answer::{it.of('{name}: {letter}')},\n" for it in found)
+    text += "        _ => return Err(Fault::unknown(told)),\n    })\n}\n\n"
+    text += "/// The numbers of an answer: what it is, and a and b.\npub(crate) fn numbers_of(answer: &Answer) -> (u32, u64, u64) {\n    match *answer {\n"
+    text += "".join(f"        Answer::{it.of('{name}: {letter}')} => {it.numbers()},\n" for it in found)
+    text += "        Answer::Restored { from: Choice::Unknown(what), released } => (what, released, 0),\n    }\n}\n\n"
+    text += "/// The text of each answer in scripts (`docs/SCRIPT.md`) and logs (`docs/LOGS.md`), in which {a} and {b} stand for its numbers.\n"
+    text += f"pub(crate) const TEXTS: [(u32, &str); {len(found)}] = [\n"
+    return text + "".join(f'    ({it.what}, "{header.form_of(it.number, None, it.number.name, it.number)}"),\n' for it in found) + "];\n"
+
+
+def line_faults() -> str:
+    it = header.enums()["line_fault"]
+    return enum("LineFault", it.comment, it.members)
+
+
+def refusals() -> str:
+    """The refusals, and the enums of codes that have no place of their own."""
+    placed = ("BAD_ARGUMENT", "BAD_LINE")
+    return "\n".join(enum(camel(of.name), of.comment, of.members) for code, of in header.codes() if of and code.name not in placed)
+
+
+def wrapped(sentence: str, indent: str) -> str:
+    """A comment, in lines of at most 130 characters."""
+    return "".join(f"{indent}/// {it}\n" for it in textwrap.wrap(sentence, 126 - len(indent)))
+
+
+def method(call: Call) -> str:
+    given = f", {call.number}: u64" if call.number else ""
+    passed = f", {call.number}" if call.number else ""
+    check = "        self.check_moment(now)?;\n" if call.has_moment() else ""
+    text = f"{wrapped(calls.said(call, SAID), '    ')}    pub fn {call.name}(&mut self{given}) -> Called {{\n{check}"
+    text += f"        // SAFETY: {SAFE if call.name == 'tick' else 'as in `tick`.'}\n"
+    return text + f"        called(unsafe {{ sys::relkvanu_{call.name}(self.handle(){passed}) }})\n    }}\n"
+
+
+def shared_method(call: Call) -> str:
+    given, passed = (f", {call.number}: u64", call.number) if call.number else ("", "")
+    how = "quietly" if call.is_quiet() else "with"
+    return f"    pub fn {call.name}(&self{given}) -> Called {{\n        self.{how}(|it| it.{call.name}({passed}))\n    }}\n"
+
+
+def variant(call: Call) -> str:
+    return camel(call.name) + (f" {{ {call.number} }}" if call.number else "")
+
+
+def variants() -> str:
+    """The variants of Call."""
+    told = [(document(SAID_OF_LINES.get(it.name, "")), camel(it.name), it.number) for it in calls.calls()]
+    return "".join(f"{comment}    {name}{f' {{ {number}: u64 }}' if number else ''},\n" for comment, name, number in told)
+
+
+def of_fields(call: Call) -> str:
+    """What makes the variant of the fields of a call in C."""
+    found = camel(call.name)
+    value = "" if call.number is None else " { now }" if call.has_moment() else f" {{ {call.number}: number }}"
+    return f"            CallKind::{found} => Call::{found}{value},\n"
+
+
+def to_fields(call: Call) -> str:
+    given = ("now, 0" if call.has_moment() else f"0, {call.number}") if call.number else "0, 0"
+    return f"            Call::{variant(call)} => of(CallKind::{camel(call.name)}, {given}),\n"
+
+
+def made() -> Dict[str, Dict[str, str]]:
+    """What is made, by file and place."""
+    kinds = header.enums()["call_kind"]
+    return {
+        "fault.rs": {"the refusals": refusals(), "the faults": faults()},
+        "lines.rs": {"the faults of lines": line_faults()},
+        "call.rs": {
+            "the kinds": enum("CallKind", kinds.comment, kinds.members, "pub(crate)"),
+            "the calls of one number": variants(),
+            "what reads the calls of one number": "".join(of_fields(it) for it in calls.calls()),
+            "what writes the calls of one number": "".join(to_fields(it) for it in calls.calls()),
+        },
+        "coordinator.rs": {"the calls of one number": "\n".join(method(it) for it in calls.plain())},
+        "shared.rs": {"the calls of one number": "\n".join(shared_method(it) for it in calls.plain())},
+        "answer.rs": {
+            "the modes": enum("Mode", "What the job is doing.", header.members("mode_")),
+            "the standings": enum("Standing", "What a number is.", header.members("stands_")),
+            "the answers": answers(),
+        },
+    }

@@ -1,0 +1,199 @@
+"""The functions, structs and numbers of include/relkvanu_store.h and include/relkvanu_storage.h in Python and Rust, and the store's numbers in
+Java. C++, Go and the C of Java read the headers themselves."""
+import re
+from typing import Any, Dict, Iterable, List, NamedTuple
+
+from pycparser import c_ast
+
+from generator import header
+from generator.code_python import entry
+from generator.code_rust import formatted
+from generator.header import Number, camel
+
+STORE, STORAGE = (header.TOP / "include" / name for name in ("relkvanu_store.h", "relkvanu_storage.h"))
+MADE = "What include/{} says, made from it by bindings/generate: change the header, and run that."
+# Numbers that are lengths; what became of a file; all others but statuses are flags and the like.
+LENGTHS = {"MOST_STEPS", "MOST_CALLS", "MESSAGE", "PAGE", "MOST_AFFIX", "MOST_PAYLOAD", "MOST_REASON", "MOST_ENDED", "MOST_HISTORY", "MOST_VERTICES"}
+OUTCOMES = {"UNDELETED", "DELETED", "MISSING"}
+# A struct that is no longer than this has all that can be derived.
+MOST_DERIVED = 32
+
+
+class Said(NamedTuple):
+    """What one header declares: its numbers, structs, functions, types of functions, and structs that nobody looks into."""
+
+    numbers: List[Number]
+    structs: Dict[str, Any]
+    functions: Dict[str, Any]
+    callbacks: Dict[str, Any]
+    opaque: List[str]
+
+
+def said(path: Any, below: Iterable[Any]) -> Said:
+    tree = header.parsed(header.preprocessed("-P", of=[*below, path]))
+    own = path.read_text()
+    found = Said(header.macros(path), {}, {}, {}, [])
+    for it in tree.ext:
+        if not re.search(rf"\b{getattr(it, 'name', None)}\b", own):
+            continue
+        if isinstance(it, c_ast.Decl) and isinstance(it.type, c_ast.FuncDecl) and it.name.startswith(f"{path.stem}_"):
+            found.functions[it.name] = it.type
+        elif isinstance(it, c_ast.Typedef) and is_function(it.type) and f"(*{it.name})(" in own:
+            found.callbacks[it.name] = it.type.type
+        elif isinstance(it, c_ast.Typedef) and isinstance(it.type.type, c_ast.Struct):
+            if it.type.type.decls is None and f"typedef struct {it.name} {it.name};" in own:
+                found.opaque.append(it.name)
+            elif f"}} {it.name};" in own:
+                found.structs[it.name] = it.type.type.decls
+    return found
+
+
+def of_store() -> Said:
+    return said(STORE, [header.HEADER, STORAGE])
+
+
+def of_storage() -> Said:
+    return said(STORAGE, [])
+
+
+def is_function(node: Any) -> bool:
+    return isinstance(node, c_ast.PtrDecl) and isinstance(node.type, c_ast.FuncDecl)
+
+
+def dimension(node: Any) -> str:
+    return str(node.dim.value)
+
+
+def statuses(path: Any) -> List[str]:
+    """The names of the statuses: those of the first list of numbers."""
+    (_, below) = path.read_text().split("/* Status.", 1)
+    return re.findall(r"^#define (RELKVANU_\w+)", below.partition("\n\n")[0], re.M)
+
+
+def python_type(node: Any, opaque: List[str]) -> str:
+    if isinstance(node, c_ast.ArrayDecl):
+        return f"{python_type(node.type, opaque)} * {dimension(node)}"
+    name, depth, _ = header.pointed(node)
+    if (name, depth) in (("void", 1), ("char", 1)):
+        return f"c_{name}_p"
+    if name in opaque:
+        return "c_void_p" if depth == 1 else f"POINTER({'c_void_p' if depth == 2 else name})"
+    of = header.SCALARS[name][2] if name in header.SCALARS else name
+    for _ in range(depth):
+        of = f"POINTER({of})"
+    return of
+
+
+def python_parameters(function: Any, opaque: List[str]) -> List[str]:
+    kinds = (it.type for it in function.args.params if header.pointed_or(it.type) != ("void", 0))
+    return [f"POINTER({python_type(it.type, opaque)})" if isinstance(it, c_ast.ArrayDecl) else python_type(it, opaque) for it in kinds]
+
+
+def takes_storage(function: Any) -> bool:
+    return any(header.pointed_or(it.type)[0] == "relkvanu_storage" for it in function.args.params)
+
+
+def python_number(it: Number) -> str:
+    return it.value.rstrip("u") if it.value != "UINT64_MAX" else "(1 << 64) - 1"
+
+
+def python() -> str:
+    """The store in Python, which has storages of its own."""
+    it, prefix = of_store(), "RELKVANU_STORE_"
+    text = f'"""{MADE.format(STORE.name)}"""\n'
+    text += "from ctypes import CFUNCTYPE, POINTER, Structure, c_bool, c_char, c_char_p, c_int, c_int64, c_size_t, c_uint8, c_uint16, c_uint32, c_uint64, c_void_p\n"
+    text += "from typing import Any, Dict, List, Tuple\n\nfrom relkvanu.header import relkvanu, relkvanu_answer, relkvanu_call, relkvanu_settings\n\n"
+    text += "".join(f"{number.name.removeprefix(prefix)} = {python_number(number)}\n" for number in it.numbers)
+    names = [name.removeprefix(prefix) for name in statuses(STORE)]
+    text += "\n# The names of the statuses.\nSTATUSES: Dict[int, str] = {\n" + "".join(f'    {name}: "{camel(name)}",\n' for name in names) + "}\n"
+    for name, fields in it.structs.items():
+        lines = "".join(f'        ("{field.name}", {python_type(field.type, it.opaque)}),\n' for field in fields)
+        text += f"\n\nclass {name}(Structure):\n    _fields_ = [\n{lines}    ]\n"
+    text += "\n\n"
+    for name, function in it.callbacks.items():
+        text += f"{name} = CFUNCTYPE({', '.join([python_type(function.type, it.opaque), *python_parameters(function, it.opaque)])})\n"
+    text += "\n# Of each function, its result and its parameters. A store is a pointer that nobody looks into.\nFUNCTIONS: Dict[str, Tuple[Any, List[Any]]] = {\n"
+    for name, function in it.functions.items():
+        if not takes_storage(function):
+            text += entry(f'    "{name}": ({python_type(function.type, it.opaque)}, [', python_parameters(function, it.opaque))
+    return without_unused(text + "}\n")
+
+
+def without_unused(text: str) -> str:
+    """Imports nothing that the text does not use."""
+    def used(line: "re.Match[str]") -> str:
+        rest = text.replace(line.group(0), "")
+        return line.group(1) + ", ".join(it for it in line.group(2).split(", ") if re.search(rf"\b{it}\b", rest)) + "\n"
+    return re.sub(r"^(from (?:ctypes|relkvanu\.header) import )(.*)\n", used, text, flags=re.M)
+
+
+def rust_type(node: Any) -> str:
+    if isinstance(node, c_ast.ArrayDecl):
+        return f"[{rust_type(node.type)}; {dimension(node)}]"
+    if is_function(node):
+        return f"Option<{rust_signature(node.type)}>"
+    name, depth, is_const = header.pointed(node)
+    of = header.SCALARS[name][1] if name in header.SCALARS else name
+    return "*mut " * max(depth - 1, 0) + ("*const " if is_const and depth else "*mut " if depth else "") + of
+
+
+def rust_parameters(function: Any) -> str:
+    return ", ".join(f"{it.name}: {rust_parameter(it.type)}" for it in function.args.params if header.pointed_or(it.type) != ("void", 0))
+
+
+def rust_parameter(node: Any) -> str:
+    if isinstance(node, c_ast.ArrayDecl):
+        return ("*const " if "const" in node.type.quals else "*mut ") + rust_type(node.type)
+    return rust_type(node)
+
+
+def rust_result(function: Any) -> str:
+    return "" if header.pointed(function.type)[:2] == ("void", 0) else f" -> {rust_type(function.type)}"
+
+
+def rust_signature(function: Any) -> str:
+    return f"unsafe extern \"C\" fn({rust_parameters(function)}){rust_result(function)}"
+
+
+def rust_number(it: Number, of_status: List[str]) -> str:
+    name = re.sub(r"^RELKVANU_STOR(E|AGE)_", "", it.name)
+    kind = "u64" if it.value == "UINT64_MAX" else "c_int" if it.name in of_status else "usize" if name in LENGTHS else "u8" if name in OUTCOMES else "u32"
+    return f"pub const {it.name}: {kind} = {'u64::MAX' if it.value == 'UINT64_MAX' else it.value.rstrip('u')};\n"
+
+
+def is_plain(fields: List[Any]) -> bool:
+    """Whether there are numbers alone, and few of them in a list."""
+    kinds = [(it.type.type if isinstance(it.type, c_ast.ArrayDecl) else it.type, it.type) for it in fields]
+    return all(not is_function(of) and header.pointed(of)[0] in header.SCALARS and header.pointed(of)[1] == 0 for of, _ in kinds) and \
+        all(int(dimension(it)) <= MOST_DERIVED for _, it in kinds if isinstance(it, c_ast.ArrayDecl))
+
+
+def rust_struct(name: str, fields: List[Any]) -> str:
+    derived = "Clone, Copy, Debug, Default, PartialEq, Eq" if is_plain(fields) else "Clone, Copy, Debug"
+    lines = "".join(f"    pub {it.name}: {rust_type(it.type)},\n" for it in fields)
+    return f"#[repr(C)]\n#[derive({derived})]\npub struct {name} {{\n{lines}}}\n\n"
+
+
+def rust(path: Any, it: Said, uses: str) -> str:
+    of_status = statuses(path)
+    text = f"// {MADE.format(path.name)}\n{uses}\n"
+    text += "".join(rust_number(number, of_status) for number in it.numbers) + "\n"
+    text += "".join(f"/// Nobody looks into it.\n#[repr(C)]\npub struct {name} {{\n    _private: [u8; 0],\n}}\n\n" for name in it.opaque)
+    text += "".join(rust_struct(name, fields) for name, fields in it.structs.items())
+    text += "".join(f"pub type {name} = {rust_signature(function)};\n\n" for name, function in it.callbacks.items())
+    declared = "".join(f"    pub fn {name}({rust_parameters(function)}){rust_result(function)};\n" for name, function in it.functions.items())
+    return formatted(f"{text}extern \"C\" {{\n{declared}}}\n")
+
+
+def in_rust() -> Dict[str, str]:
+    uses = "use crate::storage::{relkvanu_storage};\nuse crate::{relkvanu, relkvanu_answer, relkvanu_call, relkvanu_settings};\nuse std::ffi::{c_char, c_int, c_void};\n"
+    return {"store.rs": rust(STORE, of_store(), uses), "storage.rs": rust(STORAGE, of_storage(), "use std::ffi::{c_char, c_int, c_void};\n")}
+
+
+def java() -> str:
+    text = f"package relkvanu;\n\n/** {MADE.format(STORE.name)} */\nfinal class StoreHeader {{\n    private StoreHeader() {{}}\n\n"
+    own = [it._replace(name=it.name.removeprefix("RELKVANU_STORE_")) for it in header.macros(STORE)]
+    for it in own:
+        text += f"    static final long {it.name} = -1;\n" if it.value == "UINT64_MAX" else f"    static final int {it.name} = {it.value.rstrip('u')};\n"
+    names = "".join(f" {name.removeprefix('RELKVANU_STORE_')}," for name in statuses(STORE))
+    return text + f"    /** All statuses. */\n    static final int[] STATUSES = {{{names.rstrip(',').lstrip()}}};\n}}\n"

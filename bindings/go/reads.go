@@ -1,0 +1,255 @@
+package relkvanu
+
+// #include <relkvanu.h>
+import "C"
+
+import "fmt"
+
+// Reads change nothing. Each returns ErrClosed after Close. PinsOf and TakenFiles may return ErrNoMemory too, and no other read has
+// another error.
+
+// Mode is what the job is doing.
+type Mode uint32
+
+// The modes.
+const (
+	// bindings/generate makes the modes
+	Running      Mode = C.RELKVANU_MODE_RUNNING   // The job takes checkpoints.
+	Failed       Mode = C.RELKVANU_MODE_FAILED    // Too many checkpoints failed in a row: restore the job.
+	WasCancelled Mode = C.RELKVANU_MODE_CANCELLED // The job has ended for good.
+	// bindings/generate: end
+)
+
+var modes = map[Mode]string{
+	// bindings/generate makes the names of modes
+	Running:      "running",
+	Failed:       "failed",
+	WasCancelled: "cancelled",
+	// bindings/generate: end
+}
+
+func (m Mode) String() string { return named(modes, m) }
+
+// Kind is what a record is.
+type Kind uint32
+
+// The kinds of records. Fresh is that of no record.
+const (
+	Fresh      Kind = iota
+	Checkpoint      // it belongs to the coordinator
+	Savepoint       // it belongs to a user
+)
+
+var kinds = map[Kind]string{Fresh: "fresh", Checkpoint: "checkpoint", Savepoint: "savepoint"}
+
+func (k Kind) String() string { return named(kinds, k) }
+
+// Choice is what a job begins from: a record, or nothing.
+type Choice struct {
+	Kind Kind
+	ID   uint64 // 0 if the kind is Fresh
+}
+
+// String is as a script writes it, such as "checkpoint 4" or "fresh".
+func (c Choice) String() string {
+	if c.Kind == Fresh {
+		return c.Kind.String()
+	}
+	return fmt.Sprintf("%v %d", c.Kind, c.ID)
+}
+
+// Live is a live record.
+type Live struct {
+	ID   uint64
+	Kind Kind
+	Done bool // or it is pending
+}
+
+// Standing is what a number is.
+type Standing uint32
+
+// The standings.
+const (
+	// bindings/generate makes the standings
+	Pending Standing = C.RELKVANU_STANDS_PENDING // A live record has the number, and lacks an acknowledgement.
+	Done    Standing = C.RELKVANU_STANDS_DONE    // A live record has the number, and is complete.
+	Ended   Standing = C.RELKVANU_STANDS_ENDED   // A record had the number, and is no longer live.
+	NotYet  Standing = C.RELKVANU_STANDS_NOT_YET // No record has had the number so far.
+	Never   Standing = C.RELKVANU_STANDS_NEVER   // The number is below the first one of the opening.
+	// bindings/generate: end
+)
+
+var standings = map[Standing]string{
+	// bindings/generate makes the names of standings
+	Pending: "pending",
+	Done:    "done",
+	Ended:   "ended",
+	NotYet:  "not yet",
+	Never:   "never",
+	// bindings/generate: end
+}
+
+func (s Standing) String() string { return named(standings, s) }
+
+// FileCounts is how many files are in use by live records, each counted once, wait for deletion, and were fetched and not yet reported.
+type FileCounts struct{ InUse, Waiting, Taken uint64 }
+
+// Mode is what the job is doing.
+func (c *Coordinator) Mode() (Mode, error) {
+	answer, err := c.called(func(handle *C.relkvanu) C.relkvanu_answer { return C.relkvanu_mode(handle) })
+	if _, is := modes[Mode(answer.what)]; err == nil && !is {
+		err = unknown(answer)
+	}
+	return Mode(answer.what), err
+}
+
+// Moment is the greatest moment that the coordinator has seen. It takes an earlier one for this one.
+func (c *Coordinator) Moment() (uint64, error) {
+	answer, err := c.called(func(handle *C.relkvanu) C.relkvanu_answer { return C.relkvanu_moment(handle) })
+	return uint64(answer.a), err
+}
+
+// Due is the moment before which no tick triggers a checkpoint. Calls move it.
+func (c *Coordinator) Due() (uint64, error) {
+	answer, err := c.called(func(handle *C.relkvanu) C.relkvanu_answer { return C.relkvanu_due(handle) })
+	return uint64(answer.a), err
+}
+
+// OldestExpiry is the moment from which a pending record is expired. The second value is false if none is pending.
+func (c *Coordinator) OldestExpiry() (uint64, bool, error) {
+	answer, err := c.called(func(handle *C.relkvanu) C.relkvanu_answer { return C.relkvanu_oldest_expiry(handle) })
+	return uint64(answer.a), err == nil && answer.what == C.RELKVANU_EXPIRES, err
+}
+
+// NextTick is the moment of the next tick after one with this reply (the zero one: it returned an error), unless another call comes
+// first: when a checkpoint is due or a pending record expires. While as many are pending as may be, it is the expiry, because Due has
+// passed. The second value is false if nothing changes before the next call, for example while the job has failed. After a tick that
+// ran out of memory the moment has passed: wait for a second instead.
+func (c *Coordinator) NextTick(last Ticked) (next uint64, is bool, err error) {
+	err = c.Locked(func(held *Coordinator) error {
+		mode, err := held.Mode()
+		if err != nil || mode != Running {
+			return err
+		}
+		if next, is, err = held.OldestExpiry(); err != nil || last.End == HeldAtOnce {
+			return err
+		}
+		due, err := held.Due()
+		if !is || due < next {
+			next, is = due, true
+		}
+		return err
+	})
+	return next, is, err
+}
+
+// Choice is the record that a restore of the latest would begin from.
+func (c *Coordinator) Choice() (Choice, error) {
+	answer, err := c.called(func(handle *C.relkvanu) C.relkvanu_answer { return C.relkvanu_choice(handle) })
+	if err != nil {
+		return Choice{}, err
+	}
+	switch answer.what {
+	case C.RELKVANU_CHOICE_CHECKPOINT:
+		return Choice{Kind: Checkpoint, ID: uint64(answer.a)}, nil
+	case C.RELKVANU_CHOICE_SAVEPOINT:
+		return Choice{Kind: Savepoint, ID: uint64(answer.a)}, nil
+	case C.RELKVANU_CHOICE_FRESH:
+		return Choice{}, nil
+	}
+	return Choice{}, unknown(answer)
+}
+
+func live(answer C.relkvanu_answer, err error) (Live, bool, error) {
+	if err != nil {
+		return Live{}, false, err
+	}
+	it := Live{ID: uint64(answer.a), Kind: Checkpoint, Done: answer.b == 1}
+	switch answer.what {
+	case C.RELKVANU_LIVE_CHECKPOINT:
+		return it, true, nil
+	case C.RELKVANU_LIVE_SAVEPOINT:
+		it.Kind = Savepoint
+		return it, true, nil
+	case C.RELKVANU_LIVE_NONE:
+		return Live{}, false, nil
+	}
+	return Live{}, false, unknown(answer)
+}
+
+// Live is the live record at this place, from 0, in order of their numbers. The second value is false past the last. Its time grows with
+// the place.
+func (c *Coordinator) Live(place uint64) (Live, bool, error) {
+	return live(c.called(func(handle *C.relkvanu) C.relkvanu_answer { return C.relkvanu_live(handle, C.size_t(place)) }))
+}
+
+// LiveFrom is the live record with the least number that is at least id. The second value is false if there is none.
+func (c *Coordinator) LiveFrom(id uint64) (Live, bool, error) {
+	return live(c.called(func(handle *C.relkvanu) C.relkvanu_answer { return C.relkvanu_live_from(handle, C.uint64_t(id)) }))
+}
+
+// Standing is what a number is.
+func (c *Coordinator) Standing(id uint64) (Standing, error) {
+	answer, err := c.called(func(handle *C.relkvanu) C.relkvanu_answer { return C.relkvanu_standing(handle, C.uint64_t(id)) })
+	if _, is := standings[Standing(answer.what)]; err == nil && !is {
+		err = unknown(answer)
+	}
+	return Standing(answer.what), err
+}
+
+// FilesOf has the files that a subtask acknowledged in a live record, ascending. The second value is false if it has not acknowledged in
+// one.
+func (c *Coordinator) FilesOf(id uint64, subtask Subtask) ([]uint64, bool, error) {
+	return c.files(func(o *owner, at *C.uint64_t, length C.size_t) C.relkvanu_answer {
+		return C.relkvanu_files_of(o.handle, C.uint64_t(id), C.uint16_t(subtask.Vertex), C.uint16_t(subtask.Index), at, length)
+	})
+}
+
+// PinsOf has the files that a pending record keeps beside those of its acknowledgements, ascending.
+func (c *Coordinator) PinsOf(id uint64) ([]uint64, error) {
+	files, _, err := c.files(func(o *owner, at *C.uint64_t, length C.size_t) C.relkvanu_answer {
+		return C.relkvanu_pins_of(o.handle, C.uint64_t(id), at, length)
+	})
+	return files, err
+}
+
+// TakenFiles has the files that were fetched and are not yet reported, ascending.
+func (c *Coordinator) TakenFiles() ([]uint64, error) {
+	files, _, err := c.files(func(o *owner, at *C.uint64_t, length C.size_t) C.relkvanu_answer {
+		return C.relkvanu_taken_files(o.handle, at, length)
+	})
+	return files, err
+}
+
+func (c *Coordinator) files(fetch func(o *owner, at *C.uint64_t, length C.size_t) C.relkvanu_answer) ([]uint64, bool, error) {
+	o, err := c.enter()
+	if err != nil {
+		return nil, false, err
+	}
+	defer c.leave()
+	return fetched(C.RELKVANU_FILES, func(at *C.uint64_t, length C.size_t) C.relkvanu_answer { return fetch(o, at, length) })
+}
+
+// WaitingFile is the file at this place among those that wait for deletion, the next to be fetched first. The second value is false past
+// the last.
+func (c *Coordinator) WaitingFile(place uint64) (uint64, bool, error) {
+	answer, err := c.called(func(handle *C.relkvanu) C.relkvanu_answer { return C.relkvanu_waiting_file(handle, C.size_t(place)) })
+	return uint64(answer.a), err == nil && answer.what == C.RELKVANU_WAITING, err
+}
+
+// Missing is how many subtasks of a record have not acknowledged. The second value is false if no record with this number is pending.
+func (c *Coordinator) Missing(id uint64) (uint64, bool, error) {
+	answer, err := c.called(func(handle *C.relkvanu) C.relkvanu_answer { return C.relkvanu_missing(handle, C.uint64_t(id)) })
+	return uint64(answer.a), err == nil && answer.what == C.RELKVANU_MISSING, err
+}
+
+// FileCounts counts the files.
+func (c *Coordinator) FileCounts() (FileCounts, error) {
+	o, err := c.enter()
+	if err != nil {
+		return FileCounts{}, err
+	}
+	defer c.leave()
+	counts := C.relkvanu_file_counts(o.handle)
+	return FileCounts{uint64(counts.in_use), uint64(counts.waiting), uint64(counts.taken)}, fault(C.relkvanu_answer{code: counts.code})
+}

@@ -1,0 +1,472 @@
+package relkvanu;
+
+import java.lang.ref.Cleaner;
+import java.lang.ref.Reference;
+import java.security.SecureRandom;
+import java.util.Objects;
+import java.util.Optional;
+
+/**
+ * The checkpoint coordinator of one job, with a method for each call.
+ *
+ * <p><b>Threads</b> may share it: its own lock admits one call at a time. To make several calls with no other thread's call between them,
+ * use {@link #locked}. Arrays are copied before a call, so another thread may change them then.
+ *
+ * <p><b>Faults.</b> Each call throws a {@link CoordinatorException} if it is not made: {@code Refused}, {@code NoMemory} if memory of the
+ * library runs out, {@code Closed} after {@link #close}, {@code OutOfRange} if a number would be cut. Then nothing has changed. An
+ * {@link OutOfMemoryError} is another thing: it is of the heap of Java, and may come after the call was made. Then end the process, and go
+ * on from the log.
+ *
+ * <p><b>Names.</b> A coordinator with names ({@link #openFenced}, {@link #fence}) gives out the numbers of the files that tasks will write,
+ * each once, and counts the terms of the job. Each accepted restore and cancel ends the term. What a task of an ended term sends throws {@code
+ * Fenced} with {@code OLD_TERM}. Whoever restarts the tasks tells them the term, which it reads by {@link #term} after the restore. A coordinator
+ * without names throws {@code Fenced} with {@code NO_NAMES}.
+ *
+ * <p><b>Closing.</b> Its memory is not in the heap of Java, so use it in a {@code try} with resources. A call that another thread is in ends
+ * first. One that is lost is closed when the heap is collected, which may be never.
+ *
+ * <p><b>Moments</b> come from a clock that never jumps. A moment that is far ahead would stop the job's checkpoints until then. So a call is
+ * refused as {@code MOMENT_TOO_LARGE} if its moment is more than {@link #mostAhead} milliseconds beyond the greatest moment so far, and
+ * beyond what a timer waits for. That is a day, unless an engine sets it, which it does if a longer time may pass without a call. Lines
+ * of a log are not checked.
+ */
+public final class Coordinator extends Reads implements AutoCloseable, Outbox {
+    private static final long DAY = 24L * 60 * 60 * 1000;
+    private static final long LAST_MOMENT = (1L << 62) - 1;
+    private static final long[] SAME_SHAPE = {};
+    private static final SecureRandom RANDOM = new SecureRandom();
+    private static final Cleaner CLEANER = Cleaner.create();
+
+    private final Cleaner.Cleanable cleanable = CLEANER.register(this, handle);
+    private volatile long mostAhead = DAY;
+
+    /** Opens it by a native function. */
+    private Coordinator(Handle.Call opening) {
+        super(new Handle());
+        try {
+            handle.call(opening, (what, a, b) -> what);
+        } catch (RuntimeException | Error fault) {
+            close();
+            throw fault;
+        }
+    }
+
+    /**
+     * Opens the coordinator of a new job, whose first record has the number 1.
+     *
+     * @param settings the configuration
+     * @param shape the number of subtasks of each vertex
+     * @param now the moment of the opening
+     * @return the coordinator
+     */
+    public static Coordinator open(Settings settings, long[] shape, long now) {
+        return open(settings, shape, now, 1);
+    }
+
+    /**
+     * Opens a coordinator. Throws {@code BadArgument} for the settings first, then for the shape, the moment and the first number.
+     *
+     * @param settings the configuration
+     * @param shape the number of subtasks of each vertex
+     * @param now the moment of the opening
+     * @param first the number of the first record: 1 for a new job, otherwise one above all earlier numbers
+     * @return the coordinator
+     */
+    public static Coordinator open(Settings settings, long[] shape, long now, long first) {
+        long[] numbers = settings.numbers();
+        Objects.requireNonNull(shape, "shape");
+        return new Coordinator((at, out) -> Native.open(at, numbers, shape, now, first, RANDOM.nextLong(), RANDOM.nextLong(), out));
+    }
+
+    /**
+     * Opens a coordinator with names, in term 1. {@link #ack} and {@link #decline} throw {@code Fenced} then: its tasks call {@link #ackIn} and
+     * {@link #declineIn}. Throws {@code BadArgument} for the settings first, then for the shape, the first name, the moment and the first
+     * number.
+     *
+     * @param settings the configuration
+     * @param shape the number of subtasks of each vertex
+     * @param now the moment of the opening
+     * @param first the number of the first record: 1 for a new job, otherwise one above all earlier numbers
+     * @param firstName the first name that it gives out: all numbers of files that were used before are below it
+     * @return the coordinator
+     */
+    public static Coordinator openFenced(Settings settings, long[] shape, long now, long first, long firstName) {
+        long[] numbers = settings.numbers();
+        Objects.requireNonNull(shape, "shape");
+        return new Coordinator((at, out) -> Native.openFenced(at, numbers, shape, now, first, firstName, RANDOM.nextLong(), RANDOM.nextLong(), out));
+    }
+
+    /**
+     * Opens the coordinator that an image describes, which {@link #save} returned: with names if the image has some. It answers every list of
+     * calls as the saved one would. Throws {@code BadArgument} if the bytes are not an image, or if the state is not sound, or no coordinator
+     * could be opened so.
+     *
+     * <p>All calls that were made after the save are made again, before any task makes a call. Otherwise names that were given out since then
+     * are given out again, and a term that has ended runs again.
+     *
+     * @param image the image
+     * @return the coordinator
+     */
+    public static Coordinator openSaved(byte[] image) {
+        Objects.requireNonNull(image, "image");
+        return new Coordinator((at, out) -> Native.openSaved(at, image, RANDOM.nextLong(), RANDOM.nextLong(), out));
+    }
+
+    /**
+     * {@return the version of the native library: three numbers, such as "1.2.3"}
+     */
+    public static String version() {
+        Library.need();
+        return Native.version();
+    }
+
+    /** Closes the coordinator and frees its memory. A closed one stays closed. Threads that wait for a call get {@code Closed}. */
+    @Override
+    public void close() {
+        cleanable.clean();
+    }
+
+    private Reply replied(Handle.Call call) {
+        return call(call, Answers::reply);
+    }
+
+    /** A call at a moment. */
+    private Reply timed(long now, Handle.Call call) {
+        handle.lock();
+        try {
+            if (now >= 0 && now <= LAST_MOMENT && isAhead(now)) {
+                throw new CoordinatorException.Refused(Refusal.MOMENT_TOO_LARGE, 0);
+            }
+            return handle.moved(call);
+        } finally {
+            handle.unlock();
+            Reference.reachabilityFence(this);
+        }
+    }
+
+    private boolean isAhead(long now) {
+        long past = now - mostAhead;
+        return past > moment() && past > due() && past > oldestExpiry().orElse(0);
+    }
+
+    /**
+     * {@return how many milliseconds a moment may be ahead}
+     */
+    public long mostAhead() {
+        return mostAhead;
+    }
+
+    /**
+     * Sets how many milliseconds a moment may be ahead.
+     *
+     * @param millis how many
+     */
+    public void setMostAhead(long millis) {
+        mostAhead = Checks.natural(millis, "a time");
+    }
+
+    // bindings/generate makes the calls of one number
+    /**
+     * Time has passed: records that are too old expire, and a checkpoint is triggered if one is due.
+     *
+     * @param now the moment
+     * @return what happened
+     */
+    public Reply.Tick tick(long now) {
+        return (Reply.Tick) timed(now, (at, out) -> Native.tick(at, now, out));
+    }
+
+    /**
+     * Triggers a savepoint.
+     *
+     * @param now the moment
+     * @return its number
+     */
+    public Reply.SavepointTriggered savepoint(long now) {
+        return (Reply.SavepointTriggered) timed(now, (at, out) -> Native.savepoint(at, now, out));
+    }
+
+    /**
+     * A user disposes of a completed savepoint.
+     *
+     * @param id the savepoint
+     * @return how many files were released
+     */
+    public Reply.Disposed dispose(long id) {
+        return (Reply.Disposed) replied((at, out) -> Native.dispose(at, id, out));
+    }
+
+    /**
+     * The job ends for good.
+     *
+     * @param now the moment
+     * @return how many records were dropped, and how many files released
+     */
+    public Reply.Cancelled cancel(long now) {
+        return (Reply.Cancelled) timed(now, (at, out) -> Native.cancel(at, now, out));
+    }
+
+    /**
+     * A fetched file is deleted: the coordinator forgets it.
+     *
+     * @param file the file
+     * @return the file
+     */
+    @Override
+    public Reply.Deleted deleted(long file) {
+        return (Reply.Deleted) replied((at, out) -> Native.deleted(at, file, out));
+    }
+
+    /**
+     * A fetched file could not be deleted: it waits again, behind all others.
+     *
+     * @param file the file
+     * @return the file
+     */
+    @Override
+    public Reply.Undeleted undeleted(long file) {
+        return (Reply.Undeleted) replied((at, out) -> Native.undeleted(at, file, out));
+    }
+
+    /**
+     * Triggers a checkpoint now, whatever the interval and the pause. Nothing expires: make a tick first if records may be too old. The
+     * interval counts from it, as after a tick that triggers.
+     *
+     * @param now the moment
+     * @return what happened
+     */
+    public Reply.Tick trigger(long now) {
+        return (Reply.Tick) timed(now, (at, out) -> Native.trigger(at, now, out));
+    }
+    // bindings/generate: end
+
+    /**
+     * A subtask has taken its part of a record. If the call is accepted, the fresh files belong to the coordinator. Otherwise the task deletes
+     * a file only if no accepted acknowledgement ever named it. So it deletes none after {@code ALREADY_ACKNOWLEDGED}, the answer to a
+     * repeat. After {@code NAME_TAKEN} it deletes no file that it named before.
+     *
+     * @param now the moment
+     * @param id the record
+     * @param vertex the vertex of the subtask
+     * @param index its place in the vertex
+     * @param fresh the files that it wrote, and has synced
+     * @param reused files of earlier records that it uses again
+     * @return what the record lacks
+     */
+    public Reply.Ack ack(long now, long id, int vertex, int index, long[] fresh, long... reused) {
+        Checks.u16(vertex, "vertex");
+        Checks.u16(index, "index");
+        Objects.requireNonNull(fresh, "fresh");
+        Objects.requireNonNull(reused, "reused");
+        return (Reply.Ack) timed(now, (at, out) -> Native.ack(at, now, id, vertex, index, fresh, reused, out));
+    }
+
+    /**
+     * A subtask could not take its part of a record.
+     *
+     * @param now the moment
+     * @param id the record
+     * @param vertex the vertex of the subtask
+     * @param index its place in the vertex
+     * @return what became of the record
+     */
+    public Reply.Decline decline(long now, long id, int vertex, int index) {
+        Checks.u16(vertex, "vertex");
+        Checks.u16(index, "index");
+        return (Reply.Decline) timed(now, (at, out) -> Native.decline(at, now, id, vertex, index, out));
+    }
+
+    /**
+     * The job begins again from the latest record, in its shape.
+     *
+     * @param now the moment
+     * @return the record
+     */
+    public Reply.Restore restoreLatest(long now) {
+        return restore(now, 0, SAME_SHAPE);
+    }
+
+    /**
+     * The job begins again from the latest record, in a new shape. A bad shape is a {@code BadArgument}, before any refusal.
+     *
+     * @param now the moment
+     * @param shape the number of subtasks of each vertex
+     * @return the record
+     */
+    public Reply.Restore restoreLatest(long now, long[] shape) {
+        return restore(now, 0, Checks.shape(shape));
+    }
+
+    /**
+     * The job begins again from a savepoint, in its shape.
+     *
+     * @param now the moment
+     * @param id the savepoint
+     * @return the record
+     */
+    public Reply.Restore restoreSavepoint(long now, long id) {
+        return restore(now, Checks.savepoint(id), SAME_SHAPE);
+    }
+
+    /**
+     * The job begins again from a savepoint, in a new shape. A bad shape is a {@code BadArgument}, before any refusal.
+     *
+     * @param now the moment
+     * @param id the savepoint
+     * @param shape the number of subtasks of each vertex
+     * @return the record
+     */
+    public Reply.Restore restoreSavepoint(long now, long id, long[] shape) {
+        return restore(now, Checks.savepoint(id), Checks.shape(shape));
+    }
+
+    private Reply.Restore restore(long now, long savepoint, long[] shape) {
+        return (Reply.Restore) timed(now, (at, out) -> Native.restore(at, now, savepoint, shape, out));
+    }
+
+    /**
+     * Gives the coordinator names, in term 1. Make the call between the end of all tasks and their restart, since a task that began before
+     * it has no term. Throws {@code Fenced} with {@code HAS_NAMES} if it has some, {@code BadArgument} with {@code BAD_NAME}, and {@code Fenced}
+     * with {@code NAME_IN_USE} if a known file has this number or a greater one.
+     *
+     * @param firstName the first name that it gives out: all numbers of files that were used before are below it, those of files that nobody
+     *     acknowledged too
+     * @return that it has names
+     */
+    public Reply.Named fence(long firstName) {
+        return (Reply.Named) replied((at, out) -> Native.fence(at, firstName, out));
+    }
+
+    /**
+     * A task of a term reserves names for files that it will write. The reservation is in the durable log before the task uses one of them.
+     *
+     * @param term the term of the task
+     * @param count how many, 1 to 65536
+     * @return the names
+     */
+    public Reply.Reserved reserve(long term, long count) {
+        return (Reply.Reserved) replied((at, out) -> Native.reserve(at, term, count, out));
+    }
+
+    /**
+     * A task of a term gives up names that it will not acknowledge, such as those of a failed upload: their files are garbage then. Names
+     * that the term does not hold are passed over, so the call can be repeated.
+     *
+     * @param term the term of the task
+     * @param names the names
+     * @return that they are given up
+     */
+    public Reply.Forfeited forfeit(long term, long... names) {
+        Objects.requireNonNull(names, "names");
+        return (Reply.Forfeited) replied((at, out) -> Native.forfeit(at, term, names, out));
+    }
+
+    /**
+     * {@link #ack} of a task of a term. If it is accepted, it spends the names of the fresh files. The same acknowledgement once more throws
+     * {@code Fenced} with {@code SPENT}, if it has fresh files: a task deletes no file for that answer.
+     *
+     * @param term the term of the task
+     * @param now the moment
+     * @param id the record
+     * @param vertex the vertex of the subtask
+     * @param index its place in the vertex
+     * @param fresh the files that it wrote, and has synced
+     * @param reused files of earlier records that it uses again
+     * @return what the record lacks
+     */
+    public Reply.Ack ackIn(long term, long now, long id, int vertex, int index, long[] fresh, long... reused) {
+        Checks.u16(vertex, "vertex");
+        Checks.u16(index, "index");
+        Objects.requireNonNull(fresh, "fresh");
+        Objects.requireNonNull(reused, "reused");
+        return (Reply.Ack) timed(now, (at, out) -> Native.ackIn(at, term, now, id, vertex, index, fresh, reused, out));
+    }
+
+    /**
+     * {@link #decline} of a task of a term.
+     *
+     * @param term the term of the task
+     * @param now the moment
+     * @param id the record
+     * @param vertex the vertex of the subtask
+     * @param index its place in the vertex
+     * @return what became of the record
+     */
+    public Reply.Decline declineIn(long term, long now, long id, int vertex, int index) {
+        Checks.u16(vertex, "vertex");
+        Checks.u16(index, "index");
+        return (Reply.Decline) timed(now, (at, out) -> Native.declineIn(at, term, now, id, vertex, index, out));
+    }
+
+    /**
+     * Fetches files that wait for deletion. Report each by {@link #deleted} or {@link #undeleted}. A repeated acknowledgement that comes late
+     * may hand out a file that no longer exists: report it as deleted.
+     *
+     * @param most the most files
+     * @return the files, the longest waiting first
+     */
+    @Override
+    public Reply.Taken take(int most) {
+        Checks.natural(most, "a number of files");
+        try {
+            return handle.take(most);
+        } finally {
+            Reference.reachabilityFence(this);
+        }
+    }
+
+    /**
+     * Shows the metadata of a live record.
+     *
+     * @param id the record
+     * @return its metadata
+     */
+    public Reply.Shown show(long id) {
+        return new Reply.Shown(Lines.text(bytes((at, json, out) -> Native.show(at, id, json, out))));
+    }
+
+    /**
+     * Counts the uses of a file, by acknowledgements and pins of live records.
+     *
+     * @param file the file
+     * @return how many there are
+     */
+    public Reply.Counted count(long file) {
+        return (Reply.Counted) replied((at, out) -> Native.count(at, file, out));
+    }
+
+    /**
+     * {@return the image of the coordinator, all of its state, as JSON in UTF-8}
+     */
+    public byte[] save() {
+        return bytes(Native::save);
+    }
+
+    /**
+     * Makes the call of a line of a script, with at most 4096 files in a take line.
+     *
+     * @param line the bytes before its newline
+     * @return the reply; empty if the line has no words or is a comment
+     */
+    public Optional<Reply> line(byte[] line) {
+        return line(line, 4096);
+    }
+
+    /**
+     * Makes the call of a line of a script. Throws {@code BadLine} if it can't be read or makes no call, and what the call throws. A take
+     * line that would fetch more files than it may throws {@code TooShort}.
+     *
+     * @param line the bytes before its newline
+     * @param most the most files that a take line fetches
+     * @return the reply; empty if the line has no words or is a comment
+     */
+    public Optional<Reply> line(byte[] line, int most) {
+        byte[] own = line.clone();
+        Checks.natural(most, "a number of files");
+        try {
+            return handle.line(own, most);
+        } finally {
+            Reference.reachabilityFence(this);
+        }
+    }
+}

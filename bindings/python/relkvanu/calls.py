@@ -1,0 +1,285 @@
+"""Calls as values: what a line of a log says (docs/SCRIPT.md, docs/LOGS.md), and the line of each. The term is that of the caller, 0 for none."""
+import ctypes
+import enum
+from dataclasses import dataclass
+from typing import Callable, Dict, Optional, Tuple, Union
+
+from relkvanu import header
+from relkvanu.coordinator import U64, Settings, Unknown, _done, _shared, _text
+from relkvanu.lines import (
+    _line, ack_line, advance_line, configure_line, decline_line, fence_line, forfeit_line, reserve_line, restore_line, settings_of, take_line,
+)
+
+
+# bindings/generate makes the kinds
+class CallKind(enum.IntEnum):
+    """Which call it is."""
+
+    TICK = header.CALL_TICK
+    SAVEPOINT = header.CALL_SAVEPOINT
+    ACK = header.CALL_ACK
+    DECLINE = header.CALL_DECLINE
+    DISPOSE = header.CALL_DISPOSE
+    RESTORE = header.CALL_RESTORE
+    CANCEL = header.CALL_CANCEL
+    TAKE = header.CALL_TAKE
+    DELETED = header.CALL_DELETED
+    UNDELETED = header.CALL_UNDELETED
+    SHOW = header.CALL_SHOW
+    COUNT = header.CALL_COUNT
+    FENCE = header.CALL_FENCE
+    RESERVE = header.CALL_RESERVE
+    FORFEIT = header.CALL_FORFEIT
+    TRIGGER = header.CALL_TRIGGER
+    CONFIGURE = header.CALL_CONFIGURE
+    ADVANCE = header.CALL_ADVANCE
+# bindings/generate: end
+
+
+# bindings/generate makes the calls of one number
+@dataclass(frozen=True)
+class Tick:
+    now: int
+    term: int = 0
+
+    def line(self) -> str:
+        return _line(CallKind.TICK, now=self.now, term=self.term)
+
+
+@dataclass(frozen=True)
+class Savepoint:
+    now: int
+    term: int = 0
+
+    def line(self) -> str:
+        return _line(CallKind.SAVEPOINT, now=self.now, term=self.term)
+
+
+@dataclass(frozen=True)
+class Dispose:
+    id: int
+    term: int = 0
+
+    def line(self) -> str:
+        return _line(CallKind.DISPOSE, number=self.id, term=self.term)
+
+
+@dataclass(frozen=True)
+class Cancel:
+    now: int
+    term: int = 0
+
+    def line(self) -> str:
+        return _line(CallKind.CANCEL, now=self.now, term=self.term)
+
+
+@dataclass(frozen=True)
+class Deleted:
+    file: int
+    term: int = 0
+
+    def line(self) -> str:
+        return _line(CallKind.DELETED, number=self.file, term=self.term)
+
+
+@dataclass(frozen=True)
+class Undeleted:
+    file: int
+    term: int = 0
+
+    def line(self) -> str:
+        return _line(CallKind.UNDELETED, number=self.file, term=self.term)
+
+
+@dataclass(frozen=True)
+class Count:
+    file: int
+    term: int = 0
+
+    def line(self) -> str:
+        return _line(CallKind.COUNT, number=self.file, term=self.term)
+
+
+@dataclass(frozen=True)
+class Trigger:
+    now: int
+    term: int = 0
+
+    def line(self) -> str:
+        return _line(CallKind.TRIGGER, now=self.now, term=self.term)
+# bindings/generate: end
+
+
+@dataclass(frozen=True)
+class Ack:
+    """The files that a line says are in ascending order."""
+
+    now: int
+    id: int
+    vertex: int
+    index: int
+    fresh: Tuple[int, ...]
+    reused: Tuple[int, ...] = ()
+    term: int = 0
+
+    def line(self) -> str:
+        return ack_line(self.now, self.id, self.vertex, self.index, self.fresh, self.reused, self.term)
+
+
+@dataclass(frozen=True)
+class Decline:
+    now: int
+    id: int
+    vertex: int
+    index: int
+    term: int = 0
+
+    def line(self) -> str:
+        return decline_line(self.now, self.id, self.vertex, self.index, self.term)
+
+
+@dataclass(frozen=True)
+class Restore:
+    """From a savepoint, or from the latest record; in a new shape, or in the current one."""
+
+    now: int
+    savepoint: Optional[int] = None
+    shape: Optional[Tuple[int, ...]] = None
+    term: int = 0
+
+    def line(self) -> str:
+        return restore_line(self.now, self.savepoint, self.shape, self.term)
+
+
+@dataclass(frozen=True)
+class Configure:
+    now: int
+    settings: Settings
+    term: int = 0
+
+    def line(self) -> str:
+        return configure_line(self.now, self.settings, self.term)
+
+
+@dataclass(frozen=True)
+class Take:
+    most: int
+    term: int = 0
+
+    def line(self) -> str:
+        return take_line(self.most, self.term)
+
+
+@dataclass(frozen=True)
+class Show:
+    id: int
+    term: int = 0
+
+    def line(self) -> str:
+        return _line(CallKind.SHOW, number=self.id, term=self.term)
+
+
+@dataclass(frozen=True)
+class Fence:
+    """From here on names are given out, from this one on."""
+
+    first_name: int
+
+    def line(self) -> str:
+        return fence_line(self.first_name)
+
+
+@dataclass(frozen=True)
+class Reserve:
+    term: int
+    count: int
+
+    def line(self) -> str:
+        return reserve_line(self.term, self.count)
+
+
+@dataclass(frozen=True)
+class Forfeit:
+    term: int
+    names: Tuple[int, ...]
+
+    def line(self) -> str:
+        return forfeit_line(self.term, self.names)
+
+
+@dataclass(frozen=True)
+class Advance:
+    """The job begins again in a term above this one, the greatest that any task was told. Names are given out from first_name on."""
+
+    now: int
+    term: int
+    first_name: int
+
+    def line(self) -> str:
+        return advance_line(self.now, self.term, self.first_name)
+
+
+# bindings/generate makes what a call is
+Call = Union[
+    Tick, Savepoint, Ack, Decline, Dispose, Restore, Cancel, Take, Deleted, Undeleted, Show, Count, Fence, Reserve, Forfeit,
+    Trigger, Configure, Advance,
+]
+
+OF_A_MOMENT: Dict[int, Callable[[int, int], Call]] = {
+    CallKind.TICK: Tick,
+    CallKind.SAVEPOINT: Savepoint,
+    CallKind.CANCEL: Cancel,
+    CallKind.TRIGGER: Trigger,
+}
+OF_A_NUMBER: Dict[int, Callable[[int, int], Call]] = {
+    CallKind.DISPOSE: Dispose,
+    CallKind.DELETED: Deleted,
+    CallKind.UNDELETED: Undeleted,
+    CallKind.COUNT: Count,
+}
+# bindings/generate: end
+OF_A_NUMBER.update({CallKind.TAKE: Take, CallKind.SHOW: Show})
+
+
+def line_call(line: bytes) -> Optional[Call]:
+    """The call that a line says: the bytes before its newline. None for a line without words and a comment.
+
+    Raises BadLine for a line that makes no call, BadArgument for a restore in a bad shape and for bad settings, and Refused for a restore to savepoint 0,
+    which no savepoint has."""
+    text, call = _text(line), header.relkvanu_call()
+    fresh = reused = 0
+    while True:
+        first, second = (U64 * fresh)(), (U64 * reused)()
+        answer = _shared().relkvanu_line_call(text, len(line), ctypes.byref(call), first, fresh, second, reused)
+        if answer.code != header.TOO_SHORT:
+            break
+        fresh, reused = answer.a, answer.b
+    if _done(answer).what == header.SKIPPED:
+        return None
+    if answer.what != header.LINE_CALL:
+        raise Unknown(answer.code, answer.what)
+    return _call(call, tuple(first[: answer.a]), tuple(second[: answer.b]))
+
+
+def _call(it: header.relkvanu_call, first: Tuple[int, ...], second: Tuple[int, ...]) -> Call:
+    if it.kind in OF_A_MOMENT:
+        return OF_A_MOMENT[it.kind](it.now, it.term)
+    if it.kind in OF_A_NUMBER:
+        return OF_A_NUMBER[it.kind](it.number, it.term)
+    if it.kind == CallKind.ACK:
+        return Ack(it.now, it.number, it.vertex, it.index, first, second, it.term)
+    if it.kind == CallKind.DECLINE:
+        return Decline(it.now, it.number, it.vertex, it.index, it.term)
+    if it.kind == CallKind.RESTORE:
+        return Restore(it.now, it.number or None, first or None, it.term)
+    if it.kind == CallKind.CONFIGURE:
+        return Configure(it.now, settings_of(first), it.term)
+    if it.kind == CallKind.FENCE:
+        return Fence(it.number)
+    if it.kind == CallKind.RESERVE:
+        return Reserve(it.term, it.number)
+    if it.kind == CallKind.FORFEIT:
+        return Forfeit(it.term, first)
+    if it.kind == CallKind.ADVANCE:
+        return Advance(it.now, it.term, it.number)
+    raise Unknown(header.DONE, header.LINE_CALL)

@@ -1,0 +1,451 @@
+"""python3 -m relkvanu.manifests show|recover|export|import ..: what relkvanu-store does with manifests, where a place is s3://BUCKET/PREFIX. It calls this
+then. Its functions are for engines. Without a bucket, use those of relkvanu.store.Store.
+
+What is carried into a bucket has an object .relkvanu-part there until it is whole: so a command that was killed goes on when it is given again.
+"""
+import argparse
+import concurrent.futures
+import contextlib
+import dataclasses
+import fcntl
+import functools
+import importlib
+import json
+import os
+import pathlib
+import posixpath
+import secrets
+import shutil
+import sys
+import tempfile
+import time
+from typing import Any, Dict, Iterator, List, Optional
+
+from relkvanu.errors import Error
+from relkvanu.manifest import files_in, members, name_of, of_job
+from relkvanu.places import MARKER, PLAIN, Gone, InBucket, InFolder, Owner, Path, Place, ended, make_file, place, sync
+from relkvanu.store import Carried, Record, Recovered, Store, StoreError
+
+PART = ".relkvanu-part"
+OPENINGS = 1024  # that a marker may lack, as in relkvanu_store_recover
+TRIES = 100  # a record may end while it is carried
+THREADS = 16  # requests at once
+PIECE = 1 << 20
+
+
+@contextlib.contextmanager
+def listed(source: Place) -> Iterator[pathlib.Path]:
+    """A folder that the library reads in place of a bucket: with the marker, the manifests, and for each file that they name, and that is there, one of its
+    length, which is a hole."""
+    if isinstance(source, InFolder) and (source.form, source.at) == (PLAIN, ""):
+        yield source.path
+        return
+    with tempfile.TemporaryDirectory(prefix="relkvanu-") as name:
+        folder, owner, wanted = pathlib.Path(name), source.owner(), set()
+        for it in source.names():
+            text = source.read(it)
+            if text is not None:
+                (folder / posixpath.basename(it)).write_bytes(text)
+                wanted |= set(files_in(text))
+        for file, size in source.sizes().items():
+            if file in wanted:
+                with open(folder / str(file), "wb") as hole:
+                    hole.truncate(size)
+        if owner is not None:
+            (folder / MARKER).write_bytes(owner.text())
+        yield folder
+
+
+def chosen(source: Place, folder: pathlib.Path, record: int) -> Record:
+    """The record that a recovery begins from, or the one with this number."""
+    for it in Store.records(folder):
+        is_whole = it.damage is None and it.is_of_job and it.missing == 0
+        if is_whole and (it.id == record if record else it.is_next):
+            return it
+    raise StoreError("Absent", f"{source.url}: no record that has a manifest there has all its files", False)
+
+
+def records(source: Place) -> List[Record]:
+    """The records of a place that have a manifest. Those in a bucket have the bytes of the objects that are there."""
+    sizes = source.sizes() if isinstance(source, InBucket) else {}
+    with listed(source) as folder:
+        found = Store.records(folder)
+        texts = {it.id: (folder / name_of(it.id)).read_bytes() for it in found} if sizes else {}
+    return [dataclasses.replace(it, bytes=sum(sizes.get(file, 0) for file in files_in(texts[it.id]))) if sizes and it.damage is None else it for it in found]
+
+
+def check_free(job: Path) -> None:
+    """Raises StoreError if there is a job or its -wal, or another process makes one, before an old job is fenced."""
+    with tempfile.TemporaryDirectory(prefix="relkvanu-") as name:
+        folder = pathlib.Path(name)
+        InFolder(folder).mark(Owner("0" * 32, 1))
+        try:
+            Store.recover_listed(job, folder)
+        except StoreError as error:
+            if error.name != "Absent":  # there is no record in it
+                raise
+
+
+def recover(job: Path, source: Place, record: int = 0) -> Recovered:
+    """Makes the file of a job again from the manifests in its place. Killed at any moment it has done nothing, or all."""
+    if isinstance(source, InFolder):
+        return Store.recover(job, source.path, record)
+    if source.owner() is None:
+        raise StoreError("Storage", f"{source.url}: it has no marker of a job", False)
+    check_free(job)
+    with listed(source) as folder:
+        chosen(source, folder, record)
+    fence(source)  # a process that was told to end may not have ended
+    with listed(source) as folder:
+        found = Store.recover_listed(job, folder, record)
+        owner = InFolder(folder).owner()
+    assert owner is not None
+    source.mark(owner)  # from now on an old file is refused. The next opening does it too
+    return found
+
+
+# To carry a record.
+
+
+def carry_file(source: Place, target: Place, part: pathlib.Path, file: int, size: Optional[int]) -> None:
+    """Into a bucket, or into the folder `part`. From bucket to bucket the server copies. A file that two folders can have is linked."""
+    if isinstance(source, InBucket) and isinstance(target, InBucket):
+        with ended():
+            target.copy(file, source)
+        return
+    if isinstance(target, InBucket):
+        with contextlib.closing(source.opened(file)) as contents:
+            target.put(file, contents)
+        return
+    to = part / target.form.of(file)
+    if isinstance(source, InFolder) and target.link(file, source, to):
+        length = to.stat().st_size
+    else:
+        with contextlib.closing(source.opened(file)) as contents:
+            length = make_file(to, iter(functools.partial(contents.read, PIECE), b""))
+    if size is not None and length != size:
+        raise StoreError("Damaged", f"{source.url}: file {file} is not as long as its manifest says", False)
+
+
+def cancel(tasks: List["concurrent.futures.Future[None]"]) -> None:
+    """Those that have not begun. Python 3.8 has no cancel_futures."""
+    for it in tasks:
+        it.cancel()
+
+
+def carry_files(source: Place, target: Place, part: pathlib.Path, files: Dict[int, Optional[int]]) -> None:
+    with concurrent.futures.ThreadPoolExecutor(THREADS) as pool:
+        tasks = [pool.submit(carry_file, source, target, part, file, size) for file, size in files.items()]
+        for it in concurrent.futures.as_completed(tasks):
+            if it.exception() is not None:
+                cancel(tasks)
+                it.result()
+
+
+def manifest_of(source: Place, record: Record) -> bytes:
+    text = source.read(source.manifest(record.id))
+    if text is None:
+        raise Gone
+    return text
+
+
+def is_named(descriptor: int, path: pathlib.Path) -> bool:
+    try:
+        return os.path.samestat(os.fstat(descriptor), os.lstat(path))
+    except FileNotFoundError:
+        return False
+
+
+def locked_part(part: pathlib.Path) -> int:
+    """Opens the folder, which nobody else removes or names while it is open here. Another command may have done so before the lock was had."""
+    for _ in range(TRIES):
+        with contextlib.suppress(FileExistsError):
+            part.mkdir(mode=0o700)
+        try:
+            lock = os.open(part, os.O_RDONLY | os.O_DIRECTORY | os.O_NOFOLLOW)
+        except FileNotFoundError:
+            continue
+        try:
+            fcntl.flock(lock, fcntl.LOCK_EX | fcntl.LOCK_NB)
+        except BlockingIOError:
+            os.close(lock)
+            break
+        if is_named(lock, part):
+            return lock
+        os.close(lock)
+    raise StoreError("InUse", f"{part}: another export or import writes it", False)
+
+
+@contextlib.contextmanager
+def part_folder(target: InFolder) -> Iterator[pathlib.Path]:
+    """A folder beside the target that nobody else makes meanwhile. It is removed unless it was given its name."""
+    part = pathlib.Path(f"{target.url.rstrip('/')}.part")
+    lock = locked_part(part)
+    try:
+        for it in part.iterdir():
+            shutil.rmtree(it) if it.is_dir() and not it.is_symlink() else it.unlink()
+        yield part
+    finally:
+        if is_named(lock, part):
+            shutil.rmtree(part)
+        os.close(lock)
+
+
+def into_folder(source: Place, target: InFolder, record: int, manifest: bytes, job: Optional[str]) -> int:
+    """The folder gets its name once all is on the disk. Returns the bytes."""
+    files = files_in(manifest)
+    with part_folder(target) as part:
+        carry_files(source, target, part, files)
+        size = sum((part / target.form.of(file)).stat().st_size for file in files)
+        whole = target.moved(part)
+        whole.write(whole.manifest(record), manifest if job is None else of_job(manifest, job))
+        if job is not None:
+            whole.mark(Owner(job, 1))
+        sync(part)
+        try:
+            os.rename(part, target.url.rstrip("/"))
+        except OSError as error:
+            raise StoreError("Present", f"{target.url}: {error.strerror}", False) from error
+    sync(target.path.resolve().parent)
+    return size
+
+
+def begun(target: InBucket, origin: str, job: Optional[str]) -> Dict[str, Any]:
+    """What an earlier try has begun in an empty place, or this one begins. The same record has the same files, so it goes on where that one was."""
+    found = target.read(PART)
+    if found is None:
+        if not target.is_empty():
+            raise StoreError("Present", f"{target.url}: there are objects", False)
+        new = {"origin": origin, "job": job}
+        target.write(PART, json.dumps(new).encode())
+        return new
+    part: Dict[str, Any] = json.loads(found)
+    if part["origin"] != origin or (part["job"] is None) != (job is None):
+        raise StoreError("Present", f"{target.url}: something else is carried there", False)
+    return part
+
+
+def into_bucket(source: Place, target: InBucket, record: int, manifest: bytes, job: Optional[str]) -> int:
+    """The manifest comes last: with it the record is there. What another record has left there goes before."""
+    part = begun(target, json.loads(manifest)["job"], job)
+    files = files_in(manifest)
+    carry_files(source, target, pathlib.Path(), files)
+    sizes = target.sizes()
+    drop(target, [file for file in sizes if file not in files])
+    if target.read(PART) is None:
+        raise StoreError("Present", f"{target.url}: another command has carried it there", False)
+    for it in target.names():
+        target.remove(it)
+    if part["job"] is not None:
+        target.mark(Owner(part["job"], 1))
+    target.write(target.manifest(record), manifest if part["job"] is None else of_job(manifest, part["job"]))
+    target.remove(PART)
+    return sum(sizes.get(file, 0) for file in files)
+
+
+def drop(source: Place, files: List[int]) -> None:
+    for file, why in source.drop(files).items():
+        raise StoreError("NotDone", f"{source.url}{file}: {why}", False)
+
+
+def carry_to(source: Place, target: Place, record: int, manifest: bytes, job: Optional[str]) -> int:
+    """Carries the record of this manifest. Raises Gone if a file of it is not there any more."""
+    if isinstance(target, InFolder):
+        return into_folder(source, target, record, manifest, job)
+    return into_bucket(source, target, record, manifest, job)
+
+
+def carry(source: Place, target: Place, record: int, job: Optional[str]) -> Carried:
+    """Chooses a record and carries it. While its job runs it may end meanwhile: then there is a later one."""
+    for _ in range(TRIES):
+        with listed(source) as folder:
+            one = chosen(source, folder, record)
+        with contextlib.suppress(Gone):
+            size = carry_to(source, target, one.id, manifest_of(source, one), job)
+            return Carried(one.id, one.is_savepoint, one.files, size)
+    raise StoreError("Absent", f"{source.url}: its records end too soon", False)
+
+
+def export(source: Place, target: Place, record: int = 0) -> Carried:
+    """Carries a record into an empty place, with its manifest. The job of the source may run meanwhile."""
+    if isinstance(source, InFolder) and isinstance(target, InFolder):
+        return Store.export(source.path, target.path, record)
+    if isinstance(target, InFolder) and not target.is_empty():
+        raise StoreError("Present", f"{target.url}: it is there, and is no empty folder", False)
+    return carry(source, target, record, None)
+
+
+# To begin another job.
+
+
+def has_job(path: Path) -> bool:
+    return os.path.exists(path) and os.path.getsize(path) != 0
+
+
+def manifests_of(source: Place) -> Dict[int, bytes]:
+    found = {posixpath.basename(it): source.read(it) for it in source.names()}
+    return {int(name[len("record-"):-len(".manifest")]): text for name, text in found.items() if text is not None}
+
+
+def imported(source: Place, target: Place) -> Optional[int]:
+    """The record of the source of which the target has an import that no engine has opened yet."""
+    if target.owner() is None or (isinstance(target, InBucket) and target.read(PART) is not None):
+        return None
+    there = {(id, members(text).get("job")) for id, text in manifests_of(source).items()}
+    return next((id for id, text in manifests_of(target).items() if (id, members(text).get("origin")) in there), None)
+
+
+def begin(source: Place, job: Path, target: Place, record: int) -> Recovered:
+    if imported(source, target) is None:
+        if isinstance(target, InFolder) and not target.is_empty():
+            raise StoreError("Present", f"{target.url}: it is there, and is no empty folder", False)
+        carry(source, target, record, secrets.token_hex(16))
+    return recover(job, target)
+
+
+def import_job(source: Place, job: Path, target: Place, record: int = 0) -> Recovered:
+    """Makes another job, at `job` over the target, of a record in the source, whose job may run."""
+    if has_job(job):
+        raise StoreError("Present", f"{os.fspath(job)}: there is a job", False)
+    return begin(source, job, target, record)
+
+
+def leave(source: Place, record: int) -> None:
+    """The files of the record leave the source, but for those that another record has, and then its manifest."""
+    with listed(source) as folder:
+        found = Store.records(folder)
+        if any(it.damage is not None for it in found):
+            raise StoreError("Damaged", f"{source.url}: a manifest there can't be read: the files of the record stay there too", False)
+        files = {it.id: set(files_in((folder / name_of(it.id)).read_bytes())) for it in found}
+    if record in files:
+        drop(source, sorted(files.pop(record).difference(*files.values())))
+        source.remove(source.manifest(record))
+    if source.owner() is None:
+        source.remove_itself()
+
+
+def fence(source: Place) -> None:
+    owner = source.owner()
+    if owner is not None:
+        epochs = [it.get("epoch", 0) for it in map(members, manifests_of(source).values()) if it.get("job") == owner.job]
+        source.mark(Owner(owner.job, max([owner.epoch, *epochs]) + OPENINGS))
+
+
+def own(source: InBucket, record: Record) -> None:
+    """Gives the job of an exported record an identity, in place."""
+    text, job = manifest_of(source, record), secrets.token_hex(16)
+    source.write(source.manifest(record.id), of_job(text, job))
+    source.mark(Owner(job, 1))
+
+
+def claim(source: Place, job: Path, target: Place, record: int = 0) -> Recovered:
+    """import_job() by which the record's files leave the source, or stay in place if the target is the same. The source's old job is fenced first."""
+    if isinstance(source, InFolder) and isinstance(target, InFolder):
+        return Store.import_job(source.path, job, target.path, record, claim=True)
+    is_in_place = isinstance(source, InBucket) and isinstance(target, InBucket) and (source.bucket, source.prefix) == (target.bucket, target.prefix)
+    if has_job(job):
+        return go_on(source, job, target)
+    with listed(source) as folder:
+        one = chosen(source, folder, record)
+    check_free(job)
+    if is_in_place:
+        if source.owner() is None and isinstance(source, InBucket):
+            own(source, one)
+        return recover(job, source, record)
+    is_begun = isinstance(target, InBucket) and target.read(PART) is not None
+    if not is_begun and imported(source, target) is None and not target.is_empty():
+        raise StoreError("Present", f"{target.url}: it is there, and is not empty", False)
+    fence(source)  # before the record is chosen, so that none is lost that the old job completes meanwhile
+    found = begin(source, job, target, record)
+    leave(source, found.record)
+    return found
+
+
+def go_on(source: Place, job: Path, target: Place) -> Recovered:
+    """A claim whose job is there already, as the same call has left it before it ended, or an import: then the old job runs, and is fenced first."""
+    record = imported(source, target)
+    if record is None:
+        raise StoreError("Present", f"{os.fspath(job)}: there is a job", False)
+    it = members(manifests_of(target)[record])
+    fence(source)
+    leave(source, record)
+    return Recovered(record, it["kind"] == "savepoint", it["files"], it["bytes"], 0, 0, 0, 0, max(it["below"]["number"], record + 1))
+
+
+# The command.
+
+
+def state_of(it: Record) -> str:
+    if it.damage is not None:
+        return "written by a later version" if it.damage == "NotAStore" else "the manifest is damaged"
+    if not it.is_of_job:
+        return "of another job than the folder"
+    if it.missing:
+        return f"{it.missing} files are missing or have another length"
+    return "whole; a recovery or an import begins from it" if it.is_next else "whole"
+
+
+def show(source: Place) -> None:
+    found = records(source)
+    print(f"{'record':<12} {'kind':<10} {'written':<20} {'files':>10} {'bytes':>16}  state" if found else "no record has a manifest")
+    for it in found:
+        written = "?" if it.damage else time.strftime("%Y-%m-%dT%H:%M:%SZ", time.gmtime(it.written // 1000))
+        kind = "?" if it.damage else "savepoint" if it.is_savepoint else "checkpoint"
+        print(f"{it.id:<12} {kind:<10} {written:<20} {it.files:>10} {it.bytes:>16}  {state_of(it)}")
+
+
+def tell(job: str, made: Recovered) -> None:
+    kind = "savepoint" if made.is_savepoint else "checkpoint"
+    print(f"{job} goes on from {kind} {made.record}, which has {made.files} files of {made.bytes} bytes")
+    print(f"later records have numbers from {made.next_number} on")
+    if made.savepoints:
+        print(f"{made.savepoints} other savepoints live on, under new numbers")
+    if made.passed:
+        print(f"{made.passed} manifests were passed over, since they are damaged or lack files")
+
+
+def parser() -> argparse.ArgumentParser:
+    server = argparse.ArgumentParser(add_help=False, argument_default=argparse.SUPPRESS)
+    server.add_argument("--endpoint", metavar="URL", help="another S3 server than that of AWS")
+    server.add_argument("--region", help="its region")
+    it = argparse.ArgumentParser(prog="relkvanu-store", description="A folder may be s3://BUCKET/PREFIX.", parents=[server])
+    commands = it.add_subparsers(dest="command", required=True)
+    for name, words in (("show", ("place",)), ("recover", ("job", "place")), ("export", ("source", "target")), ("import", ("source", "job", "target"))):
+        command = commands.add_parser(name, parents=[server])
+        for word in words:
+            command.add_argument(word)
+        if name != "show":
+            command.add_argument("record", nargs="?", type=int, default=0)
+        if name == "import":
+            command.add_argument("--claim", action="store_true", help="the files leave SOURCE, whose job is refused from then on")
+    return it
+
+
+def run(given: argparse.Namespace) -> None:
+    s3 = importlib.import_module("relkvanu.s3").client(getattr(given, "endpoint", os.environ.get("AWS_ENDPOINT_URL")), getattr(given, "region", None))
+    at = functools.partial(place, s3=s3)
+    if given.command == "show":
+        show(at(given.place))
+    elif given.command == "recover":
+        tell(given.job, recover(given.job, at(given.place), given.record))
+    elif given.command == "export":
+        made = export(at(given.source), at(given.target), given.record)
+        print(f"{given.target} has {'savepoint' if made.is_savepoint else 'checkpoint'} {made.record}, with {made.files} files of {made.bytes} bytes")
+    else:
+        begins = claim if given.claim else import_job
+        tell(given.job, begins(at(given.source), given.job, at(given.target), given.record))
+
+
+def main(words: Optional[List[str]] = None) -> int:
+    given = parser().parse_args(words)
+    try:
+        run(given)
+        sys.stdout.flush()
+    except (Error, OSError, ValueError) as error:
+        print(f"relkvanu-store: {error}", file=sys.stderr)
+        return 1
+    return 0
+
+
+if __name__ == "__main__":
+    sys.exit(main())

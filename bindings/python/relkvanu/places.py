@@ -1,0 +1,233 @@
+"""Where manifests and the files that they name are: a folder, or what is below s3://BUCKET/PREFIX. It needs no library, and boto3 for a bucket alone."""
+import contextlib
+import copy
+import errno
+import importlib
+import os
+import pathlib
+import re
+from typing import Any, Dict, Iterator, List, NamedTuple, Optional, Union
+
+from relkvanu.manifest import name_of
+from relkvanu.storage import Marker, Names, NotThere, StorageError, bucket_and_prefix
+
+MARKER = ".relkvanu-job"
+OWNER = re.compile(rb"relkvanu job ([0-9a-f]{32})\nepoch ([1-9][0-9]{0,18})\n")  # a marker of a store
+PLAIN = Names("", "")  # a file has its number as its name
+Path = Union[str, "os.PathLike[str]"]
+
+
+class Owner(NamedTuple):
+    """What a marker says."""
+
+    job: str
+    epoch: int
+
+    def text(self) -> bytes:
+        return f"relkvanu job {self.job}\nepoch {self.epoch}\n".encode()
+
+
+class Gone(Exception):
+    """A file of the record is not there any more: the record has ended."""
+
+
+@contextlib.contextmanager
+def ended() -> Iterator[None]:
+    """An object that is not there was one of a record that has ended."""
+    try:
+        yield
+    except StorageError as error:
+        if error.errno != errno.ENOENT or isinstance(error, NotThere):
+            raise
+        raise Gone from error
+
+
+def owner_in(text: Optional[bytes]) -> Optional[Owner]:
+    found = None if text is None else OWNER.fullmatch(text)
+    return None if found is None else Owner(found[1].decode(), int(found[2]))
+
+
+def sync(folder: pathlib.Path) -> None:
+    descriptor = os.open(folder, os.O_RDONLY | os.O_DIRECTORY)
+    try:
+        os.fsync(descriptor)
+    finally:
+        os.close(descriptor)
+
+
+def make_file(path: pathlib.Path, pieces: Any) -> int:
+    """Writes and syncs a file. Returns its length."""
+    with open(path, "wb") as file:
+        length = sum(file.write(it) for it in pieces)
+        file.flush()
+        os.fsync(file.fileno())
+    return length
+
+
+def make_folder(folder: pathlib.Path) -> None:
+    """Makes a folder and those above it, each of which is on the disk when this returns."""
+    if not folder.is_dir():
+        make_folder(folder.parent)
+        folder.mkdir(exist_ok=True)
+        sync(folder.parent)
+
+
+class InBucket:
+    """Manifests and files below s3://BUCKET/PREFIX. Files are named by `form`, whose prefix may go on behind PREFIX. `at` comes before the names of
+    manifests."""
+
+    def __init__(self, url: str, s3: Any, form: Names = PLAIN, at: str = "", marker: str = MARKER) -> None:
+        self.url, self.s3, self.at, self.marker = url, s3, at, marker
+        self.bucket, self.prefix = bucket_and_prefix(url)
+        self.form = Names(self.prefix + form.prefix, form.suffix)
+        unchecked = importlib.import_module("relkvanu.s3").UncheckedBucket
+        self._bucket = unchecked(self.bucket, "any", prefix=self.form.prefix, suffix=form.suffix, s3=s3, keeps_versions=True, marker=Marker(marker, "any"))
+
+    def owner(self) -> Optional[Owner]:
+        return owner_in(self._bucket.read_beside(self.marker))
+
+    def mark(self, owner: Owner) -> None:
+        self._bucket.write_beside(self.marker, owner.text())
+
+    def manifest(self, record: int) -> str:
+        return self.at + name_of(record)
+
+    def names(self) -> List[str]:
+        return [it for it in self._bucket.beside(f"{self.at}record-") if it.endswith(".manifest")]
+
+    def read(self, name: str) -> Optional[bytes]:
+        found: Optional[bytes] = self._bucket.read_beside(name)
+        return found
+
+    def write(self, name: str, contents: bytes) -> None:
+        self._bucket.write_beside(name, contents)
+
+    def remove(self, name: str) -> None:
+        self._bucket.remove_beside(name)
+
+    def sizes(self) -> Dict[int, int]:
+        return {file: size for page in self._bucket.sizes() for file, size in page.items()}
+
+    def size(self, file: int) -> Optional[int]:
+        """A manifest in a bucket says no lengths: an object is whole, or not there."""
+        return None
+
+    def is_empty(self) -> bool:
+        return not self._bucket.beside("")
+
+    def drop(self, files: List[int]) -> Dict[int, str]:
+        """Deletes files. Returns those that may be there still, each with the reason."""
+        failed: Dict[int, str] = self._bucket.delete(files)
+        return failed
+
+    def copy(self, file: int, source: "InBucket") -> None:
+        self._bucket._ask(self.s3.copy_object, Key=self.form.of(file), CopySource={"Bucket": source.bucket, "Key": source.form.of(file)})
+
+    def put(self, file: int, contents: Any) -> None:
+        self._bucket._ask(self.s3.put_object, Key=self.form.of(file), Body=contents)
+
+    def remove_itself(self) -> None:
+        """A prefix is there as long as it has objects."""
+
+    def opened(self, file: int) -> Any:
+        """The contents of a file, to be read."""
+        with ended():
+            return self._bucket.opened(self.form.of(file))
+
+
+class InFolder:
+    """Manifests and files in a folder. Files are named by `form`, and `at` comes before the names of manifests."""
+
+    new = ".new"  # behind the name of a file that is not whole yet
+
+    def __init__(self, path: Path, form: Names = PLAIN, at: str = "", marker: str = MARKER) -> None:
+        self.url, self.path, self.form, self.at, self.marker = os.fspath(path), pathlib.Path(path), form, at, marker
+
+    def owner(self) -> Optional[Owner]:
+        return owner_in(self.read(self.marker))
+
+    def mark(self, owner: Owner) -> None:
+        self.write(self.marker, owner.text())
+
+    def manifest(self, record: int) -> str:
+        return self.at + name_of(record)
+
+    def names(self) -> List[str]:
+        return [self.at + it.name for it in (self.path / self.at).glob("record-*.manifest")]
+
+    def read(self, name: str) -> Optional[bytes]:
+        try:
+            return (self.path / name).read_bytes()
+        except FileNotFoundError:
+            return None
+
+    def write(self, name: str, contents: bytes) -> None:
+        """Makes or replaces a file, whole and durable."""
+        path = self.path / name
+        make_folder(path.parent)
+        make_file(self.path / f"{name}{self.new}", [contents])
+        os.rename(self.path / f"{name}{self.new}", path)
+        sync(path.parent)
+
+    def remove(self, name: str) -> None:
+        sync(self.path)  # the files that left are gone before it
+        (self.path / name).unlink(missing_ok=True)
+
+    def sizes(self) -> Dict[int, int]:
+        with os.scandir(self.path) as entries:
+            found = ((self.form.file(it.name), it) for it in entries)
+            return {file: it.stat().st_size for file, it in found if file is not None and it.is_file(follow_symlinks=False)}
+
+    def size(self, file: int) -> Optional[int]:
+        """Its length. Raises Gone if it is not there."""
+        try:
+            return os.stat(self.path / self.form.of(file), follow_symlinks=False).st_size
+        except FileNotFoundError as error:
+            raise Gone from error
+
+    def is_empty(self) -> bool:
+        return not self.path.exists() or not any(self.path.iterdir())
+
+    def drop(self, files: List[int]) -> Dict[int, str]:
+        for file in files:
+            (self.path / self.form.of(file)).unlink(missing_ok=True)
+        return {}
+
+    def remove_itself(self) -> None:
+        """An exported folder that has nothing more."""
+        if not any(self.path.iterdir()):
+            self.path.rmdir()
+
+    def opened(self, file: int) -> Any:
+        try:
+            return open(os.open(self.path / self.form.of(file), os.O_RDONLY | os.O_NOFOLLOW), "rb")
+        except FileNotFoundError as error:
+            raise Gone from error
+
+    def moved(self, path: pathlib.Path) -> "InFolder":
+        """The same, elsewhere."""
+        found = copy.copy(self)
+        found.url, found.path = os.fspath(path), path
+        return found
+
+    def link(self, file: int, source: "InFolder", to: pathlib.Path) -> bool:
+        """Gives a file of the source this name too. Returns false where the file system has no links, or has too many."""
+        try:
+            os.link(source.path / source.form.of(file), to, follow_symlinks=False)
+        except FileNotFoundError as error:
+            raise Gone from error
+        except OSError as error:
+            if error.errno not in (errno.EXDEV, errno.EPERM, errno.EMLINK, errno.ENOTSUP, errno.ENOSYS):
+                raise
+            return False
+        return True
+
+
+Place = Union[InFolder, InBucket]
+
+
+def place(url: Path, s3: Any = None) -> Place:
+    text = os.fspath(url)
+    if not text.startswith("s3://"):
+        return InFolder(text)
+    return InBucket(text, importlib.import_module("relkvanu.s3").client() if s3 is None else s3)

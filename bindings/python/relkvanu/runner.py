@@ -1,0 +1,242 @@
+"""The loop of an engine over a durable coordinator: what an opening, a tick, a failure, a stop and an end ask of it, in the right order. An engine says how
+its tasks start, how a barrier reaches them, and what its sinks are told."""
+import threading
+import time
+from dataclasses import dataclass
+from enum import Enum
+from typing import Optional, Protocol, Sequence, Set, Tuple
+
+from relkvanu.coordinator import Refused
+from relkvanu.errors import Error
+from relkvanu.reads import Chosen, Kind, Mode
+from relkvanu.replies import AckCompleted, RestoredCheckpoint, RestoredFresh, RestoredSavepoint, SavepointTriggered, Triggered
+from relkvanu.store import Made, Phase, Step, Store, StoreError
+from relkvanu.whole import Part, Whole as Record
+
+__all__ = ["Barrier", "Ended", "Engine", "FileLost", "Part", "Record", "Runner"]
+
+RESTORES = (RestoredCheckpoint, RestoredSavepoint, RestoredFresh)
+LOOKS_AGAIN = 200  # ms after which the loop looks whether it shall end or restart
+
+
+class FileLost(Error):
+    """A file of the record from which the job begins is not in the storage. The process ends, and sweeps nothing."""
+
+
+@dataclass(frozen=True)
+class Barrier:
+    """A barrier of the record `id`. Files of `base` may be reused in it: what has changed since `base` is in fresh files. If it `holds`, the job is being
+    stopped: a task waits after its acknowledgement until it is ended, or until Engine.go_on()."""
+
+    id: int
+    kind: Kind
+    base: Optional[Chosen]
+    term: int
+    holds: bool
+
+
+class Ended(Enum):
+    """Why Runner.run() has returned."""
+
+    CLOSED = 1  # Runner.close() was called: the next process goes on
+    STOPPED = 2  # the job is stopped with a savepoint, and goes on from it once Store.begin_job() was called
+    CANCELLED = 3  # the job has ended for good, and no file is left
+
+
+class Engine(Protocol):
+    """What an engine does. All of these are called by the thread of Runner.run(), one at a time, but `complete`. An engine may also have
+    aborted(ids): see Runner."""
+
+    def start(self, term: int, record: Optional[Record]) -> None:
+        """Starts all tasks with this term. They begin with the state that is in the record's files, or from nothing."""
+
+    def barrier(self, barrier: Barrier) -> None:
+        """Sends a barrier to the sources."""
+
+    def complete(self, id: int) -> None:
+        """Tells the sinks that the job would begin again from this record: they publish what they prepared for it and for records before it, and
+        give up, at a restore, what they prepared for later ones. Called by a thread that acknowledges, or before `start`; never for a smaller number than
+        before in one term; for the same one again after a restart."""
+
+    def go_on(self) -> None:
+        """A stop of the job has failed: tasks that hold go on."""
+
+    def end(self) -> None:
+        """Tells all tasks to end. What they send afterwards is refused, for their term has ended or ends now."""
+
+
+class Runner:
+    """Runs an engine over a store. Tasks call `ack` and `decline` of the runner, and `reserve`, `put` and `forfeit` of the store, each with the
+    term that they were started with. Any thread may call trigger(), stop_job(), configure() or go_back() of the store: the engine sees the barrier or the
+    restart that it brings.
+
+    An engine that has aborted(ids) is told which records have ended whose barriers were sent, and which are not complete: tasks drop what they keep for them
+    alone. Sinks keep what they prepared for them: the next checkpoint publishes it. Called as `complete`; not for what a restore ends."""
+
+    def __init__(self, store: Store, engine: Engine) -> None:
+        self.store, self.engine = store, engine
+        self.term, self.told = store.report.term, 0
+        self._turn = threading.Lock()  # of what the sinks are told
+        self._pending: Set[int] = set()  # records whose barriers were sent
+        self._holds = False  # tasks wait for the end of a stop
+        self._closes, self._restarts = threading.Event(), threading.Event()
+        self._discarder: Optional[threading.Thread] = None
+
+    def ack(
+        self, term: int, id: int, vertex: int, index: int, fresh: Sequence[int] = (), reused: Sequence[int] = (), *, payload: bytes = b"",
+        bytes: int = 0, millis: int = 0
+    ) -> Made:
+        """Acknowledges, with a payload if the task's state is small, and tells the sinks if the record of a checkpoint is complete. Raises as Store.ack_in."""
+        made = self.store.ack_in(term, id, vertex, index, fresh, reused, payload=payload, bytes=bytes, millis=millis)
+        if isinstance(made.reply, AckCompleted):
+            self._pending.discard(id)
+            if made.kind == Kind.CHECKPOINT:
+                self._tell(term, id)
+        self._abort(term, made.ended)
+        return made
+
+    def decline(self, term: int, id: int, vertex: int, index: int, reason: str = "") -> Made:
+        """Declines. Raises as Store.decline_in. If the job has failed by that, the loop restarts it."""
+        made = self.store.decline_in(term, id, vertex, index, reason=reason)
+        self._abort(term, made.ended)
+        return made
+
+    def restart(self) -> None:
+        """A task has died or was lost: the loop ends all tasks, restores the job and starts them again. May be called by any thread."""
+        self._restarts.set()
+
+    def close(self) -> None:
+        """Lets run() return once all tasks were told to end. May be called by any thread."""
+        self._closes.set()
+
+    def run(self) -> Ended:
+        """Runs the job until it is closed, stopped or cancelled. Raises FileLost if a file of the record is missing, and what the store and the engine
+        raise: then the process ends, and the next one recovers the job."""
+        if self.store.phase().phase == Phase.STOPPED:
+            self._tell_choice()
+            return self._ended(Ended.STOPPED)
+        if Step.START_TASKS not in self.store.report.steps:
+            return self._ended(Ended.CANCELLED)
+        if Step.RESTORE in self.store.report.steps:
+            self._restore()
+        else:
+            self._begin(self.store.report.term)
+        while True:
+            if self._closes.is_set():
+                return self._ended(Ended.CLOSED)
+            if self._restarts.is_set():
+                self._restore()
+            made = self._awaited()
+            ended = self._act(made) if made is not None else self._look()
+            if ended is not None:
+                return self._ended(ended)
+
+    def _awaited(self) -> Optional[Made]:
+        """None: nothing is due, or the job has failed or is being stopped since the tick was."""
+        try:
+            return self.store.await_tick(LOOKS_AGAIN)
+        except Refused as refused:
+            if refused.name != "NotRunning":
+                raise
+            return None
+
+    def _act(self, made: Made) -> Optional[Ended]:
+        """What a tick, or a call of an operator, asks of the engine."""
+        reply = made.reply
+        self._abort(self.term, made.ended)
+        if isinstance(reply, (Triggered, SavepointTriggered)):
+            self._go_on()  # nobody may have said that the stop has failed for which tasks hold
+            self._pending.add(reply.id)
+        if isinstance(reply, Triggered):
+            self.engine.barrier(Barrier(reply.id, Kind.CHECKPOINT, made.choice, self.term, False))
+        elif isinstance(reply, SavepointTriggered):
+            self._holds = self.store.phase().phase != Phase.RUNNING
+            self.engine.barrier(Barrier(reply.id, Kind.SAVEPOINT, made.choice, self.term, self._holds))
+        elif isinstance(reply, RESTORES):
+            self.engine.end()
+            self._begin(made.term)
+        return None
+
+    def _look(self) -> Optional[Ended]:
+        """No tick is due: the job waits, or has failed, was stopped or cancelled, or a stop has failed."""
+        phase = self.store.phase()
+        if phase.phase == Phase.STOPPED:
+            self._tell_choice()
+            return Ended.STOPPED
+        with self.store.read() as reads:
+            mode = reads.mode()
+        if mode == Mode.CANCELLED:
+            return Ended.CANCELLED
+        if mode == Mode.FAILED:
+            self._restore()
+        elif phase.phase == Phase.RUNNING:
+            self._go_on()
+        return None
+
+    def _go_on(self) -> None:
+        if self._holds:
+            self._holds = False
+            self.engine.go_on()
+
+    def _restore(self) -> None:
+        self._restarts.clear()
+        self.engine.end()
+        self._begin(self.store.restore().term)
+
+    def _begin(self, term: int) -> None:
+        """Looks that the record is whole, sweeps, tells the sinks, and starts the tasks."""
+        try:
+            record = self.store.load()
+        except StoreError as why:
+            raise (FileLost(why.message) if why.name == "FileLost" else why) from None
+        self.store.sweep()
+        self._holds = False
+        with self._turn:
+            self.term, self.told = term, 0
+            self._pending.clear()
+        self._tell_choice()
+        self._discard()
+        self.engine.start(term, record)
+
+    def _tell_choice(self) -> None:
+        with self.store.read() as reads:
+            chosen = reads.choice()
+        if chosen is not None:
+            self._tell(self.term, chosen.id)
+
+    def _tell(self, term: int, id: int) -> None:
+        """Two threads may come here in another order than their records were completed."""
+        with self._turn:
+            if term == self.term and id > self.told:
+                self.told = id
+                self.engine.complete(id)
+
+    def _abort(self, term: int, ended: Tuple[int, ...]) -> None:
+        with self._turn:
+            aborted = [it for it in ended if it in self._pending] if term == self.term else []
+            self._pending.difference_update(aborted)
+            if aborted and hasattr(self.engine, "aborted"):
+                self.engine.aborted(aborted)
+
+    def _ended(self, ended: Ended) -> Ended:
+        """Ends the tasks. Of a job that was cancelled no file is left then; one that is stopped keeps what its savepoint has."""
+        self.engine.end()
+        if ended != Ended.CLOSED:
+            self._discard()
+            self.store.sweep()
+            while self._has_files():
+                time.sleep(LOOKS_AGAIN / 1000)
+        self.store.stop()
+        if self._discarder is not None:
+            self._discarder.join()
+        return ended
+
+    def _has_files(self) -> bool:
+        with self.store.read() as reads:
+            counts = reads.file_counts()
+        return counts.waiting + counts.taken > 0 and not self._closes.is_set()
+
+    def _discard(self) -> None:
+        if self._discarder is None:
+            self._discarder = threading.Thread(target=self.store.discard, name="relkvanu discarder", daemon=True)
+            self._discarder.start()

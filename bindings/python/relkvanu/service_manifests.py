@@ -1,0 +1,181 @@
+"""Manifests of a job of the service, beside its files: with them `relkvanu recover` makes the job again if the database of the service is lost. An engine
+writes one for each record before anybody is told that the record is complete:
+
+    manifests = Manifests(job, service_folder("orders", "/srv/orders", "state-", ".bin"))
+    manifests.keep()  # after begin(), before tasks start; after each completed checkpoint, before sinks are told
+
+It needs the client of the service, and no library. docs/SERVICE-RECOVERY.md has the rest."""
+import hashlib
+import posixpath
+import time
+from typing import Any, Dict, Iterator, List, NamedTuple, Optional, Tuple
+
+from relkvanu.errors import Error
+from relkvanu.manifest import files_in, sealed
+from relkvanu.places import Gone, InBucket, InFolder, Owner, Path
+from relkvanu.storage import Names, NotThere, OtherJob
+
+MARK = ".relkvanu-"  # before the name of a job: its marker
+RECORDS = ".relkvanu.records"  # no marker has this name
+TRIES = 100  # a record may end while it is looked up
+# What may be told before a manifest says so again. Names: sixteen rounds in which each of 4096 tasks reserves the most.
+SOME_NUMBERS, SOME_TERMS, SOME_NAMES = 2048, 1024, 1 << 32
+
+
+class NotKept(Error):
+    """No manifest was written. Nobody may be told yet that the record is complete."""
+
+
+def identity_of(marker: bytes) -> str:
+    """The identity of a job in its manifests: its marker has its name, and says when it was opened."""
+    return hashlib.sha256(marker).hexdigest()[:32]
+
+
+class _OfService:
+    """What a place is to a job of the service, beside what it is as a folder or a bucket. The manifests of each opening of the job have a folder of their own."""
+
+    new = "~"  # no job has this sign in its name
+
+    def text(self: Any) -> Optional[bytes]:
+        """The marker."""
+        found: Optional[bytes] = self.read(self.marker)
+        return found
+
+    def of(self: Any, identity: str) -> None:
+        """From now on the manifests are those of this opening of the job."""
+        self.at = f"{RECORDS}/{identity}/"
+
+    def owner(self: Any) -> Optional[Owner]:
+        found = self.text()
+        return None if found is None else Owner(identity_of(found), 1)
+
+    def mark(self: Any, owner: Owner) -> None:
+        """The marker of an import, until there is a job that can be named."""
+        self.write(self.marker, imported_marker(self.marker))
+
+
+def imported_marker(name: str) -> bytes:
+    """No job of a service was opened then, so no discarder takes it for that of its own job."""
+    return f"relkvanu discard deletes files of the job {name[len(MARK):]}, opened at 0, from this folder.\n".encode()
+
+
+class ServiceFolder(_OfService, InFolder):
+    """The folder of a job's files."""
+
+    def remove(self, name: str) -> None:
+        (self.path / name).unlink(missing_ok=True)
+
+
+class ServiceBucket(_OfService, InBucket):
+    """What a bucket has of them."""
+
+
+def service_folder(job: str, path: Path, prefix: str = "", suffix: str = "") -> ServiceFolder:
+    """The files PREFIX, number, SUFFIX in a folder."""
+    return ServiceFolder(path, Names(prefix, suffix), marker=MARK + job)
+
+
+def service_bucket(job: str, bucket: str, prefix: str, suffix: str, s3: Any) -> ServiceBucket:
+    """The objects of a bucket with keys PREFIX, number, SUFFIX. The marker is behind the last slash of the prefix."""
+    folder, name = posixpath.split(prefix)
+    return ServiceBucket(f"s3://{bucket}/{folder}", s3, Names(name, suffix), marker=MARK + job)
+
+
+class Below(NamedTuple):
+    """Each number of a record, term and name that anybody was told is below these. Term and name are 0 without names."""
+
+    number: int
+    term: int
+    name: int
+
+
+class Manifests:
+    """Those of a job of the service (relkvanu_service.Job) in a place of service_folder() or service_bucket(). Raises NotThere or OtherJob if the place
+    does not have the job's marker, and NotKept if the job may lose the files of the record before a manifest is there."""
+
+    def __init__(self, job: Any, place: Any) -> None:
+        self._job, self._place, self._is_first = job, place, True
+        self._marker = job.marker()[1].encode()
+        place.of(identity_of(self._marker))
+        self.check()
+        settings = job.state()["settings"]
+        pending = 1 if settings["pause"] else settings["at_once"]
+        if settings["retained"] <= pending:
+            raise NotKept(f"{job.name}: `retained` has to be above `at_once`, or the files of the last record that has a manifest may be deleted before "
+                          "the next one has its own")
+
+    def check(self) -> None:
+        found = self._place.text()
+        if found is None:
+            raise NotThere(2, "there is no marker of the job", f"{self._place.url}/{self._place.marker}")
+        if found != self._marker:
+            raise OtherJob(17, "it names another job, or this one as another database has it", f"{self._place.url}/{self._place.marker}")
+
+    def keep(self) -> Optional[int]:
+        """Writes the manifest of the record that a restart would begin from, and those of other records that lack one, and removes those of records that
+        have ended. When it returns, they are on the disk. Returns the number of the record; None: none is complete. Whoever was about to tell that an
+        earlier record is complete may do so now. Raises NotKept, or what the storage or the client raises: then nobody may be told yet."""
+        for _ in range(TRIES):
+            self.check()
+            state = self._job.state()
+            try:
+                kept = self._keep(state)
+            except Gone:
+                continue  # a record has ended since
+            self._is_first = False
+            return kept
+        raise NotKept(f"{self._job.name}: its records end too soon")
+
+    def _keep(self, state: Dict[str, Any]) -> Optional[int]:
+        choice: Optional[int] = state["choice"].get("id")
+        live = {int(it["id"]): it["kind"] for it in state["live"] if it["done"]}
+        there = {int(posixpath.basename(it)[len("record-"):-len(".manifest")]) for it in self._place.names()}
+        missing = [it for it in live if it == choice or it not in there or (self._is_first and self._differs(it))]
+        missing.sort(key=lambda it: (it == choice, it))
+        for nth, record in enumerate(missing, 1):
+            # a checkpoint that is retained was the choice once, and before those behind it
+            place, chosen = state["seq"] - len(missing) + nth, record == choice or live[record] == "checkpoint"
+            self._place.write(self._place.manifest(record), manifest_of(self._job, self._place, state, record, place=place, chosen=chosen))
+        for record in there.difference(live):
+            self._place.remove(self._place.manifest(record))
+        return choice
+
+    def _differs(self, record: int) -> bool:
+        """Whether a manifest that an earlier process has left is of a history that the service has lost since."""
+        acks = (self._job.record(record)["live"] or {"acks": []})["acks"]
+        return {int(file) for it in acks for file in it["files"]} != set(files_in(self._place.read(self._place.manifest(record)) or b""))
+
+
+def manifest_of(job: Any, storage: Any, state: Dict[str, Any], record: int, **more: Any) -> bytes:
+    """The text of the manifest of a complete record of a job, whose state was asked for before. `more` are members that differ. Raises Gone if the record or
+    a file of it is not there any more."""
+    live = job.record(record)["live"]
+    if live is None or live["state"] != "done":
+        raise Gone
+    acks = {it["subtask"]: [int(file) for file in it["files"]] for it in live["acks"]}
+    subtasks: List[Dict[str, Any]] = [
+        {"vertex": vertex, "index": index, "files": {str(file): storage.size(file) for file in acks.get(f"{vertex}.{index}", ())}}
+        for vertex, index in _subtasks(live["shape"])]
+    sizes = [size for it in subtasks for size in it["files"].values()]
+    term, below = told_by(job, state)
+    found = {
+        "relkvanu": "manifest", "version": 1, "library": "service", "written": time.time_ns() // 1_000_000,
+        "job": identity_of(job.marker()[1].encode()), "epoch": 1, "term": term, "place": state["seq"], "record": record, "kind": live["kind"],
+        "chosen": state["choice"].get("id") == record, "below": below._asdict(), "settings": state["settings"], "subtasks": subtasks,
+        "files": len(sizes), "bytes": sum(it or 0 for it in sizes), "shape": live["shape"], **more,
+    }
+    return sealed(found)
+
+
+def _subtasks(shape: List[int]) -> Iterator[Tuple[int, int]]:
+    return ((vertex, index) for vertex, parallelism in enumerate(shape) for index in range(parallelism))
+
+
+def told_by(job: Any, state: Dict[str, Any]) -> Tuple[int, Below]:
+    """The term that runs, and what is above all that the job has told and may tell before it is asked again."""
+    records = [*state["live"], *job.records(limit=1), state["choice"]]
+    number = max(it.get("id", 0) for it in records) + 1 + SOME_NUMBERS
+    if not state["names"]:
+        return 0, Below(number, 0, 0)
+    now = job.term()
+    return now["term"], Below(number, now["term"] + 1 + SOME_TERMS, now["next_name"] + SOME_NAMES)

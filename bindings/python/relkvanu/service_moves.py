@@ -1,0 +1,502 @@
+"""relkvanu keep|export|import|recover ..: what the service's command does with manifests. It runs this. A job of the service is made of a record by ordinary
+calls, as relkvanu_store_recover makes one of the durable coordinator: without names, so that its first acknowledgements may name the files that are there
+by the numbers that they have; then it gets names above all that were told. Until it has all, its settings are such that no engine can open it."""
+import argparse
+import contextlib
+import fcntl
+import importlib
+import os
+import posixpath
+import shutil
+import sys
+from dataclasses import dataclass
+from typing import Any, Dict, Iterator, List, Optional, Sequence, Set
+
+from relkvanu import manifests
+from relkvanu.errors import Error
+from relkvanu.jobs import LONGEST, lists_of
+from relkvanu.manifest import members
+from relkvanu.places import Gone, InBucket, Place, place
+from relkvanu.service_manifests import MARK, Below, Manifests, ServiceFolder, identity_of, imported_marker, manifest_of, service_bucket, service_folder
+from relkvanu.storage import NotThere, OtherJob
+from relkvanu.store import Carried, Store, StoreError
+
+TRIES = 100  # a record may end while it is carried
+FAILED, WRONG_WORD, LOOK_FIRST = 1, 2, 78  # exit statuses
+# Of a job that is not whole yet: nothing is due and nothing expires, and no engine has these settings.
+MAKING = {"interval": LONGEST - 77, "pause": LONGEST - 77, "at_once": 1, "timeout": LONGEST - 77, "tolerable": 1000, "retained": 1, "keep_on_cancel": True}
+MOST_CALLS, MOST_FILES = 1000, 100_000  # of a request
+SOME_NUMBERS, MOST_PASSED = 1024, 1 << 20  # for a manifest that can't be read, as in relkvanu_store_recover
+USAGE = """exit status:
+  0   it is done
+  1   it is not, and nothing has changed; or the service or the storage did not answer: give the same command again
+  2   a word is wrong
+  78  somebody has to look first: the place is not that of the job, or a discarder works in it"""
+
+
+class Stop(Exception):
+    """Why a command ends, and its exit status."""
+
+    def __init__(self, status: int, why: str) -> None:
+        super().__init__(why)
+        self.status = status
+
+
+class Refused(Error):
+    """The service has refused a call of an import."""
+
+
+@dataclass(frozen=True)
+class Made:
+    """What a job goes on from."""
+
+    record: int
+    is_savepoint: bool
+    files: int
+    bytes: int
+    savepoints: int  # others that live on
+    passed: int  # manifests that are damaged or lack files
+    next_number: int
+
+
+def state_of(client: Any, job: Any) -> Optional[Dict[str, Any]]:
+    """The state of a job, or None if there is none of this name."""
+    try:
+        found: Dict[str, Any] = job.state()
+    except client.Failed as error:
+        if error.status != 404:
+            raise
+        return None
+    return found
+
+
+def is_making(state: Dict[str, Any]) -> bool:
+    return bool(state["settings"] == MAKING)
+
+
+def is_used(state: Dict[str, Any]) -> bool:
+    """Whether a job has anything. An engine that starts over an empty database opens one, and ends where it finds another marker."""
+    return "id" in state["choice"] or any(state["files"][it] for it in ("in_use", "waiting", "taken")) or state["next_name"] not in (None, "1")
+
+
+def made(job: Any, calls: Sequence[Dict[str, Any]]) -> List[Dict[str, Any]]:
+    """Makes calls of which none may be refused."""
+    answers: List[Dict[str, Any]] = []
+    for some in lists_of(calls, MOST_CALLS):
+        answers += job.calls(some)
+    wrong = next((it for it in answers if {"refused", "fenced", "no_memory", "not_made"} & set(it)), None)
+    if wrong is not None:
+        raise Refused(f"the service refuses a call of the import: {wrong}")
+    return answers
+
+
+class Making:
+    """Makes the calls of one job."""
+
+    def __init__(self, client: Any, job: Any) -> None:
+        self.client, self.job, self.known = client, job, set()  # type: Any, Any, Set[int]
+
+    def pass_numbers(self, next: int, end: int) -> None:
+        """Uses up numbers of records that somebody was told."""
+        for begin in range(next, end, MOST_CALLS // 2):
+            numbers = range(begin, min(begin + MOST_CALLS // 2, end))
+            made(self.job, [call for it in numbers for call in (self.client.savepoint(), self.client.decline(it, "0.0"))])
+
+    def acks(self, record: int, manifest: Dict[str, Any]) -> Iterator[Dict[str, Any]]:
+        for it in manifest["subtasks"]:
+            files = {int(file): size for file, size in it["files"].items()}
+            fresh = [file for file in files if file not in self.known]
+            reused = [file for file in files if file in self.known]
+            sizes = [files[file] for file in fresh]
+            self.known.update(fresh)
+            yield self.client.ack(record, f"{it['vertex']}.{it['index']}", fresh, reused, sizes=None if None in sizes else sizes)
+
+    def complete(self, record: int, manifest: Dict[str, Any]) -> None:
+        """The subtasks of a record acknowledge one that was triggered."""
+        some: List[Dict[str, Any]] = []
+        files, last = 0, {}
+        for ack in self.acks(record, manifest):
+            some.append(ack)
+            files += len(ack["fresh"]) + len(ack["reused"])
+            if files >= MOST_FILES or len(some) == MOST_CALLS:
+                last, some, files = made(self.job, some)[-1], [], 0
+        last = made(self.job, some)[-1] if some else last
+        if last.get("ack") != "completed":
+            raise Refused(f"the manifest of record {record} lacks a subtask of its shape")
+
+    def choice(self, record: int, manifest: Dict[str, Any], below: int) -> None:
+        """The record that the job goes on from, under its own number."""
+        is_savepoint = manifest["kind"] == "savepoint"
+        self.pass_numbers(1, record)
+        (told,) = made(self.job, [self.client.savepoint() if is_savepoint else self.client.trigger()])
+        if told["id"] != record:
+            raise Refused(f"the next record is {told['id']}, not {record}: another program calls")
+        self.pass_numbers(record + 1, below)
+        self.complete(record, manifest)
+        if is_savepoint:
+            made(self.job, [self.client.restore(record)])
+
+    def savepoint(self, manifest: Dict[str, Any]) -> None:
+        """Another savepoint lives on, with its own shape."""
+        _, told = made(self.job, [self.client.restore("latest", manifest["shape"]), self.client.savepoint()])
+        self.complete(told["id"], manifest)
+
+    def names(self, below: Below) -> None:
+        """Names, in a term above each that a task was told, and above each name that was given out."""
+        if below.name:
+            self.job.fence(below.name)
+            self.job.advance(below.term, below.name)
+
+
+@dataclass(frozen=True)
+class Found:
+    """What the manifests of a place say."""
+
+    record: int
+    choice: Dict[str, Any]
+    savepoints: List[Dict[str, Any]]
+    below: Below
+    passed: int
+
+
+def found_in(source: Place, record: int) -> Found:
+    """Chooses a record, as relkvanu_store_recover does."""
+    with manifests.listed(source) as folder:
+        one = manifests.chosen(source, folder, record)
+        all = Store.records(folder)
+    texts = {id: members(text) for id, text in manifests.manifests_of(source).items()}
+    whole = [texts[it.id] for it in all if it.damage is None]
+    unread = max((it.id for it in all if it.damage is not None), default=0)
+    below = Below(*(max(it["below"][of] for it in whole) for of in Below._fields))
+    if unread > one.id:
+        is_far = unread > max(below.number, one.id) + MOST_PASSED
+        if is_far or not record:
+            raise StoreError("Damaged", f"{source.url}: record-{unread}.manifest is damaged or of a later version: " + (
+                "its number is far above the others, so move it away if it is none of the job's" if is_far else
+                "give the number of a record to go on from an earlier one"), False)
+        below = below._replace(number=max(below.number, unread + 1 + SOME_NUMBERS))
+    savepoints = [texts[it.id] for it in all if it.is_savepoint and it.id != one.id and it.damage is None and not it.missing]
+    return Found(one.id, texts[one.id], savepoints, below, sum(it.damage is not None or it.missing != 0 for it in all))
+
+
+def forget(source: Any, identity: str) -> None:
+    """Removes the manifests of an opening of a job."""
+    source.of(identity)
+    if isinstance(source, InBucket):
+        for it in source.names():
+            source.remove(it)
+        return
+    with contextlib.suppress(FileNotFoundError):
+        shutil.rmtree(source.path / source.at)  # also what a process has left there that was killed
+
+
+@contextlib.contextmanager
+def locked(source: Any) -> Iterator[None]:
+    """The lock of the marker keeps out discarders, and other commands of this kind. A bucket has no locks."""
+    if not isinstance(source, ServiceFolder):
+        yield
+        return
+    try:
+        marker = os.open(source.path / source.marker, os.O_RDONLY | os.O_NOFOLLOW)
+    except FileNotFoundError:
+        raise NotThere(2, "there is no marker of the job", f"{source.url}/{source.marker}") from None
+    try:
+        fcntl.flock(marker, fcntl.LOCK_EX | fcntl.LOCK_NB)
+        yield
+    except BlockingIOError:
+        raise Stop(LOOK_FIRST, f"{source.url}: a discarder works there, or another command: end it first") from None
+    finally:
+        os.close(marker)
+
+
+class Recovery:
+    """Makes a job of the service of the manifests in its place."""
+
+    def __init__(self, client: Any, service: Any, name: str, source: Any) -> None:
+        self.client, self.service, self.name, self.source = client, service, name, source
+        self.job = service.job(name)
+
+    def run(self, record: int) -> Made:
+        with locked(self.source):
+            marker = self.source.text()
+            if marker is None:
+                raise NotThere(2, "there is no marker of the job", f"{self.source.url}/{self.source.marker}")
+            state = self.check(identity_of(marker))
+            self.source.of(identity_of(marker))
+            found = found_in(self.source, record)
+            if state is None or self.identity() != identity_of(marker):
+                self.drop(state)
+                self.make(found)
+            return self.end(found)
+
+    def identity(self) -> str:
+        return identity_of(self.job.marker()[1].encode())
+
+    def check(self, owner: str) -> Optional[Dict[str, Any]]:
+        """The state of a job that is to be made anew, or to be made whole. None: there is no job of this name."""
+        state = state_of(self.client, self.job)
+        if state is not None and not is_making(state):
+            if self.identity() == owner:
+                raise StoreError("Present", f"{self.name}: there is a job, and the place is its own", False)
+            if is_used(state):
+                raise StoreError("Present", f"{self.name}: there is another job of this name", False)
+        return state
+
+    def drop(self, state: Optional[Dict[str, Any]]) -> None:
+        """A job that an earlier try has begun, which has keep_on_cancel, or one that has nothing. So no discarder gets a file of it."""
+        if state is None:
+            return
+        if is_making(state):
+            forget(self.source, self.identity())
+        if state["mode"] != "cancelled":
+            made(self.job, [self.client.cancel()])
+        self.service.delete(self.name, abandon=True)
+
+    def make(self, found: Found) -> None:
+        """All but the settings. Once the marker names the new job, an old one is refused."""
+        choice = found.choice
+        self.service.open(self.name, MAKING, choice["shape"], names=False)
+        making = Making(self.client, self.job)
+        making.choice(found.record, choice, max(found.below.number, found.record + 1))
+        for it in found.savepoints:
+            making.savepoint(it)
+        if found.savepoints:
+            made(self.job, [self.client.restore("latest", choice["shape"])])
+        making.names(found.below)
+        self.keep(found)
+        self.source.write(self.source.marker, self.job.marker()[1].encode())
+
+    def keep(self, found: Found) -> None:
+        """The manifests of the new job, beside those of the old one."""
+        state = self.job.state()
+        self.source.of(self.identity())
+        more = {"settings": found.choice["settings"], "origin": found.choice.get("origin", found.choice["job"])}
+        for record in [it["id"] for it in state["live"] if it["done"]]:
+            self.source.write(self.source.manifest(record), manifest_of(self.job, self.source, state, record, **more))
+
+    def end(self, found: Found) -> Made:
+        """The manifests of the old job go. With its settings the new one is whole."""
+        choice, owner = found.choice, self.identity()
+        for it in {choice["job"], choice.get("origin", owner), identity_of(imported_marker(self.source.marker))} - {owner}:
+            forget(self.source, it)
+        self.job.set(**choice["settings"])
+        return Made(found.record, choice["kind"] == "savepoint", choice["files"], choice["bytes"], len(found.savepoints), found.passed,
+                    max(found.below.number, found.record + 1))
+
+
+# To carry a record out of a job of the service, and into one.
+
+
+def export(job: Any, source: Any, target: Place, record: int) -> Carried:
+    """Carries a complete record, or that from which a restart would begin, into an empty place. The job may run meanwhile."""
+    check_owner(job, source)
+    if not target.is_empty():
+        raise StoreError("Present", f"{target.url}: it is there, and is not empty", False)
+    for _ in range(1 if record else TRIES):
+        state = job.state()
+        id = record or state["choice"].get("id")
+        if id is None:
+            raise StoreError("Absent", f"{job.name}: no record is complete", False)
+        with contextlib.suppress(Gone):
+            text = manifest_of(job, source, state, id)
+            size = manifests.carry_to(source, target, id, text, None)
+            return Carried(id, members(text)["kind"] == "savepoint", members(text)["files"], size)
+    raise StoreError("Absent", f"{job.name}: record {record} has ended, or is not complete" if record else f"{job.name}: its records end too soon", False)
+
+
+def check_owner(job: Any, source: Any) -> None:
+    found = source.text()
+    if found is None:
+        raise NotThere(2, "there is no marker of the job", f"{source.url}/{source.marker}")
+    if found != job.marker()[1].encode():
+        raise OtherJob(17, "it names another job, or this one as another database has it", f"{source.url}/{source.marker}")
+
+
+def import_job(recovery: Recovery, source: Place, record: int, claim: bool) -> Made:
+    """Makes a job of a record in `source`, which an export has made, or which is the storage of a durable job. A claim fences that one before it chooses the
+    record, whose files leave `source` last of all."""
+    target = recovery.source
+    marker = target.text()
+    if marker is None or (isinstance(target, InBucket) and target.read(manifests.PART) is not None):
+        carry_in(recovery, source, record, claim)
+    else:
+        target.of(identity_of(marker))
+        if manifests.imported(source, target) is None:
+            raise StoreError("Present", f"{target.url}: it is there, and is not empty", False)
+        if claim:
+            manifests.fence(source)  # an import may have left it, and then the old job runs
+    found = goes_on(recovery, source) if claim else recovery.run(0)
+    if claim:
+        manifests.leave(source, found.record)
+    return found
+
+
+def carry_in(recovery: Recovery, source: Place, record: int, claim: bool) -> None:
+    """The files, with a manifest of a job that is not there yet."""
+    target = recovery.source
+    recovery.check("")
+    with manifests.listed(source) as folder:
+        manifests.chosen(source, folder, record)
+    if not target.is_empty() and not (isinstance(target, InBucket) and target.read(manifests.PART) is not None):
+        raise StoreError("Present", f"{target.url}: it is there, and is not empty", False)
+    if claim:
+        manifests.fence(source)
+    owner = identity_of(imported_marker(target.marker))
+    target.of(owner)
+    manifests.carry(source, target, record, owner)
+
+
+def goes_on(recovery: Recovery, source: Place) -> Made:
+    """A claim whose job may be there already, as the same call has left it."""
+    try:
+        return recovery.run(0)
+    except StoreError as error:
+        if error.name != "Present":
+            raise
+        marker = recovery.source.text()
+        recovery.source.of(identity_of(marker))
+        record = manifests.imported(source, recovery.source)
+        if record is None or recovery.identity() != identity_of(marker):
+            raise
+        it = members(manifests.manifests_of(recovery.source)[record])
+        return Made(record, it["kind"] == "savepoint", it["files"], it["bytes"], 0, 0, it["below"]["number"])
+
+
+# The commands.
+
+
+def parser() -> argparse.ArgumentParser:
+    where = argparse.ArgumentParser(add_help=False)
+    where.add_argument("--url", metavar="URL", action="append", help="the service, by default http://127.0.0.1:7780; again: its next address")
+    where.add_argument("--token-file", metavar="FILE", help="a file whose first line is a write token")
+    where.add_argument("--ca", metavar="FILE", help="certificates that https trusts, by default the system's")
+    where.add_argument("--within", metavar="SECONDS", type=int, default=60, help="for how long a request that is not answered is made again")
+    files = where.add_mutually_exclusive_group(required=True)
+    files.add_argument("--folder", metavar="DIR", help="the folder of the job's files")
+    files.add_argument("--bucket", metavar="NAME", help="the bucket of the job's files")
+    where.add_argument("--prefix", default="", help="the part of a file's name before its number; in a bucket of its key")
+    where.add_argument("--suffix", default="", help="the part of a file's name after its number")
+    where.add_argument("--endpoint", metavar="URL", help="another S3 server than that of AWS")
+    where.add_argument("--region", help="its region")
+    it = argparse.ArgumentParser(prog="relkvanu", epilog=USAGE, formatter_class=argparse.RawDescriptionHelpFormatter)
+    commands = it.add_subparsers(dest="command", required=True)
+    for name, words in (("keep", ("job",)), ("export", ("job", "id", "to")), ("import", ("source", "job")), ("recover", ("job",))):
+        command = commands.add_parser(name, parents=[where])
+        for word in words:
+            command.add_argument(word)
+        if name in ("import", "recover"):
+            command.add_argument("--record", type=int, default=0, help="another record than the last one")
+        if name == "import":
+            command.add_argument("--claim", action="store_true", help="the files leave SOURCE, whose job is refused from then on")
+    return it
+
+
+def tell(job: str, found: Made) -> None:
+    kind = "savepoint" if found.is_savepoint else "checkpoint"
+    print(f"{job} goes on from {kind} {found.record}, which has {found.files} files of {found.bytes} bytes")
+    print(f"later records have numbers from {found.next_number} on")
+    if found.savepoints:
+        print(f"{found.savepoints} other savepoints live on, under new numbers")
+    if found.passed:
+        print(f"{found.passed} manifests were passed over, since they are damaged or lack files")
+
+
+def module(name: str, what: str) -> Any:
+    """One that not each command needs."""
+    try:
+        return importlib.import_module(name)
+    except ImportError as error:
+        raise Stop(FAILED, f"{what}: {error}") from error
+
+
+def token(path: Optional[str]) -> Optional[str]:
+    if path is None:
+        return None
+    try:
+        with open(path, encoding="utf-8") as file:
+            return file.readline().strip()
+    except OSError as error:
+        raise Stop(FAILED, f"--token-file: {error}") from error
+
+
+def number(text: str) -> int:
+    """The number of a record; 0 stands for the one from which a restart would begin."""
+    if text != "latest" and not (text.isdecimal() and int(text)):
+        raise Stop(WRONG_WORD, f"{text!r} is neither the number of a record nor `latest`")
+    return 0 if text == "latest" else int(text)
+
+
+class Given:
+    """What the words of a command stand for."""
+
+    def __init__(self, given: argparse.Namespace) -> None:
+        self.given = given
+        self.client = module("relkvanu_service", "the client of the service is service/client/python/relkvanu_service.py, and needs python3-requests")
+        urls = given.url or ["http://127.0.0.1:7780"]
+        self.service = self.client.Service(*urls, token=token(given.token_file), patience=given.within, ca=given.ca)
+        self.job = self.service.job(given.job)
+
+    def s3(self) -> Any:
+        return module("relkvanu.s3", "a bucket needs boto3, python3-boto3 of Debian").client(self.given.endpoint, self.given.region)
+
+    def files(self) -> Any:
+        it = self.given
+        if it.folder is None:
+            return service_bucket(it.job, it.bucket, it.prefix, it.suffix, self.s3())
+        return service_folder(it.job, it.folder, it.prefix, it.suffix)
+
+    def place(self, url: str) -> Place:
+        return place(url, self.s3() if url.startswith("s3://") else None)
+
+    def keep(self) -> None:
+        kept = Manifests(self.job, self.files()).keep()
+        print("no record is complete" if kept is None else f"record {kept} has a manifest")
+
+    def export(self) -> None:
+        to = self.given.to
+        found = export(self.job, self.files(), self.place(to), number(self.given.id))
+        print(f"{to} has {'savepoint' if found.is_savepoint else 'checkpoint'} {found.record}, with {found.files} files of {found.bytes} bytes")
+
+    def recovery(self) -> Recovery:
+        return Recovery(self.client, self.service, self.given.job, self.files())
+
+    def do(self) -> None:
+        it = self.given
+        if it.command == "keep":
+            self.keep()
+        elif it.command == "export":
+            self.export()
+        elif it.command == "recover":
+            tell(it.job, self.recovery().run(it.record))
+        else:
+            tell(it.job, import_job(self.recovery(), self.place(it.source), it.record, it.claim))
+
+
+def run(given: argparse.Namespace) -> None:
+    it = Given(given)
+    try:
+        it.do()
+        sys.stdout.flush()
+    except (NotThere, OtherJob) as error:
+        raise Stop(LOOK_FIRST, str(error)) from error
+    except (it.client.Failed, it.client.Refused, it.client.Fenced, Error, OSError) as error:  # those of requests are OSErrors
+        raise Stop(FAILED, str(error)) from error
+
+
+def main(arguments: Optional[List[str]] = None) -> int:
+    it = parser()
+    given = it.parse_args(arguments)
+    if (given.folder is not None and "/" in given.prefix + given.suffix) or posixpath.basename(given.prefix).startswith(MARK):
+        it.error(f"--prefix and --suffix: a '/' would name another folder, and files that begin with {MARK} say whose place it is")
+    try:
+        run(given)
+    except Stop as stop:
+        print(f"relkvanu: {stop}", file=sys.stderr)
+        return stop.status
+    except KeyboardInterrupt:
+        return 130
+    return 0
+
+
+if __name__ == "__main__":
+    sys.exit(main())

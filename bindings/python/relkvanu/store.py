@@ -1,0 +1,1147 @@
+"""A coordinator whose calls are durable: one SQLite file for each job, so that an engine writes no log, lock, sync or recovery.
+
+librelkvanu-store.so.0 comes from where the package finds librelkvanu.so.0. Otherwise the import raises ImportError. Threads wait in C, so
+each of them may call, and the calls of all that wait are committed together. The handler of a signal runs while the main thread waits; if it raises,
+the call goes on to its end, and nobody is told its outcome. docs/DURABLE.md has an engine.
+"""
+import contextlib
+import ctypes
+import enum
+import os
+import pathlib
+import threading
+import time
+from dataclasses import dataclass, field
+from typing import Any, Callable, Container, ContextManager, Dict, Iterable, List, NoReturn, Optional, Protocol, Sequence, Set, Tuple, Union
+
+from relkvanu import header, store_header
+from relkvanu.coordinator import (
+    U64, BadArgument, Coordinator, Error, OutOfMemory, Settings, _done, _made, _settings, _told, _u64, _within, _words,
+)
+from relkvanu.lines import _numbers
+from relkvanu.reads import CHOSEN, Chosen, Garbage, Kind, Mode, RunningTerm
+from relkvanu.replies import Reply, Reserved, RestoredCheckpoint, RestoredSavepoint, Taken
+from relkvanu.storage import Marker
+from relkvanu.waits import Once, Task, is_main
+from relkvanu.whole import KINDS, Part, Past, Restored, Whole, _part, _past, _whole
+
+LIBRARY = "librelkvanu-store.so.0"
+FOREVER = (1 << 64) - 1
+SLICE = 100  # ms: the main thread waits so long for a tick, and a discarder for files, before it looks for what has happened
+Path = Union[str, "os.PathLike[str]"]
+
+
+class StoreError(Error):
+    """A store was not opened, or a call was not made. `name` says why, such as "InUse", and `message` says where. If `closes` is true, a
+    commit failed: the store is closed, and its calls may or may not be in the log. Nobody may act on them. Open the store again, or end
+    the process. `errno` is what the system has said, if it has: after "NotPut" and "NotDone", and of an opening."""
+
+    def __init__(self, name: str, message: str, closes: bool, errno: int = 0) -> None:
+        super().__init__(name, message, closes)
+        self.name = name
+        self.message = message
+        self.closes = closes
+        self.errno = errno
+
+    def __str__(self) -> str:
+        return f"{self.name}: {self.message}" if self.message else self.name
+
+
+class Step(enum.Enum):
+    """What an engine has to do after an opening, in the order of the report."""
+
+    END_TASKS = 1  # tell the earlier tasks to end, and wait for none
+    RESTORE = 2  # call restore(): its reply says where the job begins again
+    SWEEP = 3  # call sweep(), or delete the files of the storage that garbage() says are garbage
+    START_TASKS = 4  # start tasks, a timer (await_tick) and a discarder (discard)
+    DISCARD = 5  # start a discarder alone: the job is cancelled, or stopped
+
+
+class Phase(enum.Enum):
+    """The phase of a job."""
+
+    RUNNING = 0  # the job runs, has failed or was cancelled: its mode says which
+    STOPPING = 1  # the savepoint of its stop is pending
+    STOPPED = 2  # that savepoint is done, and the job goes on from it when it begins
+
+
+class StopFailed(enum.Enum):
+    """Why a stop has failed."""
+
+    EXPIRED = 1  # its savepoint was not done within the timeout
+    DECLINED = 2  # a task has declined it
+    RESTORED = 3  # the job was restored before, as after a crash
+    CANCELLED = 4  # the job was cancelled, before it was stopped or afterwards
+    FAILED = 5  # the job has failed
+
+
+@dataclass(frozen=True)
+class JobPhase:
+    """The phase of a job, with the savepoint of its stop, and in STOPPED the term that began then. In RUNNING
+    stop_failed says why the last stop has failed, until the next one."""
+
+    phase: Phase
+    savepoint: Optional[int] = None
+    term: int = 0
+    stop_failed: Optional[StopFailed] = None
+
+
+def _phase(phase: int, savepoint: int, term: int, failed: int) -> JobPhase:
+    return JobPhase(Phase(phase), savepoint or None, term, StopFailed(failed) if failed else None)
+
+
+@dataclass(frozen=True)
+class Report:
+    """What an opening found. include/relkvanu_store.h explains each field."""
+
+    is_recovered: bool
+    settings_differ: bool
+    steps: Tuple[Step, ...]
+    epoch: int
+    job: str
+    image_place: int
+    replayed: int
+    taken: int
+    moment: int
+    mode: Mode
+    choice: Optional[Chosen]
+    term: int = 0  # that runs: the tasks of a new job are started with it
+    next_name: int = 0
+    phase: JobPhase = JobPhase(Phase.RUNNING)  # without its term, which is the one above
+
+
+@dataclass(frozen=True)
+class Record:
+    """A record of a storage folder, as its manifest says it. `damage` is "Damaged" or "NotAStore" (a later version wrote it), and then it says no more."""
+
+    id: int
+    is_savepoint: bool
+    is_of_job: bool  # its job is the one that the marker of the folder names, or there is no marker
+    is_next: bool  # a recovery, or an import, begins from it
+    written: int  # ms of the wall clock since 1970
+    files: int
+    bytes: int
+    missing: int  # files that are not there, or have another length
+    damage: Optional[str] = None
+
+
+class Manifests(Protocol):
+    """A place for manifests that is no folder of a store, such as a bucket. None of its methods calls the store."""
+
+    def check(self) -> None:
+        """Raises unless the place is there and this opening's."""
+
+    def put_manifest(self, name: str, contents: bytes) -> None:
+        """Makes or replaces an object, whole and durable."""
+
+    def remove_manifest(self, name: str) -> None:
+        """Removes an object. One that is not there is removed."""
+
+    def manifests(self) -> Iterable[str]:
+        """The names of the objects that begin with "record-"."""
+
+
+@dataclass(frozen=True)
+class Carried:
+    """The record that Store.export has made a folder of."""
+
+    record: int
+    is_savepoint: bool
+    files: int
+    bytes: int
+
+
+@dataclass(frozen=True)
+class Recovered:
+    """What Store.recover has made a job of. include/relkvanu_store.h explains each field."""
+
+    record: int
+    is_savepoint: bool
+    files: int
+    bytes: int
+    passed: int
+    savepoints: int
+    term: int
+    next_name: int
+    next_number: int
+
+
+@dataclass(frozen=True)
+class Call:
+    """A call of a list. Without a moment it has that of the store's clock. The term is that of its task."""
+
+    kind: int
+    now: Optional[int] = None
+    number: int = 0
+    vertex: int = 0
+    index: int = 0
+    first: Sequence[int] = ()
+    second: Sequence[int] = ()
+    term: int = 0
+    payload: bytes = b""  # of an acknowledgement, with its bytes and ms
+    figures: Tuple[int, int] = (0, 0)
+    reason: str = ""  # of a decline
+
+    # bindings/generate makes the calls of one number
+    @classmethod
+    def tick(cls, now: Optional[int] = None) -> "Call":
+        return cls(header.CALL_TICK, now)
+
+    @classmethod
+    def savepoint(cls, now: Optional[int] = None) -> "Call":
+        return cls(header.CALL_SAVEPOINT, now)
+
+    @classmethod
+    def dispose(cls, id: int) -> "Call":
+        return cls(header.CALL_DISPOSE, number=id)
+
+    @classmethod
+    def cancel(cls, now: Optional[int] = None) -> "Call":
+        return cls(header.CALL_CANCEL, now)
+
+    @classmethod
+    def deleted(cls, file: int) -> "Call":
+        return cls(header.CALL_DELETED, number=file)
+
+    @classmethod
+    def undeleted(cls, file: int) -> "Call":
+        return cls(header.CALL_UNDELETED, number=file)
+
+    @classmethod
+    def trigger(cls, now: Optional[int] = None) -> "Call":
+        return cls(header.CALL_TRIGGER, now)
+    # bindings/generate: end
+
+    @classmethod
+    def ack(
+        cls, id: int, vertex: int, index: int, fresh: Sequence[int] = (), reused: Sequence[int] = (), now: Optional[int] = None, term: int = 0,
+        payload: bytes = b"", figures: Tuple[int, int] = (0, 0),
+    ) -> "Call":
+        """The figures are the bytes of the task's snapshot, and the ms that it took."""
+        return cls(header.CALL_ACK, now, id, vertex, index, fresh, reused, term, payload, figures)
+
+    @classmethod
+    def decline(cls, id: int, vertex: int, index: int, now: Optional[int] = None, term: int = 0, reason: str = "") -> "Call":
+        return cls(header.CALL_DECLINE, now, id, vertex, index, term=term, reason=reason)
+
+    @classmethod
+    def reserve(cls, term: int, count: int) -> "Call":
+        return cls(header.CALL_RESERVE, 0, count, term=term)
+
+    @classmethod
+    def forfeit(cls, term: int, names: Sequence[int]) -> "Call":
+        return cls(header.CALL_FORFEIT, 0, first=names, term=term)
+
+    @classmethod
+    def configure(cls, settings: Settings, now: Optional[int] = None) -> "Call":
+        """For a list of calls. Store.configure() says which value is outside its limits."""
+        return cls(header.CALL_CONFIGURE, now, first=_numbers(settings))
+
+    @classmethod
+    def advance(cls, term: int, first_name: int, now: Optional[int] = None) -> "Call":
+        return cls(header.CALL_ADVANCE, now, first_name, term=term)
+
+    @classmethod
+    def restore(cls, savepoint: Optional[int] = None, shape: Optional[Sequence[int]] = None, now: Optional[int] = None) -> "Call":
+        if savepoint == 0:
+            raise BadArgument("no savepoint has the number 0")
+        if shape is not None and len(shape) == 0:
+            raise BadArgument("BadShape")
+        return cls(header.CALL_RESTORE, now, savepoint or 0, first=shape or ())
+
+    @classmethod
+    def take(cls, most: int) -> "Call":
+        return cls(header.CALL_TAKE, number=most)
+
+
+@dataclass(frozen=True)
+class Made:
+    """A call that was made and committed: its reply, its place in the log (0 if it changed nothing), and after a trigger the record that its
+    barrier names beside it. After a restore, cancel or advance: the term that begins. Tasks are started with it. `kind` is that of the record that was
+    triggered, acknowledged, declined, disposed of or restored (None: it had ended before), and `ended` are the numbers of records that the call has ended."""
+
+    reply: Reply
+    place: int
+    choice: Optional[Chosen]
+    term: int = 0
+    kind: Optional[Kind] = field(default=None, compare=False)
+    ended: Tuple[int, ...] = field(default=(), compare=False)
+
+
+Outcome = Union[Made, Error]
+
+
+def _loaded() -> ctypes.CDLL:
+    folder = os.environ.get("RELKVANU_LIB")
+    beside = pathlib.Path(__file__).resolve().parent / LIBRARY
+    path = os.path.join(folder, LIBRARY) if folder is not None else str(beside) if beside.is_file() else LIBRARY
+    try:
+        library = ctypes.CDLL(path, use_errno=True)  # which releases the interpreter's lock in each call
+        for name, (result, parameters) in store_header.FUNCTIONS.items():
+            function = getattr(library, name)
+            function.argtypes, function.restype = parameters, result
+    except (OSError, AttributeError) as fault:
+        raise ImportError(f"the library of relkvanu.store can't be loaded: {fault}", name="relkvanu.store", path=path) from None
+    return library
+
+
+_library = _loaded()
+
+
+AT_FDCWD = -100  # a path that is not in a folder of its own
+
+
+def _bytes(path: Path) -> bytes:
+    """The bytes of a path. The library would take what is before a zero byte."""
+    name = os.fsencode(path)
+    if b"\0" in name:
+        raise BadArgument("a path has no zero byte")
+    return name
+
+
+def _closes(status: int) -> bool:
+    return store_header.FAILED <= status <= store_header.OUT_OF_MEMORY
+
+
+def _check(status: int, message: bytes) -> None:
+    """What a function of the library that needs no store returned."""
+    if status == store_header.NO_MEMORY:
+        raise OutOfMemory
+    if status != store_header.OK:
+        raise StoreError(store_header.STATUSES[status], message.decode(errors="replace"), False, ctypes.get_errno())
+
+
+def _why() -> str:
+    text = ctypes.create_string_buffer(512)
+    _library.relkvanu_store_why(text, len(text))
+    return text.value.decode(errors="replace")
+
+
+def _chosen(answer: header.relkvanu_answer) -> Optional[Chosen]:
+    return Chosen(answer.a, CHOSEN[answer.what]) if answer.what in CHOSEN else None
+
+
+ENDED = {header.CALL_ACK: 80, header.CALL_RESERVE: 0, header.CALL_FORFEIT: 0, header.CALL_TAKE: 0}  # records that such a call ends at most
+
+
+def _more(ended: int, given: Optional[Call] = None) -> Any:
+    """What a call has beside its numbers, with a buffer for so many records that it ends."""
+    more = store_header.relkvanu_store_more()
+    if given is not None:
+        more.kept = ctypes.c_char_p(bytes(given.payload))
+        more.payload, more.payload_len = ctypes.cast(more.kept, ctypes.c_void_p), len(given.payload)
+        more.bytes, more.millis = map(_u64, given.figures)
+        reason = given.reason.encode()
+        more.reason, more.reason_len = reason, len(reason)
+    more.ended, more.ended_room = (U64 * ended)(), ended
+    return more
+
+
+class _List:
+    """Calls as the library takes them, with the arrays that they point to."""
+
+    def __init__(self, calls: Sequence[Call]) -> None:
+        self.length = len(calls)
+        self.calls = (store_header.relkvanu_store_call * len(calls))()
+        self.kept: List[Any] = []
+        for given, call in zip(calls, self.calls):
+            more = _more(ENDED.get(given.kind, store_header.MOST_ENDED), given)
+            self.kept += [more, given]
+            call.more = ctypes.pointer(more)
+            now = store_header.NOW if given.now is None else _within(given.now, 63)
+            call.call = header.relkvanu_call(
+                given.kind, _within(given.vertex, 16), _within(given.index, 16), now, _u64(given.number), _u64(given.term))
+            places = _within(given.number, 20) if given.kind == header.CALL_TAKE else 0
+            for name, array, length in (
+                ("first", _words(given.first), len(given.first)),
+                ("second", _words(given.second), len(given.second)),
+                ("files", (U64 * places)(), places),
+            ):
+                self.kept.append(array)
+                setattr(call, name, ctypes.cast(array, ctypes.POINTER(U64)))
+                setattr(call, f"{name}_len", length)
+
+    def outcomes(self) -> List[Outcome]:
+        return [self.outcome(call) for call in self.calls[: self.length]]
+
+    @staticmethod
+    def outcome(call: store_header.relkvanu_store_call) -> Outcome:
+        answer = call.answer
+        if answer.code == store_header.NOT_MADE:
+            return OutOfMemory()
+        try:
+            _done(answer)
+            reply = Taken(tuple(call.files[: answer.a])) if answer.what == header.TAKEN else _made(answer)
+        except Error as error:
+            return error
+        more = call.more.contents if call.more else None
+        told = (KINDS.get(more.kind), tuple(more.ended[: min(more.ended_len, more.ended_room)])) if more is not None else (None, ())
+        return Made(reply, call.place, _chosen(call.choice), call.term, *told)
+
+
+class _Borrowed(Coordinator):
+    """A coordinator over the handle of a store, which closes it."""
+
+    def __del__(self) -> None:
+        pass
+
+
+class Reads:
+    """The reads of a coordinator, between two commits: those of Coordinator that change nothing. For the time of Store.read()."""
+
+    def __init__(self, handle: Any) -> None:
+        self._job = Coordinator.__new__(_Borrowed)
+        self._job._begin()
+        self._job._handle = header.relkvanu.from_address(ctypes.addressof(handle.contents))
+        for name in ("mode", "moment", "due", "oldest_expiry", "choice", "live", "live_from", "standing", "files_of", "pins_of",
+                     "waiting_file", "taken_files", "missing", "file_counts", "show", "save", "count", "term", "garbage"):
+            setattr(self, name, getattr(self._job, name))
+
+    def __getattr__(self, name: str) -> Any:
+        raise AttributeError(f"{name} is no read")
+
+    def _end(self) -> None:
+        self._job._handle = header.relkvanu(None)  # each later read raises Closed
+
+
+class _Read:
+    """A read of a store. It ends once, whoever ends it, and also if it begins only after that."""
+
+    def __init__(self, job: "Store") -> None:
+        self._job = job
+        self._handle = ctypes.POINTER(header.relkvanu)()  # the library sets it when the read begins
+        self.thread = threading.get_ident()
+        self._reads: Optional[Reads] = None
+        self._ender: Optional[Once] = None
+        self._is_over = self._has_returned = False
+
+    def _wait(self) -> Optional[Exception]:
+        """Waits for the read to begin. It may be over by then, because the wait was interrupted."""
+        store = self._job._store
+        fault = self._job._fault(_library.relkvanu_store_read(store, ctypes.byref(self._handle)), store)
+        self._has_returned = True
+        if self._is_over or fault is not None:
+            self.end()
+        return fault
+
+    def begin(self) -> Reads:
+        task = Task(self._wait)
+        try:
+            self._job._used.add(self)
+            self._ender = Once(_library.relkvanu_store_read_end, self._job._opened())
+            if is_main():
+                task.start()
+                fault = task.wait()
+            else:
+                fault = self._wait()
+            if fault is not None:
+                raise fault
+            self._job._reading = self
+            self._reads = Reads(self._handle)
+            return self._reads
+        except BaseException:
+            if task.is_taken_back():
+                self._has_returned = True
+            self.end()  # or the task does, once it has returned
+            raise
+
+    def end(self) -> None:
+        self._is_over = True
+        if not self._has_returned:
+            return
+        if self._reads is not None:
+            self._reads._end()
+        if self._handle and self._ender is not None:
+            self._ender.end()
+        if self._job._reading is self:
+            self._job._reading = None
+        self._job._used.discard(self)
+
+
+class _Reading:
+    """A read for `with`. If a signal interrupts its end, it ends when nobody has this any more."""
+
+    def __init__(self, job: "Store") -> None:
+        self._read = _Read(job)
+
+    def __enter__(self) -> Reads:
+        return self._read.begin()
+
+    def __exit__(self, *_: object) -> None:
+        self._read.end()
+
+    def __del__(self) -> None:
+        self._read.end()
+
+
+class Store:
+    """A durable coordinator. `with Store(..) as job:` closes it. Threads may share it.
+
+    Each call raises Refused, OutOfMemory and so on as that of Coordinator does, and StoreError if it was not committed. close() waits for
+    the calls of other threads; later ones raise StoreError("Closed").
+    """
+
+    def __init__(
+        self,
+        path: Path,
+        settings: Settings,
+        shape: Sequence[int],
+        *,
+        storage: Optional[Path] = None,
+        create: bool = False,
+        only_create: bool = False,
+        adopt: bool = False,
+        earlier_image: bool = False,
+        backup: bool = False,
+        manifests: bool = False,
+        patience: int = 0,
+        image_calls: Optional[int] = 10_000,
+        most_ahead: int = 0,
+    ) -> None:
+        """Recovers the job at `path`, or makes one if `create` says so. `storage` is the folder of the state files, which has to exist.
+        `image_calls` is None for no images. The settings are those of a new job; `report.settings_differ` compares them.
+        `backup` opens a backup, once: see backup().
+        With `manifests` the storage folder gets a manifest of each complete record, of which recover() makes the job again if its file is lost."""
+        self._store = ctypes.c_void_p()
+        self._process = os.getpid()
+        self._used: Set[object] = set()  # who is in the library; add and discard are one step each, so an interrupt leaves nobody here
+        self._reading: Optional[_Read] = None
+        self._closing = False
+        self._closer: Optional[Task] = None
+        self._ends = threading.RLock()
+        self._lock = threading.Lock()
+        self._submits: Dict[int, _List] = {}
+        self._token = 0
+        self._places: List[Tuple[Any, ...]] = []  # the functions of keep_manifests(), which C calls
+        self.manifest_fault: Optional[BaseException] = None
+        flags = create * store_header.CREATE | only_create * store_header.CREATE_ONLY | adopt * store_header.ADOPT
+        words, found = _words(shape), store_header.relkvanu_store_report()
+        options = store_header.relkvanu_store_options(
+            flags | earlier_image * store_header.EARLIER_IMAGE | backup * store_header.BACKUP
+            | manifests * store_header.MANIFESTS, _within(patience, 32),
+            store_header.NO_IMAGES if image_calls is None else _u64(image_calls), _u64(most_ahead),
+            None if storage is None else _bytes(storage), _settings(settings), ctypes.cast(words, ctypes.POINTER(U64)), len(shape))
+        status = _library.relkvanu_store_open(ctypes.byref(self._store), _bytes(path), ctypes.byref(options), ctypes.byref(found))
+        if status == store_header.NO_MEMORY:
+            raise OutOfMemory
+        if status != store_header.OK:
+            raise StoreError(
+                store_header.STATUSES[status], found.message.decode(errors="replace"), _closes(status), ctypes.get_errno())
+        self.report = Report(
+            found.is_recovered, found.settings_differ, tuple(Step(it) for it in found.steps[: found.steps_len]), found.epoch,
+            f"{found.job[0]:016x}{found.job[1]:016x}", found.image_place, found.replayed, found.taken, found.moment, Mode(found.mode.what),
+            _chosen(found.choice), found.term, found.next_name, _phase(found.phase, found.savepoint, 0, found.stop_failed))
+
+    def _message(self, store: ctypes.c_void_p) -> str:
+        text = ctypes.create_string_buffer(512)
+        _library.relkvanu_store_message(store, text, len(text))
+        return text.value.decode(errors="replace")
+
+    def _fault(self, status: int, store: ctypes.c_void_p, *fine: int) -> Optional[Exception]:
+        """What a status of the library says, unless it is fine. The thread is the one that has called it."""
+        number = ctypes.get_errno()
+        if status == store_header.OK or status in fine:
+            return None
+        if status == store_header.NO_MEMORY:
+            return OutOfMemory()
+        if status == store_header.NOT_PUT:
+            return StoreError("NotPut", os.strerror(number), False, number)
+        if status in (store_header.NOT_DONE, store_header.STORAGE, store_header.PRESENT):
+            return StoreError(store_header.STATUSES[status], _why(), False, number if status == store_header.NOT_DONE else 0)
+        return StoreError(store_header.STATUSES[status], self._message(store), _closes(status))
+
+    def _opened(self, in_read: bool = False) -> ctypes.c_void_p:
+        """The store, for who is among the uses."""
+        if self._closing or not self._store:
+            raise StoreError("Closed", "close() was called", False)
+        if not in_read and self._reading is not None and self._reading.thread == threading.get_ident():
+            raise StoreError("InRead", "this thread is in read(), so the call would wait for itself: make it after the read", False)
+        return self._store
+
+    def _at_once(self, work: Callable[[ctypes.c_void_p], Any]) -> Any:
+        """Does what never waits, with the store, which is not freed meanwhile."""
+        use = object()
+        try:
+            self._used.add(use)
+            return work(self._opened(in_read=True))
+        finally:
+            self._used.discard(use)
+
+    def _waits(self, work: Callable[[ctypes.c_void_p], Any]) -> Any:
+        """Does what may wait. In the main thread another one does it, so that the handlers of signals run meanwhile. If one raises, the work goes
+        on to its end, and the store is not freed before."""
+        use = object()
+
+        def done() -> Any:
+            try:
+                return work(store)
+            finally:
+                self._used.discard(use)
+
+        task = Task(done)
+        try:
+            self._used.add(use)
+            store = self._opened()
+            if not is_main() or os.getpid() != self._process:
+                return work(store)
+            task.start()
+            return task.wait()
+        finally:
+            if not is_main() or task.is_taken_back():
+                self._used.discard(use)
+
+    def _made(self, function: Callable[..., int], *words: Any, fine: int = store_header.OK, says: bool = False) -> int:
+        """Makes a call of the library that may wait, and returns its status, which is OK or fine. One that says why it was not made has said it for this thread."""
+        def work(store: ctypes.c_void_p) -> Tuple[int, Optional[Exception]]:
+            status = function(store, *words)
+            fault = self._fault(status, store, fine)
+            if says and status in (store_header.BAD_ARGUMENT, store_header.FILE_LOST, store_header.DAMAGED):
+                fault = StoreError(store_header.STATUSES[status], _why(), False)
+            return status, fault
+
+        status, fault = self._waits(work)
+        if fault is not None:
+            raise fault
+        return int(status)
+
+    def __reduce__(self) -> NoReturn:
+        raise TypeError("a Store can't be copied or pickled")
+
+    def close(self) -> None:
+        """Lets timers and discarders return, waits for the calls of other threads and for submits, makes an image, and closes. If it is interrupted,
+        no later call is made, and the next close() goes on with it."""
+        if not self._store or os.getpid() != self._process:
+            return  # in a forked child the store is that of its parent
+        for use in list(self._used):
+            if isinstance(use, _Read) and use.thread == threading.get_ident():
+                use.end()
+        with self._ends:
+            self._closing = True
+            if self._closer is None:
+                _library.relkvanu_store_stop(self._store)
+                while self._used:
+                    time.sleep(0.002)
+            if self._closer is None:
+                self._closer = Task(self._free)
+            self._closer.start()
+            self._closer.wait()
+
+    def _free(self) -> None:
+        _library.relkvanu_store_close(self._store)
+        self._store = ctypes.c_void_p()
+
+    def __enter__(self) -> "Store":
+        return self
+
+    def __exit__(self, *_: object) -> None:
+        self.close()
+
+    def __del__(self) -> None:
+        if getattr(self, "_store", None):
+            self.close()
+
+    def calls(self, calls: Sequence[Call]) -> List[Outcome]:
+        """Makes 1 to 4096 calls with no other in between, and returns once they are committed. A refused one is a Refused in the list."""
+        made = _List(calls)
+        self._made(_library.relkvanu_store_calls, made.calls, made.length, says=True)
+        return made.outcomes()
+
+    def call(self, call: Call) -> Made:
+        """One call."""
+        (outcome,) = self.calls([call])
+        if isinstance(outcome, Error):
+            raise outcome
+        return outcome
+
+    # bindings/generate makes the calls of one number of a store
+    def tick(self, now: Optional[int] = None) -> Made:
+        """Time has passed: records that are too old expire, and a checkpoint is triggered if one is due."""
+        return self.call(Call.tick(now))
+
+    def savepoint(self, now: Optional[int] = None) -> Made:
+        """Triggers a savepoint. At most 1000 savepoints are pending or done."""
+        return self.call(Call.savepoint(now))
+
+    def dispose(self, id: int) -> Made:
+        """A user disposes of the completed savepoint id."""
+        return self.call(Call.dispose(id))
+
+    def cancel(self, now: Optional[int] = None) -> Made:
+        """The job ends for good."""
+        return self.call(Call.cancel(now))
+
+    def trigger(self, now: Optional[int] = None) -> Made:
+        """Triggers a checkpoint now, whatever the interval and the pause. Nothing expires: make a tick first if records may be
+        too old. The interval counts from it, as after a tick that triggers."""
+        return self.call(Call.trigger(now))
+    # bindings/generate: end
+
+    # A task has a term, and its calls raise Fenced("OldTerm") once it has ended. Such a call changes nothing.
+
+    def ack_in(
+        self, term: int, id: int, vertex: int, index: int, fresh: Sequence[int] = (), reused: Sequence[int] = (), now: Optional[int] = None,
+        *, payload: bytes = b"", bytes: int = 0, millis: int = 0
+    ) -> Made:
+        """The acknowledgement of a task of this term. The same once more raises Fenced("Spent"), if it has fresh files: a task deletes no file.
+        A payload of at most 4096 bytes is the state of the task, if it is small: it is committed with the acknowledgement, and load() gives it back as long as the
+        record is there. `bytes` and `millis` are figures of the task's snapshot, for history(). The record keeps the files in the order given here, the fresh
+        ones first. Raises StoreError("BadArgument") if the payload is too long."""
+        return self.call(Call.ack(id, vertex, index, fresh, reused, now, term, payload, (bytes, millis)))
+
+    def decline_in(self, term: int, id: int, vertex: int, index: int, now: Optional[int] = None, *, reason: str = "") -> Made:
+        """history() keeps the reason, at most 200 bytes in UTF-8; a longer one raises StoreError("BadArgument")."""
+        return self.call(Call.decline(id, vertex, index, now, term, reason))
+
+    def reserve(self, term: int, count: int) -> range:
+        """Names for files that the task will write, 1 to 65536. They are durable, and not given out again."""
+        reply = self.call(Call.reserve(term, count)).reply
+        assert isinstance(reply, Reserved), reply
+        return reply.names
+
+    def forfeit(self, term: int, names: Sequence[int]) -> None:
+        """Gives up names that the task will not acknowledge, as after a failed put: their files are garbage. At most 65536. Names that the
+        term does not hold are passed over."""
+        answer = header.relkvanu_answer()
+        self._made(_library.relkvanu_store_forfeit, _u64(term), _words(names), len(names), ctypes.byref(answer))
+        _told(answer, header.FORFEITED)
+
+    def term(self) -> RunningTerm:
+        """The term that runs, and the next name. Whoever starts tasks takes the term from its restore (Made.term). A task never asks."""
+        answer = header.relkvanu_answer()
+        self._made(_library.relkvanu_store_term, ctypes.byref(answer))
+        return RunningTerm(_told(answer, header.TERM).a, answer.b)
+
+    def garbage(self, files: Sequence[int]) -> Garbage:
+        """Of these files those that may be deleted at any time, and those whose names were not given out, which nobody deletes."""
+        answer, length = header.relkvanu_answer(), len(files)
+        garbage, unissued = (U64 * length)(), (U64 * length)()
+        self._made(_library.relkvanu_store_garbage, _words(files), length, garbage, unissued, ctypes.byref(answer))
+        _told(answer, header.GARBAGE)
+        return Garbage(tuple(garbage[: answer.a]), tuple(unissued[: answer.b]))
+
+    def restore(self, savepoint: Optional[int] = None, shape: Optional[Sequence[int]] = None, now: Optional[int] = None) -> Made:
+        return self.call(Call.restore(savepoint, shape, now))
+
+    def restore_whole(self, savepoint: Optional[int] = None, shape: Optional[Sequence[int]] = None, now: Optional[int] = None) -> Restored:
+        """restore(), and the record from which the job begins: see load(). The term is that of the tasks."""
+        made = self.restore(savepoint, shape, now)
+        return Restored(made.term, self.load(made.reply.id) if isinstance(made.reply, (RestoredCheckpoint, RestoredSavepoint)) else None)
+
+    def load(self, id: Optional[int] = None) -> Optional[Whole]:
+        """The complete record with this number, or the one that a restart begins from, with the files and the payload of each subtask, once it has looked
+        that the files are in the storage folder. None: the job begins fresh. Raises StoreError "FileLost" (end the process, and sweep nothing),
+        "Absent" (there is no such complete record) or "Damaged"."""
+        parts: List[Part] = []
+
+        def note(_: object, found: Any) -> bool:
+            parts.append(_part(found.contents))
+            return True
+
+        found, each = store_header.relkvanu_store_loaded(), store_header.relkvanu_store_each_part(note)
+        self._made(_library.relkvanu_store_load, _u64(id or 0), ctypes.byref(found), each, None, says=True)
+        return _whole(found, parts)
+
+    def history(self, most: int = 100) -> List[Past]:
+        """At most so many of the last thousand records that are complete or have failed, the last one first."""
+        room = min(most, store_header.MOST_HISTORY)
+        found, length = (store_header.relkvanu_store_past * room)(), ctypes.c_size_t(room)
+        self._made(_library.relkvanu_store_history, found, ctypes.byref(length), says=True)
+        return [_past(it) for it in found[: length.value]]
+
+    def advance(self, term: int, first_name: int) -> Made:
+        """Begins a job again that lacks its last calls, as one of a backup does, in place of the first restore. `term` is the greatest
+        that any task was told, and names are given out from `first_name` on. Made.term is the term of the tasks."""
+        return self._verb(_library.relkvanu_store_advance, _u64(term), _u64(first_name))
+
+    # What an operator wants of a job that runs. Any thread calls these, also while another one is in await_tick(), which hands over what they have made.
+    # trigger() is one of them.
+
+    def configure(self, settings: Settings) -> Made:
+        """Other settings, from the next tick on. Done checkpoints above the new number retained go in the same commit, and the reply says how many. Raises
+        StoreError("BadArgument") if a value is outside its limits, and Refused("AtOnce") if more are pending than may be from then on."""
+        return self._verb(_library.relkvanu_store_configure, ctypes.byref(_settings(settings)))
+
+    def stop_job(self) -> Made:
+        """Stops the job with a savepoint: the reply is SavepointTriggered. The timer rests. With the savepoint's last acknowledgement the job is stopped, in
+        the same commit: await_tick() returns None, and phase() says so. Raises StoreError("NotNow") if it is being stopped, or is stopped."""
+        return self._verb(_library.relkvanu_store_stop_job)
+
+    def begin_job(self) -> Made:
+        """A job that is stopped goes on: the reply says where, and Made.term is the term of its tasks. Raises StoreError("NotNow") if it is not stopped."""
+        return self._verb(_library.relkvanu_store_begin_job)
+
+    def go_back(self, id: int, accept_published: bool = False) -> Made:
+        """Goes back to a done checkpoint that is retained, in one commit. What sinks have published for later records is not taken back, and the job will
+        publish it again: `accept_published` has to say that this is accepted. The reply says where the job begins, and Made.term is the term of its tasks.
+        Raises Refused("NoSuchRecord"), or BadArgument("BadShape") if the job has another shape than the checkpoint had."""
+        flags = store_header.ACCEPT_PUBLISHED if accept_published else 0
+        return self._verb(_library.relkvanu_store_go_back, _u64(id), flags)
+
+    def phase(self) -> JobPhase:
+        """Whether the job runs, is being stopped or is stopped, of what is committed."""
+        found = store_header.relkvanu_store_job_phase()
+        fault = self._at_once(lambda store: self._fault(_library.relkvanu_store_phase(store, ctypes.byref(found)), store))
+        if fault is not None:
+            raise fault
+        return _phase(found.phase, found.savepoint, found.term, found.stop_failed)
+
+    def _verb(self, function: Callable[..., int], *words: Any) -> Made:
+        call = store_header.relkvanu_store_call()
+
+        def work(store: ctypes.c_void_p) -> Optional[Exception]:
+            status = function(store, *words, ctypes.byref(call))
+            fault = self._fault(status, store)
+            return StoreError(fault.name, _why(), False) if isinstance(fault, StoreError) and fault.name in ("BadArgument", "NotNow") else fault
+
+        fault = self._waits(work)
+        if fault is not None:
+            raise fault
+        outcome = _List.outcome(call)
+        if isinstance(outcome, Error):
+            raise outcome
+        return outcome
+
+    def submit(self, calls: Sequence[Call]) -> int:
+        """For event loops: as calls(), but returns a token at once. completed() returns it with the outcomes."""
+        made = _List(calls)
+        return self._submitted(made, lambda store, token: _library.relkvanu_store_submit(store, made.calls, made.length, token))
+
+    def submit_stop_job(self) -> int:
+        """For event loops: as stop_job(). completed() returns the token with one outcome, or with StoreError("NotNow")."""
+        return self._submitted_verb(_library.relkvanu_store_submit_stop_job)
+
+    def submit_begin_job(self) -> int:
+        """For event loops: as begin_job(). completed() returns the token with one outcome, or with StoreError("NotNow")."""
+        return self._submitted_verb(_library.relkvanu_store_submit_begin_job)
+
+    def _submitted_verb(self, function: Callable[..., int]) -> int:
+        made = _List([Call.tick()])  # a place: the function writes the call
+        return self._submitted(made, lambda store, token: function(store, made.calls, token))
+
+    def _submitted(self, made: "_List", submit: Callable[[ctypes.c_void_p, int], Any]) -> int:
+        def work(store: ctypes.c_void_p) -> int:
+            with self._lock:
+                self._token += 1
+                token = self._token
+            self._submits[token] = made
+            fault = self._fault(submit(store, token), store)
+            if fault is not None:
+                del self._submits[token]
+                raise fault
+            return token
+
+        token: int = self._at_once(work)
+        return token
+
+    def completed(self) -> List[Tuple[int, Union[List[Outcome], StoreError]]]:
+        """The submits that are committed, or failed, since the last time. Never waits."""
+        found = (store_header.relkvanu_store_completion * 64)()
+
+        def work(store: ctypes.c_void_p) -> List[Tuple[int, Union[List[Outcome], StoreError]]]:
+            length = _library.relkvanu_store_completed(store, found, len(found))
+            return [(it.token, self._completion(it, store)) for it in found[:length]]
+
+        completions: List[Tuple[int, Union[List[Outcome], StoreError]]] = self._at_once(work)
+        return completions
+
+    def _completion(self, it: store_header.relkvanu_store_completion, store: ctypes.c_void_p) -> Union[List[Outcome], StoreError]:
+        made = self._submits.pop(it.token)
+        if it.status == store_header.OK:
+            return made.outcomes()
+        return StoreError(store_header.STATUSES[it.status], self._message(store), _closes(it.status))
+
+    def fileno(self) -> int:
+        """A descriptor that can be read (select, asyncio) while there are completions."""
+        descriptor: int = self._at_once(_library.relkvanu_store_descriptor)
+        return descriptor
+
+    def read(self) -> ContextManager[Reads]:
+        """`with job.read() as reads:` reads what is committed. All callers wait meanwhile, so be quick, and make no call: one of this thread raises
+        StoreError("InRead"), but close(), which ends the read, and submit()."""
+        return _Reading(self)
+
+    def now(self) -> int:
+        """The moment of the store's clock."""
+        moment: int = self._at_once(_library.relkvanu_store_now)
+        return moment
+
+    def next_tick(self) -> Optional[int]:
+        """After how many milliseconds the next tick has to come, unless a call is made before; None: only a call can bring one."""
+        wait = U64()
+        fault = self._at_once(lambda store: self._fault(_library.relkvanu_store_next_tick(store, ctypes.byref(wait)), store))
+        if fault is not None:
+            raise fault
+        return None if wait.value == FOREVER else wait.value
+
+    def await_tick(self, longest: int = 1000) -> Optional[Made]:
+        """A timer in a loop of a thread: sleeps until a tick is due, at most so many milliseconds, and makes it. It also hands over what trigger(),
+        stop_job(), begin_job() and go_back() have made, once: the reply of the call, with its choice and its term. Triggered: the engine sends the
+        barrier. SavepointTriggered: the same, and each task holds after its acknowledgement. A restore: the engine begins there, as after one of its own.
+        None: none was due. It comes at once if the job has failed or was cancelled (read the mode), is stopped, or its stop has failed (see phase())."""
+        call, left, more = store_header.relkvanu_store_call(), _u64(longest), _more(store_header.MOST_ENDED)
+        status, waits = store_header.TIMED_OUT, (store_header.NOT_RUNNING, store_header.JOB_STOPPED)
+        while status == store_header.TIMED_OUT or (status in waits and call.answer.a == 0):
+            part = min(left, SLICE) if is_main() else left
+            left -= part
+            status = self._awaited(part, call, more)
+            if left == 0:
+                break
+        if status != store_header.OK:
+            return None
+        outcome = _List.outcome(call)
+        if isinstance(outcome, Error):
+            raise outcome
+        return outcome
+
+    def _awaited(self, longest: int, call: store_header.relkvanu_store_call, more: Any) -> int:
+        def work(store: ctypes.c_void_p) -> Tuple[int, Optional[Exception]]:
+            status = _library.relkvanu_store_await_tick_with(store, longest, ctypes.byref(call), ctypes.byref(more))
+            return status, self._fault(
+                status, store, store_header.TIMED_OUT, store_header.NOT_RUNNING, store_header.JOB_STOPPED, store_header.NOT_STOPPED)
+
+        status, fault = self._waits(work)
+        if fault is not None:
+            raise fault
+        return int(status)
+
+    def put(self, file: int, contents: bytes) -> None:
+        """Makes a file of the storage folder by its number. When it returns, a loss of power does not take the file, and a task may acknowledge it.
+        Raises StoreError "Present", "Storage" or "NotPut": then the task forfeits the name and declines, and leaves what is there to a sweep. `errno`
+        of a "NotPut" says what the system has said."""
+        self._made(_library.relkvanu_store_put, _u64(file), contents, len(contents))
+
+    def put_from(self, file: int, source: Any) -> None:
+        """As put(), of what an open binary file (or anything with read()) gives from its position on. What read() raises is raised, and then there is
+        no file."""
+        thrown: List[BaseException] = []
+
+        def read(_: Any, to: int, room: int) -> int:
+            try:
+                some = source.read(room)
+                ctypes.memmove(to, bytes(some), len(some))
+                return len(some)
+            except BaseException as why:
+                thrown.append(why)
+                return -1
+
+        try:
+            self._made(_library.relkvanu_store_put_from, _u64(file), store_header.relkvanu_store_source(read), None)
+        except StoreError:
+            if thrown:
+                raise thrown[0]
+            raise
+
+    def put_link(self, file: int, path: Path) -> None:
+        """As put(), of a file that exists, on the same file system, which gets the number as a second name: nobody writes it afterwards. Raises
+        StoreError("NotPut") with the `errno` EXDEV if it is on another file system: put_from() copies it."""
+        self._made(_library.relkvanu_store_put_link, _u64(file), AT_FDCWD, _bytes(path))
+
+    def sweep(self) -> int:
+        """A sweep: deletes the files of the storage folder that are garbage, and syncs it. Returns how many could not be deleted.
+        It runs at any time, also beside tasks, and counts()["unissued"] are the files that it left since their names were not
+        given out. Raises StoreError "Storage" if the folder is gone or another's, and "NotDone" if it could not be read or
+        synced now: sweep again later."""
+        left = ctypes.c_size_t()
+        self._made(_library.relkvanu_store_sweep, ctypes.byref(left))
+        return left.value
+
+    def backup(self, path: Path) -> None:
+        """Makes a backup of the job in a new file, while other threads call. It is whole and durable when this returns. Raises StoreError "Present",
+        "NotNow" (another backup writes it) or "NotPut" (a full disk, say): then there is none, and the store goes on.
+
+        A BACKUP LACKS THE CALLS SINCE IT WAS MADE. Store(.., backup=True) opens it, once, after all processes and tasks of the job have ended, and then
+        the engine restores a record whose files are all there: docs/DURABLE-BACKUP.md, A backup. Without that it raises StoreError("Storage")."""
+        message, name = ctypes.create_string_buffer(512), _bytes(path)
+
+        def work(store: ctypes.c_void_p) -> Tuple[int, int]:
+            return _library.relkvanu_store_backup(store, name, message, len(message)), ctypes.get_errno()
+
+        status, number = self._waits(work)
+        if status == store_header.NO_MEMORY:
+            raise OutOfMemory
+        if status != store_header.OK:
+            raise StoreError(store_header.STATUSES[status], message.value.decode(errors="replace"), _closes(status), number)
+
+    def marker(self) -> Marker:
+        """What a storage of this opening has as its marker: a folder or a bucket with it takes no deletion of an earlier opening."""
+        return Marker(".relkvanu-job", f"relkvanu job {self.report.job}\nepoch {self.report.epoch}\n")
+
+    def keep_manifests(self, place: Manifests) -> None:
+        """Keeps manifests in a place of the engine's, for a store without `storage`: right after each opening. relkvanu.s3.StateBucket does it. Those of all
+        complete records are put anew. While one is put the calls of all threads wait. If one can't be put, `manifest_fault` has the reason, measures() counts
+        it, and it is tried again. Raises what the place has raised: then no manifests are kept."""
+        def guarded(work: Callable[..., None]) -> Callable[..., int]:
+            def done(_: object, *words: Any) -> int:
+                try:
+                    work(*words)
+                except BaseException as error:  # nothing passes through C
+                    self.manifest_fault = error
+                    return 9  # RELKVANU_STORAGE_FAILED
+                return 0
+            return done
+
+        def tell_names(each: Callable[..., bool], with_each: Any) -> None:
+            for name in place.manifests():
+                each(with_each, name.encode())
+
+        functions = (
+            store_header.relkvanu_store_check_place(guarded(place.check)),
+            store_header.relkvanu_store_put_named(guarded(lambda name, at, length: place.put_manifest(name.decode(), ctypes.string_at(at, length)))),
+            store_header.relkvanu_store_remove_named(guarded(lambda name: place.remove_manifest(name.decode()))),
+            store_header.relkvanu_store_list_named(guarded(tell_names)))
+        self._places.append(functions)  # a refused call changes nothing: those that are kept stay
+        self.manifest_fault = None
+        try:
+            self._made(_library.relkvanu_store_keep_manifests, *functions, None)
+        except StoreError as error:
+            raise (self.manifest_fault or error) from None
+        self._place = functions  # a call that is refused leaves those that C has
+
+    @staticmethod
+    def recover_listed(path: Path, listing: Path, record: int = 0) -> Recovered:
+        """recover() for a job whose manifests keep_manifests() has kept: `listing` is a folder that stands for the place. relkvanu.manifests makes one."""
+        found = store_header.relkvanu_store_recovered()
+        _check(_library.relkvanu_store_recover_listed(_bytes(path), _bytes(listing), _u64(record), ctypes.byref(found)), found.message)
+        return Recovered(**{name: getattr(found, name) for name, *_ in found._fields_[:-2]})
+
+    @staticmethod
+    def recover(path: Path, storage: Path, record: int = 0) -> Recovered:
+        """Makes the job at `path` again, whose file was lost, from the manifests in its storage folder: from the last record that was the choice and has
+        all its files, or from the record with this number. Each task and process of the old job has been told to end. Killed at any moment it
+        has done nothing, or all. Then Store(path, .., storage=storage) recovers the job as ever.
+
+        Raises StoreError "Present" (there is a job), "Absent" (no record with a manifest has all its files), "Damaged" (a manifest that can't be read is
+        later: give a record), "Storage" or "InUse", and nothing has changed."""
+        found = store_header.relkvanu_store_recovered()
+        status = _library.relkvanu_store_recover(_bytes(path), _bytes(storage), _u64(record), ctypes.byref(found))
+        _check(status, found.message)
+        return Recovered(**{name: getattr(found, name) for name, *_ in found._fields_[:-2]})
+
+    @staticmethod
+    def export(storage: Path, to: Path, record: int = 0) -> Carried:
+        """Makes the folder `to` of the record that recover() would begin from, or of this one: its files, linked or copied, and its manifest. The job of
+        the storage folder may run meanwhile. Killed at any moment it has done nothing, or all. Raises StoreError "Present" (there is something at
+        `to`), "Absent" (no record with a manifest has all its files) and so on."""
+        found = store_header.relkvanu_store_carried()
+        status = _library.relkvanu_store_export(_bytes(storage), _u64(record), _bytes(to), ctypes.byref(found))
+        _check(status, found.message)
+        return Carried(**{name: getattr(found, name) for name, *_ in found._fields_[:-2]})
+
+    @staticmethod
+    def import_job(source: Path, path: Path, storage: Path, record: int = 0, claim: bool = False) -> Recovered:
+        """Makes another job, at `path` over the folder `storage`, of a record in `source`: an exported folder, or the storage folder of a job, which may run.
+        With `claim` the record's files leave `source`, or stay in place if `storage` is the same folder, and a job that has the folder is refused from then on.
+        Raises StoreError as export() and recover()."""
+        found = store_header.relkvanu_store_recovered()
+        function = _library.relkvanu_store_claim if claim else _library.relkvanu_store_import
+        status = function(_bytes(source), _u64(record), _bytes(path), _bytes(storage), ctypes.byref(found))
+        _check(status, found.message)
+        return Recovered(**{name: getattr(found, name) for name, *_ in found._fields_[:-2]})
+
+    @staticmethod
+    def put_back(backup: Path, path: Path, storage: Path) -> Tuple[Recovered, str]:
+        """Puts a backup of backup() back in the place of the job's file. Read docs/DURABLE-BACKUP.md, A backup, first. Returns what the job goes on from, and
+        the folder that has what was there before."""
+        found = store_header.relkvanu_store_recovered()
+        _check(_library.relkvanu_store_put_back(_bytes(backup), _bytes(path), _bytes(storage), ctypes.byref(found)), found.message)
+        return Recovered(**{name: getattr(found, name) for name, *_ in found._fields_[:-2]}), found.message.decode(errors="replace")
+
+    @staticmethod
+    def records(storage: Path) -> List[Record]:
+        """The records of a storage folder that have a manifest, in the order of their numbers. It needs no job, and may be called at any time."""
+        message, records = ctypes.create_string_buffer(512), []
+
+        def note(_: object, found: Any) -> bool:
+            it = found.contents
+            damage = None if it.status == store_header.OK else store_header.STATUSES[it.status]
+            records.append(Record(it.id, it.is_savepoint, it.is_of_job, it.is_next, it.written, it.files, it.bytes, it.missing, damage))
+            return True
+
+        each = store_header.relkvanu_store_each_record(note)
+        _check(_library.relkvanu_store_records(_bytes(storage), each, None, message, len(message)), message.value)
+        return records
+
+    def job(self) -> Tuple[Settings, Tuple[int, ...]]:
+        """The settings and the shape that the job has now: for after an opening whose report says `settings_differ`, or before configure(). Makes an image."""
+        settings, shape, length = header.relkvanu_settings(), (U64 * 256)(), ctypes.c_size_t(256)
+        self._made(_library.relkvanu_store_job, ctypes.byref(settings), shape, ctypes.byref(length))
+        return Settings(**{name: getattr(settings, name) for name, *_ in settings._fields_}), tuple(shape[: length.value])
+
+    def folder(self) -> Optional[int]:
+        """The descriptor of the storage folder, for os.unlink(.., dir_fd=..), which reaches no folder that is mounted over it."""
+        folder: int = self._at_once(_library.relkvanu_store_folder)
+        return None if folder < 0 else folder
+
+    def discard(self, delete: Optional[Callable[[int], bool]] = None, batch: int = 0) -> None:
+        """A discarder in a thread of the engine: runs until stop() or close(). delete(file) says whether the file is not there any more, also
+        if it was not there before; an OSError says that it is. What else it raises ends the discarder, which raises it too, once the files before it
+        are reported. Without it the files of the storage folder are deleted. Never gives up."""
+        def delete_each(files: List[int], is_gone: Any) -> None:
+            for place, file in enumerate(files):
+                with contextlib.suppress(OSError):
+                    is_gone[place] = 1 if delete is not None and delete(file) else 0
+
+        self._discard(None if delete is None else delete_each, batch)
+
+    def discard_lists(self, delete: Callable[[List[int]], Container[int]], batch: int = 1000) -> None:
+        """As discard(), for a storage that deletes many files by one request: delete(files) is given up to `batch` of them, 1 to 4095, and returns those
+        that may be there still, as `delete` of a relkvanu.storage.Storage does. An OSError says that all may be there."""
+        def delete_list(files: List[int], is_gone: Any) -> None:
+            with contextlib.suppress(OSError):
+                failed = delete(files)
+                for place, file in enumerate(files):
+                    is_gone[place] = file not in failed
+
+        self._discard(delete_list, batch)
+
+    def _discard(self, delete: Optional[Callable[[List[int], Any], None]], batch: int) -> None:
+        """Runs a discarder: delete(files, is_gone) notes which of the files are gone. None: the files of the storage folder are deleted."""
+        thrown: List[BaseException] = []
+
+        def delete_some(_: Any, files: Any, length: int, is_gone: Any) -> bool:
+            try:
+                if delete is not None:
+                    delete(files[:length], is_gone)
+                return True
+            except BaseException as why:
+                thrown.append(why)
+                return False
+
+        deletes = store_header.relkvanu_store_delete_some(delete_some) if delete is not None else store_header.relkvanu_store_delete_some(0)
+
+        def work(store: ctypes.c_void_p) -> Tuple[int, Optional[Exception]]:
+            status = _library.relkvanu_store_discard_for(store, batch, SLICE, deletes, None)
+            return status, self._fault(status, store, store_header.TIMED_OUT, store_header.STOPPED, store_header.NO_MEMORY)
+
+        status, fault = store_header.OK, None
+        while status != store_header.STOPPED and fault is None and not thrown:
+            status, fault = self._waits(work) if delete is None else self._in_this_thread(work)
+        if thrown:
+            raise thrown[0]
+        if fault is not None:
+            raise fault
+
+    def _in_this_thread(self, work: Callable[[ctypes.c_void_p], Any]) -> Any:
+        """As _waits, of what calls a function of the engine: it is called in the thread that it was given in. A handler runs in it, or afterwards."""
+        use = object()
+        try:
+            self._used.add(use)
+            return work(self._opened())
+        finally:
+            self._used.discard(use)
+
+    def stop(self) -> None:
+        """Lets await_tick and discard end, now and later: await_tick raises StoreError("Stopped")."""
+        self._at_once(_library.relkvanu_store_stop)
+
+    def counts(self) -> Dict[str, int]:
+        """Counts since the opening: commits, calls, largest, images, failed_images, checkpoints, failed_checkpoints, retries, swept, unissued."""
+        found = store_header.relkvanu_store_counts()
+        self._at_once(lambda store: _library.relkvanu_store_count(store, ctypes.byref(found)))
+        return {name: getattr(found, name) for name, *_ in found._fields_[:-1]}
+
+    def measures(self) -> Dict[str, int]:
+        """What an operator watches: wal_bytes, log_rows, last_commit (ms since 1970 by the wall clock; 0: none since the opening) and failed_deletions."""
+        found = store_header.relkvanu_store_measures()
+        self._at_once(lambda store: _library.relkvanu_store_measure(store, ctypes.byref(found), ctypes.sizeof(found)))
+        return {name: getattr(found, name) for name, *_ in found._fields_}

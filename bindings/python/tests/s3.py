@@ -1,0 +1,362 @@
+"""State files in a bucket of the server that the environment names (bindings/s3/start): what is put, deleted and listed, what counts as deleted
+when the server fails, and what a sweeper deletes. bindings/s3/run runs it."""
+import json
+import os
+import signal
+import threading
+import time
+import unittest
+import uuid
+from unittest import mock
+
+import boto3
+from botocore.config import Config
+from botocore.exceptions import ClientError
+
+import relkvanu.sweep
+from relkvanu import Coordinator, FileCounts, Settings
+from relkvanu.s3 import Bucket, KeepsVersions
+from relkvanu.storage import Exists, Marker, NotThere, OtherJob, StorageError, discard, sweep, unknown
+from relkvanu.sweep import Swept
+from jobs_with_files import MARKER, job_with_files
+
+
+def client(**words):
+    how = Config(retries={"max_attempts": 0}, connect_timeout=60, read_timeout=words.pop("patience", 300), s3={"addressing_style": "path"})
+    return boto3.client("s3", **{"endpoint_url": os.environ["S3_ENDPOINT"], "region_name": os.environ["S3_REGION"], "config": how, **words})
+
+
+class OnAServer(unittest.TestCase):
+    def setUp(self):
+        self.s3 = client()
+        self.bucket = f"b{uuid.uuid4().hex}"
+        self.s3.create_bucket(Bucket=self.bucket)
+
+    def opened(self, job="orders", is_new=False, s3=None, **words):
+        return Bucket(self.bucket, job, is_new, s3=s3 or self.s3, **words)
+
+    def keys(self):
+        return sorted(it["Key"] for it in self.s3.list_objects_v2(Bucket=self.bucket).get("Contents", []) if ".relkvanu" not in it["Key"])
+
+
+class Opening(OnAServer):
+    def test_marker(self):
+        with self.assertRaises(NotThere):
+            self.opened()
+        self.opened(is_new=True)
+        self.opened(is_new=True)
+        with self.assertRaises(OtherJob):
+            self.opened("payments", is_new=True)
+
+    def test_a_new_job_needs_a_place_without_files(self):
+        self.s3.put_object(Bucket=self.bucket, Key="7", Body=b"")
+        with self.assertRaises(StorageError):
+            self.opened(is_new=True)
+        self.opened(is_new=True, prefix="b/")
+
+    def test_no_bucket(self):
+        self.s3.delete_bucket(Bucket=self.bucket)
+        for is_new in (False, True):
+            with self.assertRaises(NotThere):
+                self.opened(is_new=is_new)
+
+    def test_a_bucket_with_versions_is_refused(self):
+        self.s3.put_bucket_versioning(Bucket=self.bucket, VersioningConfiguration={"Status": "Enabled"})
+        with self.assertRaises(KeepsVersions):
+            self.opened(is_new=True)
+        self.assertEqual(self.s3.list_objects_v2(Bucket=self.bucket)["KeyCount"], 0)
+        self.opened(is_new=True, keeps_versions=True)
+
+    def test_a_wrong_secret(self):
+        with self.assertRaises(StorageError):
+            self.opened(is_new=True, s3=client(aws_access_key_id=os.environ["AWS_ACCESS_KEY_ID"], aws_secret_access_key="wrong"))
+
+
+class Files(OnAServer):
+    def setUp(self):
+        super().setUp()
+        self.files = self.opened(is_new=True, prefix="jobs/orders/", suffix=".sst")
+
+    def test_put_and_get(self):
+        for file, contents in ((0, b""), (18446744073709551615, bytes(range(256)) * 1000)):
+            self.files.put(file, contents)
+            self.assertEqual(self.files.get(file), contents)
+        self.assertEqual(self.keys(), ["jobs/orders/0.sst", "jobs/orders/18446744073709551615.sst"])
+        with self.assertRaises(Exists):
+            self.files.put(0, b"another")
+        self.assertEqual(self.files.get(0), b"")
+        with self.assertRaises(StorageError):
+            self.files.get(1)
+
+    def requests(self, *calls):
+        """The requests that are made by each of the calls."""
+        made = []
+        self.s3.meta.events.register("before-call.s3.*", lambda model, **_: made.append(model.name), unique_id="test")
+        return [(call(), made[:], made.clear())[1] for call in calls]
+
+    def test_put_is_one_request(self):
+        first, *later = self.requests(*(lambda file=file: self.files.put(file, b"state") for file in (1, 2, 3)))
+        self.assertEqual((first, later), (["GetObject", "PutObject", "PutObject"], [["PutObject"]] * 2))
+        with self.assertRaises(Exists):
+            self.files.put(2, b"state")
+
+    def test_a_thousand_are_deleted_by_one_request(self):
+        self.files.put(1, b"state")
+        self.assertEqual(self.requests(lambda: self.files.delete(range(1, 1001)), lambda: self.files.delete(range(1001))), [
+            ["GetObject", "DeleteObjects", "GetObject"], ["GetObject", "DeleteObjects", "DeleteObjects", "GetObject"]])
+        self.assertEqual(list(self.files.pages()), [])
+
+    def test_a_server_that_does_not_refuse_an_object_that_is_there(self):
+        with mock.patch("relkvanu.s3._if_none_match", lambda **_: None):
+            self.files.put(1, b"first")
+            self.assertEqual(self.requests(lambda: self.files.put(2, b"state")), [["HeadObject", "PutObject"]])
+            with self.assertRaises(Exists):
+                self.files.put(1, b"second")
+        self.assertEqual((self.files.get(1), self.files.check()), (b"first", None))
+
+    def test_a_server_that_knows_no_such_condition(self):
+        error = ClientError({"Error": {"Code": "NotImplemented"}}, "PutObject")
+        with mock.patch.object(self.s3, "put_object", side_effect=[error, {}]) as put:
+            self.files.put(1, b"state")
+        self.assertEqual([it.kwargs["Key"] for it in put.mock_calls], ["jobs/orders/.relkvanu-storage", "jobs/orders/1.sst"])
+
+    def test_a_put_that_the_client_makes_twice(self):
+        self.files.put(1, b"state")
+        self.s3.put_object(Bucket=self.bucket, Key="jobs/orders/2.sst", Body=b"state")
+        error = ClientError({"Error": {"Code": "PreconditionFailed"}, "ResponseMetadata": {"RetryAttempts": 1}}, "PutObject")
+        with mock.patch.object(self.s3, "put_object", side_effect=error):
+            self.files.put(2, b"state")
+            with self.assertRaises(Exists):
+                self.files.put(2, b"other")
+
+    def test_pages(self):
+        for file in range(25):
+            self.files.put(file, b"")
+        for name in ("jobs/orders/x.sst", "jobs/orders/01.sst", "jobs/orders/1.sst.old", "jobs/orders/1/2.sst", "jobs/others/99.sst"):
+            self.s3.put_object(Bucket=self.bucket, Key=name, Body=b"")
+        pages = list(self.files.pages(10))
+        self.assertEqual(sorted(sum(pages, [])), list(range(25)))
+        self.assertTrue(all(len(page) <= 10 for page in pages))
+
+    def test_present_and_missing(self):
+        for file in range(5):
+            self.files.put(file, b"")
+        self.assertEqual(self.files.delete([1, 3, 77, *range(1000, 2500)]), {})
+        self.assertEqual(sorted(sum(self.files.pages(), [])), [0, 2, 4])
+
+    def test_an_error_within_an_answer_that_succeeds(self):
+        for file in range(4):
+            self.files.put(file, b"")
+        denied = {"Effect": "Deny", "Principal": "*", "Action": "s3:DeleteObject", "Resource": f"arn:aws:s3:::{self.bucket}/jobs/orders/2.sst"}
+        self.s3.put_bucket_policy(Bucket=self.bucket, Policy=json.dumps({"Version": "2012-10-17", "Statement": [denied]}))
+        told = self.s3.delete_objects(Bucket=self.bucket, Delete={"Objects": [{"Key": "jobs/orders/2.sst"}]})
+        self.assertEqual((told["ResponseMetadata"]["HTTPStatusCode"], len(told["Errors"])), (200, 1), "the server is as the test needs it")
+        failed = self.files.delete([1, 2, 3])
+        self.assertEqual(list(failed), [2])
+        self.assertIn("AccessDenied", failed[2])
+        self.assertEqual(sorted(sum(self.files.pages(), [])), [0, 2])
+
+    def test_no_bucket_is_not_deleted(self):
+        self.files.put(1, b"")
+        for key in ("jobs/orders/1.sst", "jobs/orders/.relkvanu-storage"):
+            self.s3.delete_object(Bucket=self.bucket, Key=key)
+        self.s3.delete_bucket(Bucket=self.bucket)
+        self.assertEqual(set(self.files.delete([1, 2])), {1, 2})
+        with self.assertRaises(NotThere):
+            self.files.put(3, b"")
+        with self.assertRaises(NotThere):
+            list(self.files.pages())
+
+    def test_a_bucket_without_the_marker_is_not_the_job_s(self):
+        self.files.put(1, b"")
+        self.s3.delete_object(Bucket=self.bucket, Key="jobs/orders/.relkvanu-storage")
+        self.assertEqual(set(self.files.delete([1, 2])), {1, 2})
+        self.assertEqual(self.keys(), ["jobs/orders/1.sst"])
+
+    def test_objects_of_another_job_stay(self):
+        """That job has got the place since this one opened it."""
+        self.files.put(1, b"")
+        self.s3.put_object(Bucket=self.bucket, Key="jobs/orders/.relkvanu-storage", Body=b"relkvanu: state files of the job payments\n")
+        self.assertEqual(set(self.files.delete([1, 2])), {1, 2})
+        self.assertEqual(self.keys(), ["jobs/orders/1.sst"])
+
+    def test_versions_that_are_switched_on_later(self):
+        self.files.put(1, b"")
+        self.s3.put_bucket_versioning(Bucket=self.bucket, VersioningConfiguration={"Status": "Enabled"})
+        self.assertEqual(list(self.files.delete([1])), [1], "its contents are still there")
+
+
+class Failing(OnAServer):
+    def setUp(self):
+        super().setUp()
+        self.opened(is_new=True).put(1, b"")
+
+    def test_a_time_out_is_not_deleted(self):
+        osd = int(os.environ["S3_OSD"])
+        files = self.opened()
+        os.kill(osd, signal.SIGSTOP)
+        try:
+            # impatient from now on alone: on a busy machine any request may take a second
+            with mock.patch.object(files, "_s3", client(patience=1)):
+                self.assertEqual(set(files.delete([1, 2])), {1, 2})
+                with self.assertRaises(StorageError):
+                    files.put(3, b"")
+                with self.assertRaises(StorageError):
+                    list(files.pages())
+        finally:
+            os.kill(osd, signal.SIGCONT)
+        self.assertEqual(self.opened().delete([1, 2]), {})
+
+    def test_nobody_listens(self):
+        files = self.opened()
+        with mock.patch.object(files, "_s3", client(endpoint_url="http://127.0.0.1:9")):
+            self.assertEqual(set(files.delete([1, 2])), {1, 2})
+            for call in (files.check, lambda: files.put(3, b""), lambda: files.get(1), lambda: list(files.pages())):
+                with self.assertRaises(StorageError):
+                    call()
+
+    def test_a_key_that_the_server_does_not_name(self):
+        files = self.opened()
+        with mock.patch.object(self.s3, "delete_objects", return_value={"Deleted": [{"Key": "1"}]}):
+            self.assertEqual(list(files.delete([1, 2])), [2])
+
+
+class WithACoordinator(OnAServer):
+    def test_discard_and_sweep(self):
+        files = self.opened(is_new=True)
+        with Coordinator(Settings(interval=10), [1], 0) as core:
+            for file in (1, 2):
+                files.put(file, b"state")
+                core.tick(10 * file)
+                core.ack(10 * file, file, 0, 0, [file])
+            files.put(9, b"nobody's")
+            self.assertEqual(discard(core, files), (1, {}))
+            self.assertEqual((self.keys(), core.file_counts()), (["2", "9"], FileCounts(1, 0, 0)))
+            core.restore(20)
+            self.assertEqual(sweep(files, lambda some: unknown(core, some)), {})
+            self.assertEqual(self.keys(), ["2"])
+
+
+class Sweeping(OnAServer):
+    def setUp(self):
+        super().setUp()
+        self.job = job_with_files()
+        self.addCleanup(self.job.close)
+        self.files = self.opened(is_new=True, prefix="orders/state-", suffix=".sst", marker=Marker(".relkvanu-orders", MARKER))
+        for file in range(4, 10):
+            self.files.put(file, b"x" * file)
+
+    def test_the_marker_is_beside_the_files(self):
+        self.assertEqual(self.s3.get_object(Bucket=self.bucket, Key="orders/.relkvanu-orders")["Body"].read().decode(), MARKER)
+        self.assertEqual(self.files.beside(".relkvanu-"), [".relkvanu-orders"])
+        with self.assertRaises(OtherJob):
+            self.opened(prefix="orders/state-", marker=Marker(".relkvanu-orders", "another"))
+
+    def test_only_garbage_goes(self):
+        self.assertEqual(relkvanu.sweep.sweep(self.files, self.job.garbage), Swept(listed=6, garbage=2, garbage_bytes=12, unissued=1))
+        self.assertEqual(len(self.keys()), 6)
+        swept = relkvanu.sweep.sweep(self.files, self.job.garbage, delete=True)
+        self.assertEqual(swept, Swept(listed=6, garbage=2, garbage_bytes=12, deleted=2, unissued=1))
+        self.assertEqual(self.keys(), [f"orders/state-{file}.sst" for file in (5, 6, 7, 9)])
+        self.job.restore(20)
+        self.assertEqual(relkvanu.sweep.sweep(self.files, self.job.garbage, delete=True).deleted, 1)
+        self.assertEqual(self.keys(), [f"orders/state-{file}.sst" for file in (5, 6, 9)])
+
+    def test_pages_while_it_deletes(self):
+        """Each third file is in use. The listing goes on behind the last key of a page, though files of the page are gone."""
+        self.files.delete([9])  # a name that is given out next
+        names = list(self.job.reserve(1, 300))
+        self.job.tick(20)
+        self.job.ack_in(1, 20, 2, 0, 0, names[::3])
+        self.job.restore(30)
+        for file in names:
+            self.files.put(file, b"")
+        found = list(relkvanu.sweep.pages(self.files, self.job.garbage, delete=True, most=50))
+        self.assertGreaterEqual(len(found), 7)
+        waiting = [5, 6]  # of checkpoint 1, which a discarder has not fetched
+        self.assertEqual(self.keys(), sorted(f"orders/state-{file}.sst" for file in [*waiting, *names[::3]]))
+
+    def test_one_key_fails_in_an_answer_that_succeeds(self):
+        denied = {"Effect": "Deny", "Principal": "*", "Action": "s3:DeleteObject", "Resource": f"arn:aws:s3:::{self.bucket}/orders/state-4.sst"}
+        self.s3.put_bucket_policy(Bucket=self.bucket, Policy=json.dumps({"Version": "2012-10-17", "Statement": [denied]}))
+        swept = relkvanu.sweep.sweep(self.files, self.job.garbage, delete=True)
+        self.assertEqual((swept.garbage, swept.deleted, list(swept.failed)), (2, 1, [4]))
+        self.assertIn("AccessDenied", swept.failed[4])
+        self.assertIn("orders/state-4.sst", self.keys())
+
+    def test_a_bucket_that_goes_while_it_sweeps(self):
+        def ask(files):
+            for it in self.s3.list_objects_v2(Bucket=self.bucket)["Contents"]:
+                self.s3.delete_object(Bucket=self.bucket, Key=it["Key"])
+            self.s3.delete_bucket(Bucket=self.bucket)
+            return self.job.garbage(files)
+
+        swept = relkvanu.sweep.sweep(self.files, ask, delete=True)
+        self.assertEqual((swept.deleted, sorted(swept.failed)), (0, [4, 8]))
+
+    def test_a_time_out_is_not_deleted(self):
+        osd = int(os.environ["S3_OSD"])
+        slow = self.opened(prefix="orders/state-", suffix=".sst", marker=Marker(".relkvanu-orders", MARKER))
+
+        def ask(files):
+            slow._s3 = client(patience=1)
+            os.kill(osd, signal.SIGSTOP)
+            return self.job.garbage(files)
+
+        try:
+            swept = relkvanu.sweep.sweep(slow, ask, delete=True)
+        finally:
+            os.kill(osd, signal.SIGCONT)
+        self.assertEqual((swept.deleted, sorted(swept.failed)), (0, [4, 8]))
+        self.assertEqual(relkvanu.sweep.sweep(self.files, self.job.garbage, delete=True).failed, {})
+        self.assertEqual(self.keys(), [f"orders/state-{file}.sst" for file in (5, 6, 7, 9)])
+
+    def test_versions_that_are_switched_on_later(self):
+        self.s3.put_bucket_versioning(Bucket=self.bucket, VersioningConfiguration={"Status": "Enabled"})
+        swept = relkvanu.sweep.sweep(self.files, self.job.garbage, delete=True)
+        self.assertEqual((swept.deleted, sorted(swept.failed)), (0, [4, 8]))
+
+    def test_beside_a_job_that_runs(self):
+        """Of 40 checkpoints each file of the last complete one is there after each, while two sweepers run."""
+        over, swept, faults = threading.Event(), [], []
+        self.files.delete([9])  # a name that is given out next
+
+        def sweeps():
+            try:
+                while not over.is_set():
+                    swept.append(relkvanu.sweep.sweep(self.files, self.job.garbage, delete=True))
+            except BaseException as fault:
+                faults.append(fault)
+
+        sweepers = [threading.Thread(target=sweeps) for _ in range(2)]
+        for it in sweepers:
+            it.start()
+        try:
+            for turn in range(40):
+                names = list(self.job.reserve(self.job.term().term, 2))
+                for name in names:
+                    self.files.put(name, b"state")
+                triggered = self.job.tick(20 + 10 * turn)
+                if turn % 4 == 3:
+                    self.job.restore(20 + 10 * turn)  # its files are garbage
+                    continue
+                self.job.ack_in(self.job.term().term, 20 + 10 * turn, triggered.id, 0, 0, names)
+                for name in names:
+                    self.files.get(name)  # or it raises
+                discard(self.job, self.files)
+                self.assertEqual(faults, [])
+            end = time.monotonic() + 300
+            while sum(it.deleted for it in swept) <= 10 and not faults and time.monotonic() < end:  # of 20; on a busy machine they may come late
+                time.sleep(0.01)
+        finally:
+            over.set()
+            for it in sweepers:
+                it.join()
+        self.assertEqual(faults, [])
+        relkvanu.sweep.sweep(self.files, self.job.garbage, delete=True)
+        self.assertEqual(len(self.keys()), 2)
+        self.assertGreater(sum(it.deleted for it in swept), 10)
+
+
+if __name__ == "__main__":
+    unittest.main()

@@ -1,0 +1,306 @@
+"""State files in a folder: put whole or not at all, deleted for good, listed by pages, and never in a folder that is not the job's."""
+import errno
+import itertools
+import os
+import unittest
+from unittest import mock
+
+from folders import InFolder
+from relkvanu import Coordinator, Error, FileCounts, Settings
+from relkvanu.storage import Exists, Folder, NotThere, OtherJob, StorageError, bucket_and_prefix, discard, sweep, unknown
+
+
+# What a sync may say, but for EINVAL.
+SYNC_ERRORS = (errno.EIO, errno.ENOSPC, errno.EDQUOT, errno.EROFS, errno.EPERM, errno.EACCES, errno.EBADF, errno.EAGAIN, errno.ENOSYS,
+               errno.EOPNOTSUPP, errno.ENODEV, errno.ESTALE)
+
+
+def failing_syncs(end, error):
+    """The sync of a file or folder whose path ends so fails with this errno."""
+    real = os.fsync
+
+    def fails(fd):
+        if os.readlink(f"/proc/self/fd/{fd}").endswith(end):
+            raise OSError(error, os.strerror(error))
+        real(fd)
+
+    return mock.patch("os.fsync", fails)
+
+
+class WithStorage(InFolder):
+    def opened(self, job="orders", is_new=False, **words):
+        folder = Folder(self.path, job, is_new, **words)
+        self.addCleanup(folder.close)
+        return folder
+
+
+class AddressesOfBuckets(unittest.TestCase):
+    def test_their_parts(self):
+        self.assertEqual(bucket_and_prefix("s3://b/orders"), ("b", "orders/"))
+        self.assertEqual(bucket_and_prefix("s3://b/of/orders/"), ("b", "of/orders/"))
+        self.assertEqual(bucket_and_prefix("s3://b"), ("b", ""))
+
+    def test_no_part_is_left_out(self):
+        for url in ("s3://b/orders#eu/", "s3://b/orders?eu", "s3://b/orders#"):
+            with self.assertRaisesRegex(ValueError, "no # and no"):
+                bucket_and_prefix(url)
+
+
+class Opening(WithStorage):
+    def test_a_folder_without_a_marker_is_refused(self):
+        with self.assertRaises(NotThere):
+            self.opened()
+        self.assertEqual(list(self.path.iterdir()), [], "nothing was made")
+
+    def test_a_missing_folder_is_refused(self):
+        self.path.rmdir()
+        for is_new in (False, True):
+            with self.assertRaises(NotThere):
+                self.opened(is_new=is_new)
+
+    def test_the_storage_of_another_job_is_refused(self):
+        self.opened("orders", is_new=True)
+        for is_new in (False, True):
+            with self.assertRaises(OtherJob):
+                self.opened("payments", is_new)
+        self.opened("orders")
+
+    def test_a_new_job_needs_a_folder_without_state_files(self):
+        for name in ("3", "3.part"):
+            (self.path / name).write_bytes(b"")
+            with self.assertRaises(StorageError) as told:
+                self.opened(is_new=True)
+            self.assertEqual(told.exception.errno, errno.ENOTEMPTY)
+            (self.path / name).unlink()
+        (self.path / "notes.txt").write_bytes(b"")
+        self.opened(is_new=True)
+
+    def test_no_new_job_beside_the_files_of_one_whose_log_is_missing(self):
+        self.opened(is_new=True).put(1, b"state")
+        with self.assertRaises(StorageError) as told:
+            self.opened(is_new=True)
+        self.assertEqual((told.exception.errno, self.names()), (errno.ENOTEMPTY, ["1"]))
+
+    def test_a_new_job_that_was_killed_begins_again(self):
+        (self.path / ".relkvanu-storage.part").write_bytes(b"rel")
+        self.opened(is_new=True)
+        self.opened(is_new=True)
+
+    def test_two_jobs_in_one_folder_have_two_prefixes(self):
+        one, other = self.opened("a", True, prefix="a-"), self.opened("b", True, prefix="b-", suffix=".bin")
+        one.put(1, b"one")
+        other.put(1, b"other")
+        self.assertEqual(self.names(), ["a-.relkvanu-storage", "a-1", "b-.relkvanu-storage", "b-1.bin"])
+        self.assertEqual((one.get(1), other.get(1)), (b"one", b"other"))
+        self.assertEqual(one.delete([1]), {})
+        self.assertEqual(list(other.pages()), [[1]])
+
+    def test_a_symbolic_link_is_no_marker(self):
+        elsewhere = self.path.parent / "marker"
+        elsewhere.write_bytes(b"relkvanu: state files of the job orders\n")
+        (self.path / ".relkvanu-storage").symlink_to(elsewhere)
+        with self.assertRaises(StorageError) as told:
+            self.opened()
+        self.assertEqual(told.exception.errno, errno.ELOOP)
+
+
+class Putting(WithStorage):
+    def setUp(self):
+        super().setUp()
+        self.folder = self.opened(is_new=True)
+
+    def test_a_file_has_its_contents(self):
+        for file, contents in ((0, b""), (7, b"state"), (18446744073709551615, bytes(1 << 20))):
+            self.folder.put(file, contents)
+            self.assertEqual(self.folder.get(file), contents)
+        self.assertEqual(self.names(), ["0", "18446744073709551615", "7"])
+
+    def test_file_and_folder_are_synced_before_it_returns(self):
+        done = []
+        with mock.patch("os.fsync", lambda fd: done.append(os.readlink(f"/proc/self/fd/{fd}"))), \
+                mock.patch("os.rename", side_effect=lambda *of, **words: done.append("rename")):
+            self.folder.put(7, b"state")
+        self.assertEqual(done, [f"{self.path}/7.part", "rename", str(self.path)])
+
+    def test_a_number_is_put_once(self):
+        self.folder.put(7, b"first")
+        with self.assertRaises(Exists):
+            self.folder.put(7, b"second")
+        self.assertEqual((self.folder.get(7), self.names()), (b"first", ["7"]))
+
+    def test_a_part_of_another_keeps_the_number(self):
+        (self.path / "7.part").write_bytes(b"fir")
+        with self.assertRaises(Exists):
+            self.folder.put(7, b"second")
+        self.assertEqual(self.names(), ["7.part"], "it is that of a task that may still write")
+
+    def test_each_failure_leaves_no_file(self):
+        for call in ("write", "fsync", "stat", "rename"):
+            with mock.patch(f"os.{call}", side_effect=OSError(errno.EIO, "planted")):
+                with self.assertRaises(StorageError) as told:
+                    self.folder.put(7, b"state")
+            self.assertEqual((told.exception.errno, self.names()), (errno.EIO, []), call)
+        self.folder.put(7, b"state")
+
+    def test_a_file_or_folder_that_is_not_synced_leaves_no_file(self):
+        for end, error in (("/7.part", errno.EINVAL), *itertools.product(("/7.part", f"/{self.path.name}"), SYNC_ERRORS)):
+            with failing_syncs(end, error), self.assertRaises(StorageError) as told:
+                self.folder.put(7, b"state")
+            self.assertEqual((told.exception.errno, self.names()), (error, []), end)
+
+    def test_a_file_system_that_syncs_no_folder(self):
+        with failing_syncs(f"/{self.path.name}", errno.EINVAL):
+            self.folder.put(7, b"state")
+        self.assertEqual(self.folder.get(7), b"state")
+
+    def test_a_short_write_goes_on(self):
+        real = os.write
+        with mock.patch("os.write", lambda to, data: real(to, bytes(data[:3]))):
+            self.folder.put(7, b"0123456789")
+        self.assertEqual(self.folder.get(7), b"0123456789")
+
+    def test_a_link_is_not_followed(self):
+        target = self.path.parent / "target"
+        (self.path / "7.part").symlink_to(target)
+        with self.assertRaises(Exists):
+            self.folder.put(7, b"state")
+        (self.path / "8").symlink_to(target)
+        with self.assertRaises(Exists):
+            self.folder.put(8, b"state")
+        with self.assertRaises(StorageError):
+            self.folder.get(8)
+        self.assertFalse(target.exists())
+
+    def test_nothing_is_put_without_the_marker(self):
+        (self.path / ".relkvanu-storage").unlink()
+        with self.assertRaises(NotThere):
+            self.folder.put(7, b"state")
+        self.assertEqual(self.names(), [])
+
+
+class Deleting(WithStorage):
+    def setUp(self):
+        super().setUp()
+        self.folder = self.opened(is_new=True)
+        for file in range(1, 6):
+            self.folder.put(file, b"")
+
+    def test_present_missing_and_parts(self):
+        (self.path / "4.part").write_bytes(b"")
+        (self.path / "9.part").write_bytes(b"")
+        self.assertEqual(self.folder.delete([1, 4, 9, 77]), {})
+        self.assertEqual(self.names(), ["2", "3", "5"])
+
+    def test_without_the_marker_a_missing_file_is_not_deleted(self):
+        (self.path / ".relkvanu-storage").unlink()
+        self.assertEqual(set(self.folder.delete([1, 77])), {1, 77})
+        self.assertEqual(self.names(), ["1", "2", "3", "4", "5"])
+
+    def test_files_of_another_job_stay(self):
+        """That job has got the folder since this one opened it. A sweep that is under way asks for all of its pages."""
+        (self.path / ".relkvanu-storage").write_bytes(b"relkvanu: state files of the job payments\n")
+        self.assertEqual(set(self.folder.delete([1, 77])), {1, 77})
+        self.assertEqual(self.names(), ["1", "2", "3", "4", "5"])
+
+    def test_in_a_folder_that_was_moved_away(self):
+        """A path would lead to the other folder, and all files would count as deleted."""
+        self.path.rename(self.path.parent / "away")
+        self.path.mkdir()
+        self.assertEqual(self.folder.delete([1, 2]), {})
+        self.assertFalse((self.path.parent / "away/1").exists())
+
+    def test_one_that_fails_is_told_and_the_others_go(self):
+        (self.path / "3").unlink()
+        (self.path / "3").mkdir()
+        failed = self.folder.delete([2, 3, 4])
+        self.assertEqual(list(failed), [3])
+        self.assertEqual(self.names(), ["1", "3", "5"])
+
+    def test_a_folder_that_is_not_synced_has_deleted_nothing(self):
+        for error in SYNC_ERRORS:
+            with failing_syncs(f"/{self.path.name}", error):
+                self.assertEqual(set(self.folder.delete([1, 77])), {1, 77}, error)
+
+    def test_a_file_system_that_syncs_no_folder(self):
+        with failing_syncs(f"/{self.path.name}", errno.EINVAL):
+            self.assertEqual(self.folder.delete([1]), {})
+
+    def test_a_link_is_deleted_and_its_target_stays(self):
+        target = self.path.parent / "target"
+        target.write_bytes(b"")
+        (self.path / "8").symlink_to(target)
+        self.assertEqual(self.folder.delete([8]), {})
+        self.assertTrue(target.exists())
+        self.assertNotIn("8", self.names())
+
+
+class Listing(WithStorage):
+    def setUp(self):
+        super().setUp()
+        self.folder = self.opened(is_new=True, suffix=".sst")
+
+    def test_pages(self):
+        for file in range(25):
+            self.folder.put(file, b"")
+        pages = list(self.folder.pages(10))
+        self.assertEqual([len(page) for page in pages], [10, 10, 5])
+        self.assertEqual(sorted(sum(pages, [])), list(range(25)))
+
+    def test_two_listings_at_once(self):
+        for file in range(25):
+            self.folder.put(file, b"")
+        first = self.folder.pages(10)
+        pages = [next(first)]
+        self.assertEqual(sorted(sum(self.folder.pages(10), [])), list(range(25)))
+        self.assertEqual(sorted(sum([*pages, *first], [])), list(range(25)))
+
+    def test_only_files_of_the_job(self):
+        for name in ("1.sst", "2.sst.part", "01.sst", "3", "x4.sst", "5.sst.old", "-6.sst", "7.SST", "184467440737095516150.sst"):
+            (self.path / name).write_bytes(b"")
+        (self.path / "8.sst").mkdir()
+        (self.path / "9.sst").symlink_to("1.sst")
+        self.assertEqual(sorted(sum(self.folder.pages(), [])), [1, 2])
+
+    def test_a_listing_that_fails_says_so(self):
+        with mock.patch("os.scandir", side_effect=OSError(errno.EIO, "planted")), self.assertRaises(StorageError):
+            list(self.folder.pages())
+
+
+class WithACoordinator(WithStorage):
+    """A job that has checkpoint 2 with file 2, whose file 1 waits, and whose folder has file 9 of a task that was killed."""
+
+    def setUp(self):
+        super().setUp()
+        self.folder = self.opened(is_new=True)
+        self.core = Coordinator(Settings(interval=10), [1], 0)
+        self.addCleanup(self.core.close)
+        for file in (1, 2):
+            self.folder.put(file, b"state")
+            self.core.tick(10 * file)
+            self.core.ack(10 * file, file, 0, 0, [file])
+        self.folder.put(9, b"nobody's")
+
+    def test_a_discarder_deletes_what_waits(self):
+        self.assertEqual(discard(self.core, self.folder), (1, {}))
+        self.assertEqual((self.names(), self.core.file_counts()), (["2", "9"], FileCounts(1, 0, 0)))
+        self.assertEqual(discard(self.core, self.folder), (0, {}))
+
+    def test_what_can_not_be_deleted_waits_again(self):
+        (self.path / ".relkvanu-storage").unlink()
+        taken, failed = discard(self.core, self.folder)
+        self.assertEqual((taken, list(failed), self.core.file_counts()), (1, [1], FileCounts(1, 1, 0)))
+
+    def test_a_sweep_deletes_what_nobody_knows(self):
+        self.core.restore(20)
+        self.assertEqual(sweep(self.folder, lambda files: unknown(self.core, files)), {})
+        self.assertEqual(self.names(), ["1", "2"])
+
+    def test_no_sweep_without_the_marker(self):
+        (self.path / ".relkvanu-storage").unlink()
+        with self.assertRaises(Error):
+            sweep(self.folder, lambda files: files)
+        self.assertEqual(self.names(), ["1", "2", "9"])
+
+
+if __name__ == "__main__":
+    unittest.main()

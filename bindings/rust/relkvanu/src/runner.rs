@@ -1,0 +1,448 @@
+//! The loop of an engine over a durable coordinator: what an opening, a tick, a failure, a stop and an end ask of it, in the right order. An engine says how
+//! its tasks start, how a barrier reaches them, and what its sinks are told. `docs/RUNNER.md` has one.
+use crate::answer::{Answer, Choice, Kind};
+use crate::call::Call;
+use crate::fault::Fault;
+use crate::store::{
+    CallError, Made, More, Next, Phase, Step, Store, StoreError, StoreErrorKind, NOW,
+};
+use std::collections::BTreeSet;
+use std::error::Error;
+use std::fmt;
+use std::sync::atomic::{AtomicBool, Ordering::SeqCst};
+use std::sync::{Arc, Mutex, MutexGuard, PoisonError};
+use std::thread::{self, JoinHandle};
+use std::time::Duration;
+
+pub use crate::store::{Part, Whole as Record};
+
+/// Milliseconds after which the loop looks whether it shall end or restart.
+const LOOKS_AGAIN: u64 = 200;
+const SECOND: Duration = Duration::from_secs(1);
+
+/// A barrier of the record `id`. What has changed since `base` is in fresh files, and those of `base` may be reused. If it `holds`, the job is being
+/// stopped: a task waits after its acknowledgement until it is ended, or until [`Engine::go_on`].
+#[derive(Clone, Copy, Debug, PartialEq, Eq)]
+pub struct Barrier {
+    pub id: u64,
+    pub kind: Kind,
+    pub base: Choice,
+    pub term: u64,
+    pub holds: bool,
+}
+
+/// Why [`Runner::run`] has returned.
+#[derive(Clone, Copy, Debug, PartialEq, Eq)]
+pub enum Ended {
+    /// [`Runner::close`] was called: the next process goes on.
+    Closed,
+    /// The job is stopped with a savepoint, and goes on from it once [`Store::begin_job`] was called.
+    Stopped,
+    /// The job has ended for good, and no file is left.
+    Cancelled,
+}
+
+/// Why [`Runner::run`] has failed. The process ends then, and the next one recovers the job.
+#[derive(Debug)]
+pub enum RunFault {
+    /// Of the store. Of the kind `FileLost`: a file of the record from which the job begins is not in the storage, and nothing was swept.
+    Call(CallError),
+    /// Of the engine.
+    Engine(Box<dyn Error + Send + Sync>),
+}
+
+impl fmt::Display for RunFault {
+    fn fmt(&self, f: &mut fmt::Formatter<'_>) -> fmt::Result {
+        match self {
+            RunFault::Call(why) => why.fmt(f),
+            RunFault::Engine(why) => why.fmt(f),
+        }
+    }
+}
+
+impl Error for RunFault {}
+
+impl From<CallError> for RunFault {
+    fn from(why: CallError) -> RunFault {
+        RunFault::Call(why)
+    }
+}
+
+impl From<StoreError> for RunFault {
+    fn from(why: StoreError) -> RunFault {
+        RunFault::Call(why.into())
+    }
+}
+
+/// What an engine's function returns. An error ends [`Runner::run`].
+pub type Told = Result<(), Box<dyn Error + Send + Sync>>;
+
+/// What an engine does. All of these are called by the thread of [`Runner::run`], one at a time, but [`complete`](Engine::complete)
+/// and [`aborted`](Engine::aborted), which wait for each other alone.
+pub trait Engine: Sized + Send + Sync + 'static {
+    /// Starts all tasks with this term. They begin with the state that is in the record's files, or from nothing. They acknowledge by the runner.
+    fn start(&self, runner: &Arc<Runner<Self>>, term: u64, record: Option<&Record>) -> Told;
+
+    /// Sends a barrier to the sources.
+    fn barrier(&self, barrier: Barrier) -> Told;
+
+    /// Tells the sinks that the job would begin again from this record: they publish what they prepared for it and for records before it. Called by a
+    /// thread that acknowledges, or before [`start`](Engine::start); never for a smaller number than before in one term; for the same one again after
+    /// a restart.
+    fn complete(&self, id: u64) -> Told;
+
+    /// Tells tasks that these records have ended and are not complete: they drop what they keep for them alone. Sinks keep what they prepared for them:
+    /// the next checkpoint publishes it. Called by a thread that acknowledges or declines, or by that of [`Runner::run`]; not for what a restore ends.
+    fn aborted(&self, _ids: &[u64]) -> Told {
+        Ok(())
+    }
+
+    /// A stop of the job has failed: tasks that hold go on. In an engine that does not say how, this ends [`Runner::run`], and the next process goes on.
+    fn go_on(&self) -> Told {
+        Err("a stop of the job has failed, and this engine's tasks can't go on".into())
+    }
+
+    /// Tells all tasks to end. What they send afterwards is refused, for their term has ended or ends now.
+    fn end(&self) -> Told;
+}
+
+/// What the tasks were told in this term: which record is complete, and which ones are pending.
+struct Sinks {
+    term: u64,
+    told: u64,
+    pending: BTreeSet<u64>,
+}
+
+/// Runs an engine over a store with names and a storage folder. Tasks call [`ack`](Self::ack) and [`decline`](Self::decline) of the runner, and `reserve`, `put`
+/// and `forfeit` of the [`store`](Self::store), each with the term that they were started with. Any thread may call `trigger`, `stop_job`, `configure`
+/// or `go_back` of the store: the engine sees the barrier or the restart that it brings.
+pub struct Runner<E> {
+    store: Store,
+    engine: E,
+    sinks: Mutex<Sinks>,
+    closes: AtomicBool,
+    restarts: AtomicBool,
+    failed: Mutex<Option<RunFault>>, // by another thread
+}
+
+impl<E> fmt::Debug for Runner<E> {
+    fn fmt(&self, f: &mut fmt::Formatter<'_>) -> fmt::Result {
+        write!(f, "a runner over {:?}", self.store)
+    }
+}
+
+fn locked<T>(of: &Mutex<T>) -> MutexGuard<'_, T> {
+    of.lock().unwrap_or_else(PoisonError::into_inner)
+}
+
+/// Makes a call until memory suffices: without memory nothing has changed.
+fn with_memory<T>(call: impl Fn() -> Result<T, CallError>) -> Result<T, CallError> {
+    loop {
+        match call() {
+            Err(CallError::Fault(Fault::Memory)) => thread::sleep(SECOND),
+            Err(CallError::Store(why)) if why.kind == StoreErrorKind::NoMemory => {
+                thread::sleep(SECOND)
+            }
+            told => return told,
+        }
+    }
+}
+
+impl<E: Engine> Runner<E> {
+    pub fn new(store: Store, engine: E) -> Arc<Runner<E>> {
+        let term = store.report().names.term;
+        let sinks = Sinks {
+            term,
+            told: 0,
+            pending: BTreeSet::new(),
+        };
+        Arc::new(Runner {
+            store,
+            engine,
+            sinks: Mutex::new(sinks),
+            closes: AtomicBool::new(false),
+            restarts: AtomicBool::new(false),
+            failed: Mutex::new(None),
+        })
+    }
+
+    pub fn store(&self) -> &Store {
+        &self.store
+    }
+
+    pub fn engine(&self) -> &E {
+        &self.engine
+    }
+
+    /// Acknowledges, with a payload if the task's state is small, and tells the sinks if the record of a checkpoint is complete.
+    pub fn ack(
+        &self,
+        term: u64,
+        id: u64,
+        subtask: (u16, u16),
+        fresh: &[u64],
+        reused: &[u64],
+        more: More<'_>,
+    ) -> Result<Made, CallError> {
+        let ack = Call::AckIn {
+            term,
+            now: NOW,
+            id,
+            subtask,
+            fresh,
+            reused,
+        };
+        let made = self.store.call_with(ack, more)?;
+        let is_complete = matches!(made.called(), Some(Answer::AckCompleted { .. }));
+        if is_complete {
+            locked(&self.sinks).pending.remove(&id);
+        }
+        if is_complete && made.kind == Some(Kind::Checkpoint) {
+            self.note(self.tell(term, id));
+        }
+        self.abort(term, &made.ended);
+        Ok(made)
+    }
+
+    /// Declines, with a reason for the history. If the job has failed by that, the loop restarts it.
+    pub fn decline(
+        &self,
+        term: u64,
+        id: u64,
+        subtask: (u16, u16),
+        reason: &str,
+    ) -> Result<Made, CallError> {
+        let decline = Call::DeclineIn {
+            term,
+            now: NOW,
+            id,
+            subtask,
+        };
+        let more = More {
+            reason,
+            ..More::default()
+        };
+        let made = self.store.call_with(decline, more)?;
+        self.abort(term, &made.ended);
+        Ok(made)
+    }
+
+    /// A task has died or was lost: the loop ends all tasks, restores the job and starts them again. Any thread may call it.
+    pub fn restart(&self) {
+        self.restarts.store(true, SeqCst);
+    }
+
+    /// Lets [`run`](Self::run) return once all tasks were told to end. Any thread may call it.
+    pub fn close(&self) {
+        self.closes.store(true, SeqCst);
+    }
+
+    /// Runs the job until it is closed, stopped or cancelled. Afterwards the store's timers and discarders have ended.
+    pub fn run(self: &Arc<Self>) -> Result<Ended, RunFault> {
+        let mut running = Running {
+            runner: self,
+            discarder: None,
+            holds: false,
+        };
+        let ended = running.work();
+        self.store.stop();
+        if let Some(discarder) = running.discarder {
+            let _ = discarder.join(); // what it failed with ends the loop, and here it ends anyway
+        }
+        ended
+    }
+
+    /// What the engine has failed with in another thread ends the loop.
+    fn note(&self, told: Result<(), RunFault>) {
+        if let Err(why) = told {
+            locked(&self.failed).get_or_insert(why);
+        }
+    }
+
+    /// Tells the engine which records have ended whose barriers were sent, and which are not complete.
+    fn abort(&self, term: u64, ended: &[u64]) {
+        let mut sinks = locked(&self.sinks);
+        let is_aborted = |id: &u64| term == sinks.term && sinks.pending.remove(id);
+        let aborted: Vec<u64> = ended.iter().copied().filter(is_aborted).collect();
+        if !aborted.is_empty() {
+            self.note(self.engine.aborted(&aborted).map_err(RunFault::Engine));
+        }
+    }
+
+    /// Two threads may come here in another order than their records were completed.
+    fn tell(&self, term: u64, id: u64) -> Result<(), RunFault> {
+        let mut sinks = locked(&self.sinks);
+        if term != sinks.term || id <= sinks.told {
+            return Ok(());
+        }
+        sinks.told = id;
+        self.engine.complete(id).map_err(RunFault::Engine)
+    }
+
+    fn tell_choice(&self) -> Result<(), RunFault> {
+        let term = locked(&self.sinks).term;
+        match self.store.read(|job| job.choice())? {
+            Choice::Checkpoint(id) | Choice::Savepoint(id) => self.tell(term, id),
+            _ => Ok(()),
+        }
+    }
+
+    /// What another thread has failed with.
+    fn look_at_faults(&self) -> Result<(), RunFault> {
+        locked(&self.failed).take().map_or(Ok(()), Err)
+    }
+}
+
+/// What the loop alone knows.
+struct Running<'a, E> {
+    runner: &'a Arc<Runner<E>>,
+    discarder: Option<JoinHandle<()>>,
+    holds: bool, // tasks wait for the end of a stop
+}
+
+impl<E: Engine> Running<'_, E> {
+    fn work(&mut self) -> Result<Ended, RunFault> {
+        let runner = self.runner;
+        let report = runner.store.report();
+        if runner.store.phase()?.phase == Phase::Stopped {
+            runner.tell_choice()?;
+            return self.ended(Ended::Stopped);
+        }
+        if !report.steps.contains(&Step::StartTasks) {
+            return self.ended(Ended::Cancelled);
+        }
+        if report.steps.contains(&Step::Restore) {
+            self.restore()?;
+        } else {
+            self.begin(report.names.term)?;
+        }
+        loop {
+            runner.look_at_faults()?;
+            if runner.closes.load(SeqCst) {
+                return self.ended(Ended::Closed);
+            }
+            if runner.restarts.swap(false, SeqCst) {
+                self.restore()?;
+            }
+            let awaited = with_memory(|| runner.store.await_next(LOOKS_AGAIN))?;
+            let term = locked(&runner.sinks).term;
+            runner.abort(term, &awaited.ended);
+            if let Some(ended) = self.act(awaited.next)? {
+                return self.ended(ended);
+            }
+        }
+    }
+
+    fn act(&mut self, next: Next) -> Result<Option<Ended>, RunFault> {
+        match next {
+            Next::Barrier { id, kind, base } => self.send(id, kind, base)?,
+            Next::Begun { term, .. } => {
+                self.runner.engine.end().map_err(RunFault::Engine)?;
+                self.begin(term)?;
+            }
+            Next::Failed => self.restore()?,
+            Next::Cancelled => return Ok(Some(Ended::Cancelled)),
+            Next::Stopped => {
+                self.runner.tell_choice()?;
+                return Ok(Some(Ended::Stopped));
+            }
+            Next::NotStopped => self.go_on()?,
+            Next::Idle => {
+                if self.runner.store.phase()?.phase == Phase::Running {
+                    self.go_on()?;
+                }
+            }
+            Next::Ended => return Ok(Some(Ended::Closed)),
+        }
+        Ok(None)
+    }
+
+    fn send(&mut self, id: u64, kind: Kind, base: Choice) -> Result<(), RunFault> {
+        self.go_on()?; // nobody may have said that the stop has failed for which tasks hold
+        let runner = self.runner;
+        let term = {
+            let mut sinks = locked(&runner.sinks);
+            sinks.pending.insert(id);
+            sinks.term
+        };
+        self.holds = kind == Kind::Savepoint && runner.store.phase()?.phase != Phase::Running;
+        let barrier = Barrier {
+            id,
+            kind,
+            base,
+            term,
+            holds: self.holds,
+        };
+        runner.engine.barrier(barrier).map_err(RunFault::Engine)
+    }
+
+    fn go_on(&mut self) -> Result<(), RunFault> {
+        if !std::mem::take(&mut self.holds) {
+            return Ok(());
+        }
+        self.runner.engine.go_on().map_err(RunFault::Engine)
+    }
+
+    fn restore(&mut self) -> Result<(), RunFault> {
+        let runner = self.runner;
+        runner.restarts.store(false, SeqCst);
+        runner.engine.end().map_err(RunFault::Engine)?;
+        let restore = || {
+            runner.store.call(Call::Restore {
+                now: NOW,
+                savepoint: None,
+                shape: None,
+            })
+        };
+        let made = with_memory(restore)?;
+        self.begin(made.term.unwrap_or(0))
+    }
+
+    /// Looks that the record is whole, sweeps, tells the sinks, and starts the tasks.
+    fn begin(&mut self, term: u64) -> Result<(), RunFault> {
+        let runner = self.runner;
+        let record = with_memory(|| Ok(runner.store.load(None)?))?;
+        with_memory(|| Ok(runner.store.sweep()?))?;
+        self.holds = false;
+        *locked(&runner.sinks) = Sinks {
+            term,
+            told: 0,
+            pending: BTreeSet::new(),
+        };
+        runner.tell_choice()?;
+        self.discard();
+        let told = runner.engine.start(runner, term, record.as_ref());
+        told.map_err(RunFault::Engine)
+    }
+
+    /// Ends the tasks. Of a job that was cancelled no file is left then; one that is stopped keeps what its savepoint has.
+    fn ended(&mut self, ended: Ended) -> Result<Ended, RunFault> {
+        let runner = self.runner;
+        runner.engine.end().map_err(RunFault::Engine)?;
+        if ended != Ended::Closed {
+            self.discard();
+            with_memory(|| Ok(runner.store.sweep()?))?;
+            while self.has_files()? && !runner.closes.load(SeqCst) {
+                runner.look_at_faults()?;
+                thread::sleep(Duration::from_millis(LOOKS_AGAIN));
+            }
+        }
+        Ok(ended)
+    }
+
+    fn has_files(&self) -> Result<bool, RunFault> {
+        let counts = self.runner.store.read(|job| job.file_counts())?;
+        Ok(counts.waiting + counts.taken > 0)
+    }
+
+    fn discard(&mut self) {
+        let runner = self.runner.clone();
+        self.discarder.get_or_insert_with(|| {
+            thread::spawn(move || {
+                if let Err(why) = runner.store.discard_files(0) {
+                    locked(&runner.failed).get_or_insert(why.into());
+                }
+            })
+        });
+    }
+}

@@ -1,0 +1,166 @@
+//! The commands of an operator, and the phase of a job: it runs, is being stopped, or is stopped.
+use super::calls::{made, List, Made};
+use super::error::{CallError, StoreError, StoreErrorKind};
+use super::{Store, NOW};
+use crate::call::Call;
+use crate::coordinator::Settings;
+use relkvanu_sys as sys;
+use std::ffi::{c_int, CStr};
+
+/// The phase of a job.
+#[derive(Clone, Copy, Debug, PartialEq, Eq, Hash)]
+pub enum Phase {
+    /// The job runs, has failed or was cancelled: its mode says which.
+    Running,
+    /// The savepoint of its stop is pending.
+    Stopping,
+    /// That savepoint is done, and the job goes on from it when it begins.
+    Stopped,
+    /// A number that this crate does not know: the library is of another version.
+    Unknown(u32),
+}
+
+/// Why a stop has failed.
+#[derive(Clone, Copy, Debug, PartialEq, Eq, Hash)]
+pub enum StopFailed {
+    /// Its savepoint was not done within the timeout.
+    Expired,
+    /// A task has declined it.
+    Declined,
+    /// The job was restored before, as after a crash.
+    Restored,
+    /// The job was cancelled, before it was stopped or afterwards.
+    Cancelled,
+    /// The job has failed.
+    Failed,
+    /// A number that this crate does not know: the library is of another version.
+    Unknown(u32),
+}
+
+/// The phase of a job, and what it is about.
+#[derive(Clone, Copy, Debug, PartialEq, Eq)]
+pub struct JobPhase {
+    pub phase: Phase,
+    /// Of the stop; `None`: there was none, or the job has begun since.
+    pub savepoint: Option<u64>,
+    /// Of a job that is stopped: the term that began when it was.
+    pub term: Option<u64>,
+    /// While the job runs, until the next stop.
+    pub stop_failed: Option<StopFailed>,
+}
+
+pub(super) fn told(phase: u32, savepoint: u64, term: u64, failed: u32) -> JobPhase {
+    let number = |it: u64| (it != 0).then_some(it);
+    JobPhase {
+        phase: match phase {
+            sys::store::RELKVANU_STORE_PHASE_RUNNING => Phase::Running,
+            sys::store::RELKVANU_STORE_PHASE_STOPPING => Phase::Stopping,
+            sys::store::RELKVANU_STORE_PHASE_STOPPED => Phase::Stopped,
+            other => Phase::Unknown(other),
+        },
+        savepoint: number(savepoint),
+        term: number(term),
+        stop_failed: match failed {
+            0 => None,
+            sys::store::RELKVANU_STORE_STOP_EXPIRED => Some(StopFailed::Expired),
+            sys::store::RELKVANU_STORE_STOP_DECLINED => Some(StopFailed::Declined),
+            sys::store::RELKVANU_STORE_STOP_RESTORED => Some(StopFailed::Restored),
+            sys::store::RELKVANU_STORE_STOP_CANCELLED => Some(StopFailed::Cancelled),
+            sys::store::RELKVANU_STORE_STOP_FAILED => Some(StopFailed::Failed),
+            other => Some(StopFailed::Unknown(other)),
+        },
+    }
+}
+
+/// The commands of an operator. Any thread makes them, also while another one is in [`await_tick`](Store::await_tick), which hands over what they have
+/// made: `include/relkvanu_store.h` says how, under `relkvanu_store_trigger`. The others are `Call::Trigger` and `Call::Advance`.
+impl Store {
+    /// A checkpoint now, whatever the interval and the pause.
+    pub fn trigger(&self) -> Result<Made, CallError> {
+        self.call(Call::Trigger { now: NOW })
+    }
+
+    /// Other settings, from the next tick on. Done checkpoints above the new number retained go in the same commit. `BadArgument` if a value is outside
+    /// its limits.
+    pub fn configure(&self, settings: &Settings) -> Result<Made, CallError> {
+        let given = settings.into();
+        // SAFETY: the settings and the call outlive the function.
+        self.verb(|store, call| unsafe {
+            sys::store::relkvanu_store_configure(store, &given, call)
+        })
+    }
+
+    /// Stops the job with a savepoint. With its last acknowledgement the job is stopped, in the same commit. `NotNow` if it is being stopped, or is stopped.
+    pub fn stop_job(&self) -> Result<Made, CallError> {
+        // SAFETY: the call outlives the function.
+        self.verb(|store, call| unsafe { sys::store::relkvanu_store_stop_job(store, call) })
+    }
+
+    /// A job that is stopped goes on: [`Made::term`] is the term of its tasks. `NotNow` if it is not stopped.
+    pub fn begin_job(&self) -> Result<Made, CallError> {
+        // SAFETY: the call outlives the function.
+        self.verb(|store, call| unsafe { sys::store::relkvanu_store_begin_job(store, call) })
+    }
+
+    /// Goes back to a done checkpoint that is retained, in one commit. What sinks have published for later records is not taken back, and the job will
+    /// publish it again: `accept_published` has to say that this is accepted, or it is `BadArgument`.
+    pub fn go_back(&self, id: u64, accept_published: bool) -> Result<Made, CallError> {
+        let flags = u32::from(accept_published) * sys::store::RELKVANU_STORE_ACCEPT_PUBLISHED;
+        // SAFETY: the call outlives the function.
+        self.verb(|store, call| unsafe {
+            sys::store::relkvanu_store_go_back(store, id, flags, call)
+        })
+    }
+
+    /// Begins a job again that lacks its last calls, in place of the first restore: `term` is the greatest that any task was told, and names are
+    /// given out from `first_name` on.
+    pub fn advance(&self, term: u64, first_name: u64) -> Result<Made, CallError> {
+        self.call(Call::Advance {
+            now: NOW,
+            term,
+            first_name,
+        })
+    }
+
+    /// The phase, of what is committed. Never waits.
+    pub fn phase(&self) -> Result<JobPhase, StoreError> {
+        let mut found = Default::default();
+        // SAFETY: the place is this function's own.
+        self.check(unsafe { sys::store::relkvanu_store_phase(self.at(), &mut found) })?;
+        Ok(told(
+            found.phase,
+            found.savepoint,
+            found.term,
+            found.stop_failed,
+        ))
+    }
+
+    fn verb(
+        &self,
+        make: impl Fn(*mut sys::store::relkvanu_store, *mut sys::store::relkvanu_store_call) -> c_int,
+    ) -> Result<Made, CallError> {
+        self.outside()?;
+        let mut list = List::place();
+        let status = make(self.at(), list.calls.as_mut_ptr());
+        if let Err(mut why) = self.check(status) {
+            if matches!(
+                why.kind,
+                StoreErrorKind::BadArgument | StoreErrorKind::NotNow
+            ) {
+                why.message = said_why();
+            }
+            return Err(why.into());
+        }
+        made(&list.calls[0], &[]).map_err(CallError::Fault)
+    }
+}
+
+/// Why the last command of this thread was not made.
+pub(super) fn said_why() -> String {
+    let mut text = [0; sys::store::RELKVANU_STORE_MESSAGE];
+    // SAFETY: the buffer has as many bytes as is said, and gets a zero at the end.
+    unsafe {
+        sys::store::relkvanu_store_why(text.as_mut_ptr(), text.len());
+        CStr::from_ptr(text.as_ptr()).to_string_lossy().into_owned()
+    }
+}

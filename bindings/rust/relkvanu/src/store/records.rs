@@ -1,0 +1,197 @@
+//! What an operator does with manifests (`Options::manifests`): a job that lost its file is made again from its storage folder, and a record is carried
+//! elsewhere. `include/relkvanu_store.h` says how, and docs/DURABLE-RECOVERY.md.
+use super::{c_path, StoreError, StoreErrorKind};
+use relkvanu_sys::store as sys;
+use std::ffi::{c_char, c_int, c_void, CStr};
+use std::path::Path;
+
+/// A record of a storage folder, as its manifest says it.
+#[derive(Clone, Copy, Debug, PartialEq, Eq)]
+pub struct Record {
+    pub id: u64,
+    /// `Damaged`, or `NotAStore`: a later version wrote it. Then all below is 0.
+    pub damage: Option<StoreErrorKind>,
+    /// Otherwise it is a checkpoint.
+    pub is_savepoint: bool,
+    /// Its job is the one that the marker of the folder names, or there is no marker.
+    pub is_of_job: bool,
+    /// [`recover`], or [`import`], begins from it.
+    pub is_next: bool,
+    /// When the manifest was written, in milliseconds of the wall clock since 1970.
+    pub written: u64,
+    pub files: u64,
+    pub bytes: u64,
+    /// Files that are not there, or have another length.
+    pub missing: u64,
+}
+
+/// The record of which [`export`] has made a folder.
+#[derive(Clone, Copy, Debug, PartialEq, Eq)]
+pub struct Carried {
+    pub record: u64,
+    pub is_savepoint: bool,
+    pub files: u64,
+    pub bytes: u64,
+}
+
+/// What a job was made of.
+#[derive(Clone, Debug, PartialEq, Eq)]
+pub struct Recovered {
+    /// The choice, which has the number that it had.
+    pub record: u64,
+    pub is_savepoint: bool,
+    pub files: u64,
+    pub bytes: u64,
+    /// Manifests of the job that are damaged or lack files.
+    pub passed: u64,
+    /// That live on beside it, under new numbers.
+    pub savepoints: u64,
+    /// Of the job.
+    pub term: u64,
+    pub next_name: u64,
+    /// The least one that a later record gets.
+    pub next_number: u64,
+    /// Of [`put_back`]: the folder that has what was there before.
+    pub set_aside: String,
+}
+
+fn text(message: &[c_char]) -> String {
+    // SAFETY: the library ends each message with a zero.
+    let message = unsafe { CStr::from_ptr(message.as_ptr()) };
+    message.to_string_lossy().into_owned()
+}
+
+fn check(status: c_int, message: &[c_char]) -> Result<(), StoreError> {
+    match status {
+        sys::RELKVANU_STORE_OK => Ok(()),
+        _ => Err(StoreError {
+            kind: StoreErrorKind::of(status),
+            message: text(message),
+        }),
+    }
+}
+
+/// The records of a storage folder that have a manifest, in the order of their numbers. It needs no job, and may be called at any time.
+pub fn records(folder: &Path) -> Result<Vec<Record>, StoreError> {
+    unsafe extern "C" fn note(with: *mut c_void, it: *const sys::relkvanu_store_record) -> bool {
+        // SAFETY: `with` is the list below, and the library gives a record.
+        let (found, it) = unsafe { (&mut *with.cast::<Vec<Record>>(), &*it) };
+        let is_whole = it.status == sys::RELKVANU_STORE_OK as u32;
+        found.push(Record {
+            id: it.id,
+            damage: (!is_whole).then(|| StoreErrorKind::of(it.status as c_int)),
+            is_savepoint: it.is_savepoint,
+            is_of_job: it.is_of_job,
+            is_next: it.is_next,
+            written: it.written,
+            files: it.files,
+            bytes: it.bytes,
+            missing: it.missing,
+        });
+        true
+    }
+    let folder = c_path(folder)?;
+    let mut found: Vec<Record> = Vec::new();
+    let mut message = [0; sys::RELKVANU_STORE_MESSAGE];
+    // SAFETY: all that is passed outlives the call.
+    let status = unsafe {
+        sys::relkvanu_store_records(
+            folder.as_ptr(),
+            note,
+            (&mut found as *mut Vec<Record>).cast(),
+            message.as_mut_ptr(),
+            message.len(),
+        )
+    };
+    check(status, &message).map(|()| found)
+}
+
+/// What a function has made of a job.
+fn made(
+    path: &Path,
+    folder: &Path,
+    make: impl FnOnce(*const c_char, *const c_char, *mut sys::relkvanu_store_recovered) -> c_int,
+) -> Result<Recovered, StoreError> {
+    let (path, folder) = (c_path(path)?, c_path(folder)?);
+    // SAFETY: all zero is such a struct.
+    let mut it: sys::relkvanu_store_recovered = unsafe { std::mem::zeroed() };
+    check(make(path.as_ptr(), folder.as_ptr(), &mut it), &it.message)?;
+    Ok(Recovered {
+        record: it.record,
+        is_savepoint: it.is_savepoint,
+        files: it.files,
+        bytes: it.bytes,
+        passed: it.passed,
+        savepoints: it.savepoints,
+        term: it.term,
+        next_name: it.next_name,
+        next_number: it.next_number,
+        set_aside: text(&it.message),
+    })
+}
+
+/// Makes the job at the path again, whose file was lost, from the manifests in its storage folder: from the last record that was the choice and has all its
+/// files, or from the one with this number; 0: any. Each task and process of the old job has been told to end. Killed at any moment it has done nothing, or
+/// all. `Present`: there is a job; `Absent`: no record has all its files. Then nothing has changed.
+pub fn recover(path: &Path, folder: &Path, record: u64) -> Result<Recovered, StoreError> {
+    made(path, folder, |path, folder, told| {
+        // SAFETY: all that is passed outlives the call.
+        unsafe { sys::relkvanu_store_recover(path, folder, record, told) }
+    })
+}
+
+/// Makes the folder `to` of the record from which [`recover`] would begin, or of the one with this number: its files, linked or copied, and its manifest. The
+/// job of the storage folder may run meanwhile. Killed at any moment it has done nothing, or all. `Present`: there is something at `to`.
+pub fn export(folder: &Path, record: u64, to: &Path) -> Result<Carried, StoreError> {
+    let (folder, to) = (c_path(folder)?, c_path(to)?);
+    // SAFETY: all zero is such a struct.
+    let mut it: sys::relkvanu_store_carried = unsafe { std::mem::zeroed() };
+    // SAFETY: all that is passed outlives the call.
+    let status =
+        unsafe { sys::relkvanu_store_export(folder.as_ptr(), record, to.as_ptr(), &mut it) };
+    check(status, &it.message)?;
+    Ok(Carried {
+        record: it.record,
+        is_savepoint: it.is_savepoint,
+        files: it.files,
+        bytes: it.bytes,
+    })
+}
+
+/// Makes another job, at the path over the folder that it makes, of a record in `from`: an exported folder, or the storage folder of a job, which may run.
+/// Killed at any moment it has done nothing, a part that the same call finishes, or all.
+pub fn import(
+    from: &Path,
+    record: u64,
+    path: &Path,
+    folder: &Path,
+) -> Result<Recovered, StoreError> {
+    let from = c_path(from)?;
+    made(path, folder, |path, folder, told| {
+        // SAFETY: all that is passed outlives the call.
+        unsafe { sys::relkvanu_store_import(from.as_ptr(), record, path, folder, told) }
+    })
+}
+
+/// [`import`] by which the files leave `from`, or stay in place if the folder is the same. A job that has the folder is refused from then on.
+pub fn claim(
+    from: &Path,
+    record: u64,
+    path: &Path,
+    folder: &Path,
+) -> Result<Recovered, StoreError> {
+    let from = c_path(from)?;
+    made(path, folder, |path, folder, told| {
+        // SAFETY: all that is passed outlives the call.
+        unsafe { sys::relkvanu_store_claim(from.as_ptr(), record, path, folder, told) }
+    })
+}
+
+/// Puts a backup of [`Store::backup`](super::Store::backup) back in the place of the job's file. Read docs/DURABLE-BACKUP.md, A backup, first.
+pub fn put_back(backup: &Path, path: &Path, folder: &Path) -> Result<Recovered, StoreError> {
+    let backup = c_path(backup)?;
+    made(path, folder, |path, folder, told| {
+        // SAFETY: all that is passed outlives the call.
+        unsafe { sys::relkvanu_store_put_back(backup.as_ptr(), path, folder, told) }
+    })
+}

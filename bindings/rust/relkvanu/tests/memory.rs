@@ -1,0 +1,270 @@
+//! Memory that runs out, over a library whose heap refuses one request after the other (`bindings/c/refusing_heap.c`): a call
+//! that fails says so and has changed nothing, and is made again. The heap counts for one thread, so
+//! this is one test. It is empty without `--cfg refusing_heap`, since the library that is shipped has another heap.
+#![cfg(refusing_heap)]
+mod settings;
+
+use relkvanu::{Answer, Call, Choice, Coordinator, Fault, Fenced, Said, Settings};
+use settings::SETTINGS;
+
+extern "C" {
+    fn heap_refuse(nth: u64);
+    fn heap_refuse_from(nth: u64);
+    fn heap_requests() -> u64;
+}
+
+/// Makes a call with its nth request for memory refused, or none if n is 0. Also returns how many requests there were.
+fn refused<T>(nth: u64, call: impl FnOnce() -> T) -> (T, u64) {
+    // SAFETY: the functions take any number, and this is the only thread that uses the heap.
+    unsafe { heap_refuse(nth) };
+    let told = call();
+    let requests = unsafe { heap_requests() };
+    unsafe { heap_refuse(0) };
+    (told, requests)
+}
+
+/// Makes a call with all requests for memory from the nth on refused.
+fn refused_from<T>(nth: u64, call: impl FnOnce() -> T) -> T {
+    // SAFETY: as in `refused`.
+    unsafe { heap_refuse_from(nth) };
+    let told = call();
+    unsafe { heap_refuse(0) };
+    told
+}
+
+/// Makes the call of a coordinator; and of copies of it, each with another request refused.
+fn told<T: PartialEq + std::fmt::Debug>(
+    job: &mut Coordinator,
+    takes_memory: bool,
+    call: impl Fn(&mut Coordinator) -> Result<T, Fault>,
+    wanted: T,
+) {
+    let image = job.save().unwrap();
+    // A call may reuse room that an earlier one left. A copy has no such room.
+    let mut copy = Coordinator::open_saved(image.as_bytes()).unwrap();
+    let (_, requests) = refused(0, || call(&mut copy));
+    assert_eq!(call(job).as_ref(), Ok(&wanted));
+    let after = job.save().unwrap();
+    let mut faults = 0;
+    for nth in 1..=requests {
+        let mut copy = Coordinator::open_saved(image.as_bytes()).unwrap();
+        let (mut answer, _) = refused(nth, || call(&mut copy));
+        if answer.is_err() {
+            assert_eq!(answer, Err(Fault::Memory), "request {nth}");
+            assert_eq!(copy.save().as_ref(), Ok(&image), "request {nth}");
+            faults += 1;
+            answer = call(&mut copy);
+        }
+        assert_eq!(answer.as_ref(), Ok(&wanted), "request {nth}");
+        assert_eq!(copy.save().as_ref(), Ok(&after), "request {nth}");
+    }
+    assert_eq!((requests > 0, faults > 0), (takes_memory, takes_memory));
+}
+
+/// Opens a coordinator, once with all memory and once with each request refused. Returns the first.
+fn opened(open: impl Fn() -> Result<Coordinator, Fault>) -> Coordinator {
+    let (job, requests) = refused(0, || open().unwrap());
+    let mut faults = 0;
+    for nth in 1..=requests {
+        let (again, _) = refused(nth, &open);
+        if let Err(fault) = &again {
+            assert_eq!(*fault, Fault::Memory, "request {nth}");
+            faults += 1;
+        }
+        let again = again.or_else(|_| open()).unwrap();
+        assert_eq!(again.save(), job.save());
+    }
+    assert!(faults > 0);
+    job
+}
+
+fn completed(dropped: u64, released: u64) -> Answer {
+    Answer::AckCompleted { dropped, released }
+}
+
+fn triggered(id: u64) -> Answer {
+    Answer::Triggered { expired: 0, id }
+}
+
+const PENDING: Answer = Answer::AckPending { missing: 1 };
+
+/// Checkpoint 1 is completed, savepoint 2 is pending, and checkpoint 3 replaces checkpoint 1.
+fn make_checkpoint_3(job: &mut Coordinator) {
+    told(job, true, |it| it.tick(1000), triggered(1));
+    told(
+        job,
+        true,
+        |it| it.ack(1100, 1, (0, 0), &[1, 2], &[]),
+        PENDING,
+    );
+    job.savepoint(1200).unwrap();
+    told(
+        job,
+        true,
+        |it| it.ack(1300, 1, (0, 1), &[3], &[]),
+        completed(0, 0),
+    );
+    told(job, true, |it| it.tick(2000), triggered(3));
+    told(job, true, |it| it.ack(2100, 3, (0, 0), &[4], &[1]), PENDING);
+    let last = Call::Ack {
+        now: 2100,
+        id: 3,
+        subtask: (0, 1),
+        fresh: &[5],
+        reused: &[],
+    };
+    let line = String::from("ack 2100 3 0.1 +5");
+    told(
+        job,
+        true,
+        |it| it.make(&last, &mut []).map(|made| (made.said, made.line)),
+        (Said::Called(completed(1, 2)), line),
+    );
+}
+
+fn calls(job: &mut Coordinator) {
+    let restored = Answer::Restored {
+        from: Choice::Checkpoint(3),
+        released: 0,
+    };
+    let cancelled = Answer::Cancelled {
+        dropped: 1,
+        released: 3,
+    };
+    told(
+        job,
+        true,
+        |it| it.restore(2200, None, Some(&[1, 3])),
+        restored,
+    );
+    told(
+        job,
+        true,
+        |it| it.take(&mut [0]).map(<[u64]>::to_vec),
+        vec![2],
+    );
+    told(
+        job,
+        true,
+        |it| it.line(b"tick 3300", &mut []).map(called),
+        triggered(4),
+    );
+    told(job, true, |it| it.pins_of(4), vec![1, 4, 5]);
+    told(job, true, |it| it.taken_files(), vec![2]);
+    told(
+        job,
+        false,
+        |it| it.decline(3300, 4, (0, 0)),
+        Answer::DeclineFailed { released: 0 },
+    );
+    told(job, false, |it| it.cancel(3400), cancelled);
+    told(job, false, |it| it.deleted(2), Answer::Deleted(2));
+}
+
+fn called(said: Said) -> Answer {
+    match said {
+        Said::Called(answer) => answer,
+        other => panic!("{other:?}"),
+    }
+}
+
+fn texts(job: &mut Coordinator) {
+    let wanted = job.show(3).unwrap();
+    told(job, true, |it| it.show(3), wanted.clone());
+    let shown = |said: Said| match said {
+        Said::Shown(json) => json,
+        other => panic!("{other:?}"),
+    };
+    told(
+        job,
+        true,
+        |it| it.line(b"show 3", &mut []).map(shown),
+        wanted,
+    );
+    let ack = Call::Ack {
+        now: 5,
+        id: 1,
+        subtask: (0, 0),
+        fresh: &[2],
+        reused: &[1],
+    };
+    told(job, true, |_| ack.line(), "ack 5 1 0.0 +2 =1".to_string());
+    let said = |line: &[u8]| {
+        let (mut first, mut second) = (Vec::new(), Vec::new());
+        let call = Call::of(line, &mut first, &mut second)?;
+        Ok(format!("{call:?}"))
+    };
+    let wanted = format!("{:?}", Some(ack));
+    told(job, true, |_| said(b"ack 5 1 0.0 +2 =1"), wanted);
+    let show = format!("{:?}", Some(Call::Show { id: 3 }));
+    told(job, false, |_| said(b"show 3"), show);
+}
+
+/// Makes the call of a job whose term holds so many names from 5 on, each time with all requests from another one on refused.
+fn told_with_names<T: PartialEq + std::fmt::Debug>(
+    held: u64,
+    call: impl Fn(&mut Coordinator) -> Result<T, Fault>,
+    wanted: T,
+) {
+    let seen = |job: &Coordinator| (job.term(), job.garbage(&[4, 5, 6, 7, 8]), job.file_counts());
+    let open = || {
+        let mut job = Coordinator::open_fenced(&SETTINGS, &[1], 0, 1, 5).unwrap();
+        if held > 0 {
+            job.reserve(1, held).unwrap();
+        }
+        job.tick(1000).unwrap();
+        job
+    };
+    let (_, requests) = refused(0, || call(&mut open()));
+    let mut faults = 0;
+    for nth in 1..=requests {
+        let mut job = open();
+        let before = seen(&job);
+        let mut answer = refused_from(nth, || call(&mut job));
+        if answer.is_err() {
+            assert_eq!(answer, Err(Fault::Memory), "request {nth}");
+            assert_eq!(seen(&job), before, "request {nth}");
+            faults += 1;
+            answer = call(&mut job);
+        }
+        assert_eq!(answer.as_ref(), Ok(&wanted), "request {nth}");
+    }
+    assert!(faults > 0);
+}
+
+fn names() {
+    told_with_names(0, |it| it.reserve(1, 3), 5..8);
+    told_with_names(3, |it| it.forfeit(1, &[6]), ());
+    let completed = Answer::AckCompleted {
+        dropped: 0,
+        released: 0,
+    };
+    told_with_names(
+        3,
+        |it| it.ack_in(1, 1000, 1, (0, 0), &[7, 5], &[]),
+        completed,
+    );
+    let mut job = Coordinator::open(&SETTINGS, &[1], 0, 1).unwrap();
+    job.tick(1000).unwrap();
+    job.ack(1000, 1, (0, 0), &[4], &[]).unwrap();
+    assert_eq!(refused_from(1, || job.fence(5)), Err(Fault::Memory));
+    assert_eq!(job.term(), Err(Fenced::NoNames.into()));
+    assert_eq!(job.fence(5), Ok(()));
+}
+
+#[test]
+fn each_request_for_memory_is_refused() {
+    let settings = Settings {
+        at_once: 2,
+        ..SETTINGS
+    };
+    let mut job = opened(|| Coordinator::open(&settings, &[2], 0, 1));
+    make_checkpoint_3(&mut job);
+    let image = job.save().unwrap();
+    let again = opened(|| Coordinator::open_saved(image.as_bytes()));
+    assert_eq!(again.save().as_ref(), Ok(&image));
+    told(&mut job, true, |it| it.save(), image);
+    texts(&mut job);
+    calls(&mut job);
+    names();
+}

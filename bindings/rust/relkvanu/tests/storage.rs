@@ -1,0 +1,502 @@
+//! A storage: a folder, its errors, an end in the middle of a put, links, odd names and pages; and a store over a storage of the engine.
+#![cfg(feature = "store")]
+mod common;
+
+use common::{new_job, triggered, Place};
+use relkvanu::storage::{
+    Deletion, Folder, FolderOptions, Page, Storage, StorageError, StoredFile, PAGE,
+};
+use relkvanu::store::{Store, StoreErrorKind, NOW};
+use relkvanu::{Answer, Call};
+use std::alloc::{GlobalAlloc, Layout, System};
+use std::cell::Cell;
+use std::collections::{BTreeMap, BTreeSet};
+use std::fs;
+use std::ops::ControlFlow;
+use std::os::unix::ffi::{OsStrExt, OsStringExt};
+use std::os::unix::fs::symlink;
+use std::os::unix::process::ExitStatusExt;
+use std::panic::{catch_unwind, AssertUnwindSafe};
+use std::path::{Path, PathBuf};
+use std::process::Command;
+use std::ptr;
+use std::sync::Mutex;
+use std::thread;
+
+/// Refuses all memory to the thread that asks it to.
+struct Refusing;
+
+thread_local! {
+    static REFUSES: Cell<bool> = const { Cell::new(false) };
+}
+
+// SAFETY: it is the system's, or has no memory.
+unsafe impl GlobalAlloc for Refusing {
+    unsafe fn alloc(&self, layout: Layout) -> *mut u8 {
+        match REFUSES.get() {
+            true => ptr::null_mut(),
+            // SAFETY: the caller's conditions.
+            false => unsafe { System.alloc(layout) },
+        }
+    }
+
+    unsafe fn dealloc(&self, at: *mut u8, layout: Layout) {
+        // SAFETY: the caller's conditions.
+        unsafe { System.dealloc(at, layout) }
+    }
+}
+
+#[global_allocator]
+static MEMORY: Refusing = Refusing;
+
+fn without_memory<T>(make: impl FnOnce() -> T) -> T {
+    REFUSES.set(true);
+    let told = make();
+    REFUSES.set(false);
+    told
+}
+
+fn opened(place: &Place, prefix: &[u8], suffix: &[u8]) -> Folder {
+    let how = FolderOptions {
+        is_new: true,
+        prefix: prefix.to_vec(),
+        suffix: suffix.to_vec(),
+        marker: None,
+    };
+    Folder::open(&place.state(), "orders", &how).unwrap()
+}
+
+fn listed(storage: &dyn Storage, most: usize) -> BTreeMap<u64, u64> {
+    let mut found = BTreeMap::new();
+    let mut note = |files: &[StoredFile]| {
+        assert!(!files.is_empty() && (most == 0 || files.len() <= most));
+        for it in files {
+            *found.entry(it.file).or_default() += it.bytes;
+        }
+        ControlFlow::Continue(())
+    };
+    assert!(storage.pages(most, &mut note).unwrap().is_continue());
+    found
+}
+
+fn file_of(state: &Path, name: &[u8]) -> PathBuf {
+    state.join(std::ffi::OsStr::from_bytes(name))
+}
+
+#[test]
+fn whose_folder_it_is() {
+    let place = Place::new("whose");
+    let state = place.state();
+    let (new, again) = (
+        FolderOptions {
+            is_new: true,
+            ..FolderOptions::new()
+        },
+        FolderOptions::new(),
+    );
+    let open = |job: &str, how: &FolderOptions| Folder::open(&state, job, how);
+    assert!(matches!(
+        open("orders", &again),
+        Err(StorageError::NotThere)
+    ));
+    assert!(matches!(
+        Folder::open(&state.join("none"), "orders", &again),
+        Err(StorageError::NotThere)
+    ));
+    open("orders", &new).unwrap();
+    open("orders", &new).unwrap();
+    let folder = open("orders", &again).unwrap();
+    assert!(matches!(
+        open("others", &again),
+        Err(StorageError::OtherJob)
+    ));
+    let marker = Some((
+        b".relkvanu-storage".to_vec(),
+        b"relkvanu: state files of the job orders\n".to_vec(),
+    ));
+    open("others", &FolderOptions { marker, ..again }).unwrap();
+    fs::write(
+        state.join(".relkvanu-storage"),
+        "relkvanu: state files of the job others\n",
+    )
+    .unwrap();
+    assert!(matches!(folder.put(7, b""), Err(StorageError::OtherJob)));
+    assert!(matches!(folder.delete(&[7]), Err(StorageError::OtherJob)));
+    fs::remove_file(state.join(".relkvanu-storage")).unwrap();
+    assert!(matches!(folder.check(), Err(StorageError::NotThere)));
+    assert!(matches!(folder.put(7, b""), Err(StorageError::NotThere)));
+    assert!(fs::read_dir(&state).unwrap().next().is_none());
+    fs::write(state.join("7.part"), "").unwrap();
+    assert!(matches!(open("orders", &new), Err(StorageError::NotEmpty)));
+}
+
+/// The numbers of the crate are those of the header, and none is missing but the flag that is no flag.
+#[test]
+fn numbers_of_the_header() {
+    use relkvanu_sys::storage as sys;
+    let path = Path::new(env!("CARGO_MANIFEST_DIR")).join("../../../include/relkvanu_storage.h");
+    let header = fs::read_to_string(path).unwrap();
+    let number = |line: &str| {
+        let (name, rest) = line
+            .strip_prefix("#define RELKVANU_STORAGE_")?
+            .split_once(' ')?;
+        let digits = rest.split_whitespace().next()?.trim_end_matches('u');
+        Some((name.to_string(), digits.parse::<u64>().ok()?))
+    };
+    let found: BTreeMap<String, u64> = header.lines().filter_map(number).collect();
+    let known = [
+        ("OK", sys::RELKVANU_STORAGE_OK as u64),
+        ("BAD_ARGUMENT", sys::RELKVANU_STORAGE_BAD_ARGUMENT as u64),
+        ("NO_MEMORY", sys::RELKVANU_STORAGE_NO_MEMORY as u64),
+        ("NOT_THERE", sys::RELKVANU_STORAGE_NOT_THERE as u64),
+        ("OTHER_JOB", sys::RELKVANU_STORAGE_OTHER_JOB as u64),
+        ("PRESENT", sys::RELKVANU_STORAGE_PRESENT as u64),
+        ("ABSENT", sys::RELKVANU_STORAGE_ABSENT as u64),
+        ("NOT_EMPTY", sys::RELKVANU_STORAGE_NOT_EMPTY as u64),
+        ("ENDED", sys::RELKVANU_STORAGE_ENDED as u64),
+        ("FAILED", sys::RELKVANU_STORAGE_FAILED as u64),
+        ("UNDELETED", sys::RELKVANU_STORAGE_UNDELETED.into()),
+        ("DELETED", sys::RELKVANU_STORAGE_DELETED.into()),
+        ("MISSING", sys::RELKVANU_STORAGE_MISSING.into()),
+        ("PAGE", sys::RELKVANU_STORAGE_PAGE as u64),
+        ("RECOVER", 0),
+        ("NEW", sys::RELKVANU_STORAGE_NEW.into()),
+        ("MOST_AFFIX", sys::RELKVANU_STORAGE_MOST_AFFIX as u64),
+    ];
+    let known: BTreeMap<String, u64> = known.map(|(name, it)| (name.to_string(), it)).into();
+    assert_eq!(found, known);
+}
+
+#[test]
+fn bad_options() {
+    let place = Place::new("options");
+    let with = |prefix: &[u8]| FolderOptions {
+        prefix: prefix.to_vec(),
+        ..FolderOptions::new()
+    };
+    for (job, how) in [
+        ("", with(b"")),
+        ("a\nb", with(b"")),
+        ("a\0b", with(b"")),
+        ("a", with(b"a/")),
+        ("a", with(b"\0")),
+        ("a", with(&[b'x'; 201])),
+    ] {
+        assert!(matches!(
+            Folder::open(&place.state(), job, &how),
+            Err(StorageError::BadArgument)
+        ));
+    }
+}
+
+#[test]
+fn files_with_unusual_names() {
+    let place = Place::new("files");
+    let state = place.state();
+    let (prefix, suffix) = (b"a \xff%s-", b"\n\"");
+    let folder = opened(&place, prefix, suffix);
+    let name = |file: &str, end: &str| {
+        file_of(
+            &state,
+            &[prefix, file.as_bytes(), suffix, end.as_bytes()].concat(),
+        )
+    };
+    folder.put(7, b"state").unwrap();
+    folder.put(u64::MAX, b"").unwrap();
+    assert!(matches!(
+        folder.put(7, b"other"),
+        Err(StorageError::Present)
+    ));
+    assert_eq!(folder.get(7).unwrap(), b"state");
+    assert!(matches!(folder.get(8), Err(StorageError::Absent)));
+    fs::write(name("9", ".part"), "st").unwrap();
+    fs::create_dir(name("5", "")).unwrap();
+    let others = [
+        name("07", ""),
+        name("+7", ""),
+        name("", ""),
+        name("7", ".part.part"),
+        state.join("7"),
+    ];
+    for other in &others {
+        fs::write(other, "").unwrap();
+    }
+    assert_eq!(
+        listed(&folder, 0),
+        BTreeMap::from([(7, 5), (9, 2), (u64::MAX, 0)])
+    );
+    assert_eq!(
+        folder.delete(&[5, 7, 8, 9, u64::MAX]).unwrap(),
+        [
+            Deletion::Undeleted,
+            Deletion::Deleted,
+            Deletion::Missing,
+            Deletion::Deleted,
+            Deletion::Deleted
+        ]
+    );
+    assert!(listed(&folder, 0).is_empty() && others.iter().all(|it| it.exists()));
+    assert!(folder.delete(&[]).unwrap().is_empty());
+}
+
+#[test]
+fn links_are_not_followed() {
+    let place = Place::new("links");
+    let folder = opened(&place, b"", b"");
+    let (elsewhere, link) = (place.0.join("elsewhere"), place.state().join("7"));
+    fs::write(&elsewhere, "state").unwrap();
+    symlink(&elsewhere, &link).unwrap();
+    assert!(listed(&folder, 0).is_empty());
+    let Err(StorageError::Failed(why)) = folder.get(7) else {
+        panic!("a link was read");
+    };
+    assert!(why.raw_os_error().is_some());
+    assert!(matches!(
+        folder.put(7, b"other"),
+        Err(StorageError::Present)
+    ));
+    assert_eq!(folder.delete(&[7]).unwrap(), [Deletion::Deleted]);
+    assert!(fs::read(&elsewhere).unwrap() == b"state" && link.symlink_metadata().is_err());
+}
+
+/// It stays open, so another one at its path is not reached.
+#[test]
+fn a_folder_that_is_removed() {
+    let place = Place::new("removed");
+    let (folder, away) = (opened(&place, b"", b""), place.0.join("away"));
+    fs::rename(place.state(), &away).unwrap();
+    fs::create_dir(place.state()).unwrap();
+    fs::write(place.state().join("7"), "").unwrap();
+    assert_eq!(folder.delete(&[7]).unwrap(), [Deletion::Missing]);
+    fs::remove_dir_all(away).unwrap();
+    assert!(matches!(folder.check(), Err(StorageError::NotThere)));
+    assert!(matches!(folder.put(8, b""), Err(StorageError::NotThere)));
+    assert!(matches!(folder.delete(&[7]), Err(StorageError::NotThere)));
+    assert!(place.state().join("7").exists() && !place.state().join("8").exists());
+}
+
+/// Runs in a child, which the kernel kills at the first byte of a file beyond a kilobyte.
+#[test]
+fn killed_in_a_put() {
+    const AT: &str = "RELKVANU_KILLED_IN_A_PUT";
+    if let Some(path) = std::env::var_os(AT) {
+        let folder = Folder::open(
+            Path::new(&std::ffi::OsString::from_vec(path.into_vec())),
+            "orders",
+            &FolderOptions::new(),
+        );
+        folder.unwrap().put(7, &[b'x'; 2000]).unwrap();
+        return;
+    }
+    let place = Place::new("killed");
+    let folder = opened(&place, b"", b"");
+    let limited = "ulimit -c 0; ulimit -f 1; exec \"$0\" --exact killed_in_a_put --nocapture";
+    let child = Command::new("bash")
+        .args(["-c", limited])
+        .arg(std::env::current_exe().unwrap())
+        .env(AT, place.state())
+        .output()
+        .unwrap();
+    assert_eq!(child.status.signal(), Some(25), "SIGXFSZ: {child:?}");
+    assert_eq!(listed(&folder, 0), BTreeMap::from([(7, 1024)]));
+    assert!(!place.state().join("7").exists());
+    assert!(matches!(
+        folder.put(7, b"other"),
+        Err(StorageError::Present)
+    ));
+    assert_eq!(folder.delete(&[7]).unwrap(), [Deletion::Deleted]);
+    folder.put(7, &[b'x'; 2000]).unwrap();
+    assert_eq!(listed(&folder, 0), BTreeMap::from([(7, 2000)]));
+}
+
+#[test]
+fn pages_and_threads() {
+    let place = Place::new("pages");
+    let folder = opened(&place, b"", b"");
+    thread::scope(|scope| {
+        for part in 0..3 {
+            let folder = &folder;
+            scope.spawn(move || {
+                for file in 0..500 {
+                    folder.put(part * 500 + file, b"x").unwrap();
+                }
+            });
+        }
+    });
+    for most in [0, 7, PAGE, 100_000] {
+        assert_eq!(listed(&folder, most).len(), 1500);
+    }
+    let mut seen = 0;
+    let mut end = |files: &[StoredFile]| {
+        seen += files.len();
+        ControlFlow::Break(())
+    };
+    assert!(folder.pages(10, &mut end).unwrap().is_break() && seen == 10);
+    let told = catch_unwind(AssertUnwindSafe(|| {
+        folder.pages(10, &mut |_: &[StoredFile]| panic!("planted"))
+    }));
+    assert!(told.is_err() && listed(&folder, 0).len() == 1500);
+}
+
+#[test]
+fn memory_that_runs_out() {
+    let place = Place::new("memory");
+    let folder = opened(&place, b"", b"");
+    without_memory(|| folder.put(7, b"state")).unwrap();
+    assert!(matches!(
+        without_memory(|| folder.get(7)),
+        Err(StorageError::NoMemory)
+    ));
+    assert!(matches!(
+        without_memory(|| folder.delete(&[7])),
+        Err(StorageError::NoMemory)
+    ));
+    assert_eq!(folder.get(7).unwrap(), b"state");
+    assert_eq!(folder.delete(&[7]).unwrap(), [Deletion::Deleted]);
+}
+
+/// A storage of an engine: objects in memory.
+#[derive(Default)]
+struct Objects {
+    objects: Mutex<BTreeMap<u64, Vec<u8>>>,
+    fault: Mutex<Option<fn() -> StorageError>>,
+    undeleted: Mutex<BTreeSet<u64>>,
+}
+
+impl Objects {
+    fn fails(&self, fault: Option<fn() -> StorageError>) {
+        *self.fault.lock().unwrap() = fault;
+    }
+
+    fn files(&self) -> Vec<u64> {
+        self.objects.lock().unwrap().keys().copied().collect()
+    }
+}
+
+impl Storage for Objects {
+    fn check(&self) -> Result<(), StorageError> {
+        self.fault.lock().unwrap().map_or(Ok(()), |why| Err(why()))
+    }
+
+    fn put(&self, file: u64, contents: &[u8]) -> Result<(), StorageError> {
+        self.check()?;
+        match self.objects.lock().unwrap().insert(file, contents.to_vec()) {
+            Some(_) => Err(StorageError::Present),
+            None => Ok(()),
+        }
+    }
+
+    fn get(&self, file: u64) -> Result<Vec<u8>, StorageError> {
+        let objects = self.objects.lock().unwrap();
+        objects.get(&file).cloned().ok_or(StorageError::Absent)
+    }
+
+    fn delete(&self, files: &[u64]) -> Result<Vec<Deletion>, StorageError> {
+        self.check()?;
+        let (mut objects, undeleted) =
+            (self.objects.lock().unwrap(), self.undeleted.lock().unwrap());
+        Ok(files
+            .iter()
+            .map(|file| match undeleted.contains(file) {
+                true => Deletion::Undeleted,
+                false => objects
+                    .remove(file)
+                    .map_or(Deletion::Missing, |_| Deletion::Deleted),
+            })
+            .collect())
+    }
+
+    fn pages(&self, _: usize, page: &mut Page<'_>) -> Result<ControlFlow<()>, StorageError> {
+        self.check()?;
+        let found: Vec<StoredFile> = self
+            .files()
+            .into_iter()
+            .map(|file| StoredFile { file, bytes: 0 })
+            .collect();
+        for some in found.chunks(2) {
+            if page(some).is_break() {
+                return Ok(ControlFlow::Break(()));
+            }
+        }
+        Ok(ControlFlow::Continue(()))
+    }
+}
+
+/// A job of one task, and its term.
+fn job_of(place: &Place) -> (Store, u64) {
+    let store = Store::open(&place.job(), &new_job(&[1])).unwrap();
+    let term = store.report().names.term;
+    (store, term)
+}
+
+/// A checkpoint of one task, with a file of a name that it reserves and puts.
+fn complete(store: &Store, storage: &dyn Storage, term: u64) -> u64 {
+    let file = store.reserve(term, 1).unwrap().start;
+    storage.put(file, b"state").unwrap();
+    let id = triggered(store);
+    let ack = Call::AckIn {
+        term,
+        now: NOW,
+        id,
+        subtask: (0, 0),
+        fresh: &[file],
+        reused: &[],
+    };
+    let told = store.call(ack).unwrap().called();
+    assert!(matches!(told, Some(Answer::AckCompleted { .. })));
+    file
+}
+
+#[test]
+fn a_store_over_a_storage_of_the_engine() {
+    let place = Place::new("store");
+    let objects = Objects::default();
+    let (store, term) = job_of(&place);
+    let first = complete(&store, &objects, term);
+    let last = complete(&store, &objects, term);
+    let given_up: Vec<u64> = store.reserve(term, 3).unwrap().collect();
+    for file in &given_up {
+        objects.put(*file, b"state").unwrap();
+    }
+    store.forfeit(term, &given_up[..2]).unwrap();
+    objects.put(1000, b"of another job").unwrap();
+
+    objects.fails(Some(|| StorageError::NotThere));
+    assert_eq!(
+        store.sweep_storage(&objects).unwrap_err().kind,
+        StoreErrorKind::Storage
+    );
+    objects.fails(None);
+    objects.undeleted.lock().unwrap().insert(given_up[0]);
+    assert_eq!(store.sweep_storage(&objects).unwrap(), 1);
+    assert_eq!(
+        objects.files(),
+        [first, last, given_up[0], given_up[2], 1000]
+    );
+    assert_eq!((store.counts().swept, store.counts().unissued), (1, 1));
+    objects.undeleted.lock().unwrap().clear();
+    assert_eq!(store.sweep_storage(&objects).unwrap(), 0);
+
+    thread::scope(|scope| {
+        let discarder = scope.spawn(|| store.discard_storage(0, &objects));
+        while objects.files().contains(&first) {
+            thread::yield_now();
+        }
+        store.stop();
+        discarder.join().unwrap().unwrap();
+    });
+    assert_eq!(objects.files(), [last, given_up[2], 1000]);
+}
+
+#[test]
+fn a_discarder_ends_at_another_job() {
+    let place = Place::new("other");
+    let objects = Objects::default();
+    let (store, term) = job_of(&place);
+    let first = complete(&store, &objects, term);
+    complete(&store, &objects, term);
+    objects.fails(Some(|| StorageError::OtherJob));
+    let why = store.discard_storage(0, &objects).unwrap_err();
+    assert_eq!(why.kind, StoreErrorKind::Storage);
+    assert!(objects.files().contains(&first));
+}

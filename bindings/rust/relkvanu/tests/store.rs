@@ -1,0 +1,505 @@
+//! The durable coordinator: calls and refusals, a recovery, threads, submits, a read that panics, and the discarder.
+#![cfg(feature = "store")]
+mod common;
+
+use common::{new_job, triggered, Place, SETTINGS};
+use relkvanu::store::{
+    CallError, Made, Options, Outcome, Phase, Step, StopFailed, Store, StoreError, StoreErrorKind,
+    NOW,
+};
+use relkvanu::{Answer, Call, Choice, Fault, Fenced, Mode, Refusal, Settings};
+use std::collections::BTreeSet;
+use std::fs;
+use std::path::Path;
+use std::sync::atomic::{AtomicU64, Ordering};
+use std::thread;
+use std::time::Duration;
+
+fn job(place: &Place) -> Store {
+    Store::open(&place.job(), &new_job(&[2])).unwrap()
+}
+
+/// Reserves the names that were not given out up to the file.
+fn ack(store: &Store, id: u64, index: u16, file: u64) -> Answer {
+    let running = store.term().unwrap();
+    if running.next_name <= file {
+        let count = file + 1 - running.next_name;
+        store.reserve(running.term, count).unwrap();
+    }
+    ack_in(store, running.term, id, index, file).unwrap()
+}
+
+/// A checkpoint with two files from a number on.
+fn complete(store: &Store, file: u64) -> u64 {
+    let id = triggered(store);
+    assert_eq!(ack(store, id, 0, file), Answer::AckPending { missing: 1 });
+    assert!(matches!(
+        ack(store, id, 1, file + 1),
+        Answer::AckCompleted { .. }
+    ));
+    id
+}
+
+#[test]
+fn calls_and_a_recovery() {
+    let folder = Place::new("calls");
+    let store = job(&folder);
+    assert!(!store.report().is_recovered);
+    assert_eq!(store.report().steps, [Step::StartTasks]);
+    complete(&store, 1);
+    complete(&store, 11);
+    let calls = [
+        Call::Dispose { id: 9 },
+        Call::Take { most: 1 },
+        Call::Savepoint { now: NOW },
+    ];
+    let outcomes = store.calls(&calls).unwrap();
+    assert_eq!(outcomes[0], Err(Fault::Refused(Refusal::NoSuchSavepoint)));
+    assert_eq!(
+        outcomes[1].as_ref().unwrap().answer,
+        Outcome::Taken(vec![1])
+    );
+    let savepoint = outcomes[2].as_ref().unwrap();
+    assert_eq!(
+        (savepoint.place, savepoint.choice),
+        (12, Some(Choice::Checkpoint(2)))
+    );
+    assert_eq!(
+        store.calls(&[]).unwrap_err().kind,
+        StoreErrorKind::BadArgument
+    );
+    let mut options = Options::new(SETTINGS, &[2]);
+    let second = Store::open(&folder.job(), &options).unwrap_err();
+    assert_eq!(second.kind, StoreErrorKind::InUse);
+    assert!(
+        second.message.contains(&std::process::id().to_string()),
+        "{second}"
+    );
+    let job = store.report().job;
+    drop(store);
+    options.settings.interval = 20;
+    let store = Store::open(&folder.job(), &options).unwrap();
+    let report = store.report();
+    assert!(
+        report.is_recovered && report.settings_differ && report.epoch == 2 && report.job == job
+    );
+    assert_eq!(
+        (report.taken, report.mode, report.choice),
+        (1, Mode::Running, Choice::Checkpoint(2))
+    );
+    assert_eq!(
+        report.steps,
+        [Step::EndTasks, Step::Restore, Step::Sweep, Step::StartTasks]
+    );
+    assert_eq!(store.garbage(&[1, 3]).unwrap().garbage, []);
+    let restore = Call::Restore {
+        now: NOW,
+        savepoint: None,
+        shape: None,
+    };
+    assert!(matches!(
+        store.call(restore).unwrap().called(),
+        Some(Answer::Restored { .. })
+    ));
+    assert_eq!(store.garbage(&[1, 2, 3, 11, 12]).unwrap().garbage, [3]);
+    assert!(store.next_tick().unwrap().is_some());
+}
+
+#[test]
+fn openings_that_are_refused() {
+    let folder = Place::new("refused");
+    let path = folder.job();
+    let mut options = Options::new(SETTINGS, &[2]);
+    assert_eq!(
+        Store::open(&path, &options).unwrap_err().kind,
+        StoreErrorKind::Absent
+    );
+    assert_eq!(
+        Store::open(Path::new("a\0b"), &options).unwrap_err().kind,
+        StoreErrorKind::BadArgument
+    );
+    options.create = true;
+    options.storage = Some(folder.state());
+    fs::write(folder.state().join("5"), "").unwrap();
+    let why = Store::open(&path, &options).unwrap_err();
+    assert!(
+        why.kind == StoreErrorKind::Storage && !why.closes(),
+        "{why}"
+    );
+}
+
+#[test]
+fn threads_share_it() {
+    let folder = Place::new("threads");
+    let store = job(&folder);
+    thread::scope(|scope| {
+        for _ in 0..16 {
+            scope.spawn(|| {
+                for _ in 0..20 {
+                    store.call(Call::Savepoint { now: NOW }).unwrap();
+                }
+            });
+        }
+    });
+    assert_eq!(store.counts().calls, 320);
+    assert_eq!(
+        store.read(|job| job.live(319).map(|it| it.id)).unwrap(),
+        Some(320)
+    );
+}
+
+#[test]
+fn a_read_that_panics() {
+    let folder = Place::new("panics");
+    let store = job(&folder);
+    complete(&store, 1);
+    let read = std::panic::catch_unwind(std::panic::AssertUnwindSafe(|| {
+        store.read(|job| panic!("{}", job.due()))
+    }));
+    assert!(read.is_err());
+    complete(&store, 11);
+    assert_eq!(store.read(|job| job.file_counts().waiting).unwrap(), 2);
+}
+
+#[test]
+fn a_call_in_a_read() {
+    let folder = Place::new("in-read");
+    let store = job(&folder);
+    complete(&store, 1);
+    let in_read = |told: Result<(), StoreError>| {
+        assert_eq!(told.unwrap_err().kind, StoreErrorKind::InRead);
+    };
+    store
+        .read(|_| {
+            in_read(store.calls(&[Call::Tick { now: NOW }]).map(drop));
+            in_read(store.read(|_| ()));
+            in_read(store.sweep().map(drop));
+            in_read(store.discard(1, |_| true));
+            assert!(store.now() > 0 && store.next_tick().is_ok());
+        })
+        .unwrap();
+    complete(&store, 11);
+}
+
+fn fenced<T: std::fmt::Debug>(told: Result<T, CallError>, why: Fenced) {
+    match told {
+        Err(CallError::Fault(Fault::Fenced(found))) => assert_eq!(found, why),
+        other => panic!("{other:?}"),
+    }
+}
+
+fn ack_in(store: &Store, term: u64, id: u64, index: u16, file: u64) -> Result<Answer, CallError> {
+    let call = Call::AckIn {
+        term,
+        now: 0,
+        id,
+        subtask: (0, index),
+        fresh: &[file],
+        reused: &[],
+    };
+    store.call(call).map(|made| made.called().unwrap())
+}
+
+const RESTORE: Call = Call::Restore {
+    now: NOW,
+    savepoint: None,
+    shape: None,
+};
+
+#[test]
+fn terms_and_names() {
+    let folder = Place::new("names");
+    let mut options = new_job(&[2]);
+    options.storage = Some(folder.state());
+    let store = Store::open(&folder.job(), &options).unwrap();
+    let names = store.report().names;
+    assert_eq!((names.term, names.next_name), (1, 1));
+    assert_eq!(store.reserve(1, 5).unwrap(), 1..6);
+    for file in [1, 2, 3, 9] {
+        store.put(file, b"state").unwrap();
+    }
+    assert_eq!(
+        store.put(9, b"other").unwrap_err().kind,
+        StoreErrorKind::Present
+    );
+    let id = triggered(&store);
+    assert_eq!(
+        ack_in(&store, 1, id, 0, 1).unwrap(),
+        Answer::AckPending { missing: 1 }
+    );
+    fenced(ack_in(&store, 1, id, 0, 1), Fenced::Spent(1));
+    fenced(ack_in(&store, 2, id, 1, 2), Fenced::OldTerm);
+    assert!(matches!(
+        ack_in(&store, 1, id, 1, 2).unwrap(),
+        Answer::AckCompleted { .. }
+    ));
+    store.forfeit(1, &[3]).unwrap();
+    let sorted = store.garbage(&[1, 2, 3, 4, 9]).unwrap();
+    assert_eq!((sorted.garbage, sorted.unissued), (vec![3], vec![9]));
+    assert_eq!(store.sweep().unwrap(), 0);
+    assert_eq!((store.counts().swept, store.counts().unissued), (1, 1));
+    assert!(
+        !folder.state().join("3").exists()
+            && folder.state().join("2").exists()
+            && folder.state().join("9").exists()
+    );
+    assert_eq!(store.call(RESTORE).unwrap().term, Some(2));
+    fenced(store.reserve(1, 1), Fenced::OldTerm);
+    fenced(store.forfeit(1, &[4]), Fenced::OldTerm);
+    assert_eq!(
+        store.term().map(|it| (it.term, it.next_name)).ok(),
+        Some((2, 6))
+    );
+}
+
+#[test]
+fn submits() {
+    let folder = Place::new("submits");
+    let store = job(&folder);
+    let tokens: Vec<u64> = (0..100)
+        .map(|_| store.submit(&[Call::Savepoint { now: NOW }]).unwrap())
+        .collect();
+    let mut found = Vec::new();
+    while found.len() < 100 {
+        found.extend(store.completed());
+        thread::sleep(Duration::from_millis(1));
+    }
+    assert_eq!(found.iter().map(|it| it.0).collect::<Vec<_>>(), tokens);
+    let places = found
+        .iter()
+        .map(|it| it.1.as_ref().unwrap()[0].as_ref().unwrap().place);
+    assert!(places.eq(1..=100));
+    store.submit(&[Call::Savepoint { now: NOW }]).unwrap(); // the drop waits for it
+}
+
+/// Waits for one completion.
+fn completion(store: &Store, token: u64) -> Result<Vec<Result<Made, Fault>>, StoreError> {
+    loop {
+        if let Some((found, outcomes)) = store.completed().pop() {
+            assert_eq!(found, token);
+            return outcomes;
+        }
+        thread::sleep(Duration::from_millis(1));
+    }
+}
+
+#[test]
+fn submitted_commands() {
+    let folder = Place::new("submitted-commands");
+    let store = job(&folder);
+    let why = completion(&store, store.submit_begin_job().unwrap()).unwrap_err();
+    assert_eq!(why.kind, StoreErrorKind::NotNow);
+    let stop = completion(&store, store.submit_stop_job().unwrap()).unwrap();
+    let answer = stop[0].as_ref().unwrap().called();
+    assert_eq!(answer, Some(Answer::SavepointTriggered(1)));
+    assert_eq!(store.phase().unwrap().phase, Phase::Stopping);
+    for index in 0..2 {
+        ack(&store, 1, index, 1 + u64::from(index));
+    }
+    let begun = completion(&store, store.submit_begin_job().unwrap()).unwrap();
+    // behind the savepoint, two names and acknowledgements, and the restore with which the job has stopped
+    assert_eq!(begun[0].as_ref().unwrap().place, 7);
+    assert_eq!(store.phase().unwrap().phase, Phase::Running);
+}
+
+#[test]
+fn a_discarder() {
+    let folder = Place::new("discarder");
+    let store = job(&folder);
+    let tries = AtomicU64::new(0);
+    thread::scope(|scope| {
+        let discarder = scope.spawn(|| {
+            let (mut gone, mut panics) = (BTreeSet::new(), 0);
+            loop {
+                let discards = std::panic::AssertUnwindSafe(|| {
+                    store.discard(4, |file| {
+                        assert!(
+                            file != 2 || tries.fetch_add(1, Ordering::Relaxed) >= 2,
+                            "not yet"
+                        );
+                        gone.insert(file)
+                    })
+                });
+                match std::panic::catch_unwind(discards) {
+                    Ok(ended) => return (ended, gone, panics),
+                    Err(_) => panics += 1,
+                }
+            }
+        });
+        complete(&store, 1);
+        complete(&store, 11);
+        while store
+            .read(|job| job.file_counts())
+            .is_ok_and(|it| it.waiting + it.taken != 0)
+        {
+            thread::sleep(Duration::from_millis(5));
+        }
+        store.stop();
+        let (ended, gone, panics) = discarder.join().unwrap();
+        assert_eq!(ended, Ok(()));
+        assert_eq!((gone, panics), (BTreeSet::from([1, 2]), 2));
+        assert_eq!(tries.load(Ordering::Relaxed), 3);
+    });
+    assert!(store.await_tick(1000).is_err());
+}
+
+fn refused(path: &Path, options: &Options, kind: StoreErrorKind) -> String {
+    let why = Store::open(path, options).unwrap_err();
+    assert_eq!(why.kind, kind, "{why}");
+    why.message
+}
+
+/// The message names what is wrong and what is allowed.
+#[test]
+fn limits() {
+    let folder = Place::new("limits");
+    let path = folder.job();
+    let bad = |change: fn(&mut Settings)| {
+        let mut settings = SETTINGS;
+        change(&mut settings);
+        settings
+    };
+    let settings = [
+        (
+            bad(|it| it.interval = 9),
+            "interval is 9, and has to be 10 to 2^40 ms",
+        ),
+        (
+            bad(|it| it.pause = (1 << 40) + 1),
+            "pause is 1099511627777, and has to be 0 to 2^40 ms",
+        ),
+        (
+            bad(|it| it.at_once = 65),
+            "at_once is 65, and has to be 1 to 64",
+        ),
+        (
+            bad(|it| it.timeout = 0),
+            "timeout is 0, and has to be 1 to 2^40 ms",
+        ),
+        (
+            bad(|it| it.tolerable = 1001),
+            "tolerable is 1001, and has to be 0 to 1000",
+        ),
+        (
+            bad(|it| it.retained = 0),
+            "retained is 0, and has to be 1 to 1000",
+        ),
+    ];
+    for (settings, words) in settings {
+        let mut options = new_job(&[2]);
+        options.settings = settings;
+        let told = refused(&path, &options, StoreErrorKind::BadArgument);
+        assert_eq!(told, format!("{}: settings.{words}", path.display()));
+    }
+    let shapes: [(&[u64], &str); 4] = [
+        (&[], "0 vertices, and has to have 1 to 256"),
+        (&[1; 257], "257 vertices, and has to have 1 to 256"),
+        (
+            &[1, 0],
+            "0 subtasks in vertex 1, and has to have at least 1 in each",
+        ),
+        (&[4096, 1], "4097 subtasks, and has to have at most 4096"),
+    ];
+    for (shape, words) in shapes {
+        let told = refused(&path, &new_job(shape), StoreErrorKind::BadArgument);
+        assert_eq!(told, format!("{}: the shape has {words}", path.display()));
+    }
+}
+
+#[test]
+fn backups() {
+    let folder = Place::new("backups");
+    let copy = folder.0.join("copy.db");
+    let store = job(&folder);
+    complete(&store, 1);
+    store.backup(&copy).unwrap();
+    let again = store.backup(&copy).unwrap_err();
+    assert_eq!(again.kind, StoreErrorKind::Present);
+    assert!(again.message.contains("copy.db"), "{again}");
+    let nowhere = store.backup(&folder.0.join("nowhere/copy.db")).unwrap_err();
+    assert_eq!(nowhere.kind, StoreErrorKind::NotPut);
+    assert!(nowhere.message.contains("No such file"), "{nowhere}");
+    complete(&store, 11);
+    let mut options = Options::new(SETTINGS, &[2]);
+    let told = refused(&copy, &options, StoreErrorKind::Storage);
+    assert!(told.contains("it is a backup"), "{told}");
+    options.backup = true;
+    let back = Store::open(&copy, &options).unwrap();
+    let report = back.report();
+    assert!(report.is_recovered && report.epoch == 2);
+    assert_eq!(report.image_place + report.replayed, 5);
+    drop(back);
+    refused(&copy, &options, StoreErrorKind::BadArgument);
+    options.backup = false;
+    Store::open(&copy, &options).unwrap();
+}
+
+fn kind<T>(it: Result<T, CallError>) -> StoreErrorKind {
+    match it.err().unwrap() {
+        CallError::Store(why) => why.kind,
+        CallError::Fault(why) => panic!("{why}"),
+    }
+}
+
+#[test]
+fn commands_of_an_operator() {
+    let folder = Place::new("commands");
+    let store = job(&folder);
+    complete(&store, 1);
+    let mut other = Settings {
+        interval: 1 << 30,
+        retained: 2,
+        ..SETTINGS
+    };
+    store.configure(&other).unwrap();
+    other.interval = 5;
+    let why = store.configure(&other).unwrap_err();
+    assert!(
+        why.to_string()
+            .contains("settings.interval is 5, and has to be 10 to 2^40 ms"),
+        "{why}"
+    );
+    let made = store.trigger().unwrap();
+    assert_eq!(store.await_tick(1000).unwrap(), made);
+    assert_eq!(made.choice, Some(Choice::Checkpoint(1)));
+    for index in 0..2 {
+        ack(&store, 2, index, 11 + u64::from(index));
+    }
+    assert_eq!(kind(store.go_back(1, false)), StoreErrorKind::BadArgument);
+    let back = store.go_back(1, true).unwrap();
+    assert_eq!(store.await_tick(1000).unwrap().called(), back.called());
+    assert_eq!(kind(store.begin_job()), StoreErrorKind::NotNow);
+    let Some(Answer::SavepointTriggered(id)) = store.stop_job().unwrap().called() else {
+        panic!("a stop")
+    };
+    assert_eq!(
+        store.await_tick(1000).unwrap().called(),
+        Some(Answer::SavepointTriggered(id))
+    );
+    let phase = store.phase().unwrap();
+    assert_eq!(
+        (phase.phase, phase.savepoint, phase.stop_failed),
+        (Phase::Stopping, Some(id), None)
+    );
+    for index in 0..2 {
+        ack(&store, id, index, 21 + u64::from(index));
+    }
+    assert_eq!(kind(store.await_tick(1000)), StoreErrorKind::JobStopped);
+    drop(store);
+    let store = Store::open(&folder.job(), &Options::new(SETTINGS, &[2])).unwrap();
+    let report = store.report();
+    assert_eq!(
+        (report.phase.phase, report.steps.as_slice()),
+        (Phase::Stopped, &[Step::EndTasks, Step::Discard][..])
+    );
+    let begun = store.begin_job().unwrap();
+    assert_eq!(store.await_tick(1000).unwrap().called(), begun.called());
+    store.stop_job().unwrap();
+    store.call(Call::Cancel { now: NOW }).unwrap();
+    let phase = store.phase().unwrap();
+    assert_eq!(
+        (phase.phase, phase.stop_failed),
+        (Phase::Running, Some(StopFailed::Cancelled))
+    );
+    assert_eq!(kind(store.await_tick(1000)), StoreErrorKind::NotStopped);
+}

@@ -1,0 +1,150 @@
+#!/usr/bin/env python3
+"""faults/kill_chained.py KILLS [SEED]: runs chained.py of docs/CUT.md and mini.py and mini-rust of docs/RUNNER.md, kills a process of theirs KILLS times, and
+looks at what they published: each number of each source once, in its order, and the sums of one run. Then wrong engines have to be found wrong: of the
+first one that does not align, one that publishes at its cut, and one that does not publish again at its start, and of the second one that publishes what
+it prepared for records after the one that it begins from. RELKVANU_LIB names the folder of the library."""
+import json
+import os
+import pathlib
+import random
+import shutil
+import subprocess
+import sys
+import tempfile
+import time
+
+HERE = pathlib.Path(__file__).resolve().parent
+SECONDS = 300  # that a start may take to publish something, on a busy machine
+KEYS = {"chained.py": 1, "mini.py": 4, "mini-rust": 4}  # sums of a sample
+BESIDE = {"mini.py": "target.py"}  # what a sample imports
+WRONG = {
+    "it does not align": [
+        "chained.py",
+        ("            self.held[source].append(item)\n",
+         "            self.total += item['number']\n            self.sink.process([source, item['number'], self.total])\n"),
+    ],
+    "it publishes at its cut": ["chained.py", ("        return self.prepared\n", "        self.target.publish([id])\n        return self.prepared\n")],
+    "it does not publish again": [
+        "chained.py",
+        ("        target.publish(prepared)", "        pass"),
+        ("        self.target.publish([it for it in self.prepared if it <= id])\n",
+         "        import time; time.sleep(0.05 * (id % 3))\n        self.target.publish([it for it in self.prepared if it <= id])\n"),
+    ],
+    "it gives nothing up": [
+        "target.py",
+        ("            it.unlink()  #", "            os.rename(it, it.with_suffix('.published'))  #"),
+    ],
+}
+
+
+def in_rust(samples):
+    """Builds the sample in Rust over the crates of the repository."""
+    manifest = samples / "mini-rust/Cargo.toml"
+    manifest.write_text(manifest.read_text(encoding="utf-8").replace('"../bindings/', f'"{HERE.parent}/bindings/'), encoding="utf-8")
+    environment = {**os.environ, "CARGO_TARGET_DIR": str(samples / "built")}
+    subprocess.run(["cargo", "build", "--offline", "--quiet", "--manifest-path", manifest], env=environment, check=True)
+
+
+class Job:
+    """A job of the sample in a folder of its own. The texts are those of its program and of what that imports; one in Rust is built."""
+
+    def __init__(self, folder, sample, samples, texts=None):
+        self.folder, self.keys = folder, KEYS[sample]
+        for it in ("state", "target"):
+            (folder / it).mkdir(parents=True)
+        for name, text in (texts or {}).items():
+            (folder / name).write_text(text, encoding="utf-8")
+        self.words = [sys.executable, folder / sample] if texts else [samples / "built/debug/mini"]
+
+    def published(self):
+        return sorted(int(it.stem) for it in (self.folder / "target").glob("*.published"))
+
+    def start(self, last):
+        new = [] if (self.folder / "job.db").exists() else ["new"]
+        # what is left of a job that was killed says so on its standard error
+        return subprocess.Popen([*self.words, self.folder, str(last), *new], stderr=subprocess.DEVNULL)
+
+    def kill_one(self, dice):
+        """Starts it, waits until it has published once more, and kills its driver or its worker a moment later. What is left ends by itself."""
+        before, process = self.published(), self.start(1 << 62)
+        until = time.monotonic() + SECONDS
+        while self.published() == before and process.poll() is None:
+            assert time.monotonic() < until, f"nothing was published in {SECONDS} s"
+            time.sleep(0.005)
+        time.sleep(dice.random() * 0.06)
+        if dice.random() < 0.5 or subprocess.run(["pkill", "-KILL", "-P", str(process.pid)], check=False).returncode:
+            process.kill()
+        process.wait(SECONDS)
+
+    def fault(self):
+        """What is wrong with what it published; None: nothing."""
+        lines = [json.loads(line) for id in self.published() for line in open(self.folder / "target" / f"{id}.published", encoding="utf-8")]
+        totals = [0] * self.keys
+        next_numbers = [0, 0]
+        for source, number, told in lines:
+            totals[number % self.keys] += number
+            total = totals[number % self.keys]
+            if number != next_numbers[source]:
+                return f"source {source}: {number} where {next_numbers[source]} is next"
+            if told != total:
+                return f"source {source}: {number} with the sum {told}, which is {total}"
+            next_numbers[source] += 1
+        return None
+
+
+def is_right(samples, sample, texts, kills, dice):
+    job = Job(samples / f"right {sample}", sample, samples, texts)
+    for _ in range(kills):
+        job.kill_one(dice)
+    # on to a checkpoint behind all that was begun: nothing that was killed is left to publish
+    status = job.start(max(job.published(), default=0) + 5).wait(SECONDS)
+    fault = f"status {status}" if status else job.fault() if len(job.published()) > kills // 2 else "too little was published"
+    lines = sum(1 for id in job.published() for _ in open(job.folder / "target" / f"{id}.published", encoding="utf-8"))
+    print(f"{sample}, {kills} kills: {fault or f'each of {lines} numbers once, in {len(job.published())} records'}", flush=True)
+    return fault is None
+
+
+def is_found(samples, why, texts, dice):
+    """Whether a wrong engine publishes something wrong within 60 kills."""
+    name, *swaps = WRONG[why]
+    sample = next((it for it, beside in BESIDE.items() if beside == name), name)
+    wrong = dict(texts[sample])
+    for old, new in swaps:
+        assert wrong[name].count(old) == 1, old
+        wrong[name] = wrong[name].replace(old, new)
+    job = Job(samples / f"wrong {why}", sample, samples, wrong)
+    for kills in range(1, 61):
+        job.kill_one(dice)
+        fault = job.fault()
+        if fault is not None:
+            print(f"{why}: {fault}, after {kills} kills", flush=True)
+            return True
+    print(f"{why}: nothing was found")
+    return False
+
+
+def read(samples, *names):
+    return {it: (samples / it).read_text(encoding="utf-8") for it in names}
+
+
+def main(kills, seed=None):
+    seed = int(seed) if seed else random.randrange(1 << 32)
+    print(f"seed {seed}", flush=True)
+    dice = random.Random(seed)
+    with tempfile.TemporaryDirectory() as work:
+        samples = pathlib.Path(work)
+        subprocess.run([HERE.parent / "checks/build_samples", "--write", samples], check=True)
+        texts = {"chained.py": read(samples, "chained.py"), "mini.py": read(samples, "mini.py", BESIDE["mini.py"])}
+        if shutil.which("cargo"):
+            in_rust(samples)
+            texts["mini-rust"] = None
+        else:
+            print("skipped: cargo: the engine in Rust")
+        good = [is_right(samples, it, of, int(kills), dice) for it, of in texts.items()]
+        good += [is_found(samples, why, texts, dice) for why in WRONG]
+    print(f"{good.count(True)} engines passed, {good.count(False)} failed")
+    return 0 if all(good) else 1
+
+
+if __name__ == "__main__":
+    sys.exit(main(*sys.argv[1:]))

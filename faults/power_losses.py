@@ -1,0 +1,324 @@
+"""power_losses.py: the samples of checks/build_samples lose power (power.py), at any call that writes and in each way.
+`faults/run` builds them and calls this. ROUNDS in the environment has so many times as many losses; 0 is each.
+
+- Those that begin anew tell each acknowledgement and each report of a deletion. What was acknowledged is whole after a loss, and what was
+  reported as deleted does not come back. Those in C, C++, Rust, Python and Java run under faults/shim.c. Go makes its system
+  calls itself, so what strace sees of its sample is made a journal.
+- Those with a log, and those over the durable coordinator, go on after a loss as the page says, from what they told last or from
+  something later; the folder has what the job knows then, and no other file.
+
+In each one sync after the other is left out, as it were: then a loss has to do harm."""
+import functools
+import itertools
+import os
+import pathlib
+import random
+import re
+import shutil
+import signal
+import subprocess
+import sys
+import threading
+import time
+
+import lost_jobs
+from power import Journal, Kind, Loss, Record, Trials, read_tree, settle, tell, write_tree
+
+HERE = pathlib.Path(__file__).resolve().parent
+SECONDS = 600  # of a process, on a busy machine
+ROUNDS = int(os.environ.get("ROUNDS", "1"))
+LEAST = 40  # losses of a sample that begins anew that have an effect
+CONTROLLED = 600  # losses from which one that does harm is looked for
+EACH_GOES_ON = 4  # one in so many losses of a job over the durable coordinator: the others are opened alone
+
+
+def some_of(journal, most, chance):
+    """So many losses; None: at each call that writes one."""
+    if ROUNDS == 1 and most is None:
+        return journal.each()
+    return journal.points() if ROUNDS == 0 else journal.some(ROUNDS * (most or 200), chance)
+
+
+def shimmed(samples, root, journal, **more):
+    return {**os.environ, "RELKVANU_LIB": str(samples.library), "PYTHONPATH": str(HERE.parent / "bindings/python"), "PYTHONDONTWRITEBYTECODE": "1",
+            "LD_PRELOAD": str(samples.work / "shim.so"), "STORE_IN": f"{root}", "STORE_JOURNAL": str(journal), **more}
+
+
+def is_state(path):
+    return path.rpartition("/")[2].partition(".")[0].isdecimal()
+
+
+# Samples that begin anew.
+
+def told_files(lost, word):
+    return {int(file) for told in lost.told for file in re.findall(rb"^%s (\d+)$" % word, told, re.M)}
+
+
+def keeps_acknowledged(lost, _):
+    for file in told_files(lost, b"ack"):
+        was, found = lost.whole.get(str(file)), lost.tree.get(str(file))
+        assert was is None or found == was, f"file {file} was acknowledged: it had {was!r}, and has {found!r}"  # None: it was deleted since
+    back = {file for file in told_files(lost, b"deleted") if str(file) in lost.tree}
+    assert not back, f"files {sorted(back)} were reported as deleted, and are there"
+
+
+def journal_of_go(told):
+    """What faults/trace_go tells, as a journal."""
+    kinds = {"make": Kind.MAKES, "write": Kind.WRITES, "sync": Kind.SYNCS, "delete": Kind.REMOVES}
+    records = []
+    for place, line in enumerate(told):
+        what, _, name = line.partition(" ")
+        if line == "sync folder":
+            record = Record(place, Kind.SYNCS_FOLDER, "", place, b"")
+        elif what in kinds:
+            record = Record(place, kinds[what], name, place if what == "sync" else 0, b"state" if what == "write" else b"")
+        else:
+            record = Record(place, Kind.TELLS, "", 0, line.encode() + b"\n")
+        records.append(record)
+    return Journal(records)
+
+
+def begins_anew(samples, name, command):
+    with_told = {"TOLD": str(samples.work / f"told-{name}")}
+    told = pathlib.Path(with_told["TOLD"])
+    folder = samples.work / f"power-{name}"
+    folder.mkdir()
+    if name == "Go":
+        known = {**os.environ, **with_told}
+        status = subprocess.run([*map(str, command), str(folder)], env=known, stdout=subprocess.DEVNULL, timeout=SECONDS).returncode
+        journal = journal_of_go(told.read_text().split("\n"))
+    else:
+        path = samples.work / f"journal-{name}"
+        known = shimmed(samples, folder, path, STORE_TOLD=str(told), **with_told)
+        status = subprocess.run([*map(str, command), str(folder)], env=known, stdout=subprocess.DEVNULL, timeout=SECONDS).returncode
+        journal = Journal.read(path, folder)
+    assert status == 0, f"status {status}"
+    chance, trials = random.Random(name), Trials(samples.work / f"losses of {name}", keeps_acknowledged, 1)
+    trials.all(journal, some_of(journal, 600, chance), chance)
+    for what, ignored in (("its state files", is_state), ("its folder", lambda path: path == "")):
+        trials.control(what, journal, journal.points(), chance, ignored)
+    return f"{trials.told(LEAST)}; both syncs are missed"
+
+
+# Jobs that go on.
+
+def life(command, known, journal, most):
+    """Runs a process of a job, and notes in the journal what it prints, when it does. After so many lines the process is killed; None: it
+    comes to its end."""
+    with subprocess.Popen([*map(str, command)], env=known, stdout=subprocess.PIPE, stderr=subprocess.STDOUT) as process:
+        watch, printed = threading.Timer(SECONDS, process.kill), []
+        watch.start()
+        for line in process.stdout:
+            tell(journal, line)
+            printed.append(line)
+            if len(printed) == most:
+                process.kill()
+        process.wait()
+        watch.cancel()
+    wanted, told = 0 if most is None else -signal.SIGKILL, b"".join(printed).decode()
+    assert process.returncode == wanted, f"status {process.returncode}, not {wanted}: {told}"
+    assert len(printed) >= (most or 0), f"it was killed after {SECONDS} s, and had told this alone: {told}"
+
+
+class LogJob:
+    """The job of log.c or loop.py: its log is its only file beside the state files."""
+
+    syncs = (("the log", lambda path: path == "log"), ("the new log", lambda path: path == "log.new"), ("its state files", is_state),
+             ("its folder", lambda path: path == ""))
+    lives = ((["new"], None), ([], None))  # words of a process, and after how many lines it is killed
+
+    def __init__(self, samples, name, command, most):
+        self.samples, self.name, self.command, self.most = samples, name, command, most
+        self.env = shimmed(samples, "/nowhere", "/nowhere")
+        self.root, self.journal = samples.work / f"power-{name}", samples.work / f"journal-{name}"
+        del self.env["LD_PRELOAD"]
+
+    def prepare(self):
+        self.root.mkdir()
+
+    def run(self, folder, *words):
+        words = [*map(str, self.command), str(folder), *words]
+        return subprocess.run(words, env=self.env, stdout=subprocess.PIPE, stderr=subprocess.STDOUT, timeout=SECONDS)
+
+    def check(self, lost, folder):
+        told, log = lost_jobs.told_record(lost), lost.tree.get("log")
+        last = max((int(it) for it in re.findall(rb"^ack \d+ (\d+) .*\n", log or b"", re.M)), default=0)
+        assert last >= told, f"record {told} was complete, and the last one of the log is {last}"
+        assert last == 0 or lost.tree.get(str(last)) == lost.whole[str(last)], f"file {last} is in use: it has {lost.tree.get(str(last))!r}"
+        back = [file for file in re.findall(r"^deleted (\d+)\n", (log or b"").decode(), re.M) if file in lost.tree]
+        assert not back, f"files {back} were reported as deleted, and are there"
+        ran = self.run(folder, *(["new"] if log is None else []))
+        complete = [int(one or other) for one, other in lost_jobs.COMPLETE.findall(ran.stdout)]
+        is_told_again = complete[:1] == [last] or last == 0  # a start tells of the last record of its log once more
+        assert ran.returncode == 0 and complete and is_told_again and complete[-1] > last, ran.stdout.decode()
+        assert {it.name for it in folder.iterdir()} == {"log", str(complete[-1])}, list(folder.iterdir())
+
+    def lost(self):
+        chance = random.Random(self.name)
+        self.prepare()
+        start = read_tree(self.root)
+        for words, most in self.lives:
+            life([*self.command, self.root, *words], shimmed(self.samples, self.root, self.journal), self.journal, most)
+            if most is not None:
+                settle(self.journal, self.root, start)
+        journal = Journal.read(self.journal, self.root, start)
+        trials = Trials(self.samples.work / f"losses of {self.name}", self.check)
+        trials.all(journal, some_of(journal, self.most, chance), chance)
+        self.lose_again(trials, journal, chance)
+        for name, ignored in self.syncs:
+            trials.control(name, journal, journal.some(CONTROLLED, chance), chance, ignored)
+        return f"{trials.told(trials.tried // 4)}; each of {len(self.syncs)} syncs is missed"
+
+    def lose_again(self, trials, journal, chance):
+        """Power is lost once more while the job recovers."""
+        for number, lost in enumerate(list(journal.losses(journal.some(len(Loss), chance)[::2], chance))):
+            if "log" in lost.tree or "job.db" in lost.tree:
+                self.untold = self.deletions_untold(lost)
+                again = self.again(lost, number)
+                trials.all(again, some_of(again, len(Loss), chance), chance)
+        self.untold = set()
+
+    def deletions_untold(self, lost):
+        """Files that are there although their deletion was reported: the process was killed after it had deleted one, and before the shim had told
+        so. What goes on from this loss has them again, and sweeps them."""
+        return set()
+
+    def again(self, lost, number):
+        root, path = self.root.with_name(f"{self.root.name}-{number}"), self.journal.with_name(f"{self.journal.name}-{number}")
+        write_tree(lost.tree, root)
+        for told in lost.told:
+            tell(path, told)
+        words, _ = self.lives[1]
+        life([*self.command, root, *words], shimmed(self.samples, root, path), path, None)
+        return Journal.read(path, root, lost.tree)
+
+
+class StoreJob(LogJob):
+    """The job of durable.c in a language, or that of files.py: FOLDER/job.db and FOLDER/state."""
+
+    syncs = (("the store's log", lambda path: path == "job.db-wal"), ("the store", lambda path: path == "job.db"),
+             ("its state files", is_state), ("its storage", lambda path: path == "state"), ("its folder", lambda path: path == ""))
+    # The first process has a last record that it never comes to, however late the kill. Mostly it has completed some 8.
+    lives = ((["1000000"], 8), (["20"], None))
+    # whether the process waits for its discarder before it ends
+    joins_discarder = True
+
+    def __init__(self, samples, name, command, most, is_marked=True):
+        super().__init__(samples, name, command, most)
+        self.is_marked, self.numbers, self.untold = is_marked, itertools.count(), set()
+
+    def prepare(self):
+        (self.root / "state").mkdir(parents=True)
+
+    def check(self, lost, folder):
+        job = lost_jobs.check(lost, folder, "state", self.is_marked, untold=self.untold)
+        if job is not None and next(self.numbers) % EACH_GOES_ON != 0:
+            return
+        last = self.goes_on(0 if job is None else job.choice, folder)
+        after = lost_jobs.opened(folder / "job.db", folder / "state" if self.is_marked else None)
+        there = lost_jobs.numbers(folder / "state")
+        untold = set() if self.joins_discarder else after.taken - there
+        assert after.choice >= last and there | untold == after.used | after.waiting | after.taken, (last, there, after)
+
+    def deletions_untold(self, lost):
+        folder = write_tree(lost.tree, self.samples.work / f"before another loss of {self.name}")
+        job = lost_jobs.check(lost, folder, "state", self.is_marked)
+        shutil.rmtree(folder, ignore_errors=True)
+        return set() if job is None else {file for file in job.deleted if f"state/{file}" in lost.tree}
+
+    def goes_on(self, choice, folder):
+        """Runs the job from this record on. Returns the number that its last record has at least."""
+        ran = self.run(folder, str(choice + 4))
+        assert ran.returncode == 0, ran.stdout.decode()
+        return choice + 3
+
+
+class ReadmeJob(StoreJob):
+    """The job of README.md: each process begins with the record that the last one completed, and makes three more. A loss while the job
+    is made may leave none, so each process may make it. Its discarder is a thread that ends with the process, so the last deletion may be
+    one that was not reported: the next process deletes that file once more."""
+
+    lives = ((["new"], None), (["new"], None))
+    joins_discarder = False
+
+    def goes_on(self, choice, folder):
+        ran = self.run(folder, "new")
+        begins = [int(it) for it in re.findall(rb"^begins from checkpoint (\d+) with \d+$", ran.stdout, re.M)]
+        assert ran.returncode == 0 and begins == [choice] * (choice != 0) and len(lost_jobs.COMPLETE.findall(ran.stdout)) == 3, ran.stdout.decode()
+        return choice + 3
+
+
+class PutBack:
+    """`relkvanu-store put-back`, over the job of stored.py that has run on after back_up.py. Once it has told the record an engine goes on from that.
+    A loss before leaves what it can put back again."""
+
+    name = "relkvanu-store put-back"
+    syncs = (("the new file", lambda path: path.startswith(".job.db.relkvanu-new")), ("its folder", lambda path: path == ""))
+
+    def __init__(self, samples):
+        self.samples, self.root = samples, samples.work / "power-put_back"
+        self.copy, self.journal = samples.work / "put_back.db", samples.work / "journal-put_back"
+        self.env = shimmed(samples, "/nowhere", "/nowhere")
+        del self.env["LD_PRELOAD"]
+
+    def run(self, name, folder, *words):
+        ran = subprocess.run([sys.executable, self.samples.work / name, folder, *words], env=self.env, stdout=subprocess.PIPE, stderr=subprocess.STDOUT,
+                             timeout=SECONDS)
+        assert ran.returncode == 0, ran.stdout.decode()
+
+    def command(self, folder):
+        return [self.samples.library / "relkvanu-store", "put-back", self.copy, folder / "job.db", folder / "state"]
+
+    def check(self, lost, folder):
+        if not any(b" goes on from " in it for it in lost.told):
+            ran = subprocess.run(self.command(folder), env=self.env, stdout=subprocess.PIPE, stderr=subprocess.STDOUT, timeout=SECONDS)
+            assert ran.returncode == 0, ran.stdout.decode()
+        assert lost_jobs.opened(folder / "job.db", folder / "state").choice == 20, "it is the job that was set aside"
+        self.run("stored.py", folder, "40")
+        job = lost_jobs.opened(folder / "job.db", folder / "state")
+        assert job.choice == 40 and not job.taken and lost_jobs.numbers(folder / "state") == job.used | job.waiting, job
+
+    def lost(self):
+        chance = random.Random(self.name)
+        (self.root / "state").mkdir(parents=True)
+        self.run("stored.py", self.root, "20")
+        self.run("back_up.py", self.root, self.copy)
+        self.run("stored.py", self.root, "30")
+        start = read_tree(self.root)
+        life(self.command(self.root), shimmed(self.samples, self.root, self.journal), self.journal, None)
+        journal = Journal.read(self.journal, self.root, start)
+        trials = Trials(self.samples.work / f"losses of {self.name}", self.check)
+        end = journal.points()[-len(Loss):]  # it has told the record
+        trials.all(journal, [*some_of(journal, 30, chance), *end], chance)
+        for name, ignored in self.syncs:
+            trials.control(name, journal, end, chance, ignored)
+        return f"{trials.told(trials.tried // 4)}; each of {len(self.syncs)} syncs is missed"
+
+
+def jobs(samples):
+    python = [sys.executable]
+    yield LogJob(samples, "log.c", ["stdbuf", "-oL", samples.work / "log"], None)
+    yield LogJob(samples, "loop.py", [*python, samples.work / "loop.py"], 36)
+    yield ReadmeJob(samples, "readme.py", [*python, samples.work / "readme.py"], 60)
+    for name, command in samples.durable.items():
+        yield StoreJob(samples, name, command, 60)
+    yield StoreJob(samples, "files.py", [*python, samples.work / "files.py"], 60, is_marked=False)
+    if samples.durable:
+        yield PutBack(samples)
+
+
+def tests(samples):
+    """The words of each test, and what runs it."""
+    flags = ["-std=gnu11", "-O2", "-Wall", "-Wextra", "-Werror", "-shared", "-fPIC"]
+    subprocess.run(["cc", *flags, HERE / "shim.c", "-o", samples.work / "shim.so"], check=True)
+    for name, command in samples.commands.items():
+        yield f"losses of power in {name}", functools.partial(told, name, functools.partial(begins_anew, samples, name, command))
+    for job in jobs(samples):
+        yield f"losses of power in {job.name}", functools.partial(told, job.name, job.lost)
+
+
+def told(words, test):
+    """The test, which says what it has found, and returns nothing that is wrong."""
+    began = time.monotonic()
+    print(f"faults: losses of power in {words}: {test()}, {time.monotonic() - began:.0f} s", flush=True)
+    return []

@@ -1,0 +1,240 @@
+/* The way back to an older checkpoint that is retained: a savepoint of its own files, and the restore to that savepoint, in one commit. The calls
+ * are made on a copy of the coordinator, which takes its place once all of them are done: so all are made, or none. */
+#include "parts.h"
+
+#include <stdlib.h>
+#include <string.h>
+
+enum {
+    MOST_VERTICES = 256,
+    BESIDE = 3
+}; /* calls beside an acknowledgement of each subtask: a restore of a failed job, the savepoint, the restore */
+
+struct way {
+    relkvanu_store *s;
+    relkvanu *copy;
+    char *image, *shown; /* of the job; of the checkpoint */
+    uint64_t shape[MOST_VERTICES];
+    size_t shape_len;
+    relkvanu_store_call *calls; /* that were made on the copy */
+    struct rks_line *lines;     /* of each */
+    size_t calls_len;
+    uint64_t *files; /* of a subtask */
+    size_t files_room;
+    relkvanu_answer refused; /* the answer of the call that was not made; RELKVANU_DONE: each was */
+};
+
+/* The metadata of a record as a text with a zero at its end, to be freed, or NULL without memory. */
+static char *shown(relkvanu *handle, uint64_t id) {
+    size_t len = relkvanu_show(handle, id, NULL, 0).a;
+    char *text = malloc(len + 1);
+    relkvanu_answer answer = {.code = RELKVANU_NO_MEMORY};
+    if (text != NULL) {
+        answer = relkvanu_show(handle, id, (uint8_t *)text, len);
+    }
+    if (answer.code != RELKVANU_DONE) {
+        free(text);
+        return NULL;
+    }
+    text[answer.a] = 0;
+    return text;
+}
+
+static bool refuse(struct way *w, uint32_t code, uint32_t what) {
+    w->refused = (relkvanu_answer){.code = code, .what = what};
+    return false;
+}
+
+/* Whether the job has the shape that the checkpoint had. */
+static bool has_its_shape(struct way *w, uint64_t id) {
+    uint64_t shape[MOST_VERTICES] = {0};
+    w->image = rks_image_of(w->s->handle);
+    w->shown = w->image == NULL ? NULL : shown(w->s->handle, id);
+    if (w->shown == NULL) {
+        return refuse(w, RELKVANU_NO_MEMORY, 0);
+    }
+    w->shape_len = rks_shape_of(w->image, w->shape, MOST_VERTICES);
+    size_t len = rks_shape_of(w->shown, shape, MOST_VERTICES);
+    bool is_same = len == w->shape_len && memcmp(shape, w->shape, sizeof shape) == 0;
+    return is_same || refuse(w, RELKVANU_BAD_ARGUMENT, RELKVANU_BAD_SHAPE);
+}
+
+static size_t subtasks_of(const struct way *w) {
+    size_t sum = 0;
+    for (size_t i = 0; i < w->shape_len; i++) {
+        sum += w->shape[i];
+    }
+    return sum;
+}
+
+/* Opens the copy, and makes room for all calls. */
+static bool begin(struct way *w) {
+    size_t most = subtasks_of(w) + BESIDE;
+    w->copy = &w->s->handles[w->s->handle == w->s->handles];
+    w->calls = calloc(most, sizeof *w->calls);
+    w->lines = calloc(most, sizeof *w->lines);
+    bool has_room = w->calls != NULL && w->lines != NULL && rks_has_rows(w->s, most);
+    rks_begin_lines(w->s);
+    relkvanu_answer opened = {.code = RELKVANU_NO_MEMORY};
+    if (has_room) {
+        opened = rks_open_image(w->copy, w->image, strlen(w->image));
+    }
+    return opened.code == RELKVANU_DONE || refuse(w, RELKVANU_NO_MEMORY, 0);
+}
+
+/* Makes a call on the copy. Returns whether it was made. */
+static bool step(struct way *w, relkvanu_call made, size_t reused_len) {
+    relkvanu_store_call *call = &w->calls[w->calls_len];
+    made.now = relkvanu_store_now(w->s);
+    *call = (relkvanu_store_call){.call = made, .second = w->files, .second_len = reused_len};
+    call->answer = rks_make_line(w->s, w->copy, call, made.now, &w->lines[w->calls_len]);
+    call->second = NULL;
+    call->second_len = 0;
+    if (call->answer.code != RELKVANU_DONE) {
+        w->refused = call->answer;
+        return false;
+    }
+    w->calls_len++;
+    return true;
+}
+
+/* The files of a subtask in the checkpoint. */
+static bool read_files(struct way *w, uint64_t id, uint16_t vertex, uint16_t index, size_t *len) {
+    relkvanu_answer answer = relkvanu_files_of(w->s->handle, id, vertex, index, w->files, w->files_room);
+    if (answer.code == RELKVANU_TOO_SHORT) {
+        uint64_t *files = realloc(w->files, answer.a * sizeof *files);
+        if (files == NULL) {
+            return refuse(w, RELKVANU_NO_MEMORY, 0);
+        }
+        w->files = files;
+        w->files_room = answer.a;
+        answer = relkvanu_files_of(w->s->handle, id, vertex, index, w->files, w->files_room);
+    }
+    *len = answer.a;
+    return answer.code == RELKVANU_DONE || refuse(w, answer.code, answer.what);
+}
+
+/* The acknowledgements of a vertex. */
+static bool acknowledge(struct way *w, uint64_t id, uint64_t savepoint, uint16_t vertex) {
+    uint64_t term = relkvanu_term(w->copy).a;
+    bool is_made = true;
+    for (uint64_t i = 0; i < w->shape[vertex] && is_made; i++) {
+        relkvanu_call ack = {.kind = RELKVANU_CALL_ACK, .vertex = vertex, .index = (uint16_t)i, .number = savepoint, .term = term};
+        size_t len = 0;
+        is_made = read_files(w, id, vertex, ack.index, &len) && step(w, ack, len);
+    }
+    return is_made;
+}
+
+/* The savepoint of the checkpoint's own files, and the restore to it. */
+static bool restore_copy(struct way *w, uint64_t id) {
+    if (!step(w, (relkvanu_call){.kind = RELKVANU_CALL_SAVEPOINT}, 0)) {
+        return false;
+    }
+    uint64_t savepoint = w->calls[w->calls_len - 1].answer.a;
+    bool is_made = true;
+    for (size_t vertex = 0; vertex < w->shape_len && is_made; vertex++) {
+        is_made = acknowledge(w, id, savepoint, (uint16_t)vertex);
+    }
+    return is_made && step(w, (relkvanu_call){.kind = RELKVANU_CALL_RESTORE, .number = savepoint}, 0);
+}
+
+/* Makes all calls on the copy. The latest checkpoint needs no savepoint. A failed job is restored first, since it can have none. */
+static bool walk(struct way *w, uint64_t id) {
+    relkvanu_answer live = relkvanu_live_from(w->s->handle, id), choice = relkvanu_choice(w->s->handle);
+    const relkvanu_call latest = {.kind = RELKVANU_CALL_RESTORE};
+    if (live.what != RELKVANU_LIVE_CHECKPOINT || live.a != id || live.b != 1) {
+        return refuse(w, RELKVANU_REFUSED, RELKVANU_NO_SUCH_RECORD);
+    }
+    if (!has_its_shape(w, id) || !begin(w)) {
+        return false;
+    }
+    if (choice.what == RELKVANU_CHOICE_CHECKPOINT && choice.a == id) {
+        return step(w, latest, 0);
+    }
+    bool has_failed = relkvanu_mode(w->s->handle).what == RELKVANU_MODE_FAILED;
+    return (!has_failed || step(w, latest, 0)) && restore_copy(w, id);
+}
+
+/* The savepoint gets what the acknowledgements of the checkpoint had beside their files. */
+static void carry_parts(relkvanu_store *s, const struct rks_rows *from, uint64_t first) {
+    struct rks_live *savepoint = rks_live_of(s, relkvanu_choice(s->handle).a);
+    if (from->first != 0 && savepoint != NULL && savepoint->id != from->record) {
+        s->beside.from = *from;
+        s->beside.to = savepoint->id;
+        s->beside.to_first = savepoint->first_part = first;
+        savepoint->last_part = s->place;
+    }
+}
+
+/* The copy is the coordinator from now on. */
+static void adopt(struct way *w, uint64_t checkpoint) {
+    relkvanu_store *s = w->s;
+    const struct rks_live *live = rks_live_of(s, checkpoint);
+    const struct rks_rows from = {checkpoint, live->first_part, live->last_part};
+    uint64_t first = s->place + BESIDE; /* from here on there are as many places as acknowledgements, at least */
+    s->handle = w->copy;
+    rks_begin_group(s);
+    rks_forget_beside(s);
+    s->beside.now = relkvanu_store_now(s);
+    for (size_t i = 0; i < w->calls_len; i++) {
+        rks_accept(s, RKS_CALLS, &w->calls[i], w->lines[i]);
+    }
+    carry_parts(s, &from, first);
+    if (s->phase.phase == RELKVANU_STORE_PHASE_RUNNING) {
+        rks_order(s, &w->calls[w->calls_len - 1]);
+    }
+}
+
+static void release(struct way *w) {
+    free(w->image);
+    free(w->shown);
+    free(w->calls);
+    free(w->lines);
+    free(w->files);
+}
+
+/* Of the thread that leads. */
+static int go_back(relkvanu_store *s, uint64_t id, relkvanu_store_call *call) {
+    struct way w = {.s = s, .refused = {.code = RELKVANU_DONE}};
+    bool is_made = walk(&w, id);
+    int status = w.refused.code == RELKVANU_NO_MEMORY ? RELKVANU_STORE_NO_MEMORY : RELKVANU_STORE_OK;
+    if (is_made) {
+        adopt(&w, id);
+        *call = w.calls[w.calls_len - 1];
+    } else {
+        call->answer = w.refused;
+    }
+    relkvanu_close(&s->handles[s->handle == s->handles]); /* the other one, before the next thread leads */
+    if (is_made) {
+        rks_hold(s, call->answer);
+        status = rks_commit_alone(s);
+        call->answer = rks_told(s, 0);
+    } else {
+        rks_hand_on(s, 0);
+    }
+    release(&w);
+    return status;
+}
+
+int relkvanu_store_go_back(relkvanu_store *s, uint64_t checkpoint, uint32_t flags, relkvanu_store_call *call) {
+    struct rks_waiter w = {0};
+    *call = (relkvanu_store_call){.call = {.kind = RELKVANU_CALL_RESTORE, .now = RELKVANU_STORE_NOW}};
+    rks_drop_answers(call, 1);
+    rks_why_words("");
+    if (flags != RELKVANU_STORE_ACCEPT_PUBLISHED) {
+        rks_why_words("what sinks have published for records after this checkpoint is not taken back: RELKVANU_STORE_ACCEPT_PUBLISHED says "
+                      "that this is accepted");
+        return RELKVANU_STORE_BAD_ARGUMENT;
+    }
+    int status = rks_enter(s, &w);
+    status = status == RELKVANU_STORE_OK && w.is_answered ? w.status : status;
+    if (status == RELKVANU_STORE_OK) {
+        rks_take_group(s); /* it is this one alone */
+        status = go_back(s, checkpoint, call);
+    }
+    if (status != RELKVANU_STORE_OK) {
+        rks_drop_answers(call, 1);
+    }
+    return status;
+}

@@ -1,0 +1,71 @@
+/* Manifests: what a storage folder itself says of each complete record, so that a job can be made of it without its log. */
+#ifndef RELKVANU_STORE_MANIFEST_H
+#define RELKVANU_STORE_MANIFEST_H
+#include "parts.h"
+
+#include <dirent.h>
+
+enum { RKS_VERTICES = 256, RKS_MANIFEST_NAME = 48, RKS_MOST_FILES = 4096 }; /* of a shape; of a name; of a subtask */
+enum { RKS_UNMARKED = 1024 };                                               /* openings that a full folder has no mark of */
+
+/* What a manifest says beside its files. A number, a term or a name that somebody was told is below `below`; the term and the name are 0 if the job
+ * has no names. */
+struct rks_manifest {
+    char job[RKS_IDENTITY + 1], origin[RKS_IDENTITY + 1]; /* origin: the job from which the record was carried; "" if none */
+    uint64_t id, epoch, place, term, written, files, bytes;
+    bool is_savepoint, is_chosen; /* is_chosen: it was the choice when the manifest was written */
+    struct rks_below {
+        uint64_t number, term, name;
+    } below;
+    relkvanu_settings settings;
+    uint64_t shape[RKS_VERTICES];
+    size_t shape_len;
+    uint64_t missing; /* files that are not in the folder, or have another length */
+    int status;       /* RELKVANU_STORE_OK; RELKVANU_STORE_DAMAGED: its text is; RELKVANU_STORE_NOT_A_STORE: a later version wrote it */
+};
+
+/* The manifests of a folder, in the order of the numbers of their records. */
+struct rks_manifests {
+    struct rks_manifest *at;
+    size_t len, room;
+    sqlite3 *db; /* which reads JSON; it has no file */
+};
+
+/* A file of a subtask; has_bytes: whether its length is known. A subtask without files is one call, whose is_file is false. The payload is the same in each call
+ * of a subtask: hexadecimal digits, or NULL. Returns a status. */
+struct rks_part {
+    uint16_t vertex, index;
+    uint64_t file, bytes;
+    bool is_file, has_bytes;
+    const char *payload;
+};
+typedef int (*rks_each_part)(void *with, const struct rks_part *part);
+
+/* The number of the record whose manifest has this name. Returns false if it is the name of none. Sets *is_part for one that is written. */
+bool rks_manifest_names(const char *name, uint64_t *id, bool *is_part);
+void rks_manifest_name(uint64_t id, const char *end, char name[RKS_MANIFEST_NAME]);
+
+/* The entries of an open folder, from the first one on; NULL: errno says why not. */
+DIR *rks_entries(int folder);
+
+/* Reads all manifests of an open folder, and looks for the files of each. RELKVANU_STORE_NO_MEMORY; RELKVANU_STORE_FAILED: errno says why. */
+int rks_list_manifests(int folder, struct rks_manifests *found);
+void rks_free_manifests(struct rks_manifests *found);
+
+/* Calls `each` for each file of the record, in the order of the subtasks. */
+int rks_manifest_parts(struct rks_manifests *all, int folder, uint64_t id, rks_each_part each, void *with);
+
+/* The text of a manifest as it is, or if there is a job, as that of a record of this job which was carried. To be freed. */
+int rks_manifest_text(struct rks_manifests *all, int folder, uint64_t id, const char *job, struct rks_text *text);
+
+/* Writes a manifest into an open folder, beside its name, syncs it and renames it. The folder is not synced yet. Returns 0, or what is wrong as errno. */
+int rks_put_manifest(int folder, uint64_t id, const struct rks_text *text);
+
+/* Which of them a recovery of this job (NULL: any) begins from: the last one that was the choice and has all its files, else the last such savepoint. NULL:
+ * none. `wanted`: the record with this number alone; 0: any. */
+struct rks_manifest *rks_choose_manifest(struct rks_manifests *all, const char *job, uint64_t wanted);
+
+/* Whether a recovery may make a job at the path: RELKVANU_STORE_OK, or what it would be refused for. A claim looks before it fences the old job. */
+int rks_check_free(const char *path, char message[RKS_MESSAGE]);
+
+#endif

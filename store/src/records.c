@@ -1,0 +1,414 @@
+/* Reads the manifests of a storage folder, and looks whether the files that they name are there. SQLite reads their JSON. */
+#include "manifest.h"
+
+#include <errno.h>
+#include <fcntl.h>
+#include <inttypes.h>
+#include <stdio.h>
+#include <stdlib.h>
+#include <string.h>
+#include <unistd.h>
+#include <zlib.h>
+
+static const char SUM[] = ",\"sum\":\"", HEAD[] = "{\"relkvanu\":\"manifest\",\"version\":1,";
+enum { SUM_LEN = sizeof ",\"sum\":\"" - 1 + 8 + 3, MOST = 1 << 30 }; /* with the digits, and what ends the text; bytes of a manifest */
+
+/* A text that was read, with a zero at its end. */
+static int read_text(int folder, uint64_t id, struct rks_text *text) {
+    char name[RKS_MANIFEST_NAME];
+    struct stat found;
+    rks_manifest_name(id, "", name);
+    text->len = 0;
+    int file = openat(folder, name, O_RDONLY | O_NOFOLLOW | O_NONBLOCK | O_CLOEXEC);
+    if (file < 0) {
+        return errno == ELOOP ? RELKVANU_STORE_DAMAGED : RELKVANU_STORE_FAILED;
+    }
+    int status = fstat(file, &found) != 0 ? RELKVANU_STORE_FAILED : RELKVANU_STORE_OK;
+    if (status == RELKVANU_STORE_OK && (!S_ISREG(found.st_mode) || found.st_size > MOST)) {
+        status = RELKVANU_STORE_DAMAGED;
+    }
+    status = status == RELKVANU_STORE_OK && !rks_room(text, (size_t)found.st_size + 1) ? RELKVANU_STORE_NO_MEMORY : status;
+    ssize_t more = 1;
+    while (status == RELKVANU_STORE_OK && more != 0 && text->len < (size_t)found.st_size) {
+        more = read(file, text->at + text->len, (size_t)found.st_size - text->len);
+        status = more < 0 && errno != EINTR ? RELKVANU_STORE_FAILED : status;
+        text->len += more > 0 ? (size_t)more : 0;
+    }
+    int error = errno;
+    close(file);
+    errno = error;
+    if (status == RELKVANU_STORE_OK) {
+        text->at[text->len] = 0;
+    }
+    return status;
+}
+
+/* Whether it is a manifest of this version, and whole. */
+static int check_text(const struct rks_text *text) {
+    char written[SUM_LEN + 1];
+    const char *at = (const char *)text->at;
+    if (text->len < sizeof HEAD - 1 + SUM_LEN || strlen(at) != text->len) {
+        return RELKVANU_STORE_DAMAGED;
+    }
+    size_t len = text->len - SUM_LEN;
+    snprintf(written, sizeof written, "%s%08" PRIx32 "\"}\n", SUM, (uint32_t)crc32_z(0, text->at, len));
+    if (strcmp(at + len, written) != 0) {
+        return RELKVANU_STORE_DAMAGED;
+    }
+    return memcmp(at, HEAD, sizeof HEAD - 1) == 0 ? RELKVANU_STORE_OK : RELKVANU_STORE_NOT_A_STORE;
+}
+
+static int status_of(int code) {
+    return code == SQLITE_NOMEM ? RELKVANU_STORE_NO_MEMORY : RELKVANU_STORE_DAMAGED;
+}
+
+/* What is missing in a row: it is not there, or there was no memory for it. */
+static int lacking(sqlite3_stmt *row) {
+    return status_of(sqlite3_errcode(sqlite3_db_handle(row)));
+}
+
+/* A statement over a text, which stays as it is meanwhile. NULL: *status says why. */
+static sqlite3_stmt *asked(sqlite3 *db, const char *sql, const char *text, size_t len, int *status) {
+    sqlite3_stmt *it = NULL;
+    int code = sqlite3_prepare_v2(db, sql, -1, &it, NULL);
+    code = code != SQLITE_OK ? code : sqlite3_bind_text64(it, 1, text, len, SQLITE_STATIC, SQLITE_UTF8);
+    if (code == SQLITE_OK) {
+        return it;
+    }
+    *status = status_of(code);
+    sqlite3_finalize(it);
+    return NULL;
+}
+
+/* The members of the first level and of its two objects, in the order in which they are taken over. */
+static const char MEMBERS[] =
+    "SELECT json_extract(?1,'$.record'),json_extract(?1,'$.epoch'),json_extract(?1,'$.term'),json_extract(?1,'$.place'),"
+    "json_extract(?1,'$.written'),json_extract(?1,'$.files'),json_extract(?1,'$.bytes'),json_extract(?1,'$.below.number'),"
+    "json_extract(?1,'$.below.term'),json_extract(?1,'$.below.name'),json_extract(?1,'$.settings.interval'),"
+    "json_extract(?1,'$.settings.pause'),json_extract(?1,'$.settings.at_once'),json_extract(?1,'$.settings.timeout'),"
+    "json_extract(?1,'$.settings.tolerable'),json_extract(?1,'$.settings.retained'),json_extract(?1,'$.settings.keep_on_cancel'),"
+    "json_extract(?1,'$.chosen'),json_extract(?1,'$.kind'),json_extract(?1,'$.job'),json_extract(?1,'$.shape'),json_extract(?1,'$.origin')";
+enum { NUMBERS = 18, KIND = NUMBERS, JOB, SHAPE, ORIGIN };
+
+/* Copies the shape. Returns a status. */
+static int read_shape(sqlite3 *db, sqlite3_stmt *row, struct rks_manifest *m) {
+    int code = SQLITE_DONE;
+    const char *text = (const char *)sqlite3_column_text(row, SHAPE);
+    int status = text == NULL ? lacking(row) : RELKVANU_STORE_OK;
+    sqlite3_stmt *it = text == NULL ? NULL : asked(db, "SELECT value FROM json_each(?1)", text, strlen(text), &status);
+    while (it != NULL && status == RELKVANU_STORE_OK && (code = sqlite3_step(it)) == SQLITE_ROW) {
+        status = m->shape_len < RKS_VERTICES ? RELKVANU_STORE_OK : RELKVANU_STORE_DAMAGED;
+        if (status == RELKVANU_STORE_OK) {
+            m->shape[m->shape_len++] = (uint64_t)sqlite3_column_int64(it, 0);
+        }
+    }
+    status = status == RELKVANU_STORE_OK && code != SQLITE_DONE ? status_of(code) : status;
+    sqlite3_finalize(it);
+    return status == RELKVANU_STORE_OK && m->shape_len == 0 ? RELKVANU_STORE_DAMAGED : status;
+}
+
+static int take_row(sqlite3 *db, sqlite3_stmt *row, struct rks_manifest *m) {
+    uint64_t id = 0, keep = 0, chosen = 0;
+    uint64_t *to[NUMBERS] = {&id, &m->epoch, &m->term, &m->place, &m->written, &m->files, &m->bytes, &m->below.number, &m->below.term,
+        &m->below.name, &m->settings.interval, &m->settings.pause, &m->settings.at_once, &m->settings.timeout, &m->settings.tolerable,
+        &m->settings.retained, &keep, &chosen};
+    for (int i = 0; i < NUMBERS; i++) {
+        if (sqlite3_column_type(row, i) != SQLITE_INTEGER || sqlite3_column_int64(row, i) < 0) {
+            return lacking(row);
+        }
+        *to[i] = (uint64_t)sqlite3_column_int64(row, i);
+    }
+    if (m->below.name == 0) {
+        return RELKVANU_STORE_NOT_A_STORE; /* of a job without names, which an earlier version made */
+    }
+    const char *kind = (const char *)sqlite3_column_text(row, KIND), *job = (const char *)sqlite3_column_text(row, JOB);
+    if (kind == NULL || job == NULL || id != m->id || strlen(job) != RKS_IDENTITY) {
+        return lacking(row);
+    }
+    m->settings.keep_on_cancel = keep != 0;
+    m->is_chosen = chosen != 0;
+    m->is_savepoint = strcmp(kind, "savepoint") == 0;
+    memcpy(m->job, job, sizeof m->job);
+    const char *origin = (const char *)sqlite3_column_text(row, ORIGIN);
+    if (origin == NULL && sqlite3_column_type(row, ORIGIN) != SQLITE_NULL) {
+        return lacking(row);
+    }
+    snprintf(m->origin, sizeof m->origin, "%s", origin == NULL ? "" : origin);
+    return read_shape(db, row, m);
+}
+
+/* What the manifest says beside its files. */
+static int read_members(sqlite3 *db, const struct rks_text *text, struct rks_manifest *m) {
+    int status = check_text(text);
+    sqlite3_stmt *it = status == RELKVANU_STORE_OK ? asked(db, MEMBERS, (const char *)text->at, text->len, &status) : NULL;
+    if (it != NULL) {
+        int code = sqlite3_step(it);
+        status = code == SQLITE_ROW ? take_row(db, it, m) : status_of(code);
+    }
+    sqlite3_finalize(it);
+    return status;
+}
+
+/* Whether the text is the number of a file, as it is written. */
+static bool is_file(const char *text, uint64_t *file) {
+    char written[32];
+    errno = 0;
+    *file = text == NULL ? 0 : strtoull(text, NULL, 10);
+    snprintf(written, sizeof written, "%" PRIu64, *file);
+    return errno == 0 && text != NULL && strcmp(text, written) == 0;
+}
+
+/* The files of a subtask, whose JSON is in the row. */
+static int each_file(sqlite3_stmt *it, sqlite3_stmt *row, struct rks_part part, rks_each_part each, void *with) {
+    int status = RELKVANU_STORE_OK, code = SQLITE_DONE;
+    bool has_files = false;
+    const char *text = (const char *)sqlite3_column_text(row, 2);
+    if (text == NULL || sqlite3_bind_text(it, 1, text, -1, SQLITE_STATIC) != SQLITE_OK) {
+        return text == NULL ? lacking(row) : RELKVANU_STORE_NO_MEMORY;
+    }
+    while (status == RELKVANU_STORE_OK && (code = sqlite3_step(it)) == SQLITE_ROW) {
+        part.is_file = has_files = true;
+        part.has_bytes = sqlite3_column_type(it, 1) == SQLITE_INTEGER;
+        part.bytes = (uint64_t)sqlite3_column_int64(it, 1);
+        status = is_file((const char *)sqlite3_column_text(it, 0), &part.file) ? each(with, &part) : lacking(it);
+    }
+    status = status == RELKVANU_STORE_OK && code != SQLITE_DONE ? status_of(code) : status;
+    sqlite3_reset(it);
+    return status == RELKVANU_STORE_OK && !has_files ? each(with, &part) : status;
+}
+
+/* The files of all subtasks. */
+static int each_part(sqlite3 *db, const struct rks_text *text, rks_each_part each, void *with) {
+    static const char SUBTASKS[] = "SELECT json_extract(value,'$.vertex'),json_extract(value,'$.index'),json_extract(value,'$.files'),"
+                                   "json_extract(value,'$.payload')"
+                                   " FROM json_each(?1,'$.subtasks')";
+    int status = RELKVANU_STORE_OK, code = SQLITE_DONE;
+    sqlite3_stmt *rows = asked(db, SUBTASKS, (const char *)text->at, text->len, &status);
+    sqlite3_stmt *files = rows == NULL ? NULL : asked(db, "SELECT key,value FROM json_each(?1)", "{}", 2, &status);
+    while (files != NULL && status == RELKVANU_STORE_OK && (code = sqlite3_step(rows)) == SQLITE_ROW) {
+        sqlite3_int64 vertex = sqlite3_column_int64(rows, 0), index = sqlite3_column_int64(rows, 1);
+        bool is_valid = vertex >= 0 && vertex < RKS_VERTICES && index >= 0 && index <= UINT16_MAX;
+        struct rks_part part = {
+            .vertex = (uint16_t)vertex, .index = (uint16_t)index, .payload = (const char *)sqlite3_column_text(rows, 3)};
+        is_valid = is_valid && (part.payload != NULL || sqlite3_column_type(rows, 3) == SQLITE_NULL);
+        status = is_valid ? each_file(files, rows, part, each, with) : RELKVANU_STORE_DAMAGED;
+    }
+    status = status == RELKVANU_STORE_OK && code != SQLITE_DONE ? status_of(code) : status;
+    sqlite3_finalize(rows);
+    sqlite3_finalize(files);
+    return status;
+}
+
+int rks_manifest_parts(struct rks_manifests *all, int folder, uint64_t id, rks_each_part each, void *with) {
+    struct rks_text text = {0};
+    int status = read_text(folder, id, &text);
+    status = status == RELKVANU_STORE_OK ? check_text(&text) : status;
+    status = status == RELKVANU_STORE_OK ? each_part(all->db, &text, each, with) : status;
+    free(text.at);
+    return status;
+}
+
+/* Writes the text anew for another job, in which the record is the choice. */
+static int rewrite(sqlite3 *db, const char *job, struct rks_text *text) {
+    static const char SQL[] = "SELECT json_set(json_remove(?1,'$.sum'),'$.origin',json_extract(?1,'$.job'),'$.job',?2,'$.epoch',1,"
+                              "'$.chosen',json('true'))";
+    int status = RELKVANU_STORE_OK;
+    sqlite3_stmt *it = asked(db, SQL, (const char *)text->at, text->len, &status);
+    if (it == NULL || sqlite3_bind_text(it, 2, job, -1, SQLITE_STATIC) != SQLITE_OK) {
+        sqlite3_finalize(it);
+        return it == NULL ? status : RELKVANU_STORE_NO_MEMORY;
+    }
+    struct rks_text made = {0};
+    int code = sqlite3_step(it);
+    const char *found = code == SQLITE_ROW ? (const char *)sqlite3_column_text(it, 0) : NULL;
+    size_t len = found == NULL ? 0 : strlen(found) - 1; /* what ends the object comes last again */
+    status = found == NULL ? status_of(code == SQLITE_ROW ? SQLITE_NOMEM : code) : RELKVANU_STORE_OK;
+    status = status == RELKVANU_STORE_OK && !rks_room(&made, len + SUM_LEN + 1) ? RELKVANU_STORE_NO_MEMORY : status;
+    if (status == RELKVANU_STORE_OK) {
+        memcpy(made.at, found, len);
+        snprintf((char *)made.at + len, SUM_LEN + 1, "%s%08" PRIx32 "\"}\n", SUM, (uint32_t)crc32_z(0, made.at, len));
+        made.len = len + SUM_LEN;
+        free(text->at);
+        *text = made;
+    }
+    sqlite3_finalize(it);
+    return status;
+}
+
+int rks_manifest_text(struct rks_manifests *all, int folder, uint64_t id, const char *job, struct rks_text *text) {
+    int status = read_text(folder, id, text);
+    status = status == RELKVANU_STORE_OK ? check_text(text) : status;
+    return status == RELKVANU_STORE_OK && job != NULL ? rewrite(all->db, job, text) : status;
+}
+
+struct looking {
+    int folder;
+    uint64_t missing;
+};
+
+static int look_for(void *with, const struct rks_part *part) {
+    struct looking *looking = with;
+    char name[32];
+    struct stat found;
+    snprintf(name, sizeof name, "%" PRIu64, part->file);
+    if (part->is_file) {
+        bool is_there = fstatat(looking->folder, name, &found, AT_SYMLINK_NOFOLLOW) == 0 && S_ISREG(found.st_mode);
+        looking->missing += !is_there || (part->has_bytes && (uint64_t)found.st_size != part->bytes);
+    }
+    return RELKVANU_STORE_OK;
+}
+
+/* Reads one manifest, and looks for its files. What is wrong with it is noted in it; other statuses are returned. */
+static int read_manifest(struct rks_manifests *all, int folder, struct rks_text *text, struct rks_manifest *m) {
+    struct looking looking = {.folder = folder};
+    int status = read_text(folder, m->id, text);
+    status = status == RELKVANU_STORE_OK ? read_members(all->db, text, m) : status;
+    status = status == RELKVANU_STORE_OK ? each_part(all->db, text, look_for, &looking) : status;
+    m->missing = looking.missing;
+    m->status = status == RELKVANU_STORE_NOT_A_STORE ? status : status != RELKVANU_STORE_OK ? RELKVANU_STORE_DAMAGED : status;
+    return status == RELKVANU_STORE_NO_MEMORY || status == RELKVANU_STORE_FAILED ? status : RELKVANU_STORE_OK;
+}
+
+/* Notes the manifest of an entry of the folder. */
+static int note_entry(struct rks_manifests *all, const char *name) {
+    struct rks_manifest m = {.id = 0};
+    bool is_part;
+    if (!rks_manifest_names(name, &m.id, &is_part) || is_part) {
+        return RELKVANU_STORE_OK;
+    }
+    if (all->len == all->room) {
+        size_t room = 2 * all->room + 16;
+        struct rks_manifest *at = realloc(all->at, room * sizeof *at);
+        if (at == NULL) {
+            return RELKVANU_STORE_NO_MEMORY;
+        }
+        all->at = at;
+        all->room = room;
+    }
+    all->at[all->len++] = m;
+    return RELKVANU_STORE_OK;
+}
+
+static int by_number(const void *one, const void *other) {
+    uint64_t a = ((const struct rks_manifest *)one)->id, b = ((const struct rks_manifest *)other)->id;
+    return (a > b) - (a < b);
+}
+
+static int note_entries(struct rks_manifests *all, int folder) {
+    DIR *entries = rks_entries(folder);
+    struct dirent *entry;
+    int status = entries != NULL ? RELKVANU_STORE_OK : RELKVANU_STORE_FAILED;
+    while (status == RELKVANU_STORE_OK && (errno = 0, entry = readdir(entries)) != NULL) {
+        status = note_entry(all, entry->d_name);
+    }
+    int error = errno;
+    if (entries != NULL) {
+        closedir(entries);
+    }
+    errno = error;
+    return status == RELKVANU_STORE_OK && error != 0 ? RELKVANU_STORE_FAILED : status;
+}
+
+int rks_list_manifests(int folder, struct rks_manifests *found) {
+    struct rks_text text = {0};
+    *found = (struct rks_manifests){0};
+    int status = sqlite3_open(":memory:", &found->db) == SQLITE_OK ? RELKVANU_STORE_OK : RELKVANU_STORE_NO_MEMORY;
+    status = status == RELKVANU_STORE_OK ? note_entries(found, folder) : status;
+    if (found->len != 0) {
+        qsort(found->at, found->len, sizeof *found->at, by_number);
+    }
+    for (size_t at = 0; status == RELKVANU_STORE_OK && at < found->len; at++) {
+        status = read_manifest(found, folder, &text, &found->at[at]);
+        if (status == RELKVANU_STORE_FAILED && errno == ENOENT) { /* the job has deleted it meanwhile */
+            found->at[at].status = RELKVANU_STORE_DAMAGED;
+            status = RELKVANU_STORE_OK;
+        }
+    }
+    int error = errno;
+    free(text.at);
+    errno = error;
+    return status;
+}
+
+void rks_free_manifests(struct rks_manifests *found) {
+    free(found->at);
+    sqlite3_close(found->db);
+    *found = (struct rks_manifests){0};
+}
+
+/* Whether the first of two whole ones is what a recovery begins from: the last one that was the choice, or else the last savepoint. */
+static bool is_later(const struct rks_manifest *one, const struct rks_manifest *other) {
+    if (one->is_chosen != other->is_chosen) {
+        return one->is_chosen;
+    }
+    return one->epoch != other->epoch ? one->epoch > other->epoch : one->place > other->place;
+}
+
+struct rks_manifest *rks_choose_manifest(struct rks_manifests *all, const char *job, uint64_t wanted) {
+    struct rks_manifest *chosen = NULL;
+    for (size_t i = 0; i < all->len; i++) {
+        struct rks_manifest *it = &all->at[i];
+        bool is_whole = it->status == RELKVANU_STORE_OK && it->missing == 0 && (job == NULL || strcmp(it->job, job) == 0);
+        if (is_whole && (wanted == 0 || it->id == wanted) && (chosen == NULL || is_later(it, chosen))) {
+            chosen = it;
+        }
+    }
+    return chosen;
+}
+
+/* Tells what is known of each. */
+static void tell(
+    const struct rks_manifests *all, const struct rks_manifest *next, const char *job, relkvanu_store_each_record each, void *with) {
+    bool goes_on = true;
+    for (size_t i = 0; i < all->len && goes_on; i++) {
+        const struct rks_manifest *it = &all->at[i];
+        relkvanu_store_record record = {.id = it->id, .status = (uint32_t)it->status};
+        if (it->status == RELKVANU_STORE_OK) {
+            record.is_savepoint = it->is_savepoint;
+            record.is_of_job = job == NULL || strcmp(it->job, job) == 0;
+            record.is_next = it == next;
+            record.written = it->written;
+            record.files = it->files;
+            record.bytes = it->bytes;
+            record.missing = it->missing;
+        }
+        goes_on = each(with, &record);
+    }
+}
+
+static int tell_records(relkvanu_store *s, const char *folder, relkvanu_store_each_record each, void *with) {
+    struct rks_manifests all = {0};
+    uint64_t marked = 0;
+    bool has_marker = false;
+    int status = rks_open_folder(s, folder);
+    status = status == RELKVANU_STORE_OK ? rks_find_owner(s, folder, &marked, &has_marker) : status;
+    if (status != RELKVANU_STORE_OK) {
+        return status;
+    }
+    const char *job = has_marker ? s->identity : NULL;
+    status = rks_list_manifests(s->folder, &all);
+    if (status == RELKVANU_STORE_OK) {
+        tell(&all, rks_choose_manifest(&all, job, 0), job, each, with);
+    } else if (status != RELKVANU_STORE_NO_MEMORY) {
+        status = rks_file_fault(s, folder, errno);
+    }
+    rks_free_manifests(&all);
+    return status;
+}
+
+int relkvanu_store_records(const char *folder, relkvanu_store_each_record each, void *with, char *message, size_t message_len) {
+    relkvanu_store *s = calloc(1, sizeof *s);
+    int status = s == NULL ? RELKVANU_STORE_NO_MEMORY : rks_begin_store(s);
+    snprintf(message, message_len, "%s", "");
+    if (status != RELKVANU_STORE_OK) {
+        free(s);
+        return status;
+    }
+    rks_list(s);
+    status = tell_records(s, folder, each, with);
+    snprintf(message, message_len, "%s", status == RELKVANU_STORE_OK ? "" : s->fault);
+    int error = errno;
+    rks_release_store(s);
+    errno = error;
+    return status;
+}

@@ -1,0 +1,156 @@
+/* cases FOLDER [NAME]: runs each case of the store's tests, or one, in a process and a folder of its own. The last line has the counts. */
+#include "cases.h"
+
+#include <errno.h>
+#include <fcntl.h>
+#include <signal.h>
+#include <sys/resource.h>
+#include <sys/stat.h>
+#include <sys/syscall.h>
+#include <sys/wait.h>
+#include <unistd.h>
+
+static char folder[400];
+relkvanu_store_report report;
+
+const char *in(const char *name) {
+    static char names[4][PATHS];
+    static unsigned next;
+    char *text = names[next++ % 4];
+    snprintf(text, PATHS, "%s/%s", folder, name);
+    return text;
+}
+
+relkvanu_store *opens(const relkvanu_store_options *options, int status) {
+    relkvanu_store *store;
+    int got = relkvanu_store_open(&store, in("x.db"), options, &report);
+    CHECK(got == status, "status %d, not %d: %s", got, status, report.message);
+    CHECK((store != NULL) == (got == RELKVANU_STORE_OK) && (report.message[0] == 0) == (got == RELKVANU_STORE_OK), "status %d", got);
+    return store;
+}
+
+relkvanu_store_options storage_options(uint32_t flags, uint64_t image_calls) {
+    static char storage[PATHS];
+    relkvanu_store_options options = job_options(flags, image_calls);
+    snprintf(storage, sizeof storage, "%s/storage", folder);
+    CHECK(mkdir(storage, 0700) == 0 || errno == EEXIST, "%s", storage);
+    options.storage = storage;
+    return options;
+}
+
+relkvanu_answer done(relkvanu_store *store, uint32_t kind, uint64_t now, uint64_t number) {
+    relkvanu_store_call call = {.call = {.kind = kind, .now = now, .number = number}};
+    int status = relkvanu_store_calls(store, &call, 1);
+    CHECK(status == RELKVANU_STORE_OK && call.answer.code == RELKVANU_DONE, "kind %" PRIu32 ": status %d, code %" PRIu32 ", what %" PRIu32,
+        kind, status, call.answer.code, call.answer.what);
+    return call.answer;
+}
+
+/* Reserves the names that were not given out up to this one. Returns the term. */
+static uint64_t reserve_to(relkvanu_store *store, uint64_t last) {
+    relkvanu_answer running, made;
+    CHECK(relkvanu_store_term(store, &running) == RELKVANU_STORE_OK && running.what == RELKVANU_TERM, "no term");
+    for (uint64_t next = running.b; next <= last; next = made.a + made.b) {
+        uint64_t left = last - next + 1;
+        int status = relkvanu_store_reserve(store, running.a, left < 65536 ? left : 65536, &made);
+        CHECK(status == RELKVANU_STORE_OK && made.what == RELKVANU_RESERVED && made.a == next, "status %d, name %" PRIu64, status, made.a);
+    }
+    return running.a;
+}
+
+uint64_t checkpoint(relkvanu_store *store, uint64_t file) {
+    relkvanu *handle;
+    uint64_t term = reserve_to(store, file + 2 * SUBTASKS - 1);
+    CHECK(relkvanu_store_read(store, &handle) == RELKVANU_STORE_OK, "no read");
+    uint64_t due = relkvanu_due(handle).a;
+    relkvanu_store_read_end(store);
+    relkvanu_answer ticked = done(store, RELKVANU_CALL_TICK, due, 0);
+    CHECK(ticked.what == RELKVANU_TICK_TRIGGERED, "what %" PRIu32, ticked.what);
+    for (uint16_t i = 0; i < SUBTASKS; i++) {
+        uint64_t fresh[] = {file + 2 * i, file + 2 * i + 1};
+        relkvanu_answer answer;
+        int status = relkvanu_store_ack_in(store, term, due, ticked.b, 0, i, fresh, 2, NULL, 0, &answer);
+        CHECK(status == RELKVANU_STORE_OK && answer.code == RELKVANU_DONE, "status %d, code %" PRIu32 ", what %" PRIu32, status,
+            answer.code, answer.what);
+    }
+    return ticked.b;
+}
+
+void limit_files(size_t bytes) {
+    struct rlimit limit;
+    CHECK(signal(SIGXFSZ, SIG_IGN) != SIG_ERR && getrlimit(RLIMIT_FSIZE, &limit) == 0, "limits");
+    limit.rlim_cur = bytes != 0 ? bytes : limit.rlim_max;
+    CHECK(setrlimit(RLIMIT_FSIZE, &limit) == 0, "the limit");
+}
+
+int in_child(int (*run)(void *with), void *with) {
+    int status;
+    fflush(NULL);
+    pid_t child = fork();
+    if (child == 0) {
+        _exit(run(with));
+    }
+    CHECK(waitpid(child, &status, 0) == child && WIFEXITED(status), "a child ended with %x", status);
+    return WEXITSTATUS(status);
+}
+
+bool says(const char *words) {
+    return strstr(report.message, words) != NULL;
+}
+
+static const char *unsynced = "";
+static int sync_error;
+
+void fail_syncs(const char *end, int error) {
+    unsynced = end;
+    sync_error = error;
+}
+
+/* In place of that of the C library. */
+int fsync(int fd) {
+    char link[64], path[PATHS] = "";
+    size_t len = strlen(unsynced);
+    snprintf(link, sizeof link, "/proc/self/fd/%d", fd);
+    ssize_t found = sync_error == 0 ? -1 : readlink(link, path, sizeof path - 1);
+    if (found >= (ssize_t)len && strcmp(path + found - (ssize_t)len, unsynced) == 0) {
+        errno = sync_error;
+        return -1;
+    }
+    return (int)syscall(SYS_fsync, fd);
+}
+
+static bool passes(const char *within, const struct test *test) {
+    int status;
+    snprintf(folder, sizeof folder, "%s/%s", within, test->name);
+    CHECK(mkdir(folder, 0700) == 0, "%s", folder);
+    fflush(NULL);
+    pid_t child = fork();
+    if (child == 0) {
+        alarm(900); /* on a busy machine, or under valgrind */
+        test->run();
+        exit(0);
+    }
+    CHECK(waitpid(child, &status, 0) == child, "a case");
+    if (status != 0) {
+        printf("store: %s failed, status %x\n", test->name, (unsigned)status);
+    }
+    return status == 0;
+}
+
+int main(int argc, char **argv) {
+    const struct test *all[] = {open_cases, damage_cases, storage_cases, call_cases, queue_cases, discard_cases, file_cases, folder_cases,
+        name_cases, object_cases, backup_cases, log_cases, told_cases, look_cases, alone_cases, manifest_cases, verb_cases, beside_cases};
+    unsigned passed = 0, failed = 0;
+    CHECK(argc >= 2, "cases FOLDER [NAME]");
+    for (size_t i = 0; i < sizeof all / sizeof *all; i++) {
+        for (const struct test *it = all[i]; it->name != NULL; it++) {
+            if (argc < 3 || strcmp(argv[2], it->name) == 0) {
+                bool is_passed = passes(argv[1], it);
+                passed += is_passed;
+                failed += !is_passed;
+            }
+        }
+    }
+    printf("%u passed, %u failed\n", passed, failed);
+    return failed != 0 || passed == 0;
+}

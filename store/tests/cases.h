@@ -1,0 +1,42 @@
+/* The cases of the store's tests. Each runs in a process and a folder of its own. */
+#ifndef STORE_TESTS_CASES_H
+#define STORE_TESTS_CASES_H
+#include "common.h"
+
+/* A name in the folder of the case; it stays until four more were asked for. */
+const char *in(const char *name);
+
+/* Opens FOLDER/x.db with these options, and expects the status. Returns NULL unless it is RELKVANU_STORE_OK. */
+relkvanu_store *opens(const relkvanu_store_options *options, int status);
+extern relkvanu_store_report report; /* of the last opening */
+
+relkvanu_store_options storage_options(uint32_t flags, uint64_t image_calls);
+
+/* A call of one kind with a number, and its answer, which has to be RELKVANU_DONE. */
+relkvanu_answer done(relkvanu_store *store, uint32_t kind, uint64_t now, uint64_t number);
+
+/* Triggers a checkpoint and acknowledges it for each subtask, with files from the number on, 2 each, which no one has reserved before: all names up to
+ * the last of them are reserved first, mostly in one call. Returns its number. */
+uint64_t checkpoint(relkvanu_store *store, uint64_t file);
+enum { CHECKPOINT_CALLS = 2 + SUBTASKS };
+
+/* Runs the function in a child, and returns its exit status. */
+int in_child(int (*run)(void *with), void *with);
+
+/* A write behind so many bytes of any file fails with EFBIG, and none does after 0. */
+void limit_files(size_t bytes);
+
+bool says(const char *words); /* whether the report's message has the words */
+
+/* From now on the sync of a file or folder whose path ends so fails with this errno; 0: none fails. */
+void fail_syncs(const char *end, int error);
+
+struct test {
+    const char *name;
+    void (*run)(void);
+};
+extern const struct test open_cases[], damage_cases[], storage_cases[], call_cases[], queue_cases[], discard_cases[], file_cases[],
+    folder_cases[], name_cases[], object_cases[], backup_cases[], log_cases[], told_cases[], look_cases[], alone_cases[], manifest_cases[],
+    verb_cases[], beside_cases[];
+
+#endif

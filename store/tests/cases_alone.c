@@ -1,0 +1,235 @@
+/* What comes alone, late or from elsewhere: a completion, a kill after an opening, a log with other files, a time. */
+#include "cases.h"
+
+#include <poll.h>
+#include <sys/stat.h>
+#include <sys/syscall.h>
+#include <time.h>
+#include <unistd.h>
+#include <zlib.h>
+
+/* Who waits by the descriptor alone is told of one completion, too. */
+static void lone_completion(void) {
+    relkvanu_store_options options = job_options(RELKVANU_STORE_CREATE, 0);
+    relkvanu_store *store = opens(&options, RELKVANU_STORE_OK);
+    relkvanu_store_call call = {.call = {.kind = RELKVANU_CALL_SAVEPOINT}};
+    relkvanu_store_completion one;
+    struct pollfd it = {.fd = relkvanu_store_descriptor(store), .events = POLLIN};
+    for (uint64_t i = 0; i < 3; i++) {
+        call.call.now = i;
+        CHECK(relkvanu_store_submit(store, &call, 1, 5) == RELKVANU_STORE_OK, "a call");
+        CHECK(poll(&it, 1, 300000) == 1, "nothing tells of a lone completion");
+        CHECK(relkvanu_store_completed(store, &one, 1) == 1 && one.token == 5 && poll(&it, 1, 0) == 0, "a completion");
+    }
+    relkvanu_store_close(store);
+}
+
+/* A commit has no more calls than a list may have, however many wait. */
+static void most_calls_of_a_commit(void) {
+    enum { MANY = RELKVANU_STORE_MOST_CALLS + 100 };
+    static relkvanu_store_call calls[MANY];
+    relkvanu_store_options options = job_options(RELKVANU_STORE_CREATE, 0);
+    relkvanu_store *store = opens(&options, RELKVANU_STORE_OK);
+    relkvanu *handle;
+    CHECK(relkvanu_store_read(store, &handle) == RELKVANU_STORE_OK, "no read");
+    for (uint64_t i = 0; i < MANY; i++) {
+        bool is_decline = i % 2 != 0;
+        calls[i].call.kind = is_decline ? RELKVANU_CALL_DECLINE : RELKVANU_CALL_SAVEPOINT;
+        calls[i].call.now = i;
+        calls[i].call.number = is_decline ? i / 2 + 1 : 0;
+        calls[i].call.term = is_decline ? report.term : 0;
+        CHECK(relkvanu_store_submit(store, &calls[i], 1, i) == RELKVANU_STORE_OK, "call %" PRIu64, i);
+    }
+    relkvanu_store_read_end(store);
+    relkvanu_store_completion some[64];
+    for (size_t found = 0; found < MANY; usleep(100)) {
+        found += relkvanu_store_completed(store, some, 64);
+    }
+    relkvanu_store_counts counts;
+    relkvanu_store_count(store, &counts);
+    CHECK(counts.largest == RELKVANU_STORE_MOST_CALLS && counts.commits == 2, "%" PRIu64 " calls, %" PRIu64 " commits",
+        (uint64_t)counts.largest, (uint64_t)counts.commits);
+    relkvanu_store_close(store);
+}
+
+static int open_the_earlier(void *with) {
+    relkvanu_store_options *options = with;
+    options->flags = RELKVANU_STORE_EARLIER_IMAGE;
+    opens(options, RELKVANU_STORE_OK);
+    return 7;
+}
+
+/* A process that began with the earlier image is killed: the next one needs no flag, since the damaged one is gone. */
+static void killed_after_an_earlier_image(void) {
+    relkvanu_store_options options = job_options(RELKVANU_STORE_CREATE, 5);
+    relkvanu_store *store = opens(&options, RELKVANU_STORE_OK);
+    for (uint64_t i = 0; i < 18; i++) {
+        done(store, RELKVANU_CALL_SAVEPOINT, i, 0);
+    }
+    relkvanu_store_close(store);
+    run_sql(in("x.db"), "UPDATE image SET sum = sum + 1 WHERE place = (SELECT max(place) FROM image)");
+    CHECK(in_child(open_the_earlier, &options) == 7, "a child");
+    options.flags = RELKVANU_STORE_RECOVER;
+    relkvanu_store_close(opens(&options, RELKVANU_STORE_OK));
+}
+
+static bool is_cut;
+
+static int is_storage_there(void *with) {
+    (void)with;
+    return RELKVANU_STORAGE_OK;
+}
+
+static int delete_none(void *with, const uint64_t *files, size_t len, uint8_t *out) {
+    (void)with;
+    (void)files;
+    memset(out, RELKVANU_STORAGE_UNDELETED, len);
+    return RELKVANU_STORAGE_OK;
+}
+
+static int list_three(void *with, size_t most, relkvanu_storage_page page, void *with_page) {
+    relkvanu_storage_file files[] = {{.file = 900}, {.file = 901}, {.file = 902}};
+    (void)with;
+    (void)most;
+    if (!page(with_page, files, is_cut ? 1 : 3)) {
+        return RELKVANU_STORAGE_ENDED;
+    }
+    return is_cut ? RELKVANU_STORAGE_FAILED : RELKVANU_STORAGE_OK;
+}
+
+static void check_unissued(relkvanu_store *store, const char *after) {
+    relkvanu_store_counts counts;
+    relkvanu_store_count(store, &counts);
+    CHECK(counts.unissued == 3, "%" PRIu64 " after %s", counts.unissued, after);
+}
+
+/* A sweep that fails changes nothing of what the last whole one counted. */
+static void sweep_that_fails(void) {
+    relkvanu_store_options options = storage_options(RELKVANU_STORE_CREATE, 0);
+    relkvanu_store *store = opens(&options, RELKVANU_STORE_OK);
+    relkvanu_storage storage = {.check = is_storage_there, .list = list_three, .delete_files = delete_none};
+    relkvanu_answer answer;
+    size_t left;
+    CHECK(relkvanu_store_reserve(store, report.term, 5, &answer) == RELKVANU_STORE_OK && answer.code == RELKVANU_DONE, "no names");
+    CHECK(relkvanu_store_sweep_storage(store, &storage, &left) == RELKVANU_STORE_OK, "no sweep");
+    check_unissued(store, "a whole sweep");
+    is_cut = true;
+    CHECK(relkvanu_store_sweep_storage(store, &storage, &left) == RELKVANU_STORE_NOT_DONE, "a sweep that fails");
+    check_unissued(store, "one that failed");
+    relkvanu_store_close(store);
+}
+
+static time_t suspended;
+
+/* In place of that of the C library: the machine was suspended for so many seconds. */
+int clock_gettime(clockid_t clock, struct timespec *now) {
+    int got = (int)syscall(SYS_clock_gettime, clock, now);
+    if (clock == CLOCK_BOOTTIME) {
+        now->tv_sec += suspended;
+    }
+    return got;
+}
+
+/* The store's time goes on while the machine is suspended. */
+static void suspension(void) {
+    relkvanu_store_options options = job_options(RELKVANU_STORE_CREATE, 0);
+    relkvanu_store *store = opens(&options, RELKVANU_STORE_OK);
+    uint64_t before = relkvanu_store_now(store);
+    suspended = 1000000;
+    uint64_t after = relkvanu_store_now(store);
+    CHECK(after - before >= 1000000000, "%" PRIu64 " ms", after - before);
+    relkvanu_store_close(store);
+}
+
+/* The name of a storage's marker is no longer than an affix. */
+static void long_marker_names(void) {
+    char name[300];
+    relkvanu_storage_options options = {.flags = RELKVANU_STORAGE_NEW, .path = in("state"), .job = "orders", .marker_name = name};
+    relkvanu_storage storage;
+    CHECK(mkdir(options.path, 0700) == 0, "a folder");
+    for (size_t len = RELKVANU_STORAGE_MOST_AFFIX; len <= 255; len++) {
+        int wanted = len > RELKVANU_STORAGE_MOST_AFFIX ? RELKVANU_STORAGE_BAD_ARGUMENT : RELKVANU_STORAGE_OK;
+        memset(name, 'm', len);
+        name[len] = 0;
+        int got = relkvanu_storage_open_folder(&storage, &options);
+        CHECK(got == wanted, "%zu bytes: status %d", len, got);
+        relkvanu_storage_close_folder(&storage);
+    }
+}
+
+enum { TAKEN = 2 * SUBTASKS };
+
+/* The last row of a log, with its numbers as the checksum has them, and the checksum of the row before it. */
+struct row {
+    uint64_t numbers[4], files[TAKEN];
+    char line[LINE];
+    uLong before;
+};
+
+static void read_last(sqlite3 *db, struct row *row) {
+    sqlite3_stmt *it;
+    const char *sql = "SELECT place, what, a, b, line, files, (SELECT chain FROM log AS l WHERE l.place = log.place - 1) FROM log"
+                      " ORDER BY place DESC LIMIT 1";
+    CHECK(sqlite3_prepare_v2(db, sql, -1, &it, NULL) == SQLITE_OK && sqlite3_step(it) == SQLITE_ROW, "%s", sqlite3_errmsg(db));
+    CHECK(sqlite3_column_bytes(it, 5) == sizeof row->files, "%d bytes of files", sqlite3_column_bytes(it, 5));
+    for (int i = 0; i < 4; i++) {
+        row->numbers[i] = (uint64_t)sqlite3_column_int64(it, i);
+    }
+    snprintf(row->line, sizeof row->line, "%s", (const char *)sqlite3_column_text(it, 4));
+    memcpy(row->files, sqlite3_column_blob(it, 5), sizeof row->files);
+    row->before = (uLong)sqlite3_column_int64(it, 6);
+    sqlite3_finalize(it);
+}
+
+static void write_files(sqlite3 *db, const struct row *row) {
+    sqlite3_stmt *it;
+    uLong sum = crc32(row->before, (const Bytef *)row->numbers, sizeof row->numbers);
+    sum = crc32(sum, (const Bytef *)row->line, (uInt)strlen(row->line));
+    sum = crc32(sum, (const Bytef *)row->files, sizeof row->files);
+    CHECK(sqlite3_prepare_v2(db, "UPDATE log SET files = ?1, chain = ?2 WHERE place = ?3", -1, &it, NULL) == SQLITE_OK, "%s",
+        sqlite3_errmsg(db));
+    sqlite3_bind_blob(it, 1, row->files, sizeof row->files, SQLITE_STATIC);
+    sqlite3_bind_int64(it, 2, (sqlite3_int64)sum);
+    sqlite3_bind_int64(it, 3, (sqlite3_int64)row->numbers[0]);
+    CHECK(sqlite3_step(it) == SQLITE_DONE, "%s", sqlite3_errmsg(db));
+    sqlite3_finalize(it);
+}
+
+/* Changes the last row's files by so much, with the right checksum. */
+static void change_taken(uint64_t by) {
+    sqlite3 *db;
+    struct row row;
+    CHECK(sqlite3_open(in("x.db"), &db) == SQLITE_OK, "no file");
+    read_last(db, &row);
+    row.files[3] += by;
+    write_files(db, &row);
+    sqlite3_close(db);
+}
+
+/* A log that says that other files were taken ends the recovery, and the same row with its own files does not. */
+static void other_files_taken(void) {
+    relkvanu_store_options options = storage_options(RELKVANU_STORE_CREATE, RELKVANU_STORE_NO_IMAGES);
+    relkvanu_store *store = opens(&options, RELKVANU_STORE_OK);
+    uint64_t files[TAKEN];
+    relkvanu_store_call take = {.call = {.kind = RELKVANU_CALL_TAKE, .number = TAKEN}, .files = files, .files_len = TAKEN};
+    checkpoint(store, 1);
+    checkpoint(store, 101);
+    CHECK(relkvanu_store_calls(store, &take, 1) == RELKVANU_STORE_OK && take.answer.a == TAKEN, "%" PRIu64 " are taken", take.answer.a);
+    relkvanu_store_close(store);
+    options.flags = RELKVANU_STORE_RECOVER;
+    change_taken(1000);
+    opens(&options, RELKVANU_STORE_DIFFERS);
+    change_taken((uint64_t)-1000);
+    relkvanu_store_close(opens(&options, RELKVANU_STORE_OK));
+}
+
+const struct test alone_cases[] = {
+    {"lone_completion", lone_completion},
+    {"most_calls_of_a_commit", most_calls_of_a_commit},
+    {"killed_after_an_earlier_image", killed_after_an_earlier_image},
+    {"sweep_that_fails", sweep_that_fails},
+    {"suspension", suspension},
+    {"long_marker_names", long_marker_names},
+    {"other_files_taken", other_files_taken},
+    {NULL, NULL},
+};

@@ -1,0 +1,484 @@
+/* Backups: what they have, what they refuse, what is beside them, and what happens when one is put back. */
+#include "cases.h"
+
+#include <errno.h>
+#include <fcntl.h>
+#include <pthread.h>
+#include <stdatomic.h>
+#include <sys/file.h>
+#include <sys/stat.h>
+#include <unistd.h>
+
+enum { CALLERS = 4, BACKUPS = 5, LISTS = 10 };
+
+static char message[RELKVANU_STORE_MESSAGE];
+
+static bool has(const char *name) {
+    return access(in(name), F_OK) == 0;
+}
+
+static void write_file(const char *name, const char *text) {
+    FILE *to = fopen(in(name), "w");
+    CHECK(to != NULL && fputs(text, to) >= 0 && fclose(to) == 0, "%s", name);
+}
+
+static bool contains(const char *name, const char *text) {
+    char found[64] = "";
+    FILE *from = fopen(in(name), "r");
+    CHECK(from != NULL, "%s", name);
+    size_t len = fread(found, 1, sizeof found - 1, from);
+    fclose(from);
+    return len == strlen(text) && strcmp(found, text) == 0;
+}
+
+/* Makes a backup beside the job, and expects the status. Without one nothing of it is there. */
+static void backs_up(relkvanu_store *store, const char *name, int status) {
+    int got = relkvanu_store_backup(store, in(name), message, sizeof message);
+    CHECK(got == status, "status %d, not %d: %s", got, status, message);
+    CHECK((message[0] == 0) == (status == RELKVANU_STORE_OK), "%s", message);
+}
+
+static void check_no_part(void) {
+    CHECK(!has("b.db.part") && !has("b.db.part-wal") && !has("b.db.part-journal") && !has("b.db-wal") && !has("b.db-journal"),
+        "a part is left");
+}
+
+/* Opens a file of the case's folder. */
+static relkvanu_store *opens_at(const char *name, const relkvanu_store_options *options, int status) {
+    relkvanu_store *store;
+    int got = relkvanu_store_open(&store, in(name), options, &report);
+    CHECK(got == status, "status %d, not %d: %s", got, status, report.message);
+    return store;
+}
+
+static uint64_t calls_of(const relkvanu_store_report *it) {
+    return it->image_place + it->replayed;
+}
+
+static uint8_t *image_of(relkvanu_store *store, size_t *len) {
+    relkvanu *handle;
+    CHECK(relkvanu_store_read(store, &handle) == RELKVANU_STORE_OK, "a read");
+    *len = relkvanu_save(handle, NULL, 0).a;
+    uint8_t *image = malloc(*len + 1);
+    CHECK(image != NULL && relkvanu_save(handle, image, *len).code == RELKVANU_DONE, "no image");
+    relkvanu_store_read_end(store);
+    return image;
+}
+
+static bool has_same_state(relkvanu_store *one, relkvanu_store *other) {
+    size_t len, other_len;
+    uint8_t *image = image_of(one, &len), *second = image_of(other, &other_len);
+    bool is_same = len == other_len && memcmp(image, second, len) == 0;
+    free(image);
+    free(second);
+    return is_same;
+}
+
+/* Recovers a file, and closes it. Returns how many calls it has. */
+static uint64_t recovers(const char *name, uint32_t flags) {
+    relkvanu_store_options options = job_options(flags, RELKVANU_STORE_NO_IMAGES);
+    relkvanu_store_close(opens_at(name, &options, RELKVANU_STORE_OK));
+    CHECK(report.is_recovered, "a new job");
+    return calls_of(&report);
+}
+
+static void a_backup(void) {
+    relkvanu_store_options options = job_options(RELKVANU_STORE_CREATE, RELKVANU_STORE_NO_IMAGES);
+    struct stat is;
+    umask(0);
+    relkvanu_store *store = opens(&options, RELKVANU_STORE_OK);
+    checkpoint(store, 1);
+    backs_up(store, "b.db", RELKVANU_STORE_OK);
+    check_no_part();
+    CHECK(stat(in("b.db"), &is) == 0 && (is.st_mode & 0777) == 0600 && is.st_nlink == 1, "mode %o", is.st_mode);
+    checkpoint(store, 101);
+    backs_up(store, "b.db", RELKVANU_STORE_PRESENT);
+    backs_up(store, "x.db", RELKVANU_STORE_PRESENT);
+    backs_up(store, "c.db", RELKVANU_STORE_OK);
+    relkvanu_store_close(store);
+    CHECK(recovers("x.db", RELKVANU_STORE_RECOVER) == 2 * CHECKPOINT_CALLS, "%" PRIu64 " calls", calls_of(&report));
+    CHECK(recovers("b.db", RELKVANU_STORE_BACKUP) == CHECKPOINT_CALLS && report.epoch == 2, "%" PRIu64 " calls", calls_of(&report));
+    CHECK(recovers("c.db", RELKVANU_STORE_BACKUP) == 2 * CHECKPOINT_CALLS, "%" PRIu64 " calls", calls_of(&report));
+    options.flags = RELKVANU_STORE_RECOVER;
+    store = opens_at("b.db", &options, RELKVANU_STORE_OK); /* from then on it is a job */
+    checkpoint(store, 101);
+    relkvanu_store *other = opens_at("c.db", &options, RELKVANU_STORE_OK);
+    CHECK(has_same_state(store, other), "another state");
+    relkvanu_store_close(other);
+    relkvanu_store_close(store);
+}
+
+/* With images, whose log is cut. */
+static void a_backup_with_images(void) {
+    relkvanu_store_options options = job_options(RELKVANU_STORE_CREATE, 7);
+    options.flags = RELKVANU_STORE_CREATE;
+    relkvanu_store *store = opens(&options, RELKVANU_STORE_OK);
+    relkvanu_answer answer = {0};
+    for (uint64_t i = 0; i < 40; i++) {
+        CHECK(relkvanu_store_reserve(store, 1, 1, &answer) == RELKVANU_STORE_OK && answer.a == i + 1, "name %" PRIu64, answer.a);
+    }
+    backs_up(store, "b.db", RELKVANU_STORE_OK);
+    CHECK(relkvanu_store_reserve(store, 1, 1, &answer) == RELKVANU_STORE_OK, "a name");
+    relkvanu_store_close(store);
+    CHECK(recovers("b.db", RELKVANU_STORE_BACKUP) == 40 && report.next_name == 41 && report.term == 1 && report.image_place >= 33,
+        "next name %" PRIu64 ", image of call %" PRIu64, report.next_name, report.image_place);
+}
+
+/* A file is opened as what it is, and a refusal makes no job and changes none. */
+static void flags_of_a_backup(void) {
+    relkvanu_store_options options = job_options(RELKVANU_STORE_CREATE | RELKVANU_STORE_BACKUP, 0);
+    opens(&options, RELKVANU_STORE_ABSENT);
+    CHECK(!has("x.db"), "a job");
+    options.flags = RELKVANU_STORE_CREATE;
+    relkvanu_store *store = opens(&options, RELKVANU_STORE_OK);
+    backs_up(store, "b.db", RELKVANU_STORE_OK);
+    relkvanu_store_close(store);
+    options.flags = RELKVANU_STORE_BACKUP;
+    opens(&options, RELKVANU_STORE_BAD_ARGUMENT);
+    CHECK(says("no backup"), "%s", report.message);
+    for (uint32_t times = 0; times < 2; times++) {
+        options.flags = times == 0 ? RELKVANU_STORE_RECOVER : RELKVANU_STORE_CREATE;
+        opens_at("b.db", &options, RELKVANU_STORE_STORAGE);
+        CHECK(says("backup") && says("RELKVANU_STORE_BACKUP"), "%s", report.message);
+    }
+    recovers("b.db", RELKVANU_STORE_BACKUP);
+    options.flags = RELKVANU_STORE_BACKUP;
+    opens_at("b.db", &options, RELKVANU_STORE_BAD_ARGUMENT);
+    recovers("b.db", RELKVANU_STORE_RECOVER);
+    run_sql(in("b.db"), "PRAGMA user_version=5");
+    options.flags = RELKVANU_STORE_RECOVER;
+    opens_at("b.db", &options, RELKVANU_STORE_NOT_A_STORE);
+}
+
+/* What else has the target's names, and what fails. Each time the store goes on. */
+static void no_backup(void) {
+    relkvanu_store_options options = job_options(RELKVANU_STORE_CREATE, 0);
+    relkvanu_store *store = opens(&options, RELKVANU_STORE_OK);
+    checkpoint(store, 1);
+    backs_up(store, "nowhere/b.db", RELKVANU_STORE_NOT_PUT);
+    CHECK(errno == ENOENT && strstr(message, "nowhere/b.db") != NULL, "%d: %s", errno, message);
+    write_file("b.db", "other");
+    backs_up(store, "b.db", RELKVANU_STORE_PRESENT);
+    CHECK(contains("b.db", "other"), "it was changed");
+    unlink(in("b.db"));
+    CHECK(symlink("nothing", in("b.db")) == 0, "a link");
+    backs_up(store, "b.db", RELKVANU_STORE_PRESENT);
+    unlink(in("b.db"));
+    write_file("target", "other");
+    CHECK(symlink("target", in("b.db.part")) == 0, "a link");
+    backs_up(store, "b.db", RELKVANU_STORE_NOT_PUT);
+    CHECK(errno == ELOOP && contains("target", "other"), "%d: %s", errno, message);
+    unlink(in("b.db.part"));
+    write_file("b.db.part", "other");
+    int file = open(in("b.db.part"), O_RDWR);
+    CHECK(file >= 0 && flock(file, LOCK_EX) == 0, "a lock");
+    backs_up(store, "b.db", RELKVANU_STORE_NOT_NOW);
+    CHECK(contains("b.db.part", "other"), "the part of another backup");
+    close(file);
+    checkpoint(store, 101);
+    relkvanu_store_close(store);
+    CHECK(recovers("x.db", RELKVANU_STORE_RECOVER) == 2 * CHECKPOINT_CALLS, "%" PRIu64 " calls", calls_of(&report));
+}
+
+/* A job whose file has the name of the part, open or not: it stays as it is. */
+static void a_job_in_the_way(void) {
+    relkvanu_store_options options = job_options(RELKVANU_STORE_CREATE, 0);
+    relkvanu_store *other = opens_at("b.db.part", &options, RELKVANU_STORE_OK);
+    checkpoint(other, 1);
+    backs_up(other, "b.db", RELKVANU_STORE_PRESENT);
+    CHECK(strstr(message, "b.db.part: it is the file of a job") != NULL, "%s", message);
+    checkpoint(other, 101);
+    relkvanu_store_close(other);
+    relkvanu_store *store = opens(&options, RELKVANU_STORE_OK);
+    backs_up(store, "b.db", RELKVANU_STORE_PRESENT);
+    CHECK(!has("b.db"), "a backup");
+    relkvanu_store_close(store);
+    CHECK(recovers("b.db.part", RELKVANU_STORE_RECOVER) == 2 * CHECKPOINT_CALLS, "%" PRIu64 " calls", calls_of(&report));
+}
+
+/* What a process left that was killed is begun anew. */
+static void a_part_that_was_left(void) {
+    relkvanu_store_options options = job_options(RELKVANU_STORE_CREATE, 0);
+    relkvanu_store *store = opens(&options, RELKVANU_STORE_OK);
+    checkpoint(store, 1);
+    write_file("b.db.part", "SQLite format 3 and other bytes that are no part of a backup");
+    write_file("b.db.part-wal", "other");
+    write_file("b.db.part-journal", "other");
+    CHECK(chmod(in("b.db.part"), 0666) == 0, "mode");
+    backs_up(store, "b.db", RELKVANU_STORE_OK);
+    struct stat is;
+    CHECK(stat(in("b.db"), &is) == 0 && (is.st_mode & 0777) == 0600, "mode %o", is.st_mode);
+    check_no_part();
+    relkvanu_store_close(store);
+    CHECK(recovers("b.db", RELKVANU_STORE_BACKUP) == CHECKPOINT_CALLS, "%" PRIu64 " calls", calls_of(&report));
+}
+
+/* A failed commit closes the store: there is no backup of it. */
+static void of_a_closed_store(void) {
+    relkvanu_store_options options = job_options(RELKVANU_STORE_CREATE, 0);
+    relkvanu_store *store = opens(&options, RELKVANU_STORE_OK);
+    CHECK(rename(in("x.db"), in("y.db")) == 0, "rename");
+    relkvanu_store_call call = {.call = {.kind = RELKVANU_CALL_SAVEPOINT}};
+    CHECK(relkvanu_store_calls(store, &call, 1) == RELKVANU_STORE_FAILED, "a commit");
+    backs_up(store, "b.db", RELKVANU_STORE_CLOSED);
+    CHECK(!has("b.db"), "a backup");
+    check_no_part();
+    relkvanu_store_close(store);
+}
+
+static int backs_up_forked(void *store) {
+    return relkvanu_store_backup(store, in("b.db"), message, sizeof message);
+}
+
+static void in_a_forked_child(void) {
+    relkvanu_store_options options = job_options(RELKVANU_STORE_CREATE, 0);
+    relkvanu_store *store = opens(&options, RELKVANU_STORE_OK);
+    CHECK(in_child(backs_up_forked, store) == RELKVANU_STORE_FORKED && !has("b.db"), "a child");
+    check_no_part();
+    relkvanu_store_close(store);
+}
+
+/* Callers that reserve names, one each time. */
+struct load {
+    relkvanu_store *store;
+    atomic_uint_fast64_t answered; /* the greatest name that a caller was told */
+    atomic_bool is_over;
+    const char *path; /* of a backup */
+};
+
+static void *reserves(void *with) {
+    struct load *load = with;
+    while (!atomic_load(&load->is_over)) {
+        relkvanu_answer answer;
+        CHECK(relkvanu_store_reserve(load->store, 1, 1, &answer) == RELKVANU_STORE_OK && answer.what == RELKVANU_RESERVED, "a name");
+        uint64_t before = atomic_load(&load->answered);
+        while (before < answer.a && !atomic_compare_exchange_weak(&load->answered, &before, answer.a)) {}
+    }
+    return NULL;
+}
+
+/* A log of several parts, so that commits come between them. */
+static void make_long(relkvanu_store *store) {
+    static relkvanu_store_call calls[RELKVANU_STORE_MOST_CALLS];
+    for (size_t list = 0; list < LISTS; list++) {
+        for (size_t i = 0; i < RELKVANU_STORE_MOST_CALLS; i++) {
+            calls[i] = (relkvanu_store_call){.call = {.kind = RELKVANU_CALL_RESERVE, .number = 1, .term = 1}};
+        }
+        CHECK(relkvanu_store_calls(store, calls, RELKVANU_STORE_MOST_CALLS) == RELKVANU_STORE_OK, "a list");
+    }
+}
+
+/* Each backup has each name that was answered before it began, and none that was not given out before it ended. */
+static void under_load(void) {
+    relkvanu_store_options options = job_options(RELKVANU_STORE_CREATE, RELKVANU_STORE_NO_IMAGES);
+    uint64_t least[BACKUPS], most[BACKUPS], during = 0;
+    pthread_t callers[CALLERS];
+    options.flags = RELKVANU_STORE_CREATE;
+    struct load load = {.store = opens(&options, RELKVANU_STORE_OK), .answered = LISTS * RELKVANU_STORE_MOST_CALLS};
+    make_long(load.store);
+    for (size_t i = 0; i < CALLERS; i++) {
+        CHECK(pthread_create(&callers[i], NULL, reserves, &load) == 0, "a thread");
+    }
+    for (size_t i = 0; i < BACKUPS; i++) {
+        char name[20];
+        snprintf(name, sizeof name, "b%zu.db", i);
+        least[i] = atomic_load(&load.answered);
+        backs_up(load.store, name, RELKVANU_STORE_OK);
+        most[i] = atomic_load(&load.answered) + CALLERS;
+        during += most[i] - CALLERS - least[i];
+    }
+    atomic_store(&load.is_over, true);
+    for (size_t i = 0; i < CALLERS; i++) {
+        pthread_join(callers[i], NULL);
+    }
+    relkvanu_store_close(load.store);
+    CHECK(during > BACKUPS, "%" PRIu64 " calls beside %d backups", during, BACKUPS);
+    for (size_t i = 0; i < BACKUPS; i++) {
+        char name[20];
+        snprintf(name, sizeof name, "b%zu.db", i);
+        uint64_t calls = recovers(name, RELKVANU_STORE_BACKUP);
+        CHECK(calls + 1 == report.next_name && calls >= least[i] && calls <= most[i], "%" PRIu64 " calls, and not %" PRIu64 " to %" PRIu64,
+            calls, least[i], most[i]);
+    }
+}
+
+static void *backs_up_too(void *with) {
+    struct load *load = with;
+    char words[RELKVANU_STORE_MESSAGE];
+    int status = relkvanu_store_backup(load->store, load->path, words, sizeof words);
+    CHECK(status == RELKVANU_STORE_OK || status == RELKVANU_STORE_NOT_NOW || status == RELKVANU_STORE_PRESENT, "status %d: %s", status,
+        words);
+    return status == RELKVANU_STORE_OK ? load : NULL;
+}
+
+/* Several at once: one of them makes the file. */
+static void at_once(void) {
+    relkvanu_store_options options = job_options(RELKVANU_STORE_CREATE, RELKVANU_STORE_NO_IMAGES);
+    pthread_t threads[CALLERS];
+    unsigned made = 0;
+    options.flags = RELKVANU_STORE_CREATE;
+    struct load load = {.store = opens(&options, RELKVANU_STORE_OK), .path = in("b.db")};
+    make_long(load.store);
+    for (size_t i = 0; i < CALLERS; i++) {
+        CHECK(pthread_create(&threads[i], NULL, backs_up_too, &load) == 0, "a thread");
+    }
+    for (size_t i = 0; i < CALLERS; i++) {
+        void *is_made;
+        pthread_join(threads[i], &is_made);
+        made += is_made != NULL;
+    }
+    relkvanu_store_close(load.store);
+    CHECK(made == 1, "%u were made", made);
+    check_no_part();
+    CHECK(recovers("b.db", RELKVANU_STORE_BACKUP) == LISTS * RELKVANU_STORE_MOST_CALLS, "%" PRIu64 " calls", calls_of(&report));
+}
+
+static relkvanu_answer acked(relkvanu_store *store, uint64_t term, uint64_t id, uint16_t index, uint64_t file) {
+    relkvanu_answer answer;
+    CHECK(relkvanu_store_put(store, file, "state", 5) == RELKVANU_STORE_OK, "file %" PRIu64, file);
+    CHECK(relkvanu_store_ack_in(store, term, RELKVANU_STORE_NOW, id, 0, index, &file, 1, NULL, 0, &answer) == RELKVANU_STORE_OK &&
+              answer.code == RELKVANU_DONE,
+        "an acknowledgement: %" PRIu32 " %" PRIu32, answer.code, answer.what);
+    return answer;
+}
+
+/* A record of this kind, whose files have names that are reserved for it. Returns its number. */
+static uint64_t record(relkvanu_store *store, uint64_t term, uint32_t kind) {
+    relkvanu_answer names;
+    relkvanu *handle;
+    CHECK(relkvanu_store_reserve(store, term, SUBTASKS, &names) == RELKVANU_STORE_OK && names.code == RELKVANU_DONE, "names");
+    CHECK(relkvanu_store_read(store, &handle) == RELKVANU_STORE_OK, "a read");
+    uint64_t due = relkvanu_due(handle).a;
+    relkvanu_store_read_end(store);
+    relkvanu_answer begun = done(store, kind, due, 0);
+    uint64_t id = kind == RELKVANU_CALL_TICK ? begun.b : begun.a;
+    for (uint16_t i = 0; i < SUBTASKS; i++) {
+        acked(store, term, id, i, names.a + i);
+    }
+    return id;
+}
+
+static bool has_files(uint64_t first) {
+    unsigned found = 0;
+    for (uint64_t file = first; file < first + SUBTASKS; file++) {
+        char name[40];
+        snprintf(name, sizeof name, "storage/%" PRIu64, file);
+        found += has(name);
+    }
+    CHECK(found == 0 || found == SUBTASKS, "%u files from %" PRIu64 " on", found, first);
+    return found != 0;
+}
+
+/* Deletes what waits, as the discarder does. */
+static void discard_all(relkvanu_store *store) {
+    uint64_t files[64];
+    uint8_t is_gone[64] = {0};
+    relkvanu_store_call take = {.call = {.kind = RELKVANU_CALL_TAKE, .number = 64}, .files = files, .files_len = 64};
+    CHECK(relkvanu_store_calls(store, &take, 1) == RELKVANU_STORE_OK, "a take");
+    relkvanu_store_delete_files(store, files, take.answer.a, is_gone);
+    for (size_t i = 0; i < take.answer.a; i++) {
+        CHECK(is_gone[i], "file %" PRIu64, files[i]);
+        done(store, RELKVANU_CALL_DELETED, 0, files[i]);
+    }
+}
+
+/* The job went on after the backup, and its files are there: a savepoint of the backup has all its files. The backup gives out no name again, its
+ * sweep leaves the files of the savepoint alone, and the store that has gone on puts and deletes nothing more. */
+static void put_back(void) {
+    relkvanu_store_options options = storage_options(RELKVANU_STORE_CREATE, 0);
+    size_t left;
+    options.flags = RELKVANU_STORE_CREATE;
+    relkvanu_store *store = opens(&options, RELKVANU_STORE_OK);
+    uint64_t savepoint = record(store, 1, RELKVANU_CALL_SAVEPOINT); /* files 1 to 8 */
+    record(store, 1, RELKVANU_CALL_TICK);                           /* 9 to 16 */
+    backs_up(store, "b.db", RELKVANU_STORE_OK);
+    record(store, 1, RELKVANU_CALL_TICK); /* 17 to 24 */
+    discard_all(store);
+    CHECK(has_files(1) && !has_files(9) && has_files(17), "the files");
+    options.flags = RELKVANU_STORE_RECOVER;
+    opens_at("b.db", &options, RELKVANU_STORE_STORAGE);
+    options.flags = RELKVANU_STORE_BACKUP;
+    relkvanu_store *back = opens_at("b.db", &options, RELKVANU_STORE_OK);
+    CHECK(report.epoch == 2 && report.term == 1 && report.next_name == 25, "opening %" PRIu64 ", next name %" PRIu64, report.epoch,
+        report.next_name);
+    CHECK(
+        relkvanu_store_put(store, 25, "state", 5) == RELKVANU_STORE_STORAGE && relkvanu_store_sweep(store, &left) == RELKVANU_STORE_STORAGE,
+        "the other store");
+    CHECK(done(back, RELKVANU_CALL_RESTORE, RELKVANU_STORE_NOW, savepoint).what == RELKVANU_RESTORED_SAVEPOINT, "a restore");
+    CHECK(relkvanu_store_sweep(back, &left) == RELKVANU_STORE_OK && left == 0, "a sweep");
+    CHECK(has_files(1) && !has_files(17), "the files after the sweep");
+    record(back, 2, RELKVANU_CALL_TICK); /* 25 to 32 */
+    CHECK(has_files(1) && has_files(25), "the files of the next record");
+    relkvanu_store_close(back);
+    relkvanu_store_close(store);
+    opens(&options, RELKVANU_STORE_BAD_ARGUMENT);
+    options.flags = RELKVANU_STORE_RECOVER;
+    opens(&options, RELKVANU_STORE_STORAGE);
+    CHECK(says("an older copy"), "%s", report.message);
+    relkvanu_store_close(opens_at("b.db", &options, RELKVANU_STORE_OK));
+    CHECK(report.epoch == 3 && report.term == 2, "opening %" PRIu64, report.epoch);
+}
+
+/* Opened several times before its first opening has ended, since the process ended or there was a fault: no name comes twice. */
+static void put_back_again(void) {
+    relkvanu_store_options options = storage_options(RELKVANU_STORE_CREATE, 0);
+    options.flags = RELKVANU_STORE_CREATE;
+    relkvanu_store *store = opens(&options, RELKVANU_STORE_OK);
+    backs_up(store, "b.db", RELKVANU_STORE_OK);
+    record(store, 1, RELKVANU_CALL_TICK);
+    relkvanu_store_close(store);
+    options.flags = RELKVANU_STORE_BACKUP;
+    write_file("storage/16777217", "");
+    opens_at("b.db", &options, RELKVANU_STORE_STORAGE);
+    CHECK(says("2^24"), "%s", report.message);
+    unlink(in("storage/16777217"));
+    write_file("storage/200000", "");
+    run_sql(in("b.db"), "CREATE TRIGGER no BEFORE UPDATE OF epoch ON job BEGIN SELECT RAISE(ABORT, 'no'); END");
+    opens_at("b.db", &options, RELKVANU_STORE_FAILED); /* the names are given out, and it still is a backup */
+    options.flags = RELKVANU_STORE_RECOVER;
+    opens_at("b.db", &options, RELKVANU_STORE_STORAGE);
+    run_sql(in("b.db"), "DROP TRIGGER no");
+    options.flags = RELKVANU_STORE_BACKUP;
+    relkvanu_store_close(opens_at("b.db", &options, RELKVANU_STORE_OK));
+    CHECK(
+        report.next_name == 200001 && report.replayed == 4, "next name %" PRIu64 ", %" PRIu64 " calls", report.next_name, report.replayed);
+}
+
+/* A storage of another job, or none, is refused for a backup too. */
+static void put_back_elsewhere(void) {
+    relkvanu_store_options options = storage_options(RELKVANU_STORE_CREATE, 0);
+    relkvanu_store *store = opens(&options, RELKVANU_STORE_OK);
+    backs_up(store, "b.db", RELKVANU_STORE_OK);
+    relkvanu_store_close(store);
+    options.flags = RELKVANU_STORE_BACKUP;
+    CHECK(rename(in("storage/.relkvanu-job"), in("marker")) == 0, "the marker");
+    opens_at("b.db", &options, RELKVANU_STORE_STORAGE);
+    CHECK(says("no marker"), "%s", report.message);
+    write_file("storage/.relkvanu-job", "relkvanu job 00000000000000000000000000000001\nepoch 1\n");
+    opens_at("b.db", &options, RELKVANU_STORE_STORAGE);
+    CHECK(says("another job"), "%s", report.message);
+    options.storage = NULL;
+    opens_at("b.db", &options, RELKVANU_STORE_STORAGE);
+    CHECK(says("the options name none"), "%s", report.message);
+}
+
+/* After a cancel no names are given out. */
+static void of_a_cancelled_job(void) {
+    relkvanu_store_options options = storage_options(RELKVANU_STORE_CREATE, 0);
+    options.flags = RELKVANU_STORE_CREATE;
+    relkvanu_store *store = opens(&options, RELKVANU_STORE_OK);
+    record(store, 1, RELKVANU_CALL_TICK);
+    done(store, RELKVANU_CALL_CANCEL, RELKVANU_STORE_NOW, 0);
+    backs_up(store, "b.db", RELKVANU_STORE_OK);
+    relkvanu_store_close(store);
+    write_file("storage/100", "");
+    options.flags = RELKVANU_STORE_BACKUP;
+    relkvanu_store_close(opens_at("b.db", &options, RELKVANU_STORE_OK));
+    CHECK(report.mode.what == RELKVANU_MODE_CANCELLED && report.next_name == SUBTASKS + 1, "next name %" PRIu64, report.next_name);
+}
+
+const struct test backup_cases[] = {{"a_backup", a_backup}, {"a_backup_with_images", a_backup_with_images},
+    {"flags_of_a_backup", flags_of_a_backup}, {"no_backup", no_backup}, {"a_job_in_the_way", a_job_in_the_way},
+    {"a_part_that_was_left", a_part_that_was_left}, {"of_a_closed_store", of_a_closed_store}, {"in_a_forked_child", in_a_forked_child},
+    {"under_load", under_load}, {"at_once", at_once}, {"put_back", put_back}, {"put_back_again", put_back_again},
+    {"put_back_elsewhere", put_back_elsewhere}, {"of_a_cancelled_job", of_a_cancelled_job}, {NULL, NULL}};

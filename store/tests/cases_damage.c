@@ -1,0 +1,238 @@
+/* Files that are no job, or are damaged: an opening says so, and where. */
+#include "cases.h"
+
+#include "../src/parts.h"
+
+#include <fcntl.h>
+#include <sys/stat.h>
+#include <unistd.h>
+
+enum { CALLS = 2 * CHECKPOINT_CALLS, LAST = CALLS - 1 };
+
+/* A job whose log has 20 calls, two checkpoints; closed. */
+static void make_job(uint64_t image_calls) {
+    relkvanu_store_options options = job_options(RELKVANU_STORE_CREATE, image_calls);
+    relkvanu_store *store = opens(&options, RELKVANU_STORE_OK);
+    checkpoint(store, 1);
+    checkpoint(store, 100);
+    relkvanu_store_close(store);
+}
+
+static void refuses(int status, const char *words) {
+    relkvanu_store_options options = job_options(RELKVANU_STORE_CREATE, RELKVANU_STORE_NO_IMAGES);
+    opens(&options, status);
+    CHECK(says(words) && says("x.db"), "%s", report.message);
+    options.flags = RELKVANU_STORE_RECOVER;
+    opens(&options, status);
+}
+
+static void other_files(void) {
+    static const char text[] =
+        "This is no database, but a text of more than a hundred bytes, so that SQLite reads its header and says so. It ends here.";
+    int file = open(in("x.db"), O_CREAT | O_WRONLY, 0600);
+    CHECK(write(file, text, sizeof text) == sizeof text, "text");
+    close(file);
+    refuses(RELKVANU_STORE_NOT_A_STORE, "not a database");
+    unlink(in("x.db"));
+    close(open(in("x.db"), O_CREAT | O_WRONLY, 0600));
+    run_sql(in("x.db"), "CREATE TABLE log(x)");
+    refuses(RELKVANU_STORE_NOT_A_STORE, "another kind");
+    unlink(in("x.db"));
+    unlink(in("x.db-wal"));
+    make_job(RELKVANU_STORE_NO_IMAGES);
+    run_sql(in("x.db"), "PRAGMA user_version=3");
+    refuses(RELKVANU_STORE_NOT_A_STORE, "later version");
+    run_sql(in("x.db"), "PRAGMA user_version=1");
+    refuses(RELKVANU_STORE_NOT_A_STORE, "a job without names");
+    run_sql(in("x.db"), "PRAGMA user_version=101");
+    refuses(RELKVANU_STORE_NOT_A_STORE, "a job without names");
+    run_sql(in("x.db"), "PRAGMA user_version=2");
+    CHECK(link(in("x.db"), in("y.db")) == 0, "a second name");
+    refuses(RELKVANU_STORE_FAILED, "several names");
+    unlink(in("y.db"));
+    relkvanu_store_options options = job_options(RELKVANU_STORE_RECOVER, 0);
+    relkvanu_store_close(opens(&options, RELKVANU_STORE_OK));
+    CHECK(mkdir(in("folder"), 0700) == 0, "folder");
+    relkvanu_store *store;
+    CHECK(relkvanu_store_open(&store, in("folder"), &options, &report) == RELKVANU_STORE_FAILED && store == NULL, "a folder");
+}
+
+/* Replaces the last call of the log, with a checksum that fits. */
+static void replace_last(const char *line, uint32_t what, uint64_t a, uint64_t b) {
+    char sql[600];
+    sqlite3 *db;
+    sqlite3_stmt *it;
+    CHECK(sqlite3_open(in("x.db"), &db) == SQLITE_OK &&
+              sqlite3_prepare_v2(db, "SELECT chain FROM log WHERE place = 19", -1, &it, NULL) == SQLITE_OK &&
+              sqlite3_step(it) == SQLITE_ROW,
+        "the call before");
+    struct rks_row row = {{(const uint8_t *)line, strlen(line)}, {.what = what, .a = a, .b = b}, NULL, CALLS, 0};
+    uint32_t chain = rks_chain((uint32_t)sqlite3_column_int64(it, 0), &row);
+    sqlite3_finalize(it);
+    sqlite3_close(db);
+    snprintf(sql, sizeof sql,
+        "UPDATE log SET line='%s', what=%" PRIu32 ", a=%" PRIu64 ", b=%" PRIu64 ", chain=%" PRIu32 " WHERE place = 20", line, what, a, b,
+        chain);
+    run_sql(in("x.db"), sql);
+}
+
+static void other_answers(void) {
+    make_job(RELKVANU_STORE_NO_IMAGES);
+    struct told *rows;
+    size_t len;
+    rows = log_rows(in("x.db"), 0, &len);
+    CHECK(len == CALLS && rows[LAST].what == RELKVANU_ACK_COMPLETED && rows[LAST].a == 1 && rows[LAST].b == 16, "the last call");
+    replace_last(rows[LAST].line, RELKVANU_ACK_COMPLETED, 1, 17);
+    refuses(RELKVANU_STORE_DIFFERS, "call 20");
+    CHECK(says("1 16") && says("1 17") && says("ack"), "%s", report.message);
+    replace_last("dispose 999999", RELKVANU_DISPOSED, 0, 0);
+    refuses(RELKVANU_STORE_DIFFERS, "call 20");
+    CHECK(says("dispose 999999"), "%s", report.message);
+    replace_last("no line", RELKVANU_DISPOSED, 0, 0);
+    refuses(RELKVANU_STORE_DIFFERS, "call 20");
+    replace_last(rows[LAST].line, RELKVANU_ACK_COMPLETED, 1, 16);
+    relkvanu_store_options options = job_options(RELKVANU_STORE_RECOVER, 0);
+    relkvanu_store_close(opens(&options, RELKVANU_STORE_OK));
+    free(rows);
+}
+
+/* A log of 20 reservations of one name: another name, and a term that has not begun, which fences the call. */
+static void other_names(void) {
+    relkvanu_store_options options = job_options(RELKVANU_STORE_CREATE, RELKVANU_STORE_NO_IMAGES);
+    relkvanu_store *store = opens(&options, RELKVANU_STORE_OK);
+    for (uint64_t i = 1; i <= CALLS; i++) {
+        relkvanu_answer answer;
+        CHECK(relkvanu_store_reserve(store, 1, 1, &answer) == RELKVANU_STORE_OK && answer.what == RELKVANU_RESERVED && answer.a == i,
+            "name %" PRIu64, answer.a);
+    }
+    relkvanu_store_close(store);
+    replace_last("reserve 1 1", RELKVANU_RESERVED, LAST, 1);
+    refuses(RELKVANU_STORE_DIFFERS, "call 20");
+    CHECK(says("0/56 20 1") && says("0/56 19 1") && says("reserve 1 1"), "%s", report.message);
+    replace_last("reserve 2 1", RELKVANU_RESERVED, CALLS, 1);
+    refuses(RELKVANU_STORE_DIFFERS, "call 20");
+    CHECK(says("7/1 0 0"), "%s", report.message);
+    replace_last("reserve 1 1", RELKVANU_RESERVED, CALLS, 1);
+    options.flags = RELKVANU_STORE_RECOVER;
+    relkvanu_store_close(opens(&options, RELKVANU_STORE_OK));
+    CHECK(report.next_name == CALLS + 1, "next name %" PRIu64, report.next_name);
+}
+
+static void damaged_rows(void) {
+    static const struct {
+        const char *sql, *words, *back;
+    } all[] = {
+        {"UPDATE log SET line = replace(line, '+1 ', '+9 ') WHERE place = 3", "call 3 is damaged",
+            "UPDATE log SET line = replace(line, '+9 ', '+1 ') WHERE place = 3"},
+        {"UPDATE log SET a = a + 1 WHERE place = 3", "call 3 is damaged", "UPDATE log SET a = a - 1 WHERE place = 3"},
+        {"UPDATE log SET chain = chain + 1 WHERE place = 18", "call 18 is damaged", "UPDATE log SET chain = chain - 1 WHERE place = 18"},
+        {"UPDATE log SET place = 40 WHERE place = 5", "lacks call 5", "UPDATE log SET place = 5 WHERE place = 40"},
+        {"UPDATE image SET chain = chain + 1", "image after call 0", "UPDATE image SET chain = chain - 1"},
+        {"UPDATE image SET text = CAST(text || ' ' AS BLOB)", "image after call 0", NULL},
+        {"DELETE FROM image", "no image", NULL},
+    };
+    make_job(RELKVANU_STORE_NO_IMAGES);
+    for (size_t i = 0; i < sizeof all / sizeof *all; i++) {
+        run_sql(in("x.db"), all[i].sql);
+        refuses(RELKVANU_STORE_DAMAGED, all[i].words);
+        if (all[i].back != NULL) {
+            run_sql(in("x.db"), all[i].back);
+            relkvanu_store_options options = job_options(RELKVANU_STORE_RECOVER, RELKVANU_STORE_NO_IMAGES);
+            relkvanu_store_close(opens(&options, RELKVANU_STORE_OK));
+            CHECK(report.replayed == CALLS, "%" PRIu64, report.replayed);
+        }
+    }
+}
+
+static void an_earlier_image(void) {
+    relkvanu_store_options options = job_options(RELKVANU_STORE_CREATE, 5);
+    struct shadow shadow;
+    make_job(5);
+    run_sql(in("x.db"), "UPDATE image SET sum = sum + 1 WHERE place = (SELECT max(place) FROM image)");
+    refuses(RELKVANU_STORE_DAMAGED, "image after call 20");
+    options.flags = RELKVANU_STORE_EARLIER_IMAGE;
+    relkvanu_store *store = opens(&options, RELKVANU_STORE_OK);
+    CHECK(report.image_place < CALLS && report.image_place + report.replayed == CALLS && report.replayed != 0, "%" PRIu64,
+        report.image_place);
+    relkvanu_store_close(store);
+    options.flags = RELKVANU_STORE_RECOVER;
+    store = opens(&options, RELKVANU_STORE_OK); /* the damaged one is gone */
+    shadow_open(&shadow, &options);
+    relkvanu_answer answer = relkvanu_tick(&shadow.handle, 0);
+    CHECK(answer.code == RELKVANU_DONE && !shadow_equals(&shadow, store), "the comparison of images sees nothing");
+    relkvanu_close(&shadow.handle);
+    relkvanu_store_close(store);
+}
+
+static void copy_file(const char *from, const char *to, long flip) {
+    static char bytes[1 << 20];
+    FILE *it = fopen(from, "rb");
+    CHECK(it != NULL, "%s", from);
+    size_t len = fread(bytes, 1, sizeof bytes, it);
+    fclose(it);
+    if (flip >= 0 && (size_t)flip < len) {
+        bytes[flip] = (char)(bytes[flip] ^ 0x10);
+    }
+    it = fopen(to, "wb");
+    CHECK(it != NULL && fwrite(bytes, 1, len, it) == len, "%s", to);
+    fclose(it);
+}
+
+/* A bit anywhere in the file either does not matter, or an opening stops. */
+static void any_damaged_byte(void) {
+    relkvanu_store_options options = job_options(RELKVANU_STORE_RECOVER, RELKVANU_STORE_NO_IMAGES);
+    unsigned opened = 0, stopped = 0;
+    struct shadow shadow;
+    struct stat is;
+    size_t len;
+    make_job(RELKVANU_STORE_NO_IMAGES);
+    CHECK(stat(in("x.db"), &is) == 0, "x.db");
+    shadow_open(&shadow, &options);
+    struct told *rows = log_rows(in("x.db"), 0, &len);
+    for (size_t i = 0; i < len; i++) {
+        shadow_make(&shadow, &rows[i]);
+    }
+    free(rows);
+    CHECK(rename(in("x.db"), in("whole")) == 0, "whole");
+    for (long at = 0; at < is.st_size; at += 131) {
+        relkvanu_store *store;
+        unlink(in("x.db-wal"));
+        copy_file(in("whole"), in("x.db"), at);
+        int status = relkvanu_store_open(&store, in("x.db"), &options, &report);
+        if (status == RELKVANU_STORE_OK) {
+            CHECK(shadow_equals(&shadow, store), "another state after a change of byte %ld", at);
+        } else {
+            CHECK(report.message[0] != 0, "status %d, no message", status);
+        }
+        opened += status == RELKVANU_STORE_OK;
+        stopped += status != RELKVANU_STORE_OK;
+        relkvanu_store_close(store);
+    }
+    relkvanu_close(&shadow.handle);
+    CHECK(opened > 50 && stopped > 5, "%u openings, %u refusals", opened, stopped);
+}
+
+/* Somebody replaces or deletes a file while the store is open. */
+static void replaced_files(void) {
+    static const char *const names[] = {"x.db", "x.db-wal"};
+    for (size_t i = 0; i < 2; i++) {
+        relkvanu_store_options options = job_options(RELKVANU_STORE_CREATE, RELKVANU_STORE_NO_IMAGES);
+        relkvanu_store *store = opens(&options, RELKVANU_STORE_OK);
+        char words[512];
+        CHECK(rename(in(names[i]), in("away")) == 0, "%s", names[i]);
+        copy_file(in("away"), in(names[i]), -1);
+        relkvanu_store_call call = {.call = {.kind = RELKVANU_CALL_SAVEPOINT, .now = 5}};
+        CHECK(
+            relkvanu_store_calls(store, &call, 1) == RELKVANU_STORE_FAILED && call.answer.code == RELKVANU_STORE_NOT_MADE, "%s", names[i]);
+        CHECK(relkvanu_store_calls(store, &call, 1) == RELKVANU_STORE_CLOSED, "%s", names[i]);
+        CHECK(relkvanu_store_message(store, words, sizeof words) == strlen(words) && strstr(words, "replaced") != NULL, "%s", words);
+        relkvanu_store_close(store);
+        CHECK(rename(in("away"), in(names[i])) == 0, "%s", names[i]);
+        store = opens(&options, RELKVANU_STORE_OK);
+        relkvanu_store_close(store);
+    }
+}
+
+const struct test damage_cases[] = {{"other_files", other_files}, {"other_answers", other_answers}, {"other_names", other_names},
+    {"damaged_rows", damaged_rows}, {"an_earlier_image", an_earlier_image}, {"any_damaged_byte", any_damaged_byte},
+    {"replaced_files", replaced_files}, {NULL, NULL}};

@@ -1,0 +1,133 @@
+/* State files by their numbers: put, deleted and swept. */
+#include "cases.h"
+
+#include <errno.h>
+#include <fcntl.h>
+#include <sys/stat.h>
+#include <unistd.h>
+
+static bool has(const char *name) {
+    return access(in(name), F_OK) == 0;
+}
+
+static void make_file(const char *name) {
+    int file = open(in(name), O_CREAT | O_WRONLY | O_EXCL, 0600);
+    CHECK(file >= 0, "%s", name);
+    close(file);
+}
+
+static relkvanu_store *opened(void) {
+    relkvanu_store_options options = storage_options(RELKVANU_STORE_CREATE, 0);
+    return opens(&options, RELKVANU_STORE_OK);
+}
+
+static void put_and_read(void) {
+    relkvanu_store *store = opened();
+    char found[16] = "";
+    CHECK(
+        relkvanu_store_put(store, UINT64_MAX, "state", 5) == RELKVANU_STORE_OK && relkvanu_store_put(store, 0, "", 0) == RELKVANU_STORE_OK,
+        "put");
+    int file = openat(relkvanu_store_folder(store), "18446744073709551615", O_RDONLY);
+    CHECK(read(file, found, sizeof found) == 5 && memcmp(found, "state", 5) == 0, "%s", found);
+    close(file);
+    CHECK(has("storage/0") && !has("storage/0.part"), "the folder");
+    relkvanu_store_close(store);
+}
+
+static void a_number_is_put_once(void) {
+    relkvanu_store *store = opened();
+    struct stat found;
+    CHECK(relkvanu_store_put(store, 7, "first", 5) == RELKVANU_STORE_OK, "put");
+    CHECK(relkvanu_store_put(store, 7, "another", 7) == RELKVANU_STORE_PRESENT, "put again");
+    CHECK(stat(in("storage/7"), &found) == 0 && found.st_size == 5 && !has("storage/7.part"), "the first");
+    make_file("storage/8.part"); /* of a task that may go on */
+    CHECK(relkvanu_store_put(store, 8, "state", 5) == RELKVANU_STORE_PRESENT && has("storage/8.part") && !has("storage/8"), "a part");
+    CHECK(symlink(in("elsewhere"), in("storage/9.part")) == 0, "a link");
+    CHECK(relkvanu_store_put(store, 9, "state", 5) == RELKVANU_STORE_PRESENT && !has("elsewhere"), "a link that is followed");
+    relkvanu_store_close(store);
+}
+
+/* A file of more than 1000 bytes can't be written. */
+static void one_that_can_not_be_written(void) {
+    relkvanu_store *store = opened();
+    static char contents[2000];
+    limit_files(1000);
+    int status = relkvanu_store_put(store, 7, contents, sizeof contents), error = errno;
+    limit_files(0);
+    CHECK(status == RELKVANU_STORE_NOT_PUT && error == EFBIG, "status %d, errno %d", status, error);
+    CHECK(!has("storage/7") && !has("storage/7.part"), "a file is left");
+    CHECK(relkvanu_store_put(store, 7, contents, sizeof contents) == RELKVANU_STORE_OK, "the same number once more");
+    relkvanu_store_close(store);
+}
+
+static void no_marker(void) {
+    relkvanu_store *store = opened();
+    size_t left = 1;
+    CHECK(rename(in("storage/.relkvanu-job"), in("marker")) == 0, "marker");
+    CHECK(relkvanu_store_put(store, 7, "state", 5) == RELKVANU_STORE_STORAGE && !has("storage/7"), "put");
+    CHECK(relkvanu_store_sweep(store, &left) == RELKVANU_STORE_STORAGE && left == 0, "sweep");
+    relkvanu_store_close(store);
+}
+
+static void no_storage(void) {
+    relkvanu_store_options options = job_options(RELKVANU_STORE_CREATE, 0);
+    relkvanu_store *store = opens(&options, RELKVANU_STORE_OK);
+    uint64_t file = 7;
+    uint8_t is_gone = 1;
+    size_t left;
+    CHECK(relkvanu_store_put(store, 7, "state", 5) == RELKVANU_STORE_BAD_ARGUMENT, "put");
+    CHECK(relkvanu_store_sweep(store, &left) == RELKVANU_STORE_BAD_ARGUMENT, "sweep");
+    relkvanu_store_delete_files(store, &file, 1, &is_gone);
+    CHECK(is_gone == 0, "deleted");
+    relkvanu_store_close(store);
+}
+
+static void deletes(void) {
+    relkvanu_store *store = opened();
+    uint64_t files[] = {1, 2, 3, 4};
+    uint8_t is_gone[4] = {0};
+    make_file("storage/1");
+    make_file("storage/2.part");
+    CHECK(mkdir(in("storage/3"), 0700) == 0, "a folder");
+    relkvanu_store_delete_files(store, files, 4, is_gone);
+    CHECK(is_gone[0] && is_gone[1] && !is_gone[2] && is_gone[3], "%d %d %d %d", is_gone[0], is_gone[1], is_gone[2], is_gone[3]);
+    CHECK(!has("storage/1") && !has("storage/2.part") && has("storage/3"), "the folder");
+    relkvanu_store_close(store);
+}
+
+/* A job with files 100 to 115 in use, and 400 files that a task has written and not acknowledged. */
+static void sweeps(void) {
+    relkvanu_store *store = opened();
+    char name[PATHS];
+    size_t left;
+    relkvanu_answer names;
+    CHECK(relkvanu_store_reserve(store, 1, 600, &names) == RELKVANU_STORE_OK && names.a == 1, "names");
+    checkpoint(store, 100);
+    for (uint64_t file = 100; file < 500 + 2 * SUBTASKS; file++) {
+        snprintf(name, sizeof name, "storage/%" PRIu64 "%s", file, file % 2 == 0 || file < 100 + 2 * SUBTASKS ? "" : ".part");
+        make_file(name);
+    }
+    make_file("storage/notes");
+    make_file("storage/0100");
+    CHECK(relkvanu_store_sweep(store, &left) == RELKVANU_STORE_OK && left == 0 && has("storage/200"), "a sweep while tasks run");
+    done(store, RELKVANU_CALL_RESTORE, RELKVANU_STORE_NOW, 0);
+    CHECK(mkdir(in("storage/9"), 0700) == 0, "a folder");
+    CHECK(relkvanu_store_sweep(store, &left) == RELKVANU_STORE_OK && left == 1, "%zu are left", left);
+    for (uint64_t file = 100; file < 500 + 2 * SUBTASKS; file++) {
+        snprintf(name, sizeof name, "storage/%" PRIu64 "%s", file, file % 2 == 0 || file < 100 + 2 * SUBTASKS ? "" : ".part");
+        CHECK(has(name) == (file < 100 + 2 * SUBTASKS), "%s", name);
+    }
+    CHECK(has("storage/notes") && has("storage/0100") && has("storage/9"), "other files");
+    relkvanu_store_close(store);
+}
+
+const struct test file_cases[] = {
+    {"put_and_read", put_and_read},
+    {"a_number_is_put_once", a_number_is_put_once},
+    {"one_that_can_not_be_written", one_that_can_not_be_written},
+    {"puts_without_marker", no_marker},
+    {"puts_without_storage", no_storage},
+    {"deletes", deletes},
+    {"sweeps", sweeps},
+    {NULL, NULL},
+};

@@ -1,0 +1,984 @@
+/* Manifests: what the storage folder says of complete records, and a job that is made of them once its own file is lost. */
+#include "cases.h"
+
+#include <dirent.h>
+#include <errno.h>
+#include <fcntl.h>
+#include <sys/stat.h>
+#include <time.h>
+#include <unistd.h>
+
+static char message[RELKVANU_STORE_MESSAGE];
+static relkvanu_store_recovered recovered;
+
+enum { MOST_RECORDS = 32 };
+static relkvanu_store_record records[MOST_RECORDS];
+static size_t records_len;
+
+static bool has(const char *name) {
+    return access(in(name), F_OK) == 0;
+}
+
+static bool note_record(void *with, const relkvanu_store_record *record) {
+    CHECK(with == records && records_len < MOST_RECORDS, "a record");
+    records[records_len++] = *record;
+    return true;
+}
+
+/* The records that the folder tells. */
+static size_t list_records(void) {
+    records_len = 0;
+    int status = relkvanu_store_records(in("storage"), note_record, records, message, sizeof message);
+    CHECK(status == RELKVANU_STORE_OK && message[0] == 0, "status %d: %s", status, message);
+    return records_len;
+}
+
+static void lose_job(void) {
+    static const char *const names[] = {"x.db", "x.db-wal", "x.db-shm", "x.db.lock"};
+    for (size_t i = 0; i < 4; i++) {
+        CHECK(unlink(in(names[i])) == 0 || errno == ENOENT, "%s", names[i]);
+    }
+}
+
+static void recovers(uint64_t record, int status) {
+    int got = relkvanu_store_recover(in("x.db"), in("storage"), record, &recovered);
+    CHECK(got == status, "status %d, not %d: %s", got, status, recovered.message);
+    CHECK((recovered.message[0] == 0) == (status == RELKVANU_STORE_OK), "%s", recovered.message);
+    CHECK(!has(".x.db.relkvanu-new") && !has(".x.db.relkvanu-new-wal") && !has(".x.db.relkvanu-new-shm") && !has(".x.db.relkvanu-new.lock"),
+        "a new file is left");
+}
+
+/* A job over the storage folder, which has manifests. */
+static relkvanu_store_options manifests(uint32_t flags) {
+    return storage_options(flags | RELKVANU_STORE_MANIFESTS, 0);
+}
+
+static relkvanu_answer trigger(relkvanu_store *store, uint32_t kind) {
+    relkvanu_store_call call = {.call = {.kind = kind, .now = RELKVANU_STORE_NOW}};
+    int status = relkvanu_store_calls(store, &call, 1);
+    CHECK(status == RELKVANU_STORE_OK && call.answer.code == RELKVANU_DONE, "status %d, what %" PRIu32, status, call.answer.what);
+    return call.answer;
+}
+
+/* A task reserves a name, puts a file of so many bytes, and acknowledges it and a reused one, if there is one. */
+static uint64_t takes_part(relkvanu_store *store, uint64_t term, uint64_t id, uint16_t index, size_t len, uint64_t reused) {
+    relkvanu_answer answer;
+    CHECK(relkvanu_store_reserve(store, term, 1, &answer) == RELKVANU_STORE_OK && answer.code == RELKVANU_DONE, "no name: %" PRIu32,
+        answer.what);
+    uint64_t file = answer.a;
+    CHECK(relkvanu_store_put(store, file, "the state of a task", len) == RELKVANU_STORE_OK, "no file");
+    int status = relkvanu_store_ack_in(store, term, RELKVANU_STORE_NOW, id, 0, index, &file, 1, &reused, reused != 0, &answer);
+    CHECK(status == RELKVANU_STORE_OK && answer.code == RELKVANU_DONE, "status %d, what %" PRIu32, status, answer.what);
+    return file;
+}
+
+/* A record of 8 files, of 1 to 8 bytes. Returns its number. *first is the file of the first task. */
+static uint64_t completes(relkvanu_store *store, uint64_t term, uint32_t kind, uint64_t *first) {
+    relkvanu_answer triggered = trigger(store, kind);
+    uint64_t id = kind == RELKVANU_CALL_SAVEPOINT ? triggered.a : triggered.b;
+    for (uint16_t i = 0; i < SUBTASKS; i++) {
+        uint64_t file = takes_part(store, term, id, i, i + 1u, 0);
+        if (i == 0 && first != NULL) {
+            *first = file;
+        }
+    }
+    return id;
+}
+
+/* The JSON of a manifest, asked for by SQLite. */
+static int64_t says_of(uint64_t id, const char *expression) {
+    char name[PATHS], sql[300];
+    sqlite3 *db = NULL;
+    sqlite3_stmt *it = NULL;
+    static char text[1 << 16];
+    snprintf(name, sizeof name, "storage/record-%" PRIu64 ".manifest", id);
+    FILE *from = fopen(in(name), "r");
+    CHECK(from != NULL, "%s", name);
+    size_t len = fread(text, 1, sizeof text - 1, from);
+    fclose(from);
+    snprintf(sql, sizeof sql, "SELECT %s", expression);
+    CHECK(sqlite3_open(":memory:", &db) == SQLITE_OK && sqlite3_prepare_v2(db, sql, -1, &it, NULL) == SQLITE_OK, "%s", sql);
+    CHECK(sqlite3_bind_text(it, 1, text, (int)len, SQLITE_STATIC) == SQLITE_OK && sqlite3_step(it) == SQLITE_ROW, "%s: %s", sql,
+        sqlite3_errmsg(db));
+    int64_t number = sqlite3_column_int64(it, 0);
+    sqlite3_finalize(it);
+    sqlite3_close(db);
+    return number;
+}
+
+static void check_manifest(uint64_t id, uint64_t file) {
+    char files[200];
+    CHECK(says_of(id, "json_extract(?1,'$.relkvanu')='manifest'") == 1 && says_of(id, "json_extract(?1,'$.version')") == 1, "the head");
+    CHECK(says_of(id, "json_extract(?1,'$.record')") == (int64_t)id, "the number");
+    CHECK(says_of(id, "json_extract(?1,'$.kind')='checkpoint'") == 1 && says_of(id, "json_extract(?1,'$.chosen')") == 1, "the kind");
+    CHECK(says_of(id, "json_extract(?1,'$.shape')='[8]'") == 1, "the shape");
+    CHECK(says_of(id, "json_extract(?1,'$.settings')='{\"interval\":10,\"pause\":0,\"at_once\":1,\"timeout\":1073741824,\"tolerable\":1000,"
+                      "\"retained\":1,\"keep_on_cancel\":false}'") == 1,
+        "the settings");
+    CHECK(says_of(id, "json_extract(?1,'$.files')") == 8 && says_of(id, "json_extract(?1,'$.bytes')") == 36, "the sums");
+    snprintf(files, sizeof files, "json_extract(?1,'$.subtasks[2]')='{\"vertex\":0,\"index\":2,\"files\":{\"%" PRIu64 "\":3}}'", file + 2);
+    CHECK(says_of(id, files) == 1, "a subtask");
+    CHECK(says_of(id, "json_extract(?1,'$.term')") == 1 && says_of(id, "json_extract(?1,'$.below.term')") > 1, "the term");
+}
+
+/* The manifest is there when a record is complete, and goes when it ends. */
+static void manifests_of_records(void) {
+    relkvanu_store_options options = manifests(RELKVANU_STORE_CREATE);
+    relkvanu_store *store = opens(&options, RELKVANU_STORE_OK);
+    relkvanu_store_measures measures;
+    uint64_t first = 0;
+    CHECK(completes(store, 1, RELKVANU_CALL_TRIGGER, &first) == 1, "the number");
+    check_manifest(1, first);
+    CHECK(completes(store, 1, RELKVANU_CALL_SAVEPOINT, &first) == 2, "the number");
+    CHECK(says_of(2, "json_extract(?1,'$.kind')='savepoint'") == 1 && says_of(2, "json_extract(?1,'$.chosen')") == 0, "the savepoint");
+    CHECK(completes(store, 1, RELKVANU_CALL_TRIGGER, &first) == 3, "the number");
+    CHECK(!has("storage/record-1.manifest") && has("storage/record-2.manifest") && has("storage/record-3.manifest"), "the manifests");
+    CHECK(list_records() == 2 && records[0].id == 2 && records[1].id == 3, "%zu records", records_len);
+    CHECK(records[0].is_savepoint && !records[1].is_savepoint && !records[0].is_next && records[1].is_next, "what they are");
+    CHECK(records[0].is_of_job && records[0].missing == 0 && records[0].files == 8 && records[1].bytes == 36, "their files");
+    done(store, RELKVANU_CALL_DISPOSE, 0, 2);
+    CHECK(!has("storage/record-2.manifest") && has("storage/record-3.manifest"), "a manifest of what was disposed of");
+    relkvanu_store_measure(store, &measures, sizeof measures);
+    CHECK(measures.manifests == 3 && measures.failed_manifests == 0, "%" PRIu64 " manifests", measures.manifests);
+    relkvanu_store_close(store);
+}
+
+/* Without the flag there is none, and a sweep deletes those of earlier openings. */
+static void manifests_are_asked_for(void) {
+    relkvanu_store_options options = manifests(RELKVANU_STORE_CREATE);
+    size_t left = 1;
+    relkvanu_store *store = opens(&options, RELKVANU_STORE_OK);
+    completes(store, 1, RELKVANU_CALL_TRIGGER, NULL);
+    relkvanu_store_close(store);
+    options.flags &= ~RELKVANU_STORE_MANIFESTS;
+    store = opens(&options, RELKVANU_STORE_OK);
+    completes(store, 1, RELKVANU_CALL_TRIGGER, NULL);
+    CHECK(!has("storage/record-2.manifest") && has("storage/record-1.manifest"), "the manifests");
+    CHECK(relkvanu_store_sweep(store, &left) == RELKVANU_STORE_OK && left == 0, "a sweep");
+    CHECK(!has("storage/record-1.manifest") && list_records() == 0, "a manifest is left");
+    relkvanu_store_close(store);
+    options.flags |= RELKVANU_STORE_MANIFESTS; /* what should be there is written at an opening */
+    store = opens(&options, RELKVANU_STORE_OK);
+    CHECK(list_records() == 1 && records[0].id == 2 && records[0].missing == 0, "no manifest of the choice");
+    relkvanu_store_close(store);
+}
+
+/* What a sweep takes for manifests of ended records, and what it leaves. */
+static void a_sweep_of_manifests(void) {
+    static const char *const foreign[] = {"record-7", "record-07.manifest", "record-.manifest", "record-7.manifest.old", "manifest"};
+    static const char *const stale[] = {"record-7.manifest", "record-7.manifest.part", "record-1.manifest.part"};
+    relkvanu_store_options options = manifests(RELKVANU_STORE_CREATE);
+    size_t left = 1;
+    relkvanu_store *store = opens(&options, RELKVANU_STORE_OK);
+    completes(store, 1, RELKVANU_CALL_TRIGGER, NULL);
+    for (size_t i = 0; i < 8; i++) {
+        char name[PATHS];
+        snprintf(name, sizeof name, "storage/%s", i < 5 ? foreign[i] : stale[i - 5]);
+        FILE *to = fopen(in(name), "w");
+        CHECK(to != NULL && fclose(to) == 0, "%s", name);
+    }
+    CHECK(relkvanu_store_sweep(store, &left) == RELKVANU_STORE_OK && left == 0, "a sweep");
+    for (size_t i = 0; i < 8; i++) {
+        char name[PATHS];
+        snprintf(name, sizeof name, "storage/%s", i < 5 ? foreign[i] : stale[i - 5]);
+        CHECK(has(name) == (i < 5), "%s", name);
+    }
+    CHECK(list_records() == 1 && records[0].id == 1, "the manifest of the choice is gone");
+    relkvanu_store_close(store);
+}
+
+/* A manifest that can't be written stops no call, and is written later. */
+static void manifests_that_fail(void) {
+    relkvanu_store_options options = manifests(RELKVANU_STORE_CREATE);
+    relkvanu_store_measures measures;
+    relkvanu_store *store = opens(&options, RELKVANU_STORE_OK);
+    completes(store, 1, RELKVANU_CALL_TRIGGER, NULL);
+    fail_syncs("/record-2.manifest.part", EIO);
+    completes(store, 1, RELKVANU_CALL_TRIGGER, NULL);
+    relkvanu_store_measure(store, &measures, sizeof measures);
+    CHECK(measures.manifests == 1 && measures.failed_manifests >= 1, "%" PRIu64 " failed", measures.failed_manifests);
+    CHECK(has("storage/record-1.manifest") && !has("storage/record-2.manifest") && !has("storage/record-2.manifest.part"), "the manifests");
+    fail_syncs("", 0);
+    while (!has("storage/record-2.manifest")) { /* once a commit comes a second later */
+        relkvanu_answer answer;
+        CHECK(relkvanu_store_reserve(store, 1, 1, &answer) == RELKVANU_STORE_OK, "a name");
+        nanosleep(&(struct timespec){0, 10000000}, NULL);
+    }
+    CHECK(!has("storage/record-1.manifest"), "one that ended is left");
+    uint64_t failed = measures.failed_manifests, id = trigger(store, RELKVANU_CALL_TRIGGER).b, file = 0;
+    relkvanu_answer answer;
+    for (uint16_t i = 0; i + 1 < SUBTASKS; i++) {
+        file = takes_part(store, 1, id, i, 4, 0);
+    }
+    fail_syncs("/storage", EIO); /* the folder's */
+    int status = relkvanu_store_ack_in(store, 1, RELKVANU_STORE_NOW, id, 0, SUBTASKS - 1, NULL, 0, &file, 1, &answer);
+    CHECK(status == RELKVANU_STORE_OK && answer.what == RELKVANU_ACK_COMPLETED, "status %d, what %" PRIu32, status, answer.what);
+    relkvanu_store_measure(store, &measures, sizeof measures);
+    CHECK(measures.failed_manifests > failed && has("storage/record-2.manifest"), "the folder is not synced");
+    fail_syncs("", 0);
+    relkvanu_store_close(store);
+}
+
+static uint64_t choice_of(relkvanu_store *store) {
+    relkvanu *handle;
+    CHECK(relkvanu_store_read(store, &handle) == RELKVANU_STORE_OK, "a read");
+    uint64_t id = relkvanu_choice(handle).a;
+    relkvanu_store_read_end(store);
+    return id;
+}
+
+static bool has_files(relkvanu_store *store, uint64_t id, uint64_t first) {
+    relkvanu *handle;
+    bool is_same = true;
+    CHECK(relkvanu_store_read(store, &handle) == RELKVANU_STORE_OK, "a read");
+    for (uint16_t i = 0; i < SUBTASKS; i++) {
+        uint64_t files[MOST_FILES];
+        relkvanu_answer found = relkvanu_files_of(handle, id, 0, i, files, MOST_FILES);
+        is_same = is_same && found.code == RELKVANU_DONE && found.what == RELKVANU_FILES && found.a == 1 && files[0] == first + i;
+    }
+    relkvanu_store_read_end(store);
+    return is_same;
+}
+
+/* The job goes on: its next record has a number, its term and its names are above these. */
+static void goes_on(relkvanu_store *store, uint64_t number, uint64_t term, uint64_t name) {
+    relkvanu_store_call call = {.call = {.kind = RELKVANU_CALL_RESTORE, .now = RELKVANU_STORE_NOW}};
+    relkvanu_answer answer;
+    size_t left;
+    CHECK(relkvanu_store_calls(store, &call, 1) == RELKVANU_STORE_OK && call.answer.code == RELKVANU_DONE, "a restore");
+    CHECK(call.term > term, "the term %" PRIu64, call.term);
+    uint64_t next = trigger(store, RELKVANU_CALL_TRIGGER).b;
+    CHECK(next > number, "record %" PRIu64, next);
+    for (uint16_t i = 0; i < SUBTASKS; i++) {
+        CHECK(takes_part(store, call.term, next, i, 4, 0) >= name, "a name is given again");
+    }
+    int status = relkvanu_store_reserve(store, term, 1, &answer);
+    CHECK(status == RELKVANU_STORE_OK && answer.code == RELKVANU_FENCED && answer.what == RELKVANU_OLD_TERM, "an old task");
+    CHECK(relkvanu_store_sweep(store, &left) == RELKVANU_STORE_OK && left == 0, "a sweep");
+}
+
+/* The file is lost after a checkpoint, beside one that is pending. What comes back later is refused. */
+static void a_lost_job(void) {
+    relkvanu_store_options options = manifests(RELKVANU_STORE_CREATE);
+    relkvanu_store *store = opens(&options, RELKVANU_STORE_OK);
+    uint64_t first = 0, id = completes(store, 1, RELKVANU_CALL_TRIGGER, &first);
+    uint64_t pending = trigger(store, RELKVANU_CALL_TRIGGER).b, late = takes_part(store, 1, pending, 0, 4, 0);
+    relkvanu_store_close(store);
+    CHECK(rename(in("x.db"), in("old.db")) == 0, "the old file");
+    lose_job();
+    options.flags = RELKVANU_STORE_MANIFESTS;
+    opens(&options, RELKVANU_STORE_ABSENT);
+    options.flags |= RELKVANU_STORE_CREATE;
+    opens(&options, RELKVANU_STORE_STORAGE);
+    recovers(0, RELKVANU_STORE_OK);
+    CHECK(recovered.record == id && !recovered.is_savepoint && recovered.files == 8 && recovered.bytes == 36, "record %" PRIu64,
+        recovered.record);
+    CHECK(recovered.next_name > late && recovered.next_number > pending && recovered.term > 1, "what is next");
+    uint64_t term = recovered.term, name = recovered.next_name;
+    recovers(0, RELKVANU_STORE_PRESENT);
+    CHECK(rename(in("x.db"), in("new.db")) == 0 && rename(in("old.db"), in("x.db")) == 0, "the old file, before an opening");
+    opens(&options, RELKVANU_STORE_STORAGE);
+    CHECK(says("a later opening") && rename(in("x.db"), in("old.db")) == 0 && rename(in("new.db"), in("x.db")) == 0, "%s", report.message);
+    store = opens(&options, RELKVANU_STORE_OK);
+    CHECK(report.is_recovered && !report.settings_differ && choice_of(store) == id && has_files(store, id, first), "the choice");
+    CHECK(report.term == term && report.next_name == name, "what is next");
+    goes_on(store, pending, 1, late + 1);
+    char left[PATHS];
+    snprintf(left, sizeof left, "storage/%" PRIu64, late);
+    CHECK(!has(left) && list_records() == 1 && records[0].missing == 0, "what is left");
+    relkvanu_store_close(store);
+    lose_job();
+    CHECK(rename(in("old.db"), in("x.db")) == 0, "the old file");
+    options.flags = RELKVANU_STORE_MANIFESTS;
+    opens(&options, RELKVANU_STORE_STORAGE);
+    CHECK(says("a later opening"), "%s", report.message);
+}
+
+/* A second loss, also before the recovered job was opened. */
+static void lost_again(void) {
+    relkvanu_store_options options = manifests(RELKVANU_STORE_CREATE);
+    relkvanu_store *store = opens(&options, RELKVANU_STORE_OK);
+    uint64_t first = 0, id = completes(store, 1, RELKVANU_CALL_TRIGGER, &first);
+    relkvanu_store_close(store);
+    lose_job();
+    recovers(0, RELKVANU_STORE_OK);
+    lose_job();
+    recovers(0, RELKVANU_STORE_OK);
+    store = opens(&options, RELKVANU_STORE_OK);
+    CHECK(choice_of(store) == id && has_files(store, id, first), "the choice");
+    uint64_t term = report.term, name = report.next_name, next = completes(store, term, RELKVANU_CALL_TRIGGER, &first);
+    relkvanu_store_close(store);
+    lose_job();
+    recovers(0, RELKVANU_STORE_OK);
+    CHECK(recovered.record == next && recovered.term > term && recovered.next_name > name + 7, "what is next");
+    store = opens(&options, RELKVANU_STORE_OK);
+    CHECK(choice_of(store) == next && has_files(store, next, first), "the choice");
+    goes_on(store, next, term, name + 8);
+    relkvanu_store_close(store);
+}
+
+/* Why there is nothing to make a job of. Nothing changes then. */
+static void nothing_to_recover(void) {
+    relkvanu_store_options options = manifests(RELKVANU_STORE_CREATE);
+    uint64_t first = 0;
+    char name[PATHS];
+    recovers(0, RELKVANU_STORE_STORAGE); /* no marker */
+    relkvanu_store *store = opens(&options, RELKVANU_STORE_OK);
+    recovers(0, RELKVANU_STORE_IN_USE);
+    relkvanu_store_close(store);
+    recovers(0, RELKVANU_STORE_PRESENT);
+    lose_job();
+    recovers(0, RELKVANU_STORE_ABSENT); /* no record was complete */
+    CHECK(unlink(in("storage/.relkvanu-job")) == 0, "the marker");
+    store = opens(&options, RELKVANU_STORE_OK);
+    completes(store, 1, RELKVANU_CALL_TRIGGER, &first);
+    relkvanu_store_close(store);
+    lose_job();
+    recovers(9, RELKVANU_STORE_ABSENT);
+    snprintf(name, sizeof name, "storage/%" PRIu64, first + 3);
+    CHECK(truncate(in(name), 3) == 0, "%s", name); /* it had 4 bytes */
+    CHECK(list_records() == 1 && records[0].missing == 1 && !records[0].is_next, "a file is short");
+    recovers(0, RELKVANU_STORE_ABSENT);
+    CHECK(unlink(in(name)) == 0, "%s", name);
+    CHECK(list_records() == 1 && records[0].missing == 1, "a file is missing");
+    recovers(0, RELKVANU_STORE_ABSENT);
+    FILE *to = fopen(in(name), "w");
+    CHECK(to != NULL && fputs("four", to) >= 0 && fclose(to) == 0, "%s", name);
+    to = fopen(in("x.db-wal"), "w");
+    CHECK(to != NULL && fputs("calls", to) >= 0 && fclose(to) == 0, "the -wal");
+    recovers(0, RELKVANU_STORE_PRESENT);
+    CHECK(unlink(in("x.db-wal")) == 0, "the -wal");
+    recovers(1, RELKVANU_STORE_OK);
+}
+
+/* Each byte of a manifest is looked at. */
+static void damaged_manifests(void) {
+    relkvanu_store_options options = manifests(RELKVANU_STORE_CREATE);
+    relkvanu_store *store = opens(&options, RELKVANU_STORE_OK);
+    struct stat is;
+    completes(store, 1, RELKVANU_CALL_SAVEPOINT, NULL);
+    completes(store, 1, RELKVANU_CALL_TRIGGER, NULL);
+    relkvanu_store_close(store);
+    lose_job();
+    int file = open(in("storage/record-2.manifest"), O_RDWR);
+    CHECK(file >= 0 && fstat(file, &is) == 0 && is.st_size > 600, "the manifest");
+    for (off_t at = 0; at < is.st_size; at += at < 100 || at > is.st_size - 30 ? 1 : 7) {
+        uint8_t byte, other;
+        CHECK(pread(file, &byte, 1, at) == 1, "byte %ld", (long)at);
+        other = byte ^ 1;
+        CHECK(pwrite(file, &other, 1, at) == 1, "byte %ld", (long)at);
+        CHECK(list_records() == 2 && records[1].status == RELKVANU_STORE_DAMAGED && !records[1].is_next && records[0].is_next,
+            "byte %ld is not looked at: status %" PRIu32, (long)at, records[1].status);
+        CHECK(pwrite(file, &byte, 1, at) == 1, "byte %ld", (long)at);
+    }
+    for (off_t len = is.st_size - 1; len >= 0; len -= len > is.st_size - 30 || len < 60 ? 1 : 50) {
+        CHECK(ftruncate(file, len) == 0 && list_records() == 2 && records[1].status == RELKVANU_STORE_DAMAGED, "%ld bytes", (long)len);
+    }
+    close(file);
+    recovers(0, RELKVANU_STORE_DAMAGED);
+    CHECK(strstr(recovered.message, "record-2.manifest") != NULL && strstr(recovered.message, "number of a record") != NULL && !has("x.db"),
+        "%s", recovered.message);
+    recovers(1, RELKVANU_STORE_OK);
+    CHECK(recovered.record == 1 && recovered.is_savepoint && recovered.passed == 1, "record %" PRIu64, recovered.record);
+    CHECK(recovered.next_number > 2 + 1024, "number %" PRIu64 " may be told again", recovered.next_number);
+}
+
+/* A later version wrote the manifest, far above what the others say was told. One that is earlier than the choice says nothing of it. */
+static void manifests_that_cannot_be_read(void) {
+    relkvanu_store_options options = manifests(RELKVANU_STORE_CREATE);
+    relkvanu_store *store = opens(&options, RELKVANU_STORE_OK);
+    uint64_t id = completes(store, 1, RELKVANU_CALL_SAVEPOINT, NULL) + 1;
+    CHECK(completes(store, 1, RELKVANU_CALL_TRIGGER, NULL) == id, "the number");
+    relkvanu_store_close(store);
+    lose_job();
+    CHECK(truncate(in("storage/record-1.manifest"), 7) == 0, "an earlier one");
+    FILE *to = fopen(in("storage/record-5000.manifest"), "w");
+    CHECK(to != NULL && fputs("written by a later version", to) >= 0 && fclose(to) == 0, "a later one");
+    recovers(0, RELKVANU_STORE_DAMAGED);
+    CHECK(strstr(recovered.message, "record-5000.manifest") != NULL, "%s", recovered.message);
+    CHECK(rename(in("storage/record-5000.manifest"), in("storage/record-18446744073709551615.manifest")) == 0, "the greatest number");
+    recovers(id, RELKVANU_STORE_DAMAGED);
+    CHECK(strstr(recovered.message, "far above") != NULL, "%s", recovered.message);
+    CHECK(rename(in("storage/record-18446744073709551615.manifest"), in("storage/record-5000.manifest")) == 0, "it again");
+    recovers(id, RELKVANU_STORE_OK);
+    CHECK(recovered.passed == 2 && recovered.next_number > 5000 + 1024, "number %" PRIu64, recovered.next_number);
+    lose_job();
+    CHECK(unlink(in("storage/record-5000.manifest")) == 0, "the later one");
+    recovers(0, RELKVANU_STORE_OK);
+    CHECK(recovered.record == id && recovered.passed == 1, "record %" PRIu64, recovered.record);
+}
+
+/* What has the name that a new file had in earlier versions may be a job. */
+static void a_job_beside_a_recovery(void) {
+    relkvanu_store_options options = manifests(RELKVANU_STORE_CREATE);
+    relkvanu_store *store = opens(&options, RELKVANU_STORE_OK), *other;
+    completes(store, 1, RELKVANU_CALL_TRIGGER, NULL);
+    relkvanu_store_close(store);
+    lose_job();
+    relkvanu_store_options beside = job_options(RELKVANU_STORE_CREATE, 0);
+    CHECK(relkvanu_store_open(&other, in("x.db.new"), &beside, &report) == RELKVANU_STORE_OK, "%s", report.message);
+    relkvanu_store_close(other);
+    recovers(0, RELKVANU_STORE_OK);
+    CHECK(has("x.db.new"), "the job beside it is gone");
+}
+
+/* A process that was told to end may not have ended. It puts nothing more once the record is chosen, also if the recovery then comes to an end. */
+static void a_recovery_fences_first(void) {
+    relkvanu_store_options options = manifests(RELKVANU_STORE_CREATE);
+    relkvanu_store *store = opens(&options, RELKVANU_STORE_OK);
+    completes(store, 1, RELKVANU_CALL_TRIGGER, NULL);
+    CHECK(relkvanu_store_recover(in("z.db"), in("storage"), 9, &recovered) == RELKVANU_STORE_ABSENT, "%s", recovered.message);
+    CHECK(relkvanu_store_put(store, 5000, "x", 1) == RELKVANU_STORE_OK, "a recovery that was refused has fenced it");
+    fail_syncs("/.z.db.relkvanu-new", EIO);
+    CHECK(relkvanu_store_recover(in("z.db"), in("storage"), 0, &recovered) != RELKVANU_STORE_OK && !has("z.db"), "no sync fails");
+    fail_syncs("", 0);
+    CHECK(relkvanu_store_put(store, 5001, "x", 1) == RELKVANU_STORE_STORAGE, "the old job puts a file");
+    relkvanu_store_close(store);
+    CHECK(relkvanu_store_recover(in("z.db"), in("storage"), 0, &recovered) == RELKVANU_STORE_OK, "%s", recovered.message);
+}
+
+/* No marker is one that is absent, and not one that can't be read: then the record of another job might be taken. */
+static void a_marker_that_cannot_be_read(void) {
+    relkvanu_store_options options = manifests(RELKVANU_STORE_CREATE);
+    relkvanu_store *store = opens(&options, RELKVANU_STORE_OK);
+    relkvanu_store_carried carried;
+    completes(store, 1, RELKVANU_CALL_TRIGGER, NULL);
+    relkvanu_store_close(store);
+    CHECK(rename(in("storage/.relkvanu-job"), in("storage/kept")) == 0 && symlink("kept", in("storage/.relkvanu-job")) == 0, "a link");
+    CHECK(relkvanu_store_export(in("storage"), 0, in("out"), &carried) == RELKVANU_STORE_STORAGE && !has("out"), "%s", carried.message);
+    CHECK(
+        relkvanu_store_claim(in("storage"), 0, in("y.db"), in("elsewhere"), &recovered) == RELKVANU_STORE_STORAGE, "%s", recovered.message);
+    CHECK(relkvanu_store_records(in("storage"), note_record, records, message, sizeof message) == RELKVANU_STORE_STORAGE, "%s", message);
+    CHECK(unlink(in("storage/.relkvanu-job")) == 0 && list_records() == 1 && records[0].missing == 0, "what is left");
+}
+
+/* Savepoints live on, with the files that they share, and with another shape. */
+static void savepoints_live_on(void) {
+    relkvanu_store_options options = manifests(RELKVANU_STORE_CREATE);
+    const uint64_t shape[] = {2, 3};
+    relkvanu_store *store = opens(&options, RELKVANU_STORE_OK);
+    relkvanu_store_call call = {.call = {.kind = RELKVANU_CALL_RESTORE, .now = RELKVANU_STORE_NOW}, .first = shape, .first_len = 2};
+    uint64_t first = 0, savepoint = completes(store, 1, RELKVANU_CALL_SAVEPOINT, &first);
+    relkvanu_answer answer;
+    CHECK(relkvanu_store_calls(store, &call, 1) == RELKVANU_STORE_OK && call.term == 2, "another shape");
+    uint64_t id = trigger(store, RELKVANU_CALL_TRIGGER).b;
+    for (uint16_t i = 0; i < 5; i++) { /* some reuse a file of the savepoint, and one has none */
+        const uint64_t files[] = {first + 3};
+        uint16_t vertex = i < 2 ? 0 : 1, index = i < 2 ? i : i - 2;
+        int status = relkvanu_store_ack_in(store, 2, RELKVANU_STORE_NOW, id, vertex, index, NULL, 0, files, i < 4, &answer);
+        CHECK(status == RELKVANU_STORE_OK && answer.code == RELKVANU_DONE, "status %d, what %" PRIu32, status, answer.what);
+    }
+    CHECK(answer.what == RELKVANU_ACK_COMPLETED, "what %" PRIu32, answer.what);
+    relkvanu_store_close(store);
+    lose_job();
+    recovers(0, RELKVANU_STORE_OK);
+    CHECK(recovered.record == id && recovered.savepoints == 1 && recovered.passed == 0, "record %" PRIu64, recovered.record);
+    store = opens(&options, RELKVANU_STORE_OK);
+    CHECK(choice_of(store) == id && list_records() == 3 && records[0].id == savepoint && records[1].id == id, "%zu records", records_len);
+    uint64_t again = records[2].id;
+    CHECK(records[2].is_savepoint && again >= recovered.next_number && has_files(store, again, first), "record %" PRIu64, again);
+    relkvanu *handle;
+    CHECK(relkvanu_store_read(store, &handle) == RELKVANU_STORE_OK, "a read");
+    CHECK(relkvanu_count(handle, first + 3).b == 5 && relkvanu_count(handle, first).b == 1, "uses: %" PRIu64,
+        relkvanu_count(handle, first + 3).b);
+    relkvanu_store_read_end(store);
+    CHECK(trigger(store, RELKVANU_CALL_TRIGGER).b > again, "the next number");
+    answer = done(store, RELKVANU_CALL_DISPOSE, 0, again);
+    CHECK(answer.a == 7, "%" PRIu64 " files", answer.a); /* the eighth is the checkpoint's */
+    relkvanu_store_close(store);
+}
+
+/* A job that was rolled back begins again from the savepoint, although a checkpoint completed after it. */
+static void a_rolled_back_job(void) {
+    relkvanu_store_options options = manifests(RELKVANU_STORE_CREATE);
+    relkvanu_store *store = opens(&options, RELKVANU_STORE_OK);
+    uint64_t first = 0, savepoint = completes(store, 1, RELKVANU_CALL_SAVEPOINT, &first);
+    completes(store, 1, RELKVANU_CALL_TRIGGER, NULL);
+    CHECK(list_records() == 2 && records[1].is_next, "the checkpoint is the choice");
+    done(store, RELKVANU_CALL_RESTORE, RELKVANU_STORE_NOW, savepoint);
+    CHECK(list_records() == 1 && records[0].is_next, "the savepoint is the choice");
+    uint64_t term = report.term;
+    relkvanu_store_close(store);
+    lose_job();
+    recovers(0, RELKVANU_STORE_OK);
+    CHECK(recovered.record == savepoint && recovered.is_savepoint && recovered.savepoints == 0, "record %" PRIu64, recovered.record);
+    store = opens(&options, RELKVANU_STORE_OK);
+    CHECK(report.choice.what == RELKVANU_CHOICE_SAVEPOINT && report.choice.a == savepoint && has_files(store, savepoint, first),
+        "the choice");
+    goes_on(store, 2, term + 1, first + 16);
+    relkvanu_store_close(store);
+}
+
+/* Numbers of records that failed were told, too. */
+static void numbers_that_failed(void) {
+    relkvanu_store_options options = manifests(RELKVANU_STORE_CREATE);
+    relkvanu_store *store = opens(&options, RELKVANU_STORE_OK);
+    uint64_t id = completes(store, 1, RELKVANU_CALL_TRIGGER, NULL), last = 0;
+    for (int i = 0; i < 1100; i++) {
+        relkvanu_store_call calls[] = {{.call = {.kind = RELKVANU_CALL_SAVEPOINT, .now = RELKVANU_STORE_NOW}},
+            {.call = {.kind = RELKVANU_CALL_DECLINE, .now = RELKVANU_STORE_NOW, .number = id + 1 + (uint64_t)i, .term = 1}}};
+        CHECK(relkvanu_store_calls(store, calls, 2) == RELKVANU_STORE_OK && calls[1].answer.code == RELKVANU_DONE, "a savepoint");
+        last = calls[0].answer.a;
+    }
+    CHECK(last == id + 1100 && says_of(id, "json_extract(?1,'$.below.number')") > (int64_t)last, "the manifest is behind record %" PRIu64,
+        last);
+    relkvanu_store_close(store);
+    lose_job();
+    recovers(0, RELKVANU_STORE_OK);
+    store = opens(&options, RELKVANU_STORE_OK);
+    goes_on(store, last, 1, 1);
+    relkvanu_store_close(store);
+}
+
+/* A record of another job in the folder is none of this one's. */
+static void another_jobs_manifest(void) {
+    relkvanu_store_options options = manifests(RELKVANU_STORE_CREATE);
+    relkvanu_store *store = opens(&options, RELKVANU_STORE_OK);
+    completes(store, 1, RELKVANU_CALL_TRIGGER, NULL);
+    relkvanu_store_close(store);
+    FILE *to = fopen(in("storage/.relkvanu-job"), "w");
+    CHECK(to != NULL && fputs("relkvanu job 0123456789abcdef0123456789abcdef\nepoch 7\n", to) >= 0 && fclose(to) == 0, "the marker");
+    lose_job();
+    CHECK(list_records() == 1 && !records[0].is_of_job && !records[0].is_next && records[0].missing == 0, "whose it is");
+    recovers(0, RELKVANU_STORE_ABSENT);
+    CHECK(relkvanu_store_records(in("nowhere"), note_record, records, message, sizeof message) == RELKVANU_STORE_STORAGE, "a folder");
+    CHECK(message[0] != 0, "no message");
+}
+
+static relkvanu_store_carried carried;
+
+static void exports(uint64_t record, const char *to, int status) {
+    int got = relkvanu_store_export(in("storage"), record, in(to), &carried);
+    CHECK(got == status, "status %d, not %d: %s", got, status, carried.message);
+    CHECK((carried.message[0] == 0) == (status == RELKVANU_STORE_OK) && !has("out.part"), "%s", carried.message);
+}
+
+/* How many names a folder has, and whether it has a file of so many bytes. */
+static size_t count_names(const char *folder) {
+    DIR *entries = opendir(in(folder));
+    size_t len = 0;
+    CHECK(entries != NULL, "%s", folder);
+    for (const struct dirent *it; (it = readdir(entries)) != NULL;) {
+        len += it->d_name[0] != '.' || it->d_name[1] == 'r'; /* the marker */
+    }
+    closedir(entries);
+    return len;
+}
+
+static bool has_bytes(const char *folder, uint64_t file, off_t len) {
+    char name[PATHS];
+    struct stat is;
+    snprintf(name, sizeof name, "%s/%" PRIu64, folder, file);
+    return stat(in(name), &is) == 0 && S_ISREG(is.st_mode) && is.st_size == len;
+}
+
+/* The folder that is made has the record, whatever the job deletes then. */
+static void an_export(void) {
+    relkvanu_store_options options = manifests(RELKVANU_STORE_CREATE);
+    size_t left;
+    relkvanu_store *store = opens(&options, RELKVANU_STORE_OK);
+    uint64_t first = 0, savepoint = completes(store, 1, RELKVANU_CALL_SAVEPOINT, NULL),
+             id = completes(store, 1, RELKVANU_CALL_TRIGGER, &first);
+    exports(0, "out", RELKVANU_STORE_OK);
+    CHECK(carried.record == id && !carried.is_savepoint && carried.files == 8 && carried.bytes == 36, "record %" PRIu64, carried.record);
+    exports(0, "out", RELKVANU_STORE_PRESENT);
+    exports(savepoint, "other/", RELKVANU_STORE_OK);
+    CHECK(carried.record == savepoint && carried.is_savepoint, "record %" PRIu64, carried.record);
+    exports(9, "none", RELKVANU_STORE_ABSENT);
+    CHECK(!has("none") && mkdir(in("empty"), 0700) == 0, "a folder");
+    exports(id, "empty", RELKVANU_STORE_OK);
+    completes(store, 1, RELKVANU_CALL_TRIGGER, NULL);
+    done(store, RELKVANU_CALL_RESTORE, RELKVANU_STORE_NOW, 0);
+    CHECK(relkvanu_store_discard_for(store, 0, 50, NULL, NULL) == RELKVANU_STORE_TIMED_OUT, "a discarder");
+    CHECK(relkvanu_store_sweep(store, &left) == RELKVANU_STORE_OK && !has_bytes("storage", first, 1), "it is deleted");
+    relkvanu_store_close(store);
+    CHECK(count_names("out") == 9 && count_names("other") == 9 && count_names("empty") == 9, "%zu names", count_names("out"));
+    for (uint64_t i = 0; i < SUBTASKS; i++) {
+        CHECK(has_bytes("out", first + i, (off_t)i + 1) && has_bytes("empty", first + i, (off_t)i + 1), "file %" PRIu64, first + i);
+    }
+}
+
+static void imports(const char *from, uint64_t record, int status) {
+    int got = relkvanu_store_import(in(from), record, in("y.db"), in("elsewhere"), &recovered);
+    CHECK(got == status, "status %d, not %d: %s", got, status, recovered.message);
+    CHECK(!has("elsewhere.part") && !has(".y.db.relkvanu-new") && (recovered.message[0] == 0) == (status == RELKVANU_STORE_OK), "%s",
+        recovered.message);
+}
+
+static relkvanu_store *opens_other(void) {
+    relkvanu_store *store;
+    relkvanu_store_options options = manifests(RELKVANU_STORE_RECOVER);
+    options.storage = in("elsewhere");
+    int status = relkvanu_store_open(&store, in("y.db"), &options, &report);
+    CHECK(status == RELKVANU_STORE_OK, "status %d: %s", status, report.message);
+    return store;
+}
+
+/* Another job of a record, while the first one runs. Each goes its own way. */
+static void an_import(void) {
+    relkvanu_store_options options = manifests(RELKVANU_STORE_CREATE);
+    relkvanu_store *store = opens(&options, RELKVANU_STORE_OK);
+    uint64_t first = 0, job[2], id = completes(store, 1, RELKVANU_CALL_TRIGGER, &first);
+    memcpy(job, report.job, sizeof job);
+    imports("storage", 9, RELKVANU_STORE_ABSENT);
+    CHECK(!has("elsewhere") && !has("y.db"), "something is left");
+    imports("storage", 0, RELKVANU_STORE_OK);
+    CHECK(recovered.record == id && recovered.files == 8 && recovered.term > 1, "record %" PRIu64, recovered.record);
+    imports("storage", 0, RELKVANU_STORE_PRESENT);
+    relkvanu_store *other = opens_other();
+    CHECK(memcmp(job, report.job, sizeof job) != 0 && report.is_recovered && choice_of(other) == id && has_files(other, id, first),
+        "the job");
+    uint64_t term = report.term;
+    goes_on(other, id, 1, first + 8);
+    completes(store, 1, RELKVANU_CALL_TRIGGER, NULL); /* its term was not ended */
+    relkvanu_store_close(other);
+    relkvanu_store_close(store);
+    CHECK(unlink(in("y.db")) == 0 && relkvanu_store_recover(in("y.db"), in("elsewhere"), 0, &recovered) == RELKVANU_STORE_OK, "%s",
+        recovered.message);
+    CHECK(recovered.term > term && recovered.record > id, "record %" PRIu64, recovered.record);
+}
+
+/* An import that ended between its two halves goes on; the folder of another job is left alone. */
+static void an_import_that_goes_on(void) {
+    relkvanu_store_options options = manifests(RELKVANU_STORE_CREATE);
+    relkvanu_store *store = opens(&options, RELKVANU_STORE_OK);
+    uint64_t first = 0, id = completes(store, 1, RELKVANU_CALL_TRIGGER, &first);
+    exports(0, "out", RELKVANU_STORE_OK);
+    imports("out", 0, RELKVANU_STORE_OK);
+    CHECK(unlink(in("y.db")) == 0 && unlink(in("y.db.lock")) == 0 && unlink(in("y.db-shm")) == 0, "the job");
+    imports("out", 0, RELKVANU_STORE_OK);
+    CHECK(recovered.record == id, "record %" PRIu64, recovered.record);
+    relkvanu_store *other = opens_other();
+    CHECK(has_files(other, id, first), "its files");
+    relkvanu_store_close(other);
+    relkvanu_store_close(store);
+    CHECK(unlink(in("y.db")) == 0 && rename(in("elsewhere"), in("its")) == 0 && rename(in("storage"), in("elsewhere")) == 0, "the folders");
+    imports("its", 0, RELKVANU_STORE_PRESENT);
+    CHECK(!has("y.db") && has_bytes("elsewhere", first, 1), "the folder of another job");
+}
+
+static void claims(const char *from, uint64_t record, const char *folder, int status) {
+    int got = relkvanu_store_claim(in(from), record, in("y.db"), in(folder), &recovered);
+    CHECK(got == status, "status %d, not %d: %s", got, status, recovered.message);
+    CHECK(!has("elsewhere.part") && !has(".y.db.relkvanu-new") && (recovered.message[0] == 0) == (status == RELKVANU_STORE_OK), "%s",
+        recovered.message);
+}
+
+/* The files leave, but for those of another record, and a process that still has the old job puts nothing more. */
+static void a_claim(void) {
+    relkvanu_store_options options = manifests(RELKVANU_STORE_CREATE);
+    relkvanu_store *store = opens(&options, RELKVANU_STORE_OK);
+    uint64_t first = 0, shared = 0, savepoint = completes(store, 1, RELKVANU_CALL_SAVEPOINT, &shared);
+    completes(store, 1, RELKVANU_CALL_TRIGGER, &first);
+    relkvanu_answer last = trigger(store, RELKVANU_CALL_TRIGGER);
+    for (uint16_t i = 0; i < SUBTASKS; i++) { /* the first file of the savepoint is also one of this record */
+        takes_part(store, 1, last.b, i, i + 1u, i == 0 ? first : 0);
+    }
+    claims("storage", 99, "elsewhere", RELKVANU_STORE_ABSENT);
+    int wal = open(in("y.db-wal"), O_WRONLY | O_CREAT | O_CLOEXEC, 0600);
+    CHECK(wal >= 0 && write(wal, "x", 1) == 1 && close(wal) == 0, "a -wal");
+    claims("storage", 0, "elsewhere", RELKVANU_STORE_PRESENT);
+    CHECK(unlink(in("y.db-wal")) == 0 && !has("elsewhere"), "a claim that was refused has made a folder");
+    CHECK(relkvanu_store_put(store, 5000, "x", 1) == RELKVANU_STORE_OK, "it was fenced by a claim that was refused");
+    claims("storage", 0, "elsewhere", RELKVANU_STORE_OK);
+    CHECK(recovered.record == last.b && recovered.files == 9, "record %" PRIu64 ", %" PRIu64 " files", recovered.record, recovered.files);
+    CHECK(has_bytes("elsewhere", first, 1) && !has_bytes("storage", first, 1) && has_bytes("storage", shared, 1), "the files");
+    CHECK(relkvanu_store_put(store, 5001, "x", 1) == RELKVANU_STORE_STORAGE, "the old job puts a file");
+    relkvanu_store_close(store);
+    options = manifests(RELKVANU_STORE_RECOVER);
+    opens(&options, RELKVANU_STORE_STORAGE);
+    CHECK(says("later opening"), "%s", report.message);
+    CHECK(list_records() == 1 && records[0].id == savepoint && records[0].missing == 0, "%zu records", records_len);
+    relkvanu_store *other = opens_other();
+    CHECK(choice_of(other) == last.b, "the choice");
+    relkvanu_store_close(other);
+    claims("storage", 0, "elsewhere", RELKVANU_STORE_PRESENT);
+    CHECK(list_records() == 1, "a claim over a job took another record");
+}
+
+/* A record keeps what it shares with the one that leaves. */
+static void a_claim_of_shared_files(void) {
+    relkvanu_store_options options = manifests(RELKVANU_STORE_CREATE);
+    relkvanu_store *store = opens(&options, RELKVANU_STORE_OK);
+    uint64_t first = 0;
+    completes(store, 1, RELKVANU_CALL_TRIGGER, &first);
+    relkvanu_answer savepoint = trigger(store, RELKVANU_CALL_SAVEPOINT);
+    for (uint16_t i = 0; i < SUBTASKS; i++) {
+        takes_part(store, 1, savepoint.a, i, i + 1u, i == 0 ? first : 0);
+    }
+    relkvanu_store_close(store);
+    claims("storage", savepoint.a - 1, "elsewhere", RELKVANU_STORE_OK);
+    CHECK(has_bytes("elsewhere", first, 1) && has_bytes("storage", first, 1) && !has_bytes("storage", first + 1, 2), "the files");
+    CHECK(list_records() == 1 && records[0].id == savepoint.a && records[0].missing == 0, "%zu records", records_len);
+}
+
+/* The same call goes on where one ended: after the job was made, and before anything has left. An exported folder goes with its last file. */
+static void a_claim_that_goes_on(void) {
+    relkvanu_store_options options = manifests(RELKVANU_STORE_CREATE);
+    relkvanu_store *store = opens(&options, RELKVANU_STORE_OK);
+    uint64_t first = 0, id = completes(store, 1, RELKVANU_CALL_TRIGGER, &first);
+    exports(0, "out", RELKVANU_STORE_OK);
+    relkvanu_store_close(store);
+    imports("out", 0, RELKVANU_STORE_OK);
+    claims("out", 0, "elsewhere", RELKVANU_STORE_OK);
+    CHECK(recovered.record == id && recovered.files == 8 && !has("out"), "record %" PRIu64, recovered.record);
+    relkvanu_store *other = opens_other();
+    CHECK(has_files(other, id, first), "its files");
+    relkvanu_store_close(other);
+}
+
+/* An import, and then a claim of the same record: the old job runs meanwhile, so it is fenced before its files leave. */
+static void a_claim_after_an_import(void) {
+    relkvanu_store_options options = manifests(RELKVANU_STORE_CREATE);
+    relkvanu_store *store = opens(&options, RELKVANU_STORE_OK);
+    uint64_t first = 0, id = completes(store, 1, RELKVANU_CALL_TRIGGER, &first);
+    imports("storage", 0, RELKVANU_STORE_OK);
+    CHECK(relkvanu_store_put(store, 5000, "x", 1) == RELKVANU_STORE_OK, "an import fences it");
+    claims("storage", 0, "elsewhere", RELKVANU_STORE_OK);
+    CHECK(recovered.record == id && !has_bytes("storage", first, 1) && has_bytes("elsewhere", first, 1), "the files");
+    CHECK(relkvanu_store_put(store, 5001, "x", 1) == RELKVANU_STORE_STORAGE, "a job without its files puts more");
+    relkvanu_store_close(store);
+}
+
+/* The part of a folder may be the folder to carry from. */
+static void an_export_over_itself(void) {
+    relkvanu_store_options options = manifests(RELKVANU_STORE_CREATE);
+    relkvanu_store *store = opens(&options, RELKVANU_STORE_OK);
+    relkvanu_store_carried carried;
+    uint64_t first = 0;
+    completes(store, 1, RELKVANU_CALL_TRIGGER, &first);
+    relkvanu_store_close(store);
+    CHECK(rename(in("storage"), in("out.part")) == 0, "the folder");
+    CHECK(relkvanu_store_export(in("out.part"), 0, in("out"), &carried) == RELKVANU_STORE_PRESENT && !has("out"), "%s", carried.message);
+    CHECK(has_bytes("out.part", first, 1), "its files are gone");
+}
+
+/* In place: the job of a storage folder keeps its identity, that of an exported one gets its own. */
+static void a_claim_in_place(void) {
+    relkvanu_store_options options = manifests(RELKVANU_STORE_CREATE);
+    relkvanu_store *store = opens(&options, RELKVANU_STORE_OK);
+    uint64_t first = 0, job[2], id = completes(store, 1, RELKVANU_CALL_TRIGGER, &first);
+    memcpy(job, report.job, sizeof job);
+    exports(0, "elsewhere", RELKVANU_STORE_OK);
+    claims("elsewhere", 0, "elsewhere", RELKVANU_STORE_OK);
+    relkvanu_store *other = opens_other();
+    CHECK(memcmp(job, report.job, sizeof job) != 0 && has_files(other, id, first), "the exported one");
+    relkvanu_store_close(other);
+    CHECK(unlink(in("y.db")) == 0, "the job");
+    claims("storage", 0, "storage", RELKVANU_STORE_OK);
+    CHECK(relkvanu_store_put(store, 5001, "x", 1) == RELKVANU_STORE_STORAGE, "the old job puts a file");
+    relkvanu_store_close(store);
+    options = manifests(RELKVANU_STORE_RECOVER);
+    int status = relkvanu_store_open(&other, in("y.db"), &options, &report);
+    CHECK(status == RELKVANU_STORE_OK && memcmp(job, report.job, sizeof job) == 0 && has_files(other, id, first), "%s", report.message);
+    relkvanu_store_close(other);
+}
+
+/* A place of an engine, in memory. */
+enum { MOST_OBJECTS = 16 };
+static struct object {
+    char name[48];
+    char *text;
+    size_t len;
+} objects[MOST_OBJECTS];
+static int check_status, place_status, puts_made,
+    checks_left = -1; /* checks_left: after so many another opening has the place; -1: none has */
+
+static struct object *object_of(const char *name) {
+    for (size_t i = 0; i < MOST_OBJECTS; i++) {
+        if (strcmp(objects[i].name, name) == 0) {
+            return &objects[i];
+        }
+    }
+    return NULL;
+}
+
+static int check_place(void *with) {
+    CHECK(with == objects, "the pointer");
+    if (checks_left >= 0 && checks_left-- == 0) {
+        check_status = RELKVANU_STORAGE_OTHER_JOB;
+        checks_left = -1;
+    }
+    return check_status != RELKVANU_STORAGE_OK ? check_status : place_status;
+}
+
+static int put_object(void *with, const char *name, const void *contents, size_t len) {
+    CHECK(with == objects, "the pointer");
+    struct object *it = object_of(name) != NULL ? object_of(name) : object_of("");
+    CHECK(it != NULL, "no room for %s", name);
+    if (place_status != RELKVANU_STORAGE_OK) {
+        return place_status;
+    }
+    snprintf(it->name, sizeof it->name, "%s", name);
+    free(it->text);
+    it->text = malloc(len);
+    CHECK(it->text != NULL, "no memory");
+    memcpy(it->text, contents, len);
+    it->len = len;
+    puts_made++;
+    return RELKVANU_STORAGE_OK;
+}
+
+static int remove_object(void *with, const char *name) {
+    CHECK(with == objects, "the pointer");
+    struct object *it = object_of(name);
+    if (it != NULL) {
+        free(it->text);
+        *it = (struct object){.text = NULL};
+    }
+    return RELKVANU_STORAGE_OK;
+}
+
+static int list_objects(void *with, relkvanu_store_each_name each, void *with_each) {
+    CHECK(with == objects, "the pointer");
+    for (size_t i = 0; i < MOST_OBJECTS && place_status == RELKVANU_STORAGE_OK; i++) {
+        if (strncmp(objects[i].name, "record-", 7) == 0 && !each(with_each, objects[i].name)) {
+            return RELKVANU_STORAGE_ENDED;
+        }
+    }
+    return place_status;
+}
+
+static int keeps(relkvanu_store *store) {
+    return relkvanu_store_keep_manifests(store, check_place, put_object, remove_object, list_objects, objects);
+}
+
+static relkvanu_store *opens_without_folder(uint32_t flags) {
+    relkvanu_store *store;
+    relkvanu_store_options options = manifests(flags);
+    options.storage = NULL;
+    options.flags &= ~RELKVANU_STORE_MANIFESTS;
+    int status = relkvanu_store_open(&store, in("x.db"), &options, &report);
+    CHECK(status == RELKVANU_STORE_OK, "status %d: %s", status, report.message);
+    return store;
+}
+
+/* A record of 8 files that are elsewhere. */
+static uint64_t completes_elsewhere(relkvanu_store *store, uint64_t term) {
+    relkvanu_answer answer, triggered = trigger(store, RELKVANU_CALL_TRIGGER);
+    for (uint16_t i = 0; i < SUBTASKS; i++) {
+        CHECK(relkvanu_store_reserve(store, term, 1, &answer) == RELKVANU_STORE_OK && answer.code == RELKVANU_DONE, "no name");
+        int status = relkvanu_store_ack_in(store, term, RELKVANU_STORE_NOW, triggered.b, 0, i, &answer.a, 1, NULL, 0, &answer);
+        CHECK(status == RELKVANU_STORE_OK && answer.code == RELKVANU_DONE, "status %d", status);
+    }
+    return triggered.b;
+}
+
+static size_t count_objects(void) {
+    size_t len = 0;
+    for (size_t i = 0; i < MOST_OBJECTS; i++) {
+        len += objects[i].name[0] != 0;
+    }
+    return len;
+}
+
+static const struct object *manifest_elsewhere(uint64_t id) {
+    char name[48];
+    snprintf(name, sizeof name, "record-%" PRIu64 ".manifest", id);
+    return object_of(name);
+}
+
+/* One put for each record, before it is answered. One that fails is counted, and made again. */
+static void manifests_elsewhere(void) {
+    relkvanu_store_measures measures;
+    relkvanu_store *store = opens_without_folder(RELKVANU_STORE_CREATE);
+    CHECK(put_object(objects, "record-7.manifest", "of a record that ended", 1) == RELKVANU_STORAGE_OK, "an old one");
+    place_status = RELKVANU_STORAGE_NOT_THERE;
+    CHECK(keeps(store) == RELKVANU_STORE_STORAGE, "a place that is not there");
+    place_status = RELKVANU_STORAGE_OK;
+    CHECK(relkvanu_store_keep_manifests(store, check_place, NULL, remove_object, list_objects, objects) == RELKVANU_STORE_BAD_ARGUMENT,
+        "a function is missing");
+    CHECK(keeps(store) == RELKVANU_STORE_OK && keeps(store) == RELKVANU_STORE_BAD_ARGUMENT && count_objects() == 0, "%zu objects",
+        count_objects());
+    puts_made = 0;
+    uint64_t id = completes_elsewhere(store, 1);
+    CHECK(puts_made == 1 && manifest_elsewhere(id) != NULL && count_objects() == 1, "%d puts", puts_made);
+    place_status = RELKVANU_STORAGE_FAILED;
+    uint64_t next = completes_elsewhere(store, 1);
+    CHECK(manifest_elsewhere(next) == NULL && manifest_elsewhere(id) != NULL, "the manifest before stays");
+    relkvanu_store_measure(store, &measures, sizeof measures);
+    CHECK(measures.manifests == 1 && measures.failed_manifests >= 1, "%" PRIu64 " failed", measures.failed_manifests);
+    place_status = RELKVANU_STORAGE_OK;
+    uint64_t last = completes_elsewhere(store, 1);
+    CHECK(manifest_elsewhere(last) != NULL && count_objects() == 1, "%zu objects", count_objects());
+    check_status = RELKVANU_STORAGE_OTHER_JOB;
+    puts_made = 0;
+    completes_elsewhere(store, 1);
+    CHECK(puts_made == 0 && manifest_elsewhere(last) != NULL, "it puts into the place of another opening");
+    check_status = RELKVANU_STORAGE_OK;
+    relkvanu_store_close(store);
+    CHECK(unlink(in("x.db")) == 0, "the job");
+    relkvanu_store_options options = storage_options(RELKVANU_STORE_CREATE, 0);
+    store = opens(&options, RELKVANU_STORE_OK);
+    CHECK(keeps(store) == RELKVANU_STORE_BAD_ARGUMENT, "it has a folder");
+    relkvanu_store_close(store);
+}
+
+/* Another opening may take the place between two requests: then nothing more is put or removed there. */
+static void a_place_that_is_taken(void) {
+    relkvanu_store *store = opens_without_folder(RELKVANU_STORE_CREATE);
+    CHECK(keeps(store) == RELKVANU_STORE_OK, "it keeps none");
+    uint64_t id = completes_elsewhere(store, 1);
+    checks_left = 2; /* those before the work and before the put */
+    puts_made = 0;
+    uint64_t next = completes_elsewhere(store, 1);
+    CHECK(puts_made == 1 && manifest_elsewhere(next) != NULL && manifest_elsewhere(id) != NULL, "it removes what another opening has");
+    check_status = RELKVANU_STORAGE_OK;
+    checks_left = 1;
+    puts_made = 0;
+    uint64_t last = completes_elsewhere(store, 1);
+    CHECK(puts_made == 0 && manifest_elsewhere(last) == NULL, "it puts over what another opening has");
+    check_status = RELKVANU_STORAGE_OK;
+    relkvanu_store_close(store);
+}
+
+/* Writes a folder that stands for the place, with its files, but for one. */
+static void list_place(uint64_t epoch, uint64_t first, uint64_t lacking) {
+    char name[PATHS];
+    CHECK(mkdir(in("listing"), 0700) == 0 || errno == EEXIST, "a folder");
+    FILE *to = fopen(in("listing/.relkvanu-job"), "w");
+    CHECK(to != NULL, "the marker");
+    fprintf(to, "relkvanu job %016" PRIx64 "%016" PRIx64 "\nepoch %" PRIu64 "\n", report.job[0], report.job[1], epoch);
+    CHECK(fclose(to) == 0, "the marker");
+    for (size_t i = 0; i < MOST_OBJECTS; i++) {
+        snprintf(name, sizeof name, "listing/%.47s", objects[i].name);
+        to = objects[i].name[0] == 0 ? NULL : fopen(in(name), "w");
+        CHECK(to == NULL || (fwrite(objects[i].text, 1, objects[i].len, to) == objects[i].len && fclose(to) == 0), "%s", name);
+    }
+    for (uint64_t file = first; file < first + SUBTASKS; file++) {
+        snprintf(name, sizeof name, "listing/%" PRIu64, file);
+        to = file == lacking ? NULL : fopen(in(name), "w");
+        CHECK(to == NULL || fclose(to) == 0, "%s", name);
+    }
+}
+
+/* A job whose manifests are elsewhere is made again of them, and is opened without a folder. */
+static void a_lost_job_elsewhere(void) {
+    relkvanu_store *store = opens_without_folder(RELKVANU_STORE_CREATE);
+    CHECK(keeps(store) == RELKVANU_STORE_OK, "it keeps none");
+    uint64_t id = completes_elsewhere(store, 1), epoch = report.epoch;
+    relkvanu_store_close(store);
+    lose_job();
+    list_place(epoch, 1, 3);
+    CHECK(relkvanu_store_recover_listed(in("x.db"), in("listing"), 0, &recovered) == RELKVANU_STORE_ABSENT, "a file is missing");
+    list_place(epoch, 1, 0);
+    int status = relkvanu_store_recover_listed(in("x.db"), in("listing"), 0, &recovered);
+    CHECK(status == RELKVANU_STORE_OK && recovered.record == id && recovered.files == SUBTASKS, "status %d: %s", status, recovered.message);
+    store = opens_without_folder(RELKVANU_STORE_RECOVER);
+    CHECK(report.is_recovered && report.epoch > epoch + 1000 && report.term > 1 && choice_of(store) == id, "the job");
+    CHECK(keeps(store) == RELKVANU_STORE_OK && completes_elsewhere(store, report.term) > id, "it goes on");
+    relkvanu_store_close(store);
+}
+
+const struct test manifest_cases[] = {{"manifests_of_records", manifests_of_records}, {"manifests_are_asked_for", manifests_are_asked_for},
+    {"a_sweep_of_manifests", a_sweep_of_manifests}, {"manifests_that_fail", manifests_that_fail}, {"a_lost_job", a_lost_job},
+    {"lost_again", lost_again}, {"nothing_to_recover", nothing_to_recover}, {"damaged_manifests", damaged_manifests},
+    {"manifests_that_cannot_be_read", manifests_that_cannot_be_read}, {"a_job_beside_a_recovery", a_job_beside_a_recovery},
+    {"a_recovery_fences_first", a_recovery_fences_first}, {"a_marker_that_cannot_be_read", a_marker_that_cannot_be_read},
+    {"a_claim_after_an_import", a_claim_after_an_import}, {"an_export_over_itself", an_export_over_itself},
+    {"a_place_that_is_taken", a_place_that_is_taken}, {"savepoints_live_on", savepoints_live_on}, {"a_rolled_back_job", a_rolled_back_job},
+    {"numbers_that_failed", numbers_that_failed}, {"another_jobs_manifest", another_jobs_manifest}, {"an_export", an_export},
+    {"an_import", an_import}, {"an_import_that_goes_on", an_import_that_goes_on}, {"a_claim", a_claim},
+    {"a_claim_of_shared_files", a_claim_of_shared_files}, {"a_claim_that_goes_on", a_claim_that_goes_on},
+    {"a_claim_in_place", a_claim_in_place}, {"manifests_elsewhere", manifests_elsewhere}, {"a_lost_job_elsewhere", a_lost_job_elsewhere},
+    {NULL, NULL}};

@@ -1,0 +1,525 @@
+/* Terms, reservations, what an old task may do, and sweeps at any time. */
+#include "cases.h"
+
+#include <dirent.h>
+#include <errno.h>
+#include <fcntl.h>
+#include <pthread.h>
+#include <stdatomic.h>
+#include <sys/stat.h>
+#include <unistd.h>
+
+static relkvanu_store_options named_options(uint32_t flags, uint64_t image_calls) {
+    return storage_options(flags, image_calls);
+}
+
+static relkvanu_store *named_job(void) {
+    relkvanu_store_options options = named_options(RELKVANU_STORE_CREATE, 0);
+    return opens(&options, RELKVANU_STORE_OK);
+}
+
+static bool has(const char *name) {
+    return access(in(name), F_OK) == 0;
+}
+
+static void make_file(uint64_t number) {
+    char name[40];
+    snprintf(name, sizeof name, "storage/%" PRIu64, number);
+    int file = open(in(name), O_CREAT | O_WRONLY | O_EXCL, 0600);
+    CHECK(file >= 0, "%s", name);
+    close(file);
+}
+
+static bool has_file(uint64_t number) {
+    char name[40];
+    snprintf(name, sizeof name, "storage/%" PRIu64, number);
+    return has(name);
+}
+
+/* One call, and the store's status RELKVANU_STORE_OK. */
+static relkvanu_store_call made(relkvanu_store *store, relkvanu_call call) {
+    relkvanu_store_call it = {.call = call};
+    int status = relkvanu_store_calls(store, &it, 1);
+    CHECK(status == RELKVANU_STORE_OK, "kind %" PRIu32 ": status %d", call.kind, status);
+    return it;
+}
+
+static uint64_t reserved(relkvanu_store *store, uint64_t term, uint64_t count) {
+    relkvanu_answer answer;
+    CHECK(relkvanu_store_reserve(store, term, count, &answer) == RELKVANU_STORE_OK && answer.code == RELKVANU_DONE &&
+              answer.what == RELKVANU_RESERVED && answer.b == count,
+        "code %" PRIu32 ", what %" PRIu32, answer.code, answer.what);
+    return answer.a;
+}
+
+static relkvanu_answer acked(relkvanu_store *store, uint64_t term, uint64_t id, uint16_t index, uint64_t file) {
+    relkvanu_answer answer;
+    CHECK(relkvanu_store_ack_in(store, term, 0, id, 0, index, &file, 1, NULL, 0, &answer) == RELKVANU_STORE_OK, "an acknowledgement");
+    return answer;
+}
+
+static void fenced(relkvanu_answer answer, uint32_t why, uint64_t file) {
+    CHECK(answer.code == RELKVANU_FENCED && answer.what == why && answer.a == file, "code %" PRIu32 ", what %" PRIu32 " %" PRIu64,
+        answer.code, answer.what, answer.a);
+}
+
+static void check_term(relkvanu_store *store, uint64_t term, uint64_t next) {
+    relkvanu_answer answer;
+    CHECK(relkvanu_store_term(store, &answer) == RELKVANU_STORE_OK && answer.code == RELKVANU_DONE && answer.what == RELKVANU_TERM,
+        "code %" PRIu32, answer.code);
+    CHECK(answer.a == term && answer.b == next, "term %" PRIu64 ", next name %" PRIu64, answer.a, answer.b);
+}
+
+static uint64_t trigger(relkvanu_store *store) {
+    relkvanu *handle;
+    CHECK(relkvanu_store_read(store, &handle) == RELKVANU_STORE_OK, "a read");
+    uint64_t due = relkvanu_due(handle).a;
+    relkvanu_store_read_end(store);
+    relkvanu_answer answer = done(store, RELKVANU_CALL_TICK, due, 0);
+    CHECK(answer.what == RELKVANU_TICK_TRIGGERED, "what %" PRIu32, answer.what);
+    return answer.b;
+}
+
+/* A checkpoint of all subtasks, with one file each from the name on. */
+static uint64_t complete(relkvanu_store *store, uint64_t term, uint64_t name) {
+    uint64_t id = trigger(store);
+    for (uint16_t i = 0; i < SUBTASKS; i++) {
+        CHECK(acked(store, term, id, i, name + i).code == RELKVANU_DONE, "subtask %u", i);
+    }
+    return id;
+}
+
+/* The worked example of docs/LOGS.md, as far as a store has it; then the recovery has all of it. */
+static void terms_and_names(void) {
+    relkvanu_store *store = named_job();
+    CHECK(report.term == 1 && report.next_name == 1 && !report.is_recovered, "term %" PRIu64 ", next name %" PRIu64, report.term,
+        report.next_name);
+    check_term(store, 1, 1);
+    CHECK(reserved(store, 1, 10) == 1, "the first names");
+    uint64_t first = complete(store, 1, 1);
+    check_term(store, 1, 11);
+    fenced(acked(store, 1, first, 0, 1), RELKVANU_SPENT, 1);
+    fenced(acked(store, 1, first, 0, 11), RELKVANU_NEVER_RESERVED, 11);
+    fenced(acked(store, 0, first, 0, 9), RELKVANU_OLD_TERM, 0);
+    fenced(acked(store, 2, first, 0, 9), RELKVANU_OLD_TERM, 0);
+    fenced(made(store, (relkvanu_call){.kind = RELKVANU_CALL_DECLINE, .number = first}).answer, RELKVANU_OLD_TERM, 0);
+    fenced(made(store, (relkvanu_call){.kind = RELKVANU_CALL_RESERVE, .number = 0, .term = 1}).answer, RELKVANU_BAD_COUNT, 0);
+    fenced(made(store, (relkvanu_call){.kind = RELKVANU_CALL_RESERVE, .number = 65537, .term = 1}).answer, RELKVANU_BAD_COUNT, 0);
+    relkvanu_answer late = acked(store, 1, first, 0, 9); /* the record is complete */
+    CHECK(late.code == RELKVANU_DONE && late.what == RELKVANU_ACK_LATE && late.a == 1, "what %" PRIu32 " %" PRIu64, late.what, late.a);
+    uint64_t second = trigger(store);
+    relkvanu_store_call restore = made(store, (relkvanu_call){.kind = RELKVANU_CALL_RESTORE, .now = RELKVANU_STORE_NOW});
+    CHECK(restore.answer.what == RELKVANU_RESTORED_CHECKPOINT && restore.answer.b == first && restore.term == 2, "term %" PRIu64,
+        restore.term);
+    fenced(acked(store, 1, second, 0, 9), RELKVANU_OLD_TERM, 0);
+    CHECK(reserved(store, 2, 3) == 11, "names are given once");
+    relkvanu_store_close(store);
+    relkvanu_store_options options = named_options(RELKVANU_STORE_RECOVER, 0);
+    store = opens(&options, RELKVANU_STORE_OK);
+    CHECK(report.term == 2 && report.next_name == 14 && report.is_recovered && !report.settings_differ,
+        "term %" PRIu64 ", next name %" PRIu64, report.term, report.next_name);
+    CHECK(reserved(store, 2, 1) == 14, "after a recovery");
+    relkvanu_store_call cancel = made(store, (relkvanu_call){.kind = RELKVANU_CALL_CANCEL, .now = RELKVANU_STORE_NOW});
+    CHECK(cancel.answer.what == RELKVANU_CANCELLED && cancel.term == 3, "term %" PRIu64, cancel.term);
+    fenced(made(store, (relkvanu_call){.kind = RELKVANU_CALL_RESERVE, .number = 1, .term = 3}).answer, RELKVANU_ENDED, 0);
+    relkvanu_store_call refused = made(store, (relkvanu_call){.kind = RELKVANU_CALL_RESTORE, .now = RELKVANU_STORE_NOW});
+    CHECK(refused.answer.code == RELKVANU_REFUSED && refused.term == 0 && refused.place == 0, "a restore of a cancelled job");
+    relkvanu_store_close(store);
+}
+
+/* A process that is killed after its answers: all of them are there, by the log alone and by an image. */
+static int reserves_and_is_killed(void *with) {
+    relkvanu_store_options options = named_options(RELKVANU_STORE_CREATE, *(uint64_t *)with);
+    relkvanu_store *store = opens(&options, RELKVANU_STORE_OK);
+    uint64_t term = report.term;
+    for (int i = 0; i < 5; i++) {
+        reserved(store, term, 7);
+        term = made(store, (relkvanu_call){.kind = RELKVANU_CALL_RESTORE, .now = RELKVANU_STORE_NOW}).term;
+    }
+    uint64_t last = reserved(store, term, 7);
+    return (int)(last * 10 + term); /* no close */
+}
+
+static void reserved_and_killed(void) {
+    for (uint64_t images = 3; images <= 1000; images += 997) {
+        uint64_t told = (uint64_t)in_child(reserves_and_is_killed, &images);
+        CHECK(told == 36 * 10 % 256 + 6, "%" PRIu64, told);
+        relkvanu_store_options options = named_options(RELKVANU_STORE_RECOVER, 0);
+        relkvanu_store *store = opens(&options, RELKVANU_STORE_OK);
+        CHECK(report.term == 6 && report.next_name == 43, "term %" PRIu64 ", next name %" PRIu64, report.term, report.next_name);
+        CHECK(reserved(store, 6, 1) == 43, "names are given once");
+        relkvanu_store_close(store);
+        unlink(in("x.db"));
+        unlink(in("x.db-wal"));
+        unlink(in("storage/.relkvanu-job"));
+    }
+}
+
+/* The last image is damaged: by the one before it and the log the names are those of the last call. */
+static void by_an_earlier_image(void) {
+    relkvanu_store_options options = named_options(RELKVANU_STORE_CREATE, 5);
+    relkvanu_store *store = opens(&options, RELKVANU_STORE_OK);
+    uint64_t term = 1;
+    for (uint64_t i = 1; i <= 17; i++) {
+        CHECK(reserved(store, term, 1) == i, "name %" PRIu64, i);
+        if (i % 4 == 0) {
+            term = made(store, (relkvanu_call){.kind = RELKVANU_CALL_RESTORE, .now = RELKVANU_STORE_NOW}).term;
+        }
+    }
+    relkvanu_store_close(store);
+    run_sql(in("x.db"), "UPDATE image SET sum = sum + 1 WHERE place = (SELECT max(place) FROM image)");
+    options.flags = RELKVANU_STORE_RECOVER;
+    opens(&options, RELKVANU_STORE_DAMAGED);
+    options.flags = RELKVANU_STORE_EARLIER_IMAGE;
+    store = opens(&options, RELKVANU_STORE_OK);
+    CHECK(report.replayed != 0 && report.image_place + report.replayed == 21 && report.term == 5 && report.next_name == 18,
+        "term %" PRIu64 ", next name %" PRIu64, report.term, report.next_name);
+    CHECK(reserved(store, 5, 1) == 18, "names are given once");
+    relkvanu_store_close(store);
+}
+
+static void forfeits(void) {
+    relkvanu_store *store = named_job();
+    relkvanu_answer answer;
+    static uint64_t names[65537], garbage[65537], others[65537];
+    CHECK(reserved(store, 1, 65536) == 1, "the names");
+    for (size_t i = 0; i < 65537; i++) {
+        names[i] = i + 1;
+    }
+    CHECK(relkvanu_store_forfeit(store, 1, names, 65537, &answer) == RELKVANU_STORE_BAD_ARGUMENT && answer.code == RELKVANU_STORE_NOT_MADE,
+        "too many");
+    CHECK(relkvanu_store_garbage(store, names, 65537, garbage, others, &answer) == RELKVANU_STORE_OK && answer.what == RELKVANU_GARBAGE,
+        "garbage");
+    CHECK(answer.a == 0 && answer.b == 1 && others[0] == 65537, "%" PRIu64 " garbage, %" PRIu64 " others", answer.a, answer.b);
+    CHECK(relkvanu_store_forfeit(store, 1, names, 65536, &answer) == RELKVANU_STORE_OK && answer.what == RELKVANU_FORFEITED, "all names");
+    CHECK(relkvanu_store_garbage(store, names, 65537, garbage, others, &answer) == RELKVANU_STORE_OK && answer.a == 65536 && answer.b == 1,
+        "garbage");
+    CHECK(garbage[0] == 1 && garbage[65535] == 65536, "in their order");
+    CHECK(relkvanu_store_forfeit(store, 1, names, 0, &answer) == RELKVANU_STORE_OK && answer.what == RELKVANU_FORFEITED, "none");
+    CHECK(relkvanu_store_forfeit(store, 9, names, 5000, &answer) == RELKVANU_STORE_OK, "another term");
+    fenced(answer, RELKVANU_OLD_TERM, 0);
+    relkvanu_store_close(store);
+}
+
+/* A sweep while a task has names that it has not used yet, after its term, of files that are in use, and of some that were not given out. */
+static void sweeps_at_any_time(void) {
+    relkvanu_store *store = named_job();
+    relkvanu_store_counts counts;
+    size_t left;
+    CHECK(reserved(store, 1, 30) == 1, "the names");
+    for (uint64_t name = 1; name <= 33; name++) {
+        make_file(name);
+    }
+    complete(store, 1, 1); /* 1 to 8 are in use */
+    complete(store, 1, 9); /* 1 to 8 wait */
+    relkvanu_answer answer;
+    uint64_t given_up[] = {17, 18};
+    CHECK(relkvanu_store_forfeit(store, 1, given_up, 2, &answer) == RELKVANU_STORE_OK && answer.code == RELKVANU_DONE, "forfeit");
+    CHECK(relkvanu_store_sweep(store, &left) == RELKVANU_STORE_OK && left == 0, "%zu are left", left);
+    relkvanu_store_count(store, &counts);
+    CHECK(counts.swept == 2 && counts.unissued == 3, "%" PRIu64 " swept, %" PRIu64 " not given out", counts.swept, counts.unissued);
+    for (uint64_t name = 1; name <= 33; name++) {
+        CHECK(has_file(name) == (name != 17 && name != 18), "file %" PRIu64, name);
+    }
+    made(store, (relkvanu_call){.kind = RELKVANU_CALL_RESTORE, .now = RELKVANU_STORE_NOW});
+    CHECK(unlink(in("storage/19")) == 0 && mkdir(in("storage/19.part"), 0700) == 0, "a folder");
+    CHECK(relkvanu_store_sweep(store, &left) == RELKVANU_STORE_OK && left == 1, "%zu are left", left);
+    for (uint64_t name = 1; name <= 33; name++) { /* in use and waiting; those of the ended term are garbage; not given out */
+        CHECK(has_file(name) == (name <= 16 || name > 30), "file %" PRIu64, name);
+    }
+    CHECK(rmdir(in("storage/19.part")) == 0, "the folder");
+    make_file(20); /* a task of the ended term writes on */
+    CHECK(relkvanu_store_put(store, 21, "state", 5) == RELKVANU_STORE_OK && has_file(21), "so does its put");
+    CHECK(relkvanu_store_sweep(store, &left) == RELKVANU_STORE_OK && left == 0 && !has_file(20) && !has_file(21) && has_file(31),
+        "the next sweep");
+    relkvanu_store_close(store);
+}
+
+/* The job's own file is in the folder, and its name is a number: no sweep deletes it. */
+static void its_own_file(void) {
+    relkvanu_store_options options = named_options(RELKVANU_STORE_CREATE, 0);
+    relkvanu_store *store;
+    size_t left;
+    CHECK(relkvanu_store_open(&store, in("storage/7"), &options, &report) == RELKVANU_STORE_OK, "%s", report.message);
+    CHECK(reserved(store, 1, 10) == 1, "the names");
+    CHECK(
+        relkvanu_store_put(store, 7, "state", 5) == RELKVANU_STORE_PRESENT && relkvanu_store_put(store, 8, "state", 5) == RELKVANU_STORE_OK,
+        "put");
+    made(store, (relkvanu_call){.kind = RELKVANU_CALL_RESTORE, .now = RELKVANU_STORE_NOW});
+    CHECK(relkvanu_store_sweep(store, &left) == RELKVANU_STORE_OK && left == 0 && has_file(7) && !has_file(8), "a sweep");
+    relkvanu_store_close(store);
+}
+
+/* Another process has opened a copy of the job over the folder: this one deletes and puts nothing more. */
+static void a_later_opening(void) {
+    relkvanu_store *store = named_job();
+    size_t left;
+    CHECK(reserved(store, 1, 3) == 1, "the names");
+    for (uint64_t name = 1; name <= 3; name++) {
+        make_file(name);
+    }
+    made(store, (relkvanu_call){.kind = RELKVANU_CALL_RESTORE, .now = RELKVANU_STORE_NOW});
+    FILE *marker = fopen(in("storage/.relkvanu-job"), "w");
+    CHECK(marker != NULL && fprintf(marker, "relkvanu job %016" PRIx64 "%016" PRIx64 "\nepoch 2\n", report.job[0], report.job[1]) > 0 &&
+              fclose(marker) == 0,
+        "marker");
+    CHECK(relkvanu_store_sweep(store, &left) == RELKVANU_STORE_STORAGE && has_file(1) && has_file(3), "a sweep");
+    CHECK(relkvanu_store_put(store, 4, "state", 5) == RELKVANU_STORE_STORAGE && !has_file(4), "a put");
+    relkvanu_store_close(store);
+    relkvanu_store_options options = named_options(RELKVANU_STORE_RECOVER, 0);
+    opens(&options, RELKVANU_STORE_STORAGE);
+    CHECK(says("an older copy"), "%s", report.message);
+}
+
+/* Adopted files are below the first name, and are garbage; one that leaves no name is refused. */
+static void adopts(void) {
+    relkvanu_store_options options = named_options(RELKVANU_STORE_CREATE, 0);
+    size_t left;
+    make_file(UINT64_C(1) << 62);
+    opens(&options, RELKVANU_STORE_STORAGE);
+    options.flags |= RELKVANU_STORE_ADOPT;
+    opens(&options, RELKVANU_STORE_STORAGE);
+    CHECK(says("2^62") && !has("storage/.relkvanu-job"), "%s", report.message);
+    unlink(in("storage/4611686018427387904"));
+    make_file(700);
+    make_file(3);
+    relkvanu_store *store = opens(&options, RELKVANU_STORE_OK);
+    CHECK(report.next_name == 701, "next name %" PRIu64, report.next_name);
+    CHECK(reserved(store, 1, 1) == 701 && relkvanu_store_put(store, 701, "state", 5) == RELKVANU_STORE_OK, "a name");
+    CHECK(
+        relkvanu_store_sweep(store, &left) == RELKVANU_STORE_OK && left == 0 && !has_file(700) && !has_file(3) && has_file(701), "a sweep");
+    relkvanu_store_close(store);
+}
+
+/* A new job over a storage of the engine's own that has files, with numbers up to 300. */
+static void above_the_files_of_a_storage(void) {
+    relkvanu_store_options options = job_options(RELKVANU_STORE_CREATE, 0);
+    relkvanu_store *store = opens(&options, RELKVANU_STORE_OK);
+    relkvanu_store_call call;
+    relkvanu_answer answer;
+    uint64_t files[] = {250, 301}, garbage[2], others[2];
+    CHECK(relkvanu_store_advance(store, report.term, 301, &call) == RELKVANU_STORE_OK && call.answer.what == RELKVANU_RESTORED_FRESH &&
+              call.term == 2,
+        "what %" PRIu32 ", term %" PRIu64, call.answer.what, call.term);
+    CHECK(relkvanu_store_garbage(store, files, 2, garbage, others, &answer) == RELKVANU_STORE_OK && answer.a == 1 && garbage[0] == 250 &&
+              answer.b == 1 && others[0] == 301,
+        "%" PRIu64 " are garbage", answer.a);
+    CHECK(reserved(store, 2, 1) == 301, "the first name");
+    relkvanu_store_close(store);
+}
+
+/* A file of a job that an early build made, before there were names, as its SQL. */
+static void an_old_file(void) {
+    static char sql[1 << 16];
+    FILE *from = fopen(OLD_FILE, "r");
+    CHECK(from != NULL, "%s", OLD_FILE);
+    size_t len = fread(sql, 1, sizeof sql - 1, from);
+    fclose(from);
+    CHECK(len > 1000 && len < sizeof sql - 1, "%zu bytes", len);
+    close(open(in("x.db"), O_CREAT | O_WRONLY, 0600));
+    run_sql(in("x.db"), sql);
+    relkvanu_store_options options = job_options(RELKVANU_STORE_RECOVER, RELKVANU_STORE_NO_IMAGES);
+    opens(&options, RELKVANU_STORE_NOT_A_STORE);
+    CHECK(says("an earlier version of the library made it, as a job without names"), "%s", report.message);
+}
+
+/* Tasks that put files, old ones that go on, a sweeper and a discarder, all at once. */
+enum { ROUNDS = 12, MOST_ROUNDS = 120, CHECKPOINTS = 6 };
+
+struct fleet {
+    relkvanu_store *store;
+    atomic_uint_fast64_t term, barrier; /* of the tasks that run; the record that they take part in */
+    atomic_uint tasks, late;            /* that run; calls of ended terms that were refused */
+    atomic_bool is_over;
+};
+
+struct task {
+    struct fleet *fleet;
+    uint64_t term;
+    uint16_t index;
+};
+
+/* Whether a restore that is committed has ended the term of the task. */
+static bool has_ended(const struct task *t) {
+    relkvanu_answer answer;
+    CHECK(relkvanu_store_term(t->fleet->store, &answer) == RELKVANU_STORE_OK, "term");
+    return answer.a > t->term;
+}
+
+/* Takes part in a record: reserves, puts, acknowledges or forfeits. Returns false if the term of the task has ended. */
+static bool takes_part(struct task *t, uint64_t id, unsigned *seed) {
+    relkvanu_store *store = t->fleet->store;
+    relkvanu_answer answer;
+    bool was_over = t->fleet->term > t->term; /* the restore was answered before this call */
+    CHECK(relkvanu_store_reserve(store, t->term, 3, &answer) == RELKVANU_STORE_OK, "reserve");
+    CHECK(!was_over || (answer.code == RELKVANU_FENCED && answer.what == RELKVANU_OLD_TERM), "an old task reserves");
+    if (answer.code == RELKVANU_FENCED) {
+        return false;
+    }
+    uint64_t names[] = {answer.a, answer.a + 1, answer.a + 2};
+    for (int i = 0; i < 3; i++) {
+        int status = relkvanu_store_put(store, names[i], "state", 5);
+        CHECK(status == RELKVANU_STORE_OK || (status == RELKVANU_STORE_NOT_PUT && has_ended(t)), "put: status %d", status);
+    }
+    if (rand_r(seed) % 3 == 0) {
+        usleep(2000); /* a restore may come */
+    }
+    was_over = t->fleet->term > t->term;
+    CHECK(relkvanu_store_ack_in(store, t->term, 0, id, 0, t->index, names, 2, NULL, 0, &answer) == RELKVANU_STORE_OK, "ack");
+    CHECK(!was_over || (answer.code == RELKVANU_FENCED && answer.what == RELKVANU_OLD_TERM), "an old task acknowledges");
+    bool is_late = answer.code == RELKVANU_FENCED;
+    t->fleet->late += is_late;
+    CHECK(!is_late || answer.what == RELKVANU_OLD_TERM, "what %" PRIu32, answer.what);
+    CHECK(relkvanu_store_forfeit(store, t->term, names, 3, &answer) == RELKVANU_STORE_OK,
+        "forfeit"); /* what was acknowledged is not held any more */
+    return !is_late;
+}
+
+static void *runs(void *with) {
+    struct task t = *(struct task *)with;
+    uint64_t seen = 0;
+    unsigned seed = (unsigned)(t.term * 100 + t.index);
+    free(with);
+    for (bool goes_on = true; goes_on && !t.fleet->is_over;) {
+        uint64_t id = t.fleet->barrier;
+        if (id != seen) {
+            goes_on = takes_part(&t, id, &seed);
+        } else {
+            usleep(100);
+        }
+        seen = id;
+    }
+    t.fleet->tasks--;
+    return NULL;
+}
+
+static void start_tasks(struct fleet *fleet, uint64_t term) {
+    fleet->term = term;
+    for (uint16_t i = 0; i < SUBTASKS; i++) {
+        pthread_t thread;
+        struct task *t = malloc(sizeof *t);
+        CHECK(t != NULL, "no memory");
+        *t = (struct task){fleet, term, i};
+        fleet->tasks++;
+        CHECK(pthread_create(&thread, NULL, runs, t) == 0 && pthread_detach(thread) == 0, "a thread");
+    }
+}
+
+/* Each file in use is there, at any time. */
+static void check_live(relkvanu_store *store) {
+    relkvanu *handle;
+    CHECK(relkvanu_store_read(store, &handle) == RELKVANU_STORE_OK, "a read");
+    for (relkvanu_answer it = relkvanu_live_from(handle, 0); it.what != RELKVANU_LIVE_NONE; it = relkvanu_live_from(handle, it.a + 1)) {
+        for (uint16_t i = 0; i < SUBTASKS; i++) {
+            uint64_t files[8];
+            relkvanu_answer found = relkvanu_files_of(handle, it.a, 0, i, files, 8);
+            for (uint64_t at = 0; found.what == RELKVANU_FILES && at < found.a; at++) {
+                CHECK(has_file(files[at]), "file %" PRIu64 " of record %" PRIu64 " is not there", files[at], it.a);
+            }
+        }
+    }
+    relkvanu_store_read_end(store);
+}
+
+static void *sweeps(void *with) {
+    struct fleet *fleet = with;
+    size_t left, times = 0;
+    while (!fleet->is_over) {
+        CHECK(relkvanu_store_sweep(fleet->store, &left) == RELKVANU_STORE_OK && left == 0, "%zu are left", left);
+        times++;
+    }
+    CHECK(times > 3, "%zu sweeps", times);
+    return NULL;
+}
+
+static void *discards(void *with) {
+    relkvanu_store *store = with;
+    CHECK(relkvanu_store_discard(store, 16, relkvanu_store_delete_files, store) == RELKVANU_STORE_STOPPED, "the discarder");
+    return NULL;
+}
+
+static uint64_t missing(relkvanu_store *store, uint64_t id) {
+    relkvanu *handle;
+    CHECK(relkvanu_store_read(store, &handle) == RELKVANU_STORE_OK, "a read");
+    relkvanu_answer answer = relkvanu_missing(handle, id);
+    relkvanu_store_read_end(store);
+    return answer.what == RELKVANU_MISSING ? answer.a : 0;
+}
+
+/* Some checkpoints of the tasks that run, and then a restore in the middle of one. The tasks before it go on, and learn of it by a refusal. */
+static void round_of(struct fleet *fleet) {
+    for (int i = 0; i < CHECKPOINTS; i++) {
+        uint64_t id = trigger(fleet->store);
+        fleet->barrier = id;
+        for (int waits = 0; i + 1 < CHECKPOINTS && missing(fleet->store, id) != 0; waits++) {
+            CHECK(waits < 600000, "record %" PRIu64 " waits for %" PRIu64, id, missing(fleet->store, id));
+            usleep(500);
+            check_live(fleet->store);
+        }
+    }
+    usleep((useconds_t)rand() % 2000); /* some tasks are in the middle of their part */
+    relkvanu_store_call restore = made(fleet->store, (relkvanu_call){.kind = RELKVANU_CALL_RESTORE, .now = RELKVANU_STORE_NOW});
+    CHECK(restore.answer.what == RELKVANU_RESTORED_CHECKPOINT && restore.term == fleet->term + 1, "term %" PRIu64, restore.term);
+    start_tasks(fleet, restore.term);
+    check_live(fleet->store);
+}
+
+static uint64_t in_use(relkvanu_store *store, bool *waits) {
+    relkvanu *handle;
+    CHECK(relkvanu_store_read(store, &handle) == RELKVANU_STORE_OK, "a read");
+    relkvanu_counts counts = relkvanu_file_counts(handle);
+    relkvanu_store_read_end(store);
+    *waits = counts.waiting + counts.taken != 0;
+    return counts.in_use;
+}
+
+static unsigned files_there(void) {
+    DIR *listing = opendir(in("storage"));
+    unsigned found = 0;
+    struct dirent *entry;
+    CHECK(listing != NULL, "storage");
+    while ((entry = readdir(listing)) != NULL) {
+        found += entry->d_name[0] != '.';
+    }
+    closedir(listing);
+    return found;
+}
+
+static void a_sweeper_beside_tasks(void) {
+    static struct fleet fleet;
+    pthread_t sweeper, discarder;
+    bool waits = true;
+    size_t left;
+    fleet.store = named_job();
+    CHECK(pthread_create(&sweeper, NULL, sweeps, &fleet) == 0 && pthread_create(&discarder, NULL, discards, fleet.store) == 0, "a thread");
+    start_tasks(&fleet, report.term);
+    for (int i = 0; i < ROUNDS || (fleet.late < 3 && i < MOST_ROUNDS); i++) { /* on a busy machine few restores find a task in its part */
+        round_of(&fleet);
+    }
+    fleet.is_over = true;
+    for (int i = 0; i < 300000 && fleet.tasks != 0; i++) {
+        usleep(1000);
+    }
+    CHECK(fleet.tasks == 0 && pthread_join(sweeper, NULL) == 0, "%u tasks", (unsigned)fleet.tasks);
+    for (int i = 0; i < 300000 && waits; i++) {
+        usleep(1000);
+        in_use(fleet.store, &waits);
+    }
+    relkvanu_store_stop(fleet.store);
+    CHECK(!waits && pthread_join(discarder, NULL) == 0, "files wait");
+    CHECK(relkvanu_store_sweep(fleet.store, &left) == RELKVANU_STORE_OK && left == 0, "the last sweep");
+    check_live(fleet.store);
+    uint64_t used = in_use(fleet.store, &waits);
+    CHECK(used == files_there() && used == 2 * SUBTASKS, "%" PRIu64 " files in use, and %u in the folder", used, files_there());
+    relkvanu_store_counts counts;
+    relkvanu_store_count(fleet.store, &counts);
+    CHECK(fleet.late >= 3 && counts.swept > ROUNDS * SUBTASKS && counts.unissued == 0, "%u calls came late, %" PRIu64 " files were swept",
+        (unsigned)fleet.late, counts.swept);
+    relkvanu_store_close(fleet.store);
+}
+
+const struct test name_cases[] = {{"terms_and_names", terms_and_names}, {"reserved_and_killed", reserved_and_killed},
+    {"by_an_earlier_image", by_an_earlier_image}, {"forfeits", forfeits}, {"sweeps_at_any_time", sweeps_at_any_time},
+    {"its_own_file", its_own_file}, {"a_later_opening", a_later_opening}, {"adopts", adopts},
+    {"above_the_files_of_a_storage", above_the_files_of_a_storage}, {"an_old_file", an_old_file},
+    {"a_sweeper_beside_tasks", a_sweeper_beside_tasks}, {NULL, NULL}};

@@ -1,0 +1,273 @@
+/* A store over a storage of the engine's own, objects in memory, and its own folder as a storage. */
+#include "cases.h"
+
+#include <pthread.h>
+#include <stdatomic.h>
+#include <sys/stat.h>
+#include <unistd.h>
+
+enum { MOST_OBJECTS = 4000 };
+
+/* Objects by their numbers. A fault is a status that each function returns. */
+struct objects {
+    pthread_mutex_t mutex;
+    bool is_there[MOST_OBJECTS];
+    int fault, fault_of_list;
+    uint64_t stubborn; /* an object that can't be deleted */
+    size_t page;       /* of a listing */
+    atomic_uint deletions;
+};
+
+static int check(void *with) {
+    struct objects *it = with;
+    pthread_mutex_lock(&it->mutex);
+    int fault = it->fault;
+    pthread_mutex_unlock(&it->mutex);
+    return fault;
+}
+
+static int delete_files(void *with, const uint64_t *files, size_t len, uint8_t *outcomes) {
+    struct objects *it = with;
+    pthread_mutex_lock(&it->mutex);
+    for (size_t i = 0; i < len; i++) {
+        bool stays = files[i] == it->stubborn;
+        outcomes[i] = stays ? RELKVANU_STORAGE_UNDELETED : it->is_there[files[i]] ? RELKVANU_STORAGE_DELETED : RELKVANU_STORAGE_MISSING;
+        it->is_there[files[i]] = it->is_there[files[i]] && (stays || it->fault != 0);
+    }
+    int fault = it->fault;
+    pthread_mutex_unlock(&it->mutex);
+    it->deletions++;
+    return fault;
+}
+
+static int list(void *with, size_t most, relkvanu_storage_page page, void *with_page) {
+    struct objects *it = with;
+    static relkvanu_storage_file files[MOST_OBJECTS];
+    size_t len = 0;
+    CHECK(most == 0, "%zu", most);
+    for (uint64_t file = 0; file < MOST_OBJECTS; file++) {
+        if (it->is_there[file]) {
+            files[len++].file = file;
+        }
+        if (len == it->page && !page(with_page, files, len)) {
+            return RELKVANU_STORAGE_ENDED;
+        }
+        len = len == it->page ? 0 : len;
+    }
+    bool goes_on = len == 0 || page(with_page, files, len);
+    return goes_on ? it->fault_of_list : RELKVANU_STORAGE_ENDED;
+}
+
+static relkvanu_storage storage_of(struct objects *objects) {
+    *objects = (struct objects){.stubborn = UINT64_MAX, .page = RELKVANU_STORAGE_PAGE};
+    CHECK(pthread_mutex_init(&objects->mutex, NULL) == 0, "a mutex");
+    return (relkvanu_storage){.with = objects, .check = check, .delete_files = delete_files, .list = list};
+}
+
+static relkvanu_store *opened(void) {
+    relkvanu_store_options options = job_options(RELKVANU_STORE_CREATE, 0);
+    return opens(&options, RELKVANU_STORE_OK);
+}
+
+static size_t sweeps_as(relkvanu_store *store, const relkvanu_storage *storage, int status) {
+    size_t left = 99;
+    int got = relkvanu_store_sweep_storage(store, storage, &left);
+    CHECK(got == status, "status %d, not %d", got, status);
+    return left;
+}
+
+/* Files 100 to 115 are in use. */
+static void a_sweep_of_objects(void) {
+    static struct objects objects;
+    relkvanu_storage storage = storage_of(&objects);
+    relkvanu_store *store = opened();
+    relkvanu_answer names;
+    CHECK(relkvanu_store_reserve(store, 1, 3100, &names) == RELKVANU_STORE_OK && names.a == 1, "names");
+    checkpoint(store, 100);
+    CHECK(sweeps_as(store, &storage, RELKVANU_STORE_OK) == 0, "a sweep of no object");
+    for (uint64_t file = 100; file < 3100; file++) {
+        objects.is_there[file] = true;
+    }
+    CHECK(sweeps_as(store, &storage, RELKVANU_STORE_OK) == 0 && objects.deletions == 0, "a sweep while tasks run");
+    done(store, RELKVANU_CALL_RESTORE, RELKVANU_STORE_NOW, 0);
+    objects.fault = RELKVANU_STORAGE_NOT_THERE;
+    CHECK(sweeps_as(store, &storage, RELKVANU_STORE_STORAGE) == 0 && objects.deletions == 0, "a sweep of a storage that is not there");
+    objects.fault = 0;
+    objects.fault_of_list = RELKVANU_STORAGE_FAILED;
+    objects.stubborn = 2000;
+    objects.page = 700;
+    CHECK(sweeps_as(store, &storage, RELKVANU_STORE_NOT_DONE) == 1, "a list that is not whole");
+    objects.fault_of_list = RELKVANU_STORAGE_NO_MEMORY;
+    CHECK(sweeps_as(store, &storage, RELKVANU_STORE_NO_MEMORY) == 1, "a list without memory");
+    objects.fault_of_list = 0;
+    CHECK(sweeps_as(store, &storage, RELKVANU_STORE_OK) == 1, "an object that can't be deleted");
+    for (uint64_t file = 100; file < 3100; file++) {
+        CHECK(objects.is_there[file] == (file < 100 + 2 * SUBTASKS || file == 2000), "object %" PRIu64, file);
+    }
+    relkvanu_store_counts counts;
+    relkvanu_store_count(store, &counts);
+    CHECK(counts.swept == 3000 - 2 * SUBTASKS - 1, "%" PRIu64 " are swept", counts.swept);
+    relkvanu_store_close(store);
+}
+
+static void pages_that_are_too_large(void) {
+    static struct objects objects;
+    relkvanu_storage storage = storage_of(&objects);
+    relkvanu_store *store = opened();
+    done(store, RELKVANU_CALL_RESTORE, RELKVANU_STORE_NOW, 0);
+    for (uint64_t file = 100; file < 100 + RELKVANU_STORAGE_PAGE + 1; file++) {
+        objects.is_there[file] = true;
+    }
+    objects.page = RELKVANU_STORAGE_PAGE + 1;
+    CHECK(sweeps_as(store, &storage, RELKVANU_STORE_NOT_DONE) == 0 && objects.deletions == 0, "a page");
+    relkvanu_store_close(store);
+}
+
+static void storages_that_are_not_whole(void) {
+    static struct objects objects;
+    const relkvanu_storage good = storage_of(&objects);
+    relkvanu_storage bad[] = {good, good, good, good};
+    relkvanu_store *store = opened();
+    bad[0].check = NULL;
+    bad[1].delete_files = NULL;
+    bad[2].list = NULL;
+    bad[3].reserved[2] = 1;
+    for (size_t i = 0; i < sizeof bad / sizeof *bad; i++) {
+        CHECK(sweeps_as(store, &bad[i], RELKVANU_STORE_BAD_ARGUMENT) == 0, "a sweep");
+        CHECK(relkvanu_store_discard_storage(store, 0, &bad[i]) == RELKVANU_STORE_BAD_ARGUMENT, "a discarder");
+    }
+    CHECK(relkvanu_store_discard_storage(store, RELKVANU_STORE_MOST_CALLS, &good) == RELKVANU_STORE_BAD_ARGUMENT, "a batch");
+    relkvanu_store_close(store);
+}
+
+struct discarding {
+    relkvanu_store *store;
+    relkvanu_storage *storage;
+    int status;
+};
+
+static void *discards(void *with) {
+    struct discarding *it = with;
+    it->status = relkvanu_store_discard_storage(it->store, 5, it->storage);
+    return NULL;
+}
+
+static bool is_there(struct objects *objects, uint64_t first, uint64_t last) {
+    bool any = false;
+    pthread_mutex_lock(&objects->mutex);
+    for (uint64_t file = first; file <= last; file++) {
+        any = any || objects->is_there[file];
+    }
+    pthread_mutex_unlock(&objects->mutex);
+    return any;
+}
+
+static void set_fault(struct objects *objects, int fault) {
+    pthread_mutex_lock(&objects->mutex);
+    objects->fault = fault;
+    pthread_mutex_unlock(&objects->mutex);
+}
+
+/* The files of the first checkpoint are deleted once the storage is back. Those of the second are in use. */
+static void a_discarder_of_objects(void) {
+    static struct objects objects;
+    relkvanu_storage storage = storage_of(&objects);
+    relkvanu_store *store = opened();
+    struct discarding it = {.store = store, .storage = &storage};
+    pthread_t thread;
+    for (uint64_t file = 100; file < 100 + 4 * SUBTASKS; file++) {
+        objects.is_there[file] = true;
+    }
+    checkpoint(store, 100);
+    checkpoint(store, 100 + 2 * SUBTASKS);
+    objects.fault = RELKVANU_STORAGE_NOT_THERE;
+    CHECK(pthread_create(&thread, NULL, discards, &it) == 0, "a thread");
+    while (objects.deletions < 2) {
+        usleep(1000);
+    }
+    CHECK(is_there(&objects, 100, 100), "it is not there, and a file counts as gone");
+    set_fault(&objects, 0);
+    while (is_there(&objects, 100, 99 + 2 * SUBTASKS)) {
+        usleep(1000);
+    }
+    relkvanu_store_stop(store);
+    CHECK(pthread_join(thread, NULL) == 0 && it.status == RELKVANU_STORE_STOPPED, "status %d", it.status);
+    for (uint64_t file = 100 + 2 * SUBTASKS; file < 100 + 4 * SUBTASKS; file++) {
+        CHECK(objects.is_there[file], "object %" PRIu64, file);
+    }
+    relkvanu_store_close(store);
+}
+
+static void a_discarder_of_another_job(void) {
+    static struct objects objects;
+    relkvanu_storage storage = storage_of(&objects);
+    relkvanu_store *store = opened();
+    checkpoint(store, 100);
+    checkpoint(store, 200);
+    objects.is_there[100] = true;
+    objects.fault = RELKVANU_STORAGE_OTHER_JOB;
+    CHECK(relkvanu_store_discard_storage(store, 0, &storage) == RELKVANU_STORE_STORAGE && objects.is_there[100], "another job");
+    relkvanu *handle;
+    CHECK(relkvanu_store_read(store, &handle) == RELKVANU_STORE_OK, "a read");
+    CHECK(relkvanu_file_counts(handle).taken == 2 * SUBTASKS, "what was taken is settled by whoever has the job");
+    relkvanu_store_read_end(store);
+    relkvanu_store_close(store);
+}
+
+static bool note_sum(void *with, const relkvanu_storage_file *files, size_t len) {
+    uint64_t *sums = with;
+    for (size_t i = 0; i < len; i++) {
+        sums[0] += files[i].file;
+        sums[1] += files[i].bytes;
+    }
+    return true;
+}
+
+static int in_a_child(void *with) {
+    relkvanu_storage *own = with, again;
+    uint64_t file = 7, sums[2] = {0};
+    uint8_t outcome = 9;
+    size_t left;
+    bool is_refused = own->check(own->with) == RELKVANU_STORAGE_NOT_THERE && own->put(own->with, 8, "", 0) == RELKVANU_STORAGE_NOT_THERE &&
+                      own->delete_files(own->with, &file, 1, &outcome) == RELKVANU_STORAGE_NOT_THERE &&
+                      outcome == RELKVANU_STORAGE_UNDELETED && own->list(own->with, 0, note_sum, sums) == RELKVANU_STORAGE_NOT_THERE &&
+                      relkvanu_store_storage(own->with, &again) == RELKVANU_STORE_FORKED && again.with == NULL &&
+                      relkvanu_store_sweep_storage(own->with, own, &left) == RELKVANU_STORE_FORKED;
+    return is_refused ? 0 : 1;
+}
+
+static void the_own_folder(void) {
+    relkvanu_store_options options = storage_options(RELKVANU_STORE_CREATE, 0);
+    relkvanu_store *store = opens(&options, RELKVANU_STORE_OK);
+    relkvanu_storage own;
+    uint64_t files[] = {7, 8}, len = 0, sums[2] = {0};
+    uint8_t outcomes[2];
+    char found[8] = "";
+    CHECK(relkvanu_store_storage(store, &own) == RELKVANU_STORE_OK && own.check(own.with) == RELKVANU_STORAGE_OK, "a storage");
+    CHECK(own.put(own.with, 7, "state", 5) == RELKVANU_STORAGE_OK && relkvanu_store_put(store, 7, "", 0) == RELKVANU_STORE_PRESENT, "put");
+    CHECK(own.get(own.with, 7, found, sizeof found, &len) == RELKVANU_STORAGE_OK && len == 5 && strcmp(found, "state") == 0, "%s", found);
+    CHECK(own.list(own.with, 0, note_sum, sums) == RELKVANU_STORAGE_OK && sums[0] == 7 && sums[1] == 5, "%" PRIu64 " bytes", sums[1]);
+    CHECK(in_child(in_a_child, &own) == 0, "a child");
+    CHECK(rename(in("storage/.relkvanu-job"), in("marker")) == 0 && own.check(own.with) == RELKVANU_STORAGE_NOT_THERE, "the marker");
+    CHECK(
+        own.delete_files(own.with, files, 2, outcomes) == RELKVANU_STORAGE_NOT_THERE && outcomes[0] == 0 && outcomes[1] == 0, "deletions");
+    CHECK(rename(in("marker"), in("storage/.relkvanu-job")) == 0, "the marker");
+    CHECK(own.delete_files(own.with, files, 2, outcomes) == RELKVANU_STORAGE_OK && outcomes[0] == 1 && outcomes[1] == 2, "%d %d",
+        outcomes[0], outcomes[1]);
+    relkvanu_store_close(store);
+    options = job_options(RELKVANU_STORE_CREATE_ONLY, 0);
+    CHECK(unlink(in("x.db")) == 0 && unlink(in("x.db-wal")) == 0, "x.db");
+    store = opens(&options, RELKVANU_STORE_OK);
+    CHECK(relkvanu_store_storage(store, &own) == RELKVANU_STORE_BAD_ARGUMENT && own.with == NULL, "no folder");
+    relkvanu_store_close(store);
+}
+
+const struct test object_cases[] = {
+    {"a_sweep_of_objects", a_sweep_of_objects},
+    {"pages_that_are_too_large", pages_that_are_too_large},
+    {"storages_that_are_not_whole", storages_that_are_not_whole},
+    {"a_discarder_of_objects", a_discarder_of_objects},
+    {"a_discarder_of_another_job", a_discarder_of_another_job},
+    {"the_own_folder", the_own_folder},
+    {NULL, NULL},
+};

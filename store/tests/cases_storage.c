@@ -1,0 +1,241 @@
+/* The storage folder: whose it is, and what a sweep may delete. */
+#include "cases.h"
+
+#include <errno.h>
+#include <fcntl.h>
+#include <sys/stat.h>
+#include <unistd.h>
+
+static void make_file(const char *name) {
+    int file = open(in(name), O_CREAT | O_WRONLY | O_EXCL, 0600);
+    CHECK(file >= 0, "%s", name);
+    close(file);
+}
+
+static bool has(const char *name) {
+    return access(in(name), F_OK) == 0;
+}
+
+static void a_folder_with_files(void) {
+    relkvanu_store_options options = storage_options(RELKVANU_STORE_CREATE, 0);
+    make_file("storage/17");
+    opens(&options, RELKVANU_STORE_STORAGE);
+    CHECK(says("17") && !has("x.db") && has("storage/17"), "%s", report.message);
+    options.flags |= RELKVANU_STORE_ADOPT;
+    relkvanu_store_close(opens(&options, RELKVANU_STORE_OK));
+    CHECK(has("storage/17") && has("storage/.relkvanu-job"), "the folder");
+    options.flags = RELKVANU_STORE_RECOVER;
+    relkvanu_store_close(opens(&options, RELKVANU_STORE_OK));
+}
+
+static void not_mounted(void) {
+    relkvanu_store_options options = storage_options(RELKVANU_STORE_CREATE, 0);
+    relkvanu_store_close(opens(&options, RELKVANU_STORE_OK));
+    CHECK(rename(in("storage"), in("away")) == 0, "storage");
+    opens(&options, RELKVANU_STORE_STORAGE);
+    CHECK(mkdir(in("storage"), 0700) == 0, "storage");
+    opens(&options, RELKVANU_STORE_STORAGE);
+    CHECK(says("no marker"), "%s", report.message);
+    CHECK(rmdir(in("storage")) == 0 && rename(in("away"), in("storage")) == 0, "storage");
+    relkvanu_store_close(opens(&options, RELKVANU_STORE_OK));
+}
+
+static void of_another_job(void) {
+    relkvanu_store_options options = storage_options(RELKVANU_STORE_CREATE, 0);
+    relkvanu_store_close(opens(&options, RELKVANU_STORE_OK));
+    CHECK(rename(in("x.db"), in("first.db")) == 0 && unlink(in("x.db-wal")) == 0, "x.db");
+    opens(&options, RELKVANU_STORE_STORAGE); /* a new job */
+    CHECK(says("another job") && !has("x.db"), "%s", report.message);
+    CHECK(rename(in("storage/.relkvanu-job"), in("marker")) == 0, "marker");
+    relkvanu_store_close(opens(&options, RELKVANU_STORE_OK));
+    CHECK(rename(in("marker"), in("storage/.relkvanu-job")) == 0, "marker");
+    opens(&options, RELKVANU_STORE_STORAGE);
+    CHECK(says("another job"), "%s", report.message);
+}
+
+static void named_or_not(void) {
+    relkvanu_store_options with = storage_options(RELKVANU_STORE_CREATE, 0), without = job_options(RELKVANU_STORE_CREATE, 0);
+    relkvanu_store_close(opens(&with, RELKVANU_STORE_OK));
+    opens(&without, RELKVANU_STORE_STORAGE);
+    CHECK(says("name none"), "%s", report.message);
+    unlink(in("x.db"));
+    unlink(in("x.db-wal"));
+    relkvanu_store *store = opens(&without, RELKVANU_STORE_OK);
+    CHECK(relkvanu_store_folder(store) == -1, "a folder");
+    relkvanu_store_close(store);
+    opens(&with, RELKVANU_STORE_STORAGE);
+    CHECK(says("without a storage folder"), "%s", report.message);
+}
+
+/* The files of the job itself are no files of the storage. */
+static void one_folder_for_all(void) {
+    char folder[PATHS];
+    relkvanu_store_options options = job_options(RELKVANU_STORE_CREATE, 0);
+    snprintf(folder, sizeof folder, "%s", in("."));
+    options.storage = folder;
+    relkvanu_store_close(opens(&options, RELKVANU_STORE_OK));
+    unlink(in(".relkvanu-job"));
+    unlink(in("x.db")); /* the other three are left */
+    relkvanu_store *store = opens(&options, RELKVANU_STORE_OK);
+    relkvanu_store_close(store);
+    relkvanu_store_close(opens(&options, RELKVANU_STORE_OK));
+    CHECK(report.is_recovered, "a new job");
+}
+
+/* A process ended between the first commit of a job and its marker. */
+static void before_the_marker(void) {
+    relkvanu_store_options options = storage_options(RELKVANU_STORE_CREATE, 0);
+    relkvanu_store_close(opens(&options, RELKVANU_STORE_OK));
+    run_sql(in("x.db"), "UPDATE job SET storage = 1");
+    CHECK(rename(in("storage/.relkvanu-job"), in("storage/.relkvanu-job.new")) == 0, "marker");
+    make_file("storage/5");
+    opens(&options, RELKVANU_STORE_STORAGE);
+    unlink(in("storage/5"));
+    relkvanu_store_close(opens(&options, RELKVANU_STORE_OK));
+    CHECK(has("storage/.relkvanu-job"), "no marker");
+    relkvanu_store_close(opens(&options, RELKVANU_STORE_OK));
+    run_sql(in("x.db"), "UPDATE job SET storage = 1"); /* it ended after the marker */
+    relkvanu_store_close(opens(&options, RELKVANU_STORE_OK));
+}
+
+static void copy_file(const char *from, const char *to) {
+    char command[2 * PATHS + 8];
+    snprintf(command, sizeof command, "cp '%s' '%s'", in(from), in(to));
+    CHECK(system(command) == 0, "%s", command);
+}
+
+/* A sweep of an older copy would delete the files of the calls that it lacks. */
+static void an_older_copy(void) {
+    relkvanu_store_options options = storage_options(RELKVANU_STORE_CREATE, 0);
+    relkvanu_store_close(opens(&options, RELKVANU_STORE_OK));
+    copy_file("x.db", "first.db");
+    relkvanu_store_close(opens(&options, RELKVANU_STORE_OK));
+    copy_file("x.db", "second.db");
+    copy_file("first.db", "x.db");
+    for (int times = 0; times < 3; times++) { /* a refusal changes nothing */
+        opens(&options, RELKVANU_STORE_STORAGE);
+        CHECK(says("an older copy"), "%s", report.message);
+    }
+    copy_file("second.db", "x.db");
+    relkvanu_store_close(opens(&options, RELKVANU_STORE_OK));
+    CHECK(report.epoch == 3, "epoch %" PRIu64, report.epoch);
+}
+
+/* On a full disk a job is recovered, so that its discarder can make room, and a new one is not made. */
+static void a_full_storage(void) {
+    relkvanu_store_options options = storage_options(RELKVANU_STORE_CREATE, 0);
+    fail_syncs("/storage/.relkvanu-job.new", ENOSPC);
+    opens(&options, RELKVANU_STORE_FULL);
+    fail_syncs("", 0);
+    relkvanu_store_close(opens(&options, RELKVANU_STORE_OK));
+    fail_syncs("/storage/.relkvanu-job.new", ENOSPC);
+    uint64_t epoch = report.epoch;
+    relkvanu_store_close(opens(&options, RELKVANU_STORE_OK));
+    CHECK(report.epoch == epoch + 1 && has("storage/.relkvanu-job"), "epoch %" PRIu64, report.epoch);
+}
+
+/* A file system that can't sync a folder keeps no files of a job. */
+static void a_folder_that_is_not_synced(void) {
+    relkvanu_store_options options = storage_options(RELKVANU_STORE_CREATE, 0);
+    fail_syncs("/storage", EINVAL);
+    opens(&options, RELKVANU_STORE_FAILED);
+    fail_syncs("", 0);
+    relkvanu_store *store = opens(&options, RELKVANU_STORE_OK);
+    relkvanu_storage storage;
+    uint64_t file = 7;
+    uint8_t outcome = 9;
+    CHECK(relkvanu_store_storage(store, &storage) == RELKVANU_STORE_OK, "the folder");
+    CHECK(relkvanu_store_put(store, file, "state", 5) == RELKVANU_STORE_OK, "a put");
+    fail_syncs("/storage", EINVAL);
+    CHECK(relkvanu_store_put(store, 8, "state", 5) == RELKVANU_STORE_NOT_PUT && errno == EINVAL && !has("storage/8"), "errno %d", errno);
+    CHECK(storage.delete_files(storage.with, &file, 1, &outcome) == RELKVANU_STORAGE_FAILED && errno == EINVAL, "errno %d", errno);
+    CHECK(outcome == RELKVANU_STORAGE_UNDELETED, "outcome %d", outcome);
+    relkvanu_store_close(store);
+}
+
+/* It might lead to the folder of another job, or to a file that is no marker. */
+static void a_marker_that_is_a_link(void) {
+    relkvanu_store_options options = storage_options(RELKVANU_STORE_CREATE, 0);
+    struct stat found;
+    make_file("elsewhere");
+    CHECK(symlink("../elsewhere", in("storage/.relkvanu-job.new")) == 0, "a link");
+    opens(&options, RELKVANU_STORE_STORAGE);
+    CHECK(says("a symbolic link is in the place of its marker: .relkvanu-job.new"), "%s", report.message);
+    CHECK(stat(in("elsewhere"), &found) == 0 && found.st_size == 0, "the link was followed");
+    unlink(in("storage/.relkvanu-job.new"));
+    relkvanu_store *store = opens(&options, RELKVANU_STORE_OK);
+    CHECK(relkvanu_store_put(store, 7, "state", 5) == RELKVANU_STORE_OK, "a put");
+    CHECK(rename(in("storage/.relkvanu-job"), in("marker")) == 0 && symlink("../marker", in("storage/.relkvanu-job")) == 0, "the marker");
+    CHECK(relkvanu_store_put(store, 8, "state", 5) == RELKVANU_STORE_STORAGE && !has("storage/8"), "a put beside a link");
+    relkvanu_storage storage;
+    uint64_t file = 7;
+    uint8_t outcome = 9;
+    CHECK(relkvanu_store_storage(store, &storage) == RELKVANU_STORE_OK, "the folder");
+    CHECK(storage.delete_files(storage.with, &file, 1, &outcome) == RELKVANU_STORAGE_NOT_THERE && has("storage/7"), "outcome %d", outcome);
+    relkvanu_store_close(store);
+    opens(&options, RELKVANU_STORE_STORAGE);
+    CHECK(says("a symbolic link is in the place of its marker: .relkvanu-job"), "%s", report.message);
+    CHECK(unlink(in("x.db")) == 0 && unlink(in("x.db-wal")) == 0 && unlink(in("marker")) == 0, "the job");
+    options.flags |= RELKVANU_STORE_ADOPT;
+    opens(&options, RELKVANU_STORE_STORAGE); /* the link leads nowhere now */
+    CHECK(says("the marker of another job") && !has("marker"), "%s", report.message);
+}
+
+/* Earlier versions wrote the first line alone. */
+static void a_marker_without_an_epoch(void) {
+    relkvanu_store_options options = storage_options(RELKVANU_STORE_CREATE, 0);
+    relkvanu_store_close(opens(&options, RELKVANU_STORE_OK));
+    FILE *marker = fopen(in("storage/.relkvanu-job"), "w");
+    CHECK(marker != NULL && fprintf(marker, "relkvanu job %016" PRIx64 "%016" PRIx64 "\n", report.job[0], report.job[1]) > 0 &&
+              fclose(marker) == 0,
+        "marker");
+    relkvanu_store_close(opens(&options, RELKVANU_STORE_OK));
+    CHECK(report.epoch == 2, "epoch %" PRIu64, report.epoch);
+}
+
+static int opens_task(const char *folder, const uint64_t job[2], uint64_t epoch) {
+    relkvanu_storage task;
+    int status = relkvanu_storage_open_task(&task, folder, job, epoch);
+    CHECK((task.with != NULL) == (status == RELKVANU_STORAGE_OK), "status %d", status);
+    relkvanu_storage_close_task(&task);
+    relkvanu_storage_close_task(&task);
+    return status;
+}
+
+/* A task in another process puts files into the store's folder until another opening has it, or the marker is away. */
+static void a_task_of_another_process(void) {
+    relkvanu_store_options options = storage_options(RELKVANU_STORE_CREATE, 0);
+    relkvanu_store *store = opens(&options, RELKVANU_STORE_OK);
+    uint64_t other[2] = {report.job[0], report.job[1] + 1}, epoch = report.epoch, len = 0;
+    char read[8] = "";
+    relkvanu_storage task;
+    CHECK(opens_task(in("nowhere"), report.job, epoch) == RELKVANU_STORAGE_NOT_THERE, "no folder");
+    CHECK(opens_task(in("."), report.job, epoch) == RELKVANU_STORAGE_NOT_THERE, "no marker");
+    CHECK(opens_task(in("storage"), other, epoch) == RELKVANU_STORAGE_OTHER_JOB, "another job");
+    CHECK(opens_task(in("storage"), report.job, epoch - 1) == RELKVANU_STORAGE_OTHER_JOB, "an earlier opening");
+    CHECK(relkvanu_storage_open_task(&task, in("storage"), report.job, epoch) == RELKVANU_STORAGE_OK, "a task");
+    CHECK(task.delete_files == NULL && task.list == NULL && task.check(task.with) == RELKVANU_STORAGE_OK, "a task deletes nothing");
+    CHECK(task.put(task.with, 7, "state", 5) == RELKVANU_STORAGE_OK && has("storage/7") && !has("storage/7.part"), "a put");
+    CHECK(task.put(task.with, 7, "other", 5) == RELKVANU_STORAGE_PRESENT, "a second put of the number");
+    CHECK(task.get(task.with, 7, read, sizeof read, &len) == RELKVANU_STORAGE_OK && len == 5 && strcmp(read, "state") == 0, "%s", read);
+    CHECK(task.get(task.with, 8, read, sizeof read, &len) == RELKVANU_STORAGE_ABSENT, "no file 8");
+    fail_syncs("/storage", EINVAL);
+    CHECK(task.put(task.with, 9, "state", 5) == RELKVANU_STORAGE_FAILED && errno == EINVAL && !has("storage/9"), "a folder without syncs");
+    fail_syncs("/storage", 0);
+    CHECK(rename(in("storage/.relkvanu-job"), in("marker")) == 0 && task.put(task.with, 10, "a", 1) == RELKVANU_STORAGE_NOT_THERE, "away");
+    CHECK(rename(in("marker"), in("storage/.relkvanu-job")) == 0 && task.put(task.with, 10, "a", 1) == RELKVANU_STORAGE_OK, "back");
+    relkvanu_store_close(store);
+    store = opens(&options, RELKVANU_STORE_OK);
+    CHECK(
+        task.put(task.with, 11, "a", 1) == RELKVANU_STORAGE_OTHER_JOB && !has("storage/11") && !has("storage/11.part"), "a later opening");
+    CHECK(task.check(task.with) == RELKVANU_STORAGE_OTHER_JOB, "a later opening");
+    relkvanu_storage_close_task(&task);
+    CHECK(opens_task(in("storage"), report.job, report.epoch) == RELKVANU_STORAGE_OK, "the task of the later opening");
+    relkvanu_store_close(store);
+}
+
+const struct test storage_cases[] = {{"a_folder_with_files", a_folder_with_files}, {"not_mounted", not_mounted},
+    {"of_another_job", of_another_job}, {"named_or_not", named_or_not}, {"one_folder_for_all", one_folder_for_all},
+    {"before_the_marker", before_the_marker}, {"an_older_copy", an_older_copy}, {"a_full_storage", a_full_storage},
+    {"a_folder_that_is_not_synced", a_folder_that_is_not_synced}, {"a_marker_that_is_a_link", a_marker_that_is_a_link},
+    {"a_marker_without_an_epoch", a_marker_without_an_epoch}, {"a_task_of_another_process", a_task_of_another_process}, {NULL, NULL}};

@@ -1,0 +1,374 @@
+#!/usr/bin/env python3
+"""recoveries.py COMMAND SHIM [ENGINE..]: loses the file of a job, and makes it again by `COMMAND recover`.
+
+- An engine (publishes.py) is killed at a random moment, LOSSES times. Each time its file is gone, and a job is made again. It goes on from the last
+  record that was complete, and in the end each input was published once. So are the engines of the pages, whose folders are exact then.
+- A recovery ends before or after each call that writes, or power is lost there: it did nothing or all, and the same command again makes the job.
+- So do an export and an import. The first job is as it was. So does a claim, after which the first job is refused.
+- What a command says when there is nothing to do.
+
+LOSSES in the environment is 10 unless it says another number. ONLY has the names of some of the tests. SEED chooses the moments; it is printed."""
+import os
+import pathlib
+import random
+import shutil
+import signal
+import subprocess
+import sys
+import tempfile
+import time
+
+sys.path.insert(0, str(pathlib.Path(__file__).resolve().parent.parent.parent / "faults"))
+from engines import recovers as runs_to
+from power import Journal, Loss, read_tree, write_tree
+from relkvanu import Settings
+from relkvanu.store import Store
+
+SEED = os.environ.get("SEED", str(time.time()))
+LOSSES, ROUNDS = int(os.environ.get("LOSSES", "10")), int(os.environ.get("ROUNDS", "1"))
+ENDS, LOST = 24, 8  # ends of a command, and ends of an export, an import and a claim where power is lost in two ways
+ENGINE = [sys.executable, str(pathlib.Path(__file__).resolve().parent / "publishes.py")]
+LONGEST = 600  # seconds of a process, on a busy machine
+INPUTS = 10 ** 9
+
+
+class Recoveries:
+    def __init__(self, command, shim, engines, work):
+        self.command, self.shim, self.engines, self.work, self.chance = command, shim, engines, work, random.Random(SEED)
+
+    def runs(self, *words, **env):
+        return subprocess.run([self.command, *words], env={**os.environ, **env}, stdout=subprocess.PIPE, stderr=subprocess.STDOUT, text=True, timeout=LONGEST)
+
+    def recovers(self, folder, **env):
+        return self.runs("recover", folder / "job.db", folder / "state", **env)
+
+    def killed(self, folder, seconds):
+        """Runs the engine, kills it after it has completed a record, and returns the last one that it said to be complete."""
+        with subprocess.Popen([*ENGINE, folder, str(INPUTS)], stdout=subprocess.PIPE, stderr=subprocess.PIPE, text=True) as process:
+            first = process.stdout.readline()
+            time.sleep(seconds)
+            process.send_signal(signal.SIGKILL)
+            told, wrong = process.stdout.read(), process.stderr.read()  # communicate() would lose what is read ahead
+        assert first and process.returncode == -signal.SIGKILL, (process.returncode, wrong)
+        whole = [it for it in (first + told).split("\n")[:-1] if it]
+        return int(whole[-1])
+
+    def ends(self, folder, inputs):
+        ran = subprocess.run([*ENGINE, folder, str(inputs)], stdout=subprocess.PIPE, stderr=subprocess.STDOUT, text=True, timeout=LONGEST)
+        assert ran.returncode == 0, ran.stdout
+
+
+def lose(folder):
+    for it in folder.glob("job.db*"):
+        it.unlink()
+
+
+def published(folder):
+    return [int(line) for it in (folder / "published").iterdir() for line in it.read_text().split()]
+
+
+def record_of(told):
+    """The record that a recovery says the job goes on from."""
+    return int(told.split("checkpoint ")[1].partition(",")[0])
+
+
+def lost_logs(it):
+    folder = it.work / "job"
+    folder.mkdir()
+    last = 0
+    for _ in range(LOSSES):
+        complete = it.killed(folder, it.chance.random() * it.chance.choice((0.02, 0.4)))
+        assert complete > last, (complete, last)
+        lose(folder)
+        told = it.recovers(folder)
+        assert told.returncode == 0, told.stdout
+        last = record_of(told.stdout)
+        assert last in (complete, complete + 1), (last, complete)  # a completion may not have been said
+    most = max(published(folder))
+    it.ends(folder, most + 20)
+    found = published(folder)
+    assert sorted(found) == list(range(most + 20)), f"{len(found)} inputs, {len(set(found))} of them others, up to {most + 20}"
+    print(f"store: {LOSSES} logs were lost, and {len(found)} inputs published once")
+
+
+def completes_some(engine, folder, seconds):
+    """Runs an engine of the pages, which says on the standard error what is complete, and kills it later. Returns the last number that it said."""
+    with subprocess.Popen([*engine, folder], stderr=subprocess.PIPE, text=True) as process:
+        lines = [process.stderr.readline() for _ in range(3)]
+        time.sleep(seconds)
+        process.send_signal(signal.SIGKILL)
+        told = "".join(lines) + process.stderr.read()  # communicate() would lose what is read ahead
+    whole = [line.split() for line in told.split("\n")[:-1] if line.startswith("record ") and line.endswith(" is complete")]
+    assert whole and process.returncode == -signal.SIGKILL, (process.returncode, told)
+    return int(whole[-1][1])
+
+
+def lost_engines(it):
+    """The engines of the pages: after each recovery they go on, and their folder has what the coordinator knows and nothing else."""
+    for nth, engine in enumerate(it.engines):
+        folder = it.work / f"engine-{nth}"
+        (folder / "state").mkdir(parents=True)
+        for _ in range(LOSSES):
+            complete = completes_some(engine, folder, it.chance.random() * 0.3)
+            lose(folder)
+            told = it.recovers(folder)
+            assert told.returncode == 0 and record_of(told.stdout) in (complete, complete + 1), (complete, told.stdout)
+            runs_to(folder, engine, int(told.stdout.split("numbers from ")[1].split()[0]) + 3)
+        print(f"store: {LOSSES} logs of {' '.join(engine[-1:]).rpartition('/')[2]} were lost")
+
+
+def base_of(it):
+    """A job that was killed, and whose file is lost."""
+    folder = it.work / "base"
+    folder.mkdir()
+    complete = it.killed(folder, 0.1)
+    lose(folder)
+    return folder, complete
+
+
+def goes_on(it, folder, complete):
+    """The same command makes the job, unless it is there. Each file of its choice is there."""
+    is_there = (folder / "job.db").exists()
+    told = it.recovers(folder)
+    assert told.returncode == is_there and ("there is a job" in told.stdout) == is_there, (is_there, told.stdout)
+    assert not list(folder.glob("*.relkvanu-new*")), list(folder.iterdir())
+    with Store(folder / "job.db", Settings(interval=10), [2], storage=folder / "state", manifests=True) as job, job.read() as reads:
+        choice = reads.choice()
+        assert choice.id in (complete, complete + 1), (choice, complete)
+        for task in range(2):
+            (file,) = reads.files_of(choice.id, 0, task)
+            assert (folder / "state" / str(file)).stat().st_size > 0, file
+
+
+def recovery(folder):
+    return "recover", folder / "job.db", folder / "state"
+
+
+def places_of(it, base, most, command=recovery):
+    """Some of the calls of a command that write, or all."""
+    count, folder = it.work / "count", it.work / "counted"
+    shutil.copytree(base, folder)
+    told = it.runs(*command(folder), LD_PRELOAD=it.shim, STORE_IN=str(folder), STORE_DIE=str(1 << 40), STORE_COUNT=str(count))
+    assert told.returncode == 0, told.stdout
+    shutil.rmtree(folder)
+    places = [(place, after) for place in range(1, int(count.read_text()) + 1) for after in ("0", "1")]
+    return places if ROUNDS == 0 else sorted(it.chance.sample(places, min(most * ROUNDS, len(places))))
+
+
+def ends_of(it, base, most, command, check):
+    """The command ends before or after some of its calls that write. Checks what each leaves."""
+    for place, after in places_of(it, base, most, command):
+        folder = it.work / f"{place}-{after}"
+        shutil.copytree(base, folder)
+        told = it.runs(*command(folder), LD_PRELOAD=it.shim, STORE_IN=str(folder), STORE_DIE=str(place), STORE_DIE_AFTER=after)
+        assert told.returncode != 0, f"no end at call {place}"
+        check(folder)
+        shutil.rmtree(folder)
+
+
+def losses_of(it, base, most, command, check):
+    """The same, and power is lost there: what was not synced is gone, or part of it is."""
+    for place, after in places_of(it, base, most, command):
+        for loss in (Loss.SYNCED, it.chance.choice(list(Loss))):
+            folder, journal = it.work / f"{place}-{after}", it.work / "journal"
+            journal.unlink(missing_ok=True)
+            shutil.copytree(base, folder)
+            on_disk = read_tree(folder)
+            it.runs(*command(folder), LD_PRELOAD=it.shim, STORE_IN=str(folder), STORE_DIE=str(place), STORE_DIE_AFTER=after, STORE_JOURNAL=str(journal))
+            journal.touch()
+            records = Journal.read(journal, folder, on_disk)
+            (lost,) = records.losses([(len(records.records), loss)], it.chance)
+            shutil.rmtree(folder)
+            write_tree(lost.tree, folder)
+            check(folder)
+            shutil.rmtree(folder)
+
+
+def at_each_end(it):
+    base, complete = base_of(it)
+    files = {file.name for file in (base / "state").iterdir()}
+
+    def check(folder):
+        assert files == {file.name for file in (folder / "state").iterdir()} - {".relkvanu-job.new"}, "a file of the storage"
+        goes_on(it, folder, complete)
+
+    ends_of(it, base, ENDS, recovery, check)
+
+
+def at_each_loss(it):
+    base, complete = base_of(it)
+    losses_of(it, base, ENDS // 2, recovery, lambda folder: goes_on(it, folder, complete))
+
+
+def export(folder):
+    return "export", folder / "state", folder / "out"
+
+
+def is_exported(it, folder, complete):
+    """The same command makes the folder, unless it is there. Its record is whole."""
+    is_there, told = (folder / "out").exists(), it.runs(*export(folder))
+    assert told.returncode == is_there and not (folder / "out.part").exists(), told.stdout
+    told = it.runs("show", folder / "out")
+    assert told.stdout.count("whole; ") == 1 and int(told.stdout.split("\n")[1].split()[0]) in (complete, complete + 1), told.stdout
+
+
+def exports_at_each_end(it):
+    base, complete = base_of(it)
+    ends_of(it, base, ENDS // 2, export, lambda folder: is_exported(it, folder, complete))
+
+
+def exports_at_each_loss(it):
+    base, complete = base_of(it)
+    losses_of(it, base, LOST, export, lambda folder: is_exported(it, folder, complete))
+
+
+def imports(folder):
+    return "import", folder / "state", folder / "new.db", folder / "new"
+
+
+def is_imported(it, folder, complete):
+    """The same command makes the job, unless it is there, and the first one is as it was."""
+    is_there, told = (folder / "new.db").exists(), it.runs(*imports(folder))
+    assert told.returncode == is_there and ("there is a job" in told.stdout) == is_there, told.stdout
+    assert not list(folder.glob(".new.db.relkvanu-new*")) and not (folder / "new.part").exists(), list(folder.iterdir())
+    with Store(folder / "new.db", Settings(interval=10), [2], storage=folder / "new", manifests=True) as job, job.read() as reads:
+        assert reads.choice().id in (complete, complete + 1), reads.choice()
+        for task in range(2):
+            assert (folder / "new" / str(*reads.files_of(reads.choice().id, 0, task))).stat().st_size > 0
+    assert it.recovers(folder).returncode == 0, "the first job"
+
+
+def imports_at_each_end(it):
+    base, complete = base_of(it)
+    ends_of(it, base, ENDS, imports, lambda folder: is_imported(it, folder, complete))
+
+
+def imports_at_each_loss(it):
+    base, complete = base_of(it)
+    losses_of(it, base, LOST, imports, lambda folder: is_imported(it, folder, complete))
+
+
+def claim(folder):
+    return "import", "--claim", folder / "state", folder / "new.db", folder / "new"
+
+
+def is_claimed(it, folder, complete):
+    """The same command goes on. The record is in the new folder, and nowhere else."""
+    ended, told = (folder / "new.db").exists(), it.runs(*claim(folder))
+    assert told.returncode == 0 or (ended and "there is a job" in told.stdout), told.stdout  # it had done all but say so
+    assert not list(folder.glob(".new.db.relkvanu-new*")) and not (folder / "new.part").exists(), list(folder.iterdir())
+    with Store(folder / "new.db", Settings(interval=10), [2], storage=folder / "new", manifests=True) as job, job.read() as reads:
+        assert reads.choice().id in (complete, complete + 1), reads.choice()
+        used = [file for task in range(2) for file in reads.files_of(reads.choice().id, 0, task)]
+    assert all((folder / "new" / str(file)).stat().st_size > 0 for file in used), used
+    assert not [file for file in used if (folder / "state" / str(file)).exists()], used
+    told = it.recovers(folder)
+    assert told.returncode == 1 and "no record" in told.stdout, told.stdout  # it has left
+
+
+def claims_at_each_end(it):
+    """The files leave the first job's folder once those of the second one are there, and not before. In the end that folder has none of them, and its job is
+    refused."""
+    base, complete = base_of(it)
+    ends_of(it, base, ENDS, claim, lambda folder: is_claimed(it, folder, complete))
+
+
+def claims_at_each_loss(it):
+    base, complete = base_of(it)
+    losses_of(it, base, LOST, claim, lambda folder: is_claimed(it, folder, complete))
+
+
+def claim_in_place(folder):
+    return "import", "--claim", folder / "out", folder / "new.db", folder / "out"
+
+
+def is_claimed_in_place(it, folder, complete):
+    """The same command makes the job, unless it is there."""
+    is_there, told = (folder / "new.db").exists(), it.runs(*claim_in_place(folder))
+    assert told.returncode == is_there, told.stdout
+    with Store(folder / "new.db", Settings(interval=10), [2], storage=folder / "out", manifests=True) as job, job.read() as reads:
+        assert reads.choice().id in (complete, complete + 1), reads.choice()
+        for task in range(2):
+            assert (folder / "out" / str(*reads.files_of(reads.choice().id, 0, task))).stat().st_size > 0
+
+
+def exported_base(it):
+    base, complete = base_of(it)
+    assert it.runs("export", base / "state", base / "out").returncode == 0
+    return base, complete
+
+
+def claims_in_place_at_each_end(it):
+    base, complete = exported_base(it)
+    ends_of(it, base, ENDS // 2, claim_in_place, lambda folder: is_claimed_in_place(it, folder, complete))
+
+
+def claims_in_place_at_each_loss(it):
+    base, complete = exported_base(it)
+    losses_of(it, base, ENDS // 2, claim_in_place, lambda folder: is_claimed_in_place(it, folder, complete))
+
+
+def the_old_job_of_a_claim(it):
+    """Its file is there, and is refused for ever."""
+    folder = it.work / "claimed"
+    folder.mkdir()
+    complete = it.killed(folder, 0.1)
+    told = it.runs("import", "--claim", folder / "state", folder / "new.db", folder / "new")
+    assert told.returncode == 0 and record_of(told.stdout) in (complete, complete + 1), told.stdout
+    for _ in range(2):
+        told = subprocess.run([*ENGINE, folder, "10"], stdout=subprocess.PIPE, stderr=subprocess.STDOUT, text=True, timeout=LONGEST)
+        assert told.returncode != 0 and "older copy" in told.stdout, told.stdout
+
+
+def after_a_whole_one(it):
+    """Power is lost once the command has ended: the job is there."""
+    base, _ = base_of(it)
+    folder, journal = it.work / "whole", it.work / "journal"
+    shutil.copytree(base, folder)
+    on_disk = read_tree(folder)
+    told = it.recovers(folder, LD_PRELOAD=it.shim, STORE_IN=str(folder), STORE_JOURNAL=str(journal))
+    assert told.returncode == 0, told.stdout
+    records = Journal.read(journal, folder, on_disk)
+    (lost,) = records.losses([(len(records.records), Loss.SYNCED)], it.chance)
+    shutil.rmtree(folder)
+    write_tree(lost.tree, folder)
+    with Store(folder / "job.db", Settings(interval=10), [2], storage=folder / "state") as job:
+        assert job.report.is_recovered and job.report.choice.id == record_of(told.stdout), job.report
+
+
+def what_it_says(it):
+    folder, complete = base_of(it)
+    told = it.runs("show", folder / "state")
+    assert told.returncode == 0 and "whole; a recovery or an import begins from it" in told.stdout, told.stdout
+    assert any(line.split()[0] == str(complete) or line.split()[0] == str(complete + 1) for line in told.stdout.splitlines()[1:]), told.stdout
+    for words, status, text in ((("show",), 2, "relkvanu-store show FOLDER"), (("show", folder / "nowhere"), 1, "No such file"),
+                                (("recover", folder / "job.db", folder / "state", "x"), 2, "recover JOB FOLDER"),
+                                (("recover", folder / "job.db", folder / "state", "999"), 1, "no record"),
+                                (("recover", folder / "job.db", folder), 1, "no marker"), (("--version",), 0, "relkvanu-store 0."), (("--help",), 0, "show FOLDER")):
+        told = it.runs(*words)
+        assert told.returncode == status and text in told.stdout, (words, told.returncode, told.stdout)
+    assert it.recovers(folder).returncode == 0
+    told = it.recovers(folder)
+    assert told.returncode == 1 and "there is a job" in told.stdout, told.stdout
+
+
+TESTS = (what_it_says, after_a_whole_one, at_each_end, at_each_loss, exports_at_each_end, exports_at_each_loss, imports_at_each_end, imports_at_each_loss,
+         claims_at_each_end, claims_at_each_loss, claims_in_place_at_each_end, claims_in_place_at_each_loss, the_old_job_of_a_claim, lost_logs, lost_engines)
+
+
+def main(command, shim, *engines):
+    failed, only = 0, os.environ.get("ONLY", "").split()
+    for test in [it for it in TESTS if not only or it.__name__ in only]:
+        with tempfile.TemporaryDirectory() as name:
+            try:
+                test(Recoveries(pathlib.Path(command).resolve(), str(pathlib.Path(shim).resolve()), [it.split() for it in engines], pathlib.Path(name)))
+            except AssertionError as wrong:
+                print(f"{test.__name__}: {wrong}")
+                failed += 1
+    print(f"store: the recoveries have SEED={SEED}")
+    print(f"{len(only or TESTS) - failed} passed, {failed} failed")
+    return failed != 0
+
+
+if __name__ == "__main__":
+    sys.exit(main(*sys.argv[1:]))
