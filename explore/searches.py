@@ -9,7 +9,7 @@ from dataclasses import dataclass
 TOP = pathlib.Path(__file__).resolve().parent.parent
 # Far more than a search of the gate takes on a busy machine: only what hangs takes as long.
 MOST_SECONDS = 3600
-PYTHON = TOP / "embed/python"
+PYTHON = TOP / "bindings/python"
 RESULT = re.compile("# (fault|holds|cut|seen) ")
 # What the reader of traces says of a fault that the explorer names.
 FAULTS = {"lost": "file {} is lost", "overwritten": "file {} is overwritten", "mixed": "record {} is done, and has a part", "left": "file {} is left",

@@ -1,8 +1,10 @@
 //! The command line.
-use crate::ask::{Ask, Names};
+use crate::ask::Ask;
+use crate::carry::{Export, Import, Keep, Recover};
 use crate::config::LogForm;
+use crate::files::{Names, Where};
 use crate::http::{is_name, NO_NAME};
-use clap::{Args, Parser, Subcommand};
+use clap::{ArgGroup, Args, Parser, Subcommand};
 use clap_complete::Shell;
 use std::net::SocketAddr;
 use std::path::PathBuf;
@@ -20,9 +22,9 @@ pub struct Cli {
 pub enum Command {
     /// Serve jobs over HTTP
     Serve(Serve),
-    /// Delete the files that a job hands out, from a folder in which a file's number is its name
+    /// Delete the files that a job hands out, from a folder or a bucket in which a file's number is in its name
     Discard(Discard),
-    /// Find the garbage of a folder, whose names a job gave out and nobody will ever use, and delete it
+    /// Find the garbage of a folder or a bucket, whose names a job gave out and nobody will ever use, and delete it
     Sweep(Sweep),
     /// Copy an SQLite database while a service runs over it
     Backup(Backup),
@@ -30,6 +32,14 @@ pub enum Command {
     Check(Check),
     /// Move the log of an SQLite database, over which no service runs, to an empty PostgreSQL database
     Move(Move),
+    /// Write the manifests of a job's complete records beside its files, of which `recover` makes the job again
+    Keep(Keep),
+    /// Carry a complete record out of a job, which may run
+    Export(Export),
+    /// Make a job of a record that was carried out of another one, or of the storage of a durable coordinator
+    Import(Import),
+    /// Make a job again that the database has lost, of the manifests beside its files
+    Recover(Recover),
     #[command(flatten)]
     Ask(Ask),
     /// Print a script that completes the words of this program in a shell
@@ -86,10 +96,10 @@ pub struct Serve {
 }
 
 #[derive(Args)]
+#[command(group(ArgGroup::new("where").required(true).args(["folder", "bucket"])))]
 pub struct Discard {
-    /// The folder of the files, which has a file .relkvanu-NAME of this job; the first run makes it
-    #[arg(long, value_name = "DIR")]
-    pub folder: PathBuf,
+    #[command(flatten)]
+    pub place: Where,
     /// The job
     #[arg(long, value_name = "NAME")]
     pub job: String,
@@ -104,7 +114,7 @@ pub struct Discard {
     /// Stop when no file waits
     #[arg(long)]
     pub once: bool,
-    /// Mark the folder as this job's, if an earlier run did not
+    /// Mark the folder or the bucket as this job's, if an earlier run did not
     #[arg(long)]
     pub init: bool,
     /// Go on if all files of a take are absent
@@ -116,13 +126,13 @@ pub struct Discard {
 }
 
 #[derive(Args)]
+#[command(group(ArgGroup::new("where").required(true).args(["folder", "bucket"])))]
 pub struct Sweep {
     /// The job, which gives out names
     #[arg(value_parser = job_name)]
     pub job: String,
-    /// The folder of the files, which has a file .relkvanu-NAME of this job
-    #[arg(long, value_name = "DIR")]
-    pub folder: PathBuf,
+    #[command(flatten)]
+    pub place: Where,
     #[command(flatten)]
     pub names: Names,
     /// Delete the garbage; otherwise it is printed alone

@@ -1,30 +1,32 @@
-//! `relkvanu`: serves checkpoint coordinators over HTTP, asks a service, deletes the files that jobs hand out, and copies, checks and
-//! moves a database.
+//! `relkvanu`: serves checkpoint coordinators over HTTP, asks a service, deletes the files that jobs hand out, carries records, and copies,
+//! checks and moves a database.
 mod ask;
 mod auth;
 mod backup;
+mod carry;
 mod check;
 mod cli;
 mod config;
 mod database;
 mod discard;
 mod exit;
-mod exposed;
+mod files;
 mod history;
 mod http;
 mod leader;
 mod log;
 mod metrics;
+mod metrics_server;
 mod model;
 mod moving;
 mod process;
 mod remote;
 mod serve;
 mod sharing;
-mod starting;
 mod stop;
 mod store;
 mod sweep;
+mod systemd_start;
 mod writer;
 
 use clap::{CommandFactory, Parser};
@@ -41,6 +43,7 @@ fn main() -> ExitCode {
         Command::Backup(given) => backup::run(&given),
         Command::Check(given) => check::run(&given),
         Command::Move(given) => moving::run(&given),
+        Command::Keep(_) | Command::Export(_) | Command::Import(_) | Command::Recover(_) => carry::run(),
         Command::Ask(given) => ask::run(&given),
         Command::Completions { shell } => {
             let mut script = Vec::new();

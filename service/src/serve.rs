@@ -3,7 +3,7 @@ use crate::cli;
 use crate::config::{Config, Leading, LogForm};
 use crate::database::Database;
 use crate::exit;
-use crate::history::{Door, Historian, Place};
+use crate::history::{Door, Historian, HistoryFile};
 use crate::http::{self, App, Audit, Bodies, Keys, Others, Tls};
 use crate::leader::Leader;
 use crate::log;
@@ -11,9 +11,9 @@ use crate::metrics::Metrics;
 use crate::model::wall;
 use crate::process;
 use crate::sharing::{Owners, Sharer, State};
-use crate::starting::Starting;
 use crate::stop::Stop;
 use crate::store::{count_no_memory, DbError, Lite, LiteReader, Pg, PgReader, Reader, Shares, Store, Unusable};
+use crate::systemd_start::Starting;
 use crate::writer::{queue, Board, Inbox, Message, Messages};
 use sd_notify::NotifyState;
 use std::collections::HashSet;
@@ -85,12 +85,12 @@ struct Shared {
     board: Arc<Board>,
     metrics: Arc<Metrics>,
     inbox: Inbox,
-    history: Arc<Place>,
+    history: Arc<HistoryFile>,
 }
 
 impl Shared {
     fn new(config: &Config) -> Result<(Shared, Messages), Stop> {
-        let history = Arc::new(Place::new(config.history.clone()));
+        let history = Arc::new(HistoryFile::new(config.history.clone()));
         let (board, metrics) = (Arc::new(Board::new()), Arc::new(Metrics::new()?));
         let (inbox, messages) = queue(config.limits.queue, &metrics);
         Ok((Shared { board, metrics, inbox, history }, messages))
@@ -106,7 +106,7 @@ impl Shared {
             reader: Arc::new(Mutex::new(open_reader(config)?)),
             events: Arc::new(Mutex::new(open_reader(config)?)),
             history: Arc::new(Mutex::new(Door::new(Arc::clone(&self.history)))),
-            place: Arc::clone(&self.history),
+            history_file: Arc::clone(&self.history),
             keys,
             audit: Audit::new(config.log_requests),
             bodies: Bodies::of(&config.limits),
@@ -118,7 +118,7 @@ impl Shared {
 
     fn historian(&self, config: &Config) -> Result<Historian, Stop> {
         Ok(Historian {
-            place: Arc::clone(&self.history),
+            file: Arc::clone(&self.history),
             reader: open_reader(config)?,
             board: Arc::clone(&self.board),
             metrics: Arc::clone(&self.metrics),

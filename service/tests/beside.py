@@ -31,6 +31,12 @@ class Caller(threading.Thread):
             self.job.calls([{"call": "reserve", "term": self.term, "count": 1}])
             self.times.append(time.monotonic() - began)
 
+    def await_calls(self, count=500):
+        """Waits for so many more calls."""
+        wanted = len(self.times) + count
+        while len(self.times) < wanted:
+            time.sleep(0.01)
+
     def row(self, name, work):
         """What the calls took while this was done."""
         before = len(self.times)
@@ -101,9 +107,9 @@ def main(jobs=10_000):
             ("30 looks of the page", lambda: repeated(server, "/v1/view", 30)),
             ("20 connections that announce 8 MiB and send a byte now and then", lambda: slow_senders(server)),
         ):
-            caller.row("nothing", lambda: time.sleep(6))
+            caller.row("nothing", caller.await_calls)
             caller.row(name, work)
-        caller.row("nothing", lambda: time.sleep(6))
+        caller.row("nothing", caller.await_calls)
         caller.over.set()
         caller.join()
         server.stop()

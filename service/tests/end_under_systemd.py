@@ -9,13 +9,13 @@ import sys
 from under_systemd import WRITE, as_the_page_says, install, is_ready, property_of, request, run, until
 
 sys.path.insert(0, "/try")
-from relkvanu_service import Service, savepoint  # noqa: E402
+from relkvanu_service import Service, cancel, dispose, savepoint  # noqa: E402
 
 FOLDER, MARKER = "/srv/orders", ".relkvanu-orders"
 UNITS = ("relkvanu-discard@orders", "relkvanu-sweep@orders")
 SETTINGS = [f"/etc/systemd/system/{unit}.service.d" for unit in UNITS] + ["/etc/relkvanu/discard-orders.conf", "/etc/relkvanu/sweep-orders.conf"]
 NOTES = "/var/lib/relkvanu-savepoint/orders"
-# How many records a job has here. The pages save the last, and dispose of savepoint 12.
+# How many records a job has here. The pages carry the last one out, and one before it is savepoint 12.
 RECORDS = 40
 DROP_IN = "/etc/systemd/system/relkvanu-backup.service.d/10-savepoints.conf"
 
@@ -65,7 +65,7 @@ def worked(**settings):
 
 
 def no_savepoints_before_backups():
-    """Step 2, which has no block: the lines of the job go out of the drop-in, and its folder goes. Then a backup needs no savepoint of it."""
+    """The part of step 1 that has no block: the lines of the job go out of the drop-in, and its folder goes. Then a backup needs no savepoint of it."""
     with open(DROP_IN, encoding="utf-8") as it:
         lines = [line for line in it.read().splitlines() if "orders" not in line]
     with open(DROP_IN, "w", encoding="utf-8") as it:
@@ -75,21 +75,7 @@ def no_savepoints_before_backups():
     run("systemctl", "start", "relkvanu-backup")
 
 
-def has_left(in_use):
-    """Whether the discarder has nothing to do any more, by the command of step 4."""
-    told = as_the_page_says("show")
-    found = re.search(r"(\d+) in use, (\d+) waiting, (\d+) taken", told)
-    assert found, told
-    return tuple(map(int, found.groups())) == (in_use, 0, 0)
-
-
-def ended(in_use):
-    """Steps 3 to 6. So many files stay in use."""
-    assert re.search(r"^12 +savepoint", as_the_page_says("cancel"), re.MULTILINE)
-    until(lambda: has_left(in_use))
-    until(lambda: re.search(r"\bgarbage=0\b", as_the_page_says("garbage")))
-    assert len(files()) == in_use, files()
-    as_the_page_says("units")
+def are_disabled():
     for unit in UNITS:
         assert run("systemctl", "is-enabled", unit, check=False) == "disabled" and property_of("ActiveState", unit) != "active", unit
     assert not [path for path in SETTINGS if os.path.exists(path)]
@@ -99,41 +85,34 @@ def is_gone():
     return request("GET", "/v1/jobs/orders")[0] == 404
 
 
-def drop_marker():
-    """Step 8: what is left are the marker and the files beside it."""
-    assert not files()
-    left = os.listdir(FOLDER)
-    assert MARKER in left and all(name.startswith(MARKER) for name in left), left
-    for name in left:
-        os.remove(f"{FOLDER}/{name}")
-
-
 def check_the_end_of_a_job():
     worked()
     os.makedirs(NOTES, exist_ok=True)
     no_savepoints_before_backups()
-    ended(0)
-    as_the_page_says("delete")
-    assert is_gone()
-    drop_marker()
+    assert "job orders has ended" in as_the_page_says("end")
+    are_disabled()
+    assert is_gone() and not os.listdir(FOLDER), os.listdir(FOLDER)
     return RECORDS + 1
 
 
 def check_a_job_that_keeps_its_checkpoints():
-    """Its record is saved, and the job goes without it. Its files stay until somebody deletes them."""
-    worked(keep_on_cancel=True)
-    ended(1)
+    """The end of a job is refused once it was cancelled so. Its record is carried out, and the job goes without its file, which stays until somebody deletes it."""
+    job = worked(keep_on_cancel=True)
+    job.call(cancel())
+    assert "so it keeps its checkpoints" in as_the_page_says("end", status=1)
+    are_disabled()
     as_the_page_says("save")
-    with open("orders-40.json", encoding="utf-8") as it:
-        saved = json.load(it)["live"]["acks"]
-    kept = [f"state-{name}.bin" for ack in saved for name in ack["files"]]
-    assert [ack["subtask"] for ack in saved] == ["0.0"] and kept == files(), (saved, files())
+    job.call(dispose(12))
+    place = ("--folder", FOLDER, "--prefix", "state-", "--suffix", ".bin", "--token-file", "/etc/relkvanu/write-token")
+    run("relkvanu", "discard", "--once", "--job", "orders", *place)
+    run("relkvanu", "sweep", "orders", "--delete", *place)
+    kept = files()
+    assert len(kept) == 1 and sorted(os.listdir("/srv/kept/orders-40")) == sorted([kept[0][len("state-"):-len(".bin")], "record-40.manifest"]), kept
     assert "files of the job are left" in run("relkvanu", "delete", "orders", "--token-file", "/etc/relkvanu/write-token", check=False)
     as_the_page_says("abandon")
     assert is_gone() and kept == files()
-    for name in kept:
+    for name in os.listdir(FOLDER):
         os.remove(f"{FOLDER}/{name}")
-    drop_marker()
     return len(kept)
 
 
@@ -157,6 +136,8 @@ def main():
     until(is_ready)
     run("useradd", "--system", "orders")
     os.makedirs(FOLDER)
+    os.makedirs("/srv/kept")
+    os.environ.update(PYTHONPATH="/try", RELKVANU_LIB="/try/library")
     shutil.chown(FOLDER, "orders")
     as_the_page_says("timer")
     as_the_page_says("savepoint units")

@@ -22,7 +22,7 @@ from run import Skipped
 HERE = os.path.dirname(os.path.realpath(__file__))
 SERVICE = os.path.dirname(HERE)
 TOP = os.path.dirname(SERVICE)
-sys.path[:0] = [f"{SERVICE}/client/python", f"{TOP}/embed/python"]
+sys.path[:0] = [f"{SERVICE}/client/python", f"{TOP}/bindings/python"]
 
 # Where service/build puts the library, for the Python package.
 os.environ.setdefault("RELKVANU_LIB", f"{SERVICE}/target/library")

@@ -5,21 +5,21 @@ import struct
 import subprocess
 import time
 
-from harness import HERE, TOP
+from harness import TOP
 
-SHIM = f"{TOP}/embed/store/tests/shim"
+SHIM = "shim"
 
 
 def built(at, name):
-    """Compiles NAME.c of this folder, or of the path that the name is, and returns the library's path."""
-    library = f"{at}/{os.path.basename(name)}.so"
-    subprocess.run(["cc", "-std=gnu11", "-O1", "-shared", "-fPIC", "-o", library, f"{os.path.join(HERE, name)}.c", "-ldl"], check=True)
+    """Compiles faults/NAME.c, and returns the library's path."""
+    library = f"{at}/{name}.so"
+    subprocess.run(["cc", "-std=gnu11", "-O1", "-shared", "-fPIC", "-o", library, f"{TOP}/faults/{name}.c", "-ldl"], check=True)
     os.chmod(library, 0o755)
     return library
 
 
 def shim(library, below, **given):
-    """Words before those of a process, whose files below a path meet what embed/store/tests/shim.c says."""
+    """Words before those of a process, whose files below a path meet what faults/shim.c says."""
     named = {"IN": os.path.realpath(below), **given}
     return ["env", f"LD_PRELOAD={library}", *(f"STORE_{name.upper()}={value}" for name, value in named.items())]
 

@@ -1,4 +1,4 @@
-"""Dask over the service: the fault test of embed/dask, whose tasks are killed in the middle of checkpoints, and the service again and again; and
+"""Dask over the service: the fault test of engines/dask, whose tasks are killed in the middle of checkpoints, and the service again and again; and
 checkpoints of relkvanu.daskstream, whose drivers are lost with all that they have."""
 import json
 import os
@@ -15,7 +15,7 @@ from test_events import Copy
 from test_operate import ran
 from writers import check_made
 
-FAULT_TEST = f"{TOP}/embed/dask/run"
+FAULT_TEST = f"{TOP}/engines/dask/run"
 SHAPE = [2, 6, 3]
 LONGEST = 900  # seconds, on a busy machine
 MOST = 20  # kills; on a busy machine the engine may not get on between two of them
@@ -98,7 +98,7 @@ def refused(kind, function, *words):
 
 def test_a_driver_over_dask_whose_job_another_one_has_begun():
     """No library is loaded, and no driver has a file of its own."""
-    sys.path.append(f"{TOP}/embed/python")
+    sys.path.append(f"{TOP}/bindings/python")
     try:
         from relkvanu.jobs import Superseded
         from relkvanu.parts import Failed, PartError
@@ -155,7 +155,7 @@ def stopped_at(work, *words):
 
 def test_a_driver_over_dask_whose_job_is_stopped_and_begun():
     """By commands, and by the driver. The service is killed in each phase."""
-    sys.path.append(f"{TOP}/embed/python")
+    sys.path.append(f"{TOP}/bindings/python")
     try:
         from relkvanu.parts import Failed
     except ImportError as error:
@@ -219,16 +219,16 @@ def test_stops_of_a_stream_over_dask_while_all_are_killed():
 
 
 def test_a_stream_over_dask_whose_driver_and_service_are_killed():
-    """embed/distributed/kills.py: each driver begins without a file."""
+    """engines/distributed/kills.py: each driver begins without a file."""
     return killed(os.environ.get("RELKVANU_DASK_KILLS", "1"))
 
 
 def killed(kills, *options):
     if subprocess.run(["/usr/bin/python3", "-c", "import streamz, distributed, pandas, xxhash"], stderr=subprocess.DEVNULL, check=False).returncode:
-        raise Skipped("python3-streamz", "not all packages of embed/distributed/setup are here")
+        raise Skipped("python3-streamz", "not all packages of engines/distributed/setup are here")
     with folder() as at:
-        words = ["/usr/bin/python3", f"{TOP}/embed/distributed/kills.py", "words", kills, "1", f"{at}/words", "--service", PROGRAM, *options]
-        paths = ("embed/python", "embed/distributed", "service/client/python")
+        words = ["/usr/bin/python3", f"{TOP}/engines/distributed/kills.py", "words", kills, "1", f"{at}/words", "--service", PROGRAM, *options]
+        paths = ("bindings/python", "engines/distributed", "service/client/python")
         told = subprocess.run(words, stdout=subprocess.PIPE, stderr=subprocess.STDOUT, text=True, check=False, timeout=LONGEST,
                               env={**os.environ, "PYTHONPATH": ":".join(f"{TOP}/{it}" for it in paths), "RELKVANU_LIB": "/nowhere"})
         assert told.returncode == 0, told.stdout[-3000:]

@@ -1,87 +1,14 @@
-"""A discarder that is started with a wrong suffix: it refuses before anything is reported, and keeps what it says to other jobs. In both
-languages."""
+"""A discarder that is started with a wrong suffix: it refuses before anything is reported, and keeps what it says to other jobs."""
 import json
-import os
-import sys
-import tempfile
+import shutil
 import time
 
-from harness import TOP, free_port, until
+from harness import free_port, until
+from run import Skipped
 from test_discard_folder import a_job, counts, discard, ended, files_of, present
-
-sys.path.insert(0, f"{TOP}/embed/python")
-
-MARKER = "relkvanu discard deletes files of the job {}, opened at {}, from this folder.\n"
-
-
-class Reports:
-    """A job that notes the calls which are made."""
-
-    def __init__(self):
-        self.made = []
-
-    def calls(self, calls):
-        self.made += calls
-
-
-def folders(at, suffixes):
-    """A folder of the job `orders` with three files, for each of these suffixes."""
-    from relkvanu.storage import Folder, Marker
-
-    marker = Marker(".relkvanu-orders", MARKER.format("orders", 1))
-    for name, text in ((marker.name, marker.text), *((f"state-{number}.bin", "x") for number in (1, 2, 3))):
-        with open(f"{at}/{name}", "w", encoding="utf-8") as it:
-            it.write(text)
-    return [Folder(at, "orders", prefix="state-", suffix=suffix, marker=marker) for suffix in suffixes]
-
-
-def test_a_wrong_suffix_reports_nothing_in_Python():
-    from relkvanu.discard import Discarder, NoneThere
-
-    with tempfile.TemporaryDirectory() as at:
-        job = Reports()
-        wrong, right = folders(at, (".dat", ".bin"))
-        try:
-            raise AssertionError(Discarder(job, wrong).discard([1, 2, 3]))
-        except NoneThere as error:
-            assert "state-1.dat" in str(error) and "--allow-absent" in str(error), error
-        there = {"state-1.bin", "state-2.bin", "state-3.bin"}
-        assert job.made == [] and there <= set(os.listdir(at)), (job.made, os.listdir(at))
-        # one that was killed before it reported finds them absent, and knows why
-        assert Discarder(job, right).discard([1, 2]) == 0
-        assert Discarder(job, right).discard([1, 2]) == 0
-        assert [it["call"] for it in job.made] == ["deleted"] * 4 and "state-3.bin" in os.listdir(at), job.made
-        # files that were never there, if somebody says so
-        assert Discarder(job, right, allow_absent=True).discard([7, 8]) == 0
-        return "nothing is reported, and three files stay"
-
-
-def test_a_wrong_suffix_keeps_other_jobs_out_in_Python():
-    from relkvanu.others import OthersFiles, check_names, forget_names, say_names
-    from relkvanu.storage import Folder, Marker, Names
-
-    with tempfile.TemporaryDirectory() as at:
-        orders = folders(at, (".bin",))[0]
-        bills = Marker(".relkvanu-bills", MARKER.format("bills", 2))
-        with open(f"{at}/{bills.name}", "w", encoding="utf-8") as it:
-            it.write(bills.text)
-        bills = Folder(at, "bills", prefix="state-", suffix=".bin", marker=bills)
-        right, wrong = Names("state-", ".bin"), Names("state-", ".dat")
-        assert say_names(orders, "orders", right) is True and say_names(orders, "orders", right) is False
-        for refused in (lambda: say_names(orders, "orders", wrong), lambda: check_names(bills, "bills", right)):
-            try:
-                refused()
-                raise AssertionError("it was not refused")
-            except OthersFiles as error:
-                assert ".relkvanu-orders" in str(error), error
-        # a first start with wrong names leaves none
-        forget_names(orders, "orders")
-        assert say_names(orders, "orders", wrong) is True
-        return "refused, and another job too"
 
 
 def test_a_wrong_suffix_of_a_job_that_is_known():
-    """The same by `relkvanu discard`."""
     with a_job() as (server, job, folder):
         files_of(job, folder, 100, 20)
         ended(discard(server, folder, "--once"), 0, "deleted=20")
@@ -94,6 +21,24 @@ def test_a_wrong_suffix_of_a_job_that_is_known():
         assert present(folder) == files and counts(job) == (5, 0), (present(folder), counts(job))
         ended(discard(server, folder, "--once"), 0, "deleted=5")
         return "refused before a file is taken"
+
+
+def test_names_that_are_not_synced():
+    """They are not written, and those before them stay."""
+    if not shutil.which("strace"):
+        raise Skipped("strace", "it is not here")
+    with a_job() as (server, _, folder):
+        ended(discard(server, folder, "--once", "--init"), 0, "is marked")
+        with open(f"{folder}/.relkvanu-a.names", encoding="utf-8") as it:
+            said = it.read()
+        failing = ["strace", "-f", "-qq", "-o", "/dev/null", "-e", "trace=fsync", "-e", "inject=fsync:error=EIO:when=1"]
+        ended(discard(server, folder, "--once", "--init", prefix="t-", before=failing), 0, "how the files are named can't be written")
+        with open(f"{folder}/.relkvanu-a.names", encoding="utf-8") as it:
+            assert it.read() == said
+        ended(discard(server, folder, "--once", "--init", prefix="t-"), 0, "")
+        with open(f"{folder}/.relkvanu-a.names", encoding="utf-8") as it:
+            assert json.load(it) == {"prefix": "t-", "suffix": ""}
+        return "those before them stay"
 
 
 def test_a_second_discarder_waits_for_the_first():

@@ -71,7 +71,7 @@ def nights(listing):
             ran(script(at), at, environment)
             ran(f"touch {at}/backups/$(date).{kind}; rm new", at, environment)
 
-        # one that is not whole is none
+        # one that is not whole does not count
         open(f"{at}/backups/20200101T000000Z.dump.part", "w", encoding="utf-8").close()
         for _ in range(3):
             night("dump")

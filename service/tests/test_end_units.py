@@ -11,9 +11,8 @@ from test_unit import BOOT, booted, commands
 
 # The text before each block.
 PLACES = {
-    "cancel": "3. **Cancel the job**, also one that has failed", "show": "4. **Let the [discarder]", "garbage": "5. **Delete the garbage**: repeat this",
-    "units": "6. **Disable the units** of the job", "delete": "7. **Delete the job.** With `keep_on_cancel`", "abandon": "**To delete them**, delete all files",
-    "save": "**To keep them**, leave out steps 7 and 8", "move": "2. On the old machine stop and disable the timer of backups",
+    "end": "2. **End the job.** If the command is killed", "abandon": "**To delete them**, delete all files",
+    "save": "**To keep them**, [export each record]", "move": "2. On the old machine stop and disable the timer of backups",
 }
 
 
@@ -38,6 +37,8 @@ def test_the_end_of_a_job_and_a_move():
         raise Skipped("root and systemd-nspawn", "systemd can't be booted here")
     with folder() as at:
         shutil.copy(f"{SERVICE}/client/python/relkvanu_service.py", at)
+        shutil.copytree(f"{TOP}/bindings/python/relkvanu", f"{at}/relkvanu")
+        shutil.copytree(os.environ["RELKVANU_LIB"], f"{at}/library")
         for name, text in [("try.service", BOOT.replace("/under_systemd.py", "/end_under_systemd.py")), ("commands", json.dumps(commands() | blocks()))]:
             with open(f"{at}/{name}", "w", encoding="utf-8") as it:
                 it.write(text)

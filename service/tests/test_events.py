@@ -203,7 +203,7 @@ def test_the_dask_fault_test_over_a_cut():
         raise Skipped("python3-distributed", "it is not here")
     with served(args=CUTTING) as server:
         # for longer than this may take on a busy machine
-        words = [f"{TOP}/embed/dask/run", "3000", "--service", server.url, "--storage", f"{server.folder}/storage"]
+        words = [f"{TOP}/engines/dask/run", "3000", "--service", server.url, "--storage", f"{server.folder}/storage"]
         with open(f"{server.folder}/said", "wb") as said:
             engine = subprocess.Popen(words, stdout=said, stderr=said, start_new_session=True)
         try:
@@ -229,7 +229,7 @@ def test_the_dask_fault_test_over_a_cut():
 
 
 class Driver:
-    """What the coordinator of embed/dask needs of its job: a job of one task, which acknowledges each barrier with a new file."""
+    """What the coordinator of engines/dask needs of its job: a job of one task, which acknowledges each barrier with a new file."""
 
     def __init__(self, coordinator, refused):
         self.coordinator, self.lock, self.stream, self.is_over = coordinator, threading.RLock(), threading.Lock(), threading.Event()
@@ -249,7 +249,7 @@ class Driver:
 
 
 def test_the_dask_fault_test_over_a_restored_backup():
-    sys.path += [f"{TOP}/embed/dask", f"{TOP}/embed/python"]
+    sys.path += [f"{TOP}/engines/dask", f"{TOP}/bindings/python"]
     from over_service import OverService
     from relkvanu import Fenced, Refused
 

@@ -1,4 +1,5 @@
 """What a lease counts from, whose lease a standby waits for, and that a commit of an epoch that is over writes nothing."""
+import contextlib
 import signal
 import threading
 import time
@@ -84,6 +85,76 @@ def test_a_commit_that_renews_the_lease_of_an_earlier_epoch_writes_nothing():
         calls = database.sql("select count(*) from call").strip()
         assert statuses == {"first": 200, "second": 0} and calls == "1" and server.ended() == 75, (statuses, calls)
         return "the commit before it is answered; of it there is no row and no answer"
+
+
+def test_an_answer_waits_for_a_lease_that_is_sure():
+    """The database's answer to a commit takes longer than the process is sure of its lease, and meanwhile another process takes over. So it asks
+    the database before it answers."""
+    with postgres() as database, folder() as at:
+        opened(at, database.url, 1)
+        server, line = far(at, database, 0)
+        server.start()
+        statuses, line.delay = [], 0.75 * SECONDS
+        asks = [("Idempotency-Key", "k")]
+        call = threading.Thread(target=lambda: statuses.append(server.request("POST", "/v1/jobs/j0/calls", {"calls": [{"call": "savepoint"}]}, headers=asks)[0]))
+        call.start()
+        until(lambda: database.sql("select count(*) from call") == "1", 10 * SECONDS)
+        database.sql("delete from member")  # as the next leader does
+        call.join()
+        assert statuses == [0] and server.ended() == 75, statuses
+        return f"after {0.75 * SECONDS:.1f} s of a lease of {SECONDS} s"
+
+
+def test_a_refused_deletion_waits_for_the_commit():
+    """It is refused by a job's state, which calls of the same round have changed: nobody hears of them before they are committed."""
+    with postgres() as database, folder() as at:
+        server, statuses = Server(at, database.url, configured(at, "lease_seconds = 60\n")).start(), {}
+        Service(server.url).open("a", SETTINGS, [1])
+        # each of the first two calls is written once its lock is free
+        database.sql("""create function held() returns trigger language plpgsql as $$ begin
+            perform pg_advisory_xact_lock(new.seq); return new; end $$;
+            create trigger held before insert on call for each row execute function held()""")
+
+        def holding(number):
+            words = f"select pg_advisory_lock({number}); select pg_sleep(60) /* {number} */"
+            holder = threading.Thread(target=swallow, args=(database.sql, words))
+            holder.start()
+            until(lambda: database.sql(f"select count(*) from pg_stat_activity where wait_event = 'PgSleep' and query like '%/* {number} */'") == "1")
+            return holder
+
+        def let_go(number):
+            database.sql(f"select pg_terminate_backend(pid) from pg_stat_activity where wait_event = 'PgSleep' and query like '%/* {number} */'")
+
+        def waiting():
+            return database.sql("select count(*) from pg_locks where locktype = 'advisory' and not granted")
+
+        def ask(what, *words):
+            statuses[what] = server.request(*words, headers=[("Idempotency-Key", what)])[0]
+
+        savepoint = ("POST", "/v1/jobs/a/calls", {"calls": [{"call": "savepoint"}]})
+        threads = [holding(1), holding(2)]
+        for words in (("first", *savepoint), ("second", *savepoint), ("deletion", "DELETE", "/v1/jobs/a")):
+            threads.append(threading.Thread(target=ask, args=words))
+            threads[-1].start()
+            until(lambda: waiting() == "1")
+        # both are in the writer's queue by now, and come in one round
+        time.sleep(1)
+        let_go(1)
+        until(lambda: "first" in statuses and waiting() == "1")
+        time.sleep(0.5)
+        assert set(statuses) == {"first"}, statuses
+        let_go(2)
+        for it in threads:
+            it.join()
+        assert statuses == {"first": 200, "second": 200, "deletion": 409}, statuses
+        server.kill()
+        return "after the commit"
+
+
+def swallow(call, *words):
+    """A connection that is ended fails."""
+    with contextlib.suppress(AssertionError):
+        call(*words)
 
 
 def metric(server, name):

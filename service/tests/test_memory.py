@@ -5,7 +5,7 @@ import signal
 import subprocess
 import time
 
-from harness import HERE, PROGRAM, Server, folder, until
+from harness import PROGRAM, TOP, Server, folder, until
 from relkvanu_service import Service
 from run import Skipped
 from writers import SETTINGS, SHAPE, NamedWriter, Writer, check, end
@@ -23,7 +23,7 @@ def hungry(has_names):
     if not (shutil.which("cc") and shutil.which("nm")):
         raise Skipped("cc", "no C compiler is here")
     with folder() as at:
-        subprocess.run(["cc", "-O2", "-Wall", "-Wextra", "-Werror", "-shared", "-fPIC", "-o", f"{at}/hungry.so", f"{HERE}/hungry.c"], check=True)
+        subprocess.run(["cc", "-O2", "-Wall", "-Wextra", "-Werror", "-shared", "-fPIC", "-o", f"{at}/hungry.so", f"{TOP}/faults/hungry.c"], check=True)
         names = subprocess.run(["nm", PROGRAM], stdout=subprocess.PIPE, text=True, check=True).stdout.splitlines()
         symbols = dict(reversed(line.split()[::2]) for line in names if line.endswith((" rattle_alloc", " rattle_realloc")))
         offsets = f"{symbols['rattle_alloc']} {symbols['rattle_realloc']} 2"

@@ -1,5 +1,5 @@
-"""Losses of power: the service over SQLite, `relkvanu discard`, `relkvanu sweep` and an engine run under embed/store/tests/shim.c, over
-one machine. Whatever a loss leaves (embed/power.py), the service starts again, each answered call has its place and its answer, and no
+"""Losses of power: the service over SQLite, `relkvanu discard`, `relkvanu sweep` and an engine run under faults/shim.c, over
+one machine. Whatever a loss leaves (faults/power.py), the service starts again, each answered call has its place and its answer, and no
 file in use is missing. RELKVANU_LOSSES has so many times as many; 0 is each loss at each call that writes."""
 import json
 import os
@@ -16,7 +16,7 @@ from preloaded import SHIM, built, shim
 from relkvanu_service import Service, cancel, dispose
 from writers import check_made
 
-sys.path.insert(0, f"{TOP}/embed")
+sys.path.insert(0, f"{TOP}/faults")
 from power import Journal, Loss, Trials, read_tree, write_tree
 
 ROUNDS = int(os.environ.get("RELKVANU_LOSSES", "1"))

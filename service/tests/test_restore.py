@@ -9,12 +9,13 @@ import shlex
 import shutil
 import subprocess
 
-from harness import COMMAND, PROGRAM, SERVICE, TOP, Server, caught_up, folder, lose_history, served, until
+from harness import COMMAND, PROGRAM, TOP, Server, caught_up, folder, lose_history, served, until
+from places import Bucket, around
+from places import files as files_in
 from postgres import postgres
 from relkvanu_service import Service, ack, dispose, restore, savepoint
 from run import Skipped
 from test_commands import SETTINGS, Asked
-from test_sweep import names_in
 
 
 def write(folder, *files):
@@ -27,18 +28,6 @@ def discard(server, folder, *more):
     words = [PROGRAM, "discard", "--once", "--job", "orders", "--url", server.url, "--folder", folder, "--prefix", "s-", "--suffix", ".bin", *more]
     told = subprocess.run(words, stderr=subprocess.PIPE, text=True, timeout=COMMAND, check=False)
     assert told.returncode == 0, told.stderr
-
-
-def ran(words):
-    """A command of the Python package: its status, its lines, and its errors."""
-    environment = {**os.environ, "PYTHONPATH": f"{TOP}/embed/python:{SERVICE}/client/python"}
-    told = subprocess.run(["/usr/bin/python3", *words], env=environment, stdout=subprocess.PIPE, stderr=subprocess.PIPE, text=True, timeout=COMMAND, check=False)
-    return told.returncode, told.stdout.splitlines(), told.stderr
-
-
-def savepoints_by_python(url, place, *more):
-    words = ["-m", "relkvanu.savepoints", "--service", url, "--job", "orders", "--folder", place, "--prefix", "s-", "--suffix", ".bin"]
-    return ran([*words, "--patience", "120s", *more])
 
 
 def test_records_that_have_all_their_files():
@@ -60,9 +49,6 @@ def test_records_that_have_all_their_files():
         write(files, 1, 2, 3)
         told = subprocess.run([PROGRAM, *words, *ask.more], stdout=subprocess.PIPE, stderr=subprocess.PIPE, text=True, timeout=COMMAND, check=False)
         assert told.returncode == 0 and "has no marker of this job, .relkvanu-orders" in told.stderr, told
-        # the command in Python needs the marker
-        status, lines, told = savepoints_by_python(server.url, files)
-        assert (status, lines) == (78, []) and "no marker" in told, (status, told)
         with open(f"{files}/{job.marker()[0]}", "w", encoding="utf-8") as it:
             it.write(job.marker()[1])
         rows = ask.json(*words)
@@ -73,17 +59,10 @@ def test_records_that_have_all_their_files():
         text = {line.split()[0]: line for line in ask(*words).splitlines()}
         assert text[str(first)].split()[-2:] == ["2", "none"], text
         assert text[str(latest)].endswith("1: 4") and "checkpoint, the latest" in text[str(latest)], text
-        # the command in Python says the same
         write(files, "4.bin.part")
-        assert savepoints_by_python(server.url, files)[:2] == (0, ask(*words).splitlines())
+        assert ask(*words).splitlines()[1:] == [line for line in text.values() if not line.startswith("RECORD")]
         os.remove(f"{files}/s-3.bin")
         assert "1: 3" in ask(*words, status=1)
-        status, lines, told = savepoints_by_python(server.url, files)
-        # a checkpoint may have been triggered before the savepoint or after it
-        absent = {line.split()[0]: line.split()[-2:] for line in lines}
-        assert status == 1 and absent[str(first)] == ["1:", "3"] and "no such record has all its files" in told, (status, lines, told)
-        assert savepoints_by_python(server.url, files, "--job", "another")[0] == 1
-        assert savepoints_by_python("http://127.0.0.1:1", files, "--patience", "1s")[:2] == (75, [])
         assert "No such file" in ask("savepoints", "orders", "--folder", f"{files}/none", status=78)
         return "a savepoint and a checkpoint"
 
@@ -124,14 +103,8 @@ def test_a_place_that_has_no_file_of_any_record():
         ask = Asked(server)
 
         def warnings(place, prefix, suffix, status):
-            """Of the command, and of that in Python in a folder that has the marker."""
-            names = ["--prefix", prefix, "--suffix", suffix]
-            told = [ask("savepoints", "orders", "--folder", place, *names, status=status)]
-            if place == files:
-                by_python = savepoints_by_python(server.url, place, *names)
-                assert by_python[0] == status, by_python
-                told.append(by_python[2])
-            return [text for text in told if "no file of these records is" in text]
+            told = ask("savepoints", "orders", "--folder", place, "--prefix", prefix, "--suffix", suffix, status=status)
+            return [line for line in told.splitlines() if "no file of these records is" in line]
 
         assert warnings(files, "s-", ".bin", 1) == []
         for number in (1, 2):
@@ -140,10 +113,10 @@ def test_a_place_that_has_no_file_of_any_record():
         assert warnings(files, "s-", ".bin", 0) == []
         for place, prefix, suffix in [(empty, "s-", ".bin"), (files, "state-", ".bin"), (files, "s-", "")]:
             found = warnings(place, prefix, suffix, 1)
-            assert len(found) == (2 if place == files else 1) and all(f"{prefix}1{suffix}:" in text for text in found), found
+            assert len(found) == 1 and f"{prefix}1{suffix}:" in found[0], found
         os.remove(f"{files}/s-1.bin")
         os.rename(f"{files}/s-2.bin", f"{files}/s-3.bin")
-        assert len(warnings(files, "s-", ".bin", 1)) == 2
+        assert len(warnings(files, "s-", ".bin", 1)) == 1
         # one file of one record is there, which has not all of its own
         job.calls([savepoint(), ack(3, "0.0", [3, 4])])
         assert warnings(files, "s-", ".bin", 1) == []
@@ -182,31 +155,35 @@ def test_files_that_nobody_knows():
         return "three files, and five refusals"
 
 
-def python_commands(server, place):
-    """The three commands of docs/SERVICE-BACKUP.md for files in a bucket, over a folder."""
+def bucket_commands(server, place):
+    """The three commands of docs/SERVICE-BACKUP.md for files in a bucket."""
     with open(f"{TOP}/docs/SERVICE-BACKUP.md", encoding="utf-8") as it:
         blocks = it.read().partition("### If the files are in a bucket\n")[2].partition("\n## ")[0].split("```")[1::2]
-    given = {"http://127.0.0.1:7780": server.url, "--bucket": "--folder", "state": place, "orders/state-": "s-"}
-    commands = [[given.get(word, word) for word in shlex.split(block)][1:] for block in blocks]
-    return [[*words[:words.index("--token-file")], *words[words.index("--token-file") + 2:]] for words in commands]
+    given = {"relkvanu": PROGRAM, "state": place.bucket}
+    commands = [[given.get(word, word) for word in shlex.split(block)] for block in blocks]
+    without = [[*words[:words.index("--token-file")], *words[words.index("--token-file") + 2:]] for words in commands]
+    return [[*words, "--url", server.url, *place.words("", "")[-4:]] for words in without]
 
 
 def test_the_page_restores_files_of_a_bucket():
     """When the backup is made savepoints 1 and 2 have their files, and file 4 waits for deletion. Later 3 and 4 are deleted, and 5 and 6 are new."""
     with folder() as at:
-        files = f"{at}/files"
-        os.mkdir(files)
+        place = Bucket(at)
         server = Server(at, names=True).start()
         job = Service(server.url).open("orders", SETTINGS, [1])
-        job.claim(files)
+        name, text = job.marker()
+        place.put(name, text.encode())
         task = job.begin().session(block=2)
 
         def saved(count):
             names = [task.name() for _ in range(count)]
             for name in names:
-                with open(f"{files}/s-{name}", "xb") as it:
-                    it.write(b"state")
+                place.put(f"state-{name}", b"state")
             task.ack(job.call(savepoint())["id"], "0.0", names)
+
+        def ran(words):
+            told = subprocess.run(words, env=around(place), capture_output=True, text=True, timeout=COMMAND, check=False)
+            return told.returncode, told.stdout.splitlines(), told.stderr
 
         for count in (2, 1, 1):
             saved(count)
@@ -214,8 +191,8 @@ def test_the_page_restores_files_of_a_bucket():
         subprocess.run([PROGRAM, "backup", "--database", server.database, "--to", f"{at}/copy.db"], check=True, timeout=COMMAND)
         job.call(dispose(2))
         saved(2)
-        find, discarder, sweeper = python_commands(server, files)
-        assert ran(discarder)[0] == 0 and names_in(files) == ["s-1", "s-2", "s-5", "s-6"], names_in(files)
+        find, discarder, sweeper = bucket_commands(server, place)
+        assert ran(discarder)[0] == 0 and files_in(place) == ["state-1", "state-2", "state-5", "state-6"], files_in(place)
         server.stop()
         for path in glob.glob(f"{server.database}*"):
             os.rename(path, f"{at}/aside-{os.path.basename(path)}")
@@ -225,14 +202,16 @@ def test_the_page_restores_files_of_a_bucket():
         status, lines, told = ran(find)
         assert (status, [line.split()[4:] for line in lines[1:]]) == (0, [["none"], ["1:", "3"]]), (status, lines, told)
         status, lines, told = ran(sweeper)
-        assert (status, sorted(lines)[-2:]) == (3, ["unissued s-5 5", "unissued s-6 5"]), (status, lines, told)
+        unissued = ["unissued orders/state-5 5", "unissued orders/state-6 5"]
+        assert (status, sorted(lines)[-2:]) == (3, unissued), (status, lines, told)
         subprocess.run([PROGRAM, "advance", "orders", "--url", server.url], check=True, stdout=subprocess.DEVNULL, timeout=COMMAND)
         job.call(restore(1))
-        assert ran(discarder)[0] == 0 and job.state()["files"]["waiting"] == 0
+        status, _, told = ran(discarder)
+        assert status == 0 and job.state()["files"]["waiting"] == 0, (status, told)
         assert job.begin().session().name() > 1 << 40
         status, lines, told = ran(sweeper)
-        assert (status, sorted(line.split()[1] for line in lines[:-1])) == (0, ["s-5", "s-6"]), (status, lines, told)
-        assert ran([*sweeper, "--delete"])[0] == 0 and names_in(files) == ["s-1", "s-2"], names_in(files)
+        assert (status, sorted(line.split()[1] for line in lines[:-1])) == (0, ["orders/state-5", "orders/state-6"]), (status, lines, told)
+        assert ran([*sweeper, "--delete"])[0] == 0 and files_in(place) == ["state-1", "state-2"], files_in(place)
         server.stop()
         return "a savepoint that has its files"
 

@@ -615,6 +615,22 @@ def test_a_damaged_job_keeps_its_shard_alone():
         return "1 of 64 shards"
 
 
+def test_a_damaged_phase_keeps_its_shard_alone():
+    """A row that says what phase a job is in, and says nothing that is known."""
+    with postgres() as database, folder() as at:
+        servers = members(at, database.url, 2)
+        names = opened(servers, 10)
+        bad = owned(database, servers[0])
+        database.sql(f"insert into phase select job, 'strange', 1, 1, 1, null from job where name = '{bad}'")
+        servers[0].kill()
+        until(lambda: shards(servers[1]) == SHARDS - 1)
+        statuses = {name: servers[1].get(f"/v1/jobs/{name}")[0] for name in names}
+        assert statuses == {name: 503 if name == bad else 200 for name in names}, statuses
+        assert "1 shards are not served" in servers[1].log() and servers[1].process.poll() is None
+        servers[1].stop()
+        return "1 of 64 shards"
+
+
 def test_the_way_from_one_leader_and_back():
     """Processes that share the jobs of one that was alone, then one that does not share."""
     with postgres() as database, folder() as at:

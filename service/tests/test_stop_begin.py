@@ -11,7 +11,7 @@ import time
 
 import requests
 
-from harness import BUSY, COMMAND, PROGRAM, Server, caught_up, folder, leader_and_standby, lease_of, served, until
+from harness import BUSY, COMMAND, PROGRAM, SERVICE, Server, caught_up, folder, leader_and_standby, lease_of, served, until
 from postgres import postgres
 from preloaded import SHIM, Clocks, built, shim
 from relkvanu_service import Failed, Fenced, OtherLog, Refused, Service, ack, cancel, decline, restore
@@ -91,6 +91,24 @@ def test_who_waits_for_a_begin_hears_of_a_backup():
         server.stop()
         assert len(told) == 1 and isinstance(told[0], OtherLog), told
         return "a backup of before the stop"
+
+
+def test_openapi_names_what_a_checkpoint_is_refused_for():
+    """While the job stops, once it has stopped, and once it is cancelled."""
+    with open(f"{SERVICE}/web/openapi.json", encoding="utf-8") as it:
+        said = json.load(it)["paths"]["/v1/jobs/{job}/checkpoints"]["post"]["responses"]["409"]["description"]
+    with served(names=True) as server:
+        tasks = Tasks(server, True)
+        job = tasks.job
+        tasks.complete()
+        savepoint = job.stop_job()["id"]
+        words = [refused(job.checkpoint)]
+        take_part(tasks, savepoint, ["0.0", "0.1"])
+        words.append(refused(job.checkpoint))
+        job.call(cancel())
+        words.append(refused(job.checkpoint))
+        assert words == ["Stopping", "Stopped", "NotRunning"] and all(word in said for word in words), (words, said)
+        return ", ".join(words)
 
 
 def stopped_and_begun(names):

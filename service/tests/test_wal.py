@@ -12,7 +12,7 @@ from harness import COMMAND, TOP, Server, check_log, folder, kept, over_copy, se
 from preloaded import SHIM, built, shim
 from relkvanu_service import Service
 
-sys.path.insert(0, f"{TOP}/embed")
+sys.path.insert(0, f"{TOP}/faults")
 from power import Journal, Loss, write_tree
 
 JOB = {"name": "orders", "settings": {"interval": 1 << 40}, "shape": [1]}

@@ -29,11 +29,11 @@ __all__ = [
     "Failed", "Fenced", "Gone", "OldTerm", "OtherLog", "Refused", "Service", "Job", "Start", "Session", "Follower", "file_numbers", "ack",
     "decline", "reserve", "forfeit", "restore", "take",
 ]
-# embed/bindings makes the names of calls of one number
+# bindings/generate makes the names of calls of one number
 __all__ += [
     "savepoint", "dispose", "cancel", "deleted", "undeleted", "trigger",
 ]
-# embed/bindings: end
+# bindings/generate: end
 
 _CONNECT = 2.0  # seconds in which a machine that is there takes a connection
 _ONE_TRY = 10.0  # seconds in which an address has to answer, besides the wait of a poll
@@ -131,7 +131,7 @@ def _in(term):
     return {} if term is None else {"term": term}
 
 
-# embed/bindings makes the calls of one number
+# bindings/generate makes the calls of one number
 def savepoint():
     """A user wants a savepoint."""
     return {"call": "savepoint"}
@@ -161,7 +161,7 @@ def trigger():
     """Triggers a checkpoint now, whatever the interval and the pause. Nothing expires: make a tick first if records may be too
     old. The interval counts from it, as after a tick that triggers."""
     return {"call": "trigger"}
-# embed/bindings: end
+# bindings/generate: end
 
 
 def restore(start="latest", shape=None):

@@ -1,10 +1,8 @@
 //! Why a command that asks a service did not do what it was told, and its exit status.
-use crate::discard::no_marker;
 use crate::exit::{NOT_TO_START, START_AGAIN};
 use crate::remote::NoService;
 use relkvanu_client::Error as Asked;
 use std::io;
-use std::path::PathBuf;
 use thiserror::Error;
 
 /// The exit status if the service answered, and the answer is no.
@@ -31,16 +29,20 @@ pub enum Ended {
     Late(&'static str, u64),
     #[error("the job has not stopped at savepoint {0}: {1}")]
     RunsOn(u64, String),
-    #[error("{}: {why}", .path.display())]
-    Folder { path: PathBuf, why: io::Error },
-    #[error("no such record has all its files in the folder")]
-    NoneWhole,
-    #[error("{}", no_marker(.0, .1))]
-    Unmarked(PathBuf, String),
-    #[error("none of {count} files in use is in {}, as {name}: is it the wrong folder, --prefix or --suffix?", .path.display())]
-    Elsewhere { count: usize, path: PathBuf, name: String },
+    #[error("{0}")]
+    Place(String),
+    #[error("{0}")]
+    Away(String),
+    #[error("no such record has all its files in the {0}")]
+    NoneWhole(&'static str),
+    #[error("none of {count} files in use is in {place}, as {name}: is it the wrong folder, --prefix or --suffix?")]
+    Elsewhere { count: usize, place: String, name: String },
     #[error("record {0} is pending and has acknowledgements: end the engine with all its tasks, and restore the job")]
     AtWork(u64),
+    #[error("the job was cancelled with keep_on_cancel, so it keeps its checkpoints: docs/SERVICE-API.md, A job with keep_on_cancel")]
+    Keeps,
+    #[error("relkvanu {0} has ended with status {1}: the same command goes on there")]
+    Step(String, u8),
     #[error("the history has not read all calls yet, so it is not known which files wait for deletion")]
     Behind,
     #[error(transparent)]
@@ -51,16 +53,18 @@ impl Ended {
     /// 1 if the answer is no, 75 if another try may be answered otherwise, and 78 if somebody has to look first.
     pub fn status(&self) -> u8 {
         match self {
+            Ended::Step(_, status) => *status,
+            Ended::Keeps => NO,
             Ended::Refused(_) | Ended::Incomplete(..) | Ended::RunsOn(..) | Ended::NoJob(_) => NO,
             Ended::Asked(Asked::Status { status: NOT_FOUND | CONFLICT, .. }) => NO,
-            Ended::NoneWhole
+            Ended::NoneWhole(_)
             | Ended::AtWork(_)
             | Ended::Asked(Asked::Fenced { .. } | Asked::OldTerm | Asked::Refused(_)) => NO,
             Ended::NoMemory | Ended::Late(..) | Ended::Asked(Asked::Status { status: NO_MEMORY, .. }) => START_AGAIN,
-            Ended::Behind => START_AGAIN,
+            Ended::Behind | Ended::Away(_) => START_AGAIN,
             Ended::Asked(error) if error.may_pass() => START_AGAIN,
             Ended::NoService(_) | Ended::Asked(_) | Ended::Output(_) => NOT_TO_START,
-            Ended::Folder { .. } | Ended::Unmarked(..) | Ended::Elsewhere { .. } => NOT_TO_START,
+            Ended::Place(_) | Ended::Elsewhere { .. } => NOT_TO_START,
         }
     }
 }

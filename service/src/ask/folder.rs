@@ -1,80 +1,108 @@
-//! What a job knows of the files in a folder: which records have all theirs there, and which files no record needs.
+//! What a job knows of the files in a folder or a bucket: which records have all theirs there, and which files no record needs.
 use super::ended::Ended;
-use super::words::{Names, Orphans, Savepoints};
+use super::words::{Orphans, Savepoints};
 use super::{said, tables};
-use crate::discard::Owner;
+use crate::files::{no_marker, Folder, Marked, Names, Owner, Place, Stop};
 use crate::log;
 use relkvanu_client::Job;
 use serde_json::{json, Value};
 use std::collections::BTreeSet;
-use std::path::Path;
 use std::time::{Duration, Instant};
 
 /// Between two looks at how far the history is.
 const LOOK_EACH: Duration = Duration::from_millis(100);
 
-/// Lists the record that a restore begins from, and the done savepoints. If a folder is given, one of them has all its files there, or
-/// the answer is no.
+/// Where the files are looked for.
+struct Looked {
+    place: Box<dyn Place>,
+    names: Names,
+    /// Those that are there. The place is listed before the job is asked for its records.
+    there: BTreeSet<u64>,
+}
+
+/// Lists the record that a restore begins from, and the done savepoints. If a place is given, one of them has all its files there, or the
+/// answer is no.
 pub async fn savepoints(job: &Job, given: &Savepoints) -> Result<(), Ended> {
-    let there = given.folder.as_deref().map(|folder| listed(folder, &given.names)).transpose()?;
+    let looked = if given.place.is_said() { Some(looked(job, given).await?) } else { None };
     let state = job.state().await?;
     let latest = state["choice"]["id"].as_u64();
     let (mut rows, mut warnings) = (Vec::new(), Vec::new());
     for record in done(&state).filter(|record| record["kind"] == "savepoint" || record["id"].as_u64() == latest) {
         let id = record["id"].as_u64().unwrap_or_default();
         let told = job.record(id).await?;
-        // one that has ended meanwhile is none to restore to
+        // one that has ended meanwhile can't be restored
         if told["live"].is_null() {
             continue;
         }
         let files = files_of(&told);
-        let absent = there.as_ref().map(|there| files.difference(there).map(u64::to_string).collect::<Vec<_>>());
-        if let Some(folder) = given.folder.as_deref().filter(|_| absent.as_ref().is_some_and(Vec::is_empty)) {
-            warnings.extend(shorter(&told, folder, &given.names));
+        let absent = looked.as_ref().map(|it| files.difference(&it.there).map(u64::to_string).collect::<Vec<_>>());
+        if let Some(looked) = looked.as_ref().filter(|_| absent.as_ref().is_some_and(Vec::is_empty)) {
+            warnings.extend(looked.shorter(&told));
         }
         rows.push(json!({
             "id": id, "kind": record["kind"], "latest": Some(id) == latest, "triggered": told["live"]["started"],
             "files": files.len(), "absent": absent,
         }));
     }
-    let is_whole = |row: &Value| row["absent"].as_array().is_some_and(Vec::is_empty);
-    let none_whole = there.is_some() && !rows.iter().any(is_whole);
     said(given.at.json, &json!(rows), tables::savepoints)?;
-    if let Some(folder) = &given.folder {
-        let owner = owner(&given.job, &state);
-        let is_marked = owner.has(folder).map_err(|why| Ended::Folder { path: folder.clone(), why })?;
-        warnings.extend(
-            (!is_marked).then(|| format!("{} has no marker of this job, {}", folder.display(), owner.marker())),
-        );
-    }
     for text in &warnings {
         log::warn(text);
     }
-    if let Some((folder, file)) = given.folder.as_deref().zip(none_there(&rows)) {
-        log::warn(&format!(
-            "no file of these records is in {}, as {}: most likely --folder, --prefix or --suffix is wrong, or the disk of the \
-             folder is not mounted. So cancel nothing before you have looked",
-            folder.display(),
-            given.names.of(file)
-        ));
-    }
-    if none_whole {
-        return Err(Ended::NoneWhole);
-    }
-    Ok(())
+    looked.map_or(Ok(()), |looked| looked.verdict(&rows))
 }
 
-/// What is wrong if the files of a record have fewer bytes than its tasks have said. A file of several subtasks counts for each.
-fn shorter(record: &Value, folder: &Path, names: &Names) -> Option<String> {
-    let said = record["history"]["full_bytes"].as_u64()?;
-    let length = |file| std::fs::metadata(folder.join(names.of(file))).map_or(0, |it| it.len());
-    let there = named(record).map(length).fold(0, u64::saturating_add);
-    let id = &record["id"];
-    (there < said).then(|| {
-        format!(
-            "the files of record {id} have {there} bytes there, and its tasks said {said}: at least one is too short"
-        )
-    })
+/// Opens the place and lists it. A folder that has lost its marker is looked at all the same.
+async fn looked(job: &Job, given: &Savepoints) -> Result<Looked, Ended> {
+    let names = given.place.names(&given.names).map_err(Ended::Place)?;
+    let is_bucket = given.place.bucket.is_some();
+    let ended = |stop| match stop {
+        Stop::Again(why) if is_bucket => Ended::Away(why),
+        Stop::Again(why) | Stop::Never(why) => Ended::Place(why),
+    };
+    let owner = owner(&given.job, &job.state().await?);
+    let mut place = given.place.open(&given.names, &owner).map_err(ended)?;
+    if place.hold(&owner.marker()).map_err(ended)? != Some(owner.text()) {
+        if is_bucket {
+            return Err(Ended::Place(no_marker(&*place, &owner.marker())));
+        }
+        log::warn(&format!("{} has no marker of this job, {}", place.title(), owner.marker()));
+    }
+    let there = listed(&*place, &names).map_err(ended)?;
+    Ok(Looked { place, names, there })
+}
+
+impl Looked {
+    /// What is wrong if the files of a record have fewer bytes than its tasks have said. A file of several subtasks counts for each. An object
+    /// of a bucket is whole.
+    fn shorter(&self, record: &Value) -> Option<String> {
+        let said = record["history"]["full_bytes"].as_u64().filter(|_| !self.place.is_bucket())?;
+        let length = |file| self.place.bytes(&self.names.of(file)).unwrap_or_default();
+        let there = named(record).map(length).fold(0, u64::saturating_add);
+        let id = &record["id"];
+        (there < said).then(|| {
+            format!(
+                "the files of record {id} have {there} bytes there, and its tasks said {said}: at least one is too short"
+            )
+        })
+    }
+
+    /// Whether a record has all its files.
+    fn verdict(&self, rows: &[Value]) -> Result<(), Ended> {
+        let kind = if self.place.is_bucket() { "bucket" } else { "folder" };
+        if let Some(file) = none_there(rows) {
+            log::warn(&format!(
+                "no file of these records is in {}, as {}: most likely --{kind}, --prefix or --suffix is wrong, or the disk of the \
+                 folder is not mounted. So cancel nothing before you have looked",
+                self.place.title(),
+                self.names.of(file)
+            ));
+        }
+        let is_whole = |row: &Value| row["absent"].as_array().is_some_and(Vec::is_empty);
+        if rows.iter().any(is_whole) {
+            return Ok(());
+        }
+        Err(Ended::NoneWhole(kind))
+    }
 }
 
 /// One of the files of these records, if they have some and all are absent.
@@ -87,16 +115,18 @@ fn none_there(rows: &[Value]) -> Option<u64> {
 /// Lists the files that no record uses and that neither wait for deletion nor are taken. The folder is read before the job is asked, so a
 /// file that is acknowledged meanwhile is known.
 pub async fn orphans(job: &Job, given: &Orphans) -> Result<(), Ended> {
-    let there = listed(&given.folder, &given.names)?;
+    let ended = |stop: Stop| Ended::Place(stop.to_string());
+    let folder = Folder::open(&given.folder).map_err(ended)?;
+    let there = listed(&folder, &given.names).map_err(ended)?;
     let state = caught_up(job, Duration::from_secs(given.at.within)).await?;
-    is_marked(given, &state)?;
+    let place = Marked::open(Box::new(folder), &owner(&given.job, &state)).map_err(ended)?;
     if let Some(id) = at_work(&state) {
         return Err(Ended::AtWork(id));
     }
     let used = used(job, &state).await?;
     if let Some(first) = used.first().filter(|_| used.is_disjoint(&there)) {
-        let (count, path, name) = (used.len(), given.folder.clone(), given.names.of(*first));
-        return Err(Ended::Elsewhere { count, path, name });
+        let (count, place, name) = (used.len(), place.title(), given.names.of(*first));
+        return Err(Ended::Elsewhere { count, place, name });
     }
     let mut orphans = Vec::new();
     for file in there.difference(&used) {
@@ -107,29 +137,15 @@ pub async fn orphans(job: &Job, given: &Orphans) -> Result<(), Ended> {
     said(given.at.json, &json!(orphans), tables::lines)
 }
 
-/// The numbers of the folder's files.
-fn listed(folder: &Path, names: &Names) -> Result<BTreeSet<u64>, Ended> {
-    let failed = |why| Ended::Folder { path: folder.to_path_buf(), why };
-    let entries = std::fs::read_dir(folder).map_err(failed)?;
-    let number = |entry: std::io::Result<std::fs::DirEntry>| {
-        entry.map(|entry| entry.file_name().to_str().and_then(|name| names.number(name))).transpose()
-    };
-    entries.filter_map(number).collect::<Result<_, _>>().map_err(failed)
+/// The numbers of the files that are whole.
+fn listed(place: &dyn Place, names: &Names) -> Result<BTreeSet<u64>, Stop> {
+    let found = place.beginning(&names.prefix)?;
+    Ok(found.iter().filter_map(|name| names.number(name)).collect())
 }
 
-fn is_marked(given: &Orphans, state: &Value) -> Result<(), Ended> {
-    let owner = owner(&given.job, state);
-    match owner.has(&given.folder) {
-        Ok(true) => Ok(()),
-        Ok(false) => Err(Ended::Unmarked(given.folder.clone(), owner.marker())),
-        Err(why) => Err(Ended::Folder { path: given.folder.clone(), why }),
-    }
-}
-
-/// Whose marker the folder has to have.
+/// Whose marker the place has to have.
 fn owner(job: &str, state: &Value) -> Owner {
-    let opened = state["opened"].as_u64().unwrap_or_default();
-    Owner { job: job.to_string(), opened, is_first: false, has_names: false }
+    Owner { job: job.to_string(), opened: state["opened"].as_u64().unwrap_or_default() }
 }
 
 /// The state of a job whose calls the history has read.

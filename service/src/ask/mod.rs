@@ -1,10 +1,11 @@
 //! Commands that ask a service: what its jobs are, and a few calls that a user makes.
+mod end;
 mod ended;
 mod folder;
 mod tables;
 mod words;
 
-pub use words::{Ask, Names};
+pub use words::Ask;
 
 use crate::log;
 use crate::remote;
@@ -76,6 +77,7 @@ async fn asked(given: &Ask) -> Result<(), Ended> {
         Ask::Advance(given) => advance(&service.job(&given.job), given).await,
         Ask::Cancel(given) => call(&service.job(&given.job), at.json, Call::Cancel).await.map(|_| ()),
         Ask::Delete(given) => delete(&service, given).await,
+        Ask::End(given) => end::end(&service, given).await,
     }
 }
 

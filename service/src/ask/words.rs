@@ -1,6 +1,6 @@
 //! The command line of the commands that ask a service.
 use crate::cli::job_name;
-use crate::discard::others::MARK;
+use crate::files::{Names, Where};
 use clap::{Args, Subcommand};
 use serde_json::Value;
 use std::path::PathBuf;
@@ -16,7 +16,7 @@ pub enum Ask {
     Log(Log),
     /// List files that were taken and not reported, and those deleted last; or show one file
     Files(Files),
-    /// List the records that a restore may begin from, and how many of their files a folder lacks
+    /// List the records that a restore may begin from, and how many of their files a folder or a bucket lacks
     Savepoints(Savepoints),
     /// List the files of a folder that the job does not know
     Orphans(Orphans),
@@ -44,6 +44,8 @@ pub enum Ask {
     Cancel(Cancel),
     /// Delete a job that was cancelled or has failed, with its log and its history
     Delete(Delete),
+    /// End a job for good, with all its files: cancel it, delete what it has in a folder, and delete the job
+    End(End),
 }
 
 /// Where the service is, and how the answer is printed.
@@ -112,25 +114,13 @@ pub struct Files {
     pub at: At,
 }
 
-/// How a folder's files are named.
-#[derive(Args, Clone)]
-pub struct Names {
-    /// The part of a file's name before its number
-    #[arg(long, default_value = "")]
-    pub prefix: String,
-    /// The part of a file's name after its number
-    #[arg(long, default_value = "")]
-    pub suffix: String,
-}
-
 #[derive(Args)]
 pub struct Savepoints {
     /// The job
     #[arg(value_parser = job_name)]
     pub job: String,
-    /// Look for the files in this folder
-    #[arg(long, value_name = "DIR")]
-    pub folder: Option<PathBuf>,
+    #[command(flatten)]
+    pub place: Where,
     #[command(flatten)]
     pub names: Names,
     #[command(flatten)]
@@ -298,9 +288,23 @@ pub struct Delete {
     /// The job
     #[arg(value_parser = job_name)]
     pub job: String,
-    /// Though files of it are left, which nobody deletes then
+    /// Delete the job even if files of it are left; nothing deletes these afterwards
     #[arg(long)]
     pub abandon: bool,
+    #[command(flatten)]
+    pub at: At,
+}
+
+#[derive(Args)]
+pub struct End {
+    /// The job, which gives out names and whose engine has ended
+    #[arg(value_parser = job_name)]
+    pub job: String,
+    /// The folder of the job's files
+    #[arg(long, value_name = "DIR")]
+    pub folder: PathBuf,
+    #[command(flatten)]
+    pub names: Names,
     #[command(flatten)]
     pub at: At,
 }
@@ -326,50 +330,8 @@ impl Ask {
             Ask::Advance(given) => &given.at,
             Ask::Cancel(given) => &given.at,
             Ask::Delete(given) => &given.at,
+            Ask::End(given) => &given.at,
         }
-    }
-}
-
-/// A file's name while it is written.
-const PART: &str = ".part";
-
-impl Names {
-    pub fn of(&self, file: u64) -> String {
-        format!("{}{file}{}", self.prefix, self.suffix)
-    }
-
-    /// The number in a name, if it is one of these.
-    pub fn number(&self, name: &str) -> Option<u64> {
-        let digits = name.strip_prefix(&self.prefix)?.strip_suffix(&self.suffix)?;
-        digits.parse().ok().filter(|number: &u64| number.to_string() == digits)
-    }
-
-    /// The number in a name, also of a file that is not whole yet.
-    pub fn number_or_part(&self, name: &str) -> Option<u64> {
-        self.number(name).or_else(|| self.number(name.strip_suffix(PART)?))
-    }
-
-    /// Whether a file of these names, or a part of one, may have a name of the others too.
-    pub fn may_be_those_of(&self, other: &Names) -> bool {
-        let are_digits = |rest: Option<&str>| rest.is_some_and(|rest| rest.bytes().all(|byte| byte.is_ascii_digit()));
-        let begin = |one: &str, other: &str| are_digits(one.strip_prefix(other)) || are_digits(other.strip_prefix(one));
-        let end = |one: &str, other: &str| are_digits(one.strip_suffix(other)) || are_digits(other.strip_suffix(one));
-        let (part, others_part) = (format!("{}{PART}", self.suffix), format!("{}{PART}", other.suffix));
-        begin(&self.prefix, &other.prefix)
-            && [(&self.suffix, &other.suffix), (&part, &other.suffix), (&self.suffix, &others_part)]
-                .into_iter()
-                .any(|(one, other)| end(one, other))
-    }
-
-    /// Refuses what would name files of another folder.
-    pub fn check(&self) -> Result<(), String> {
-        if self.prefix.contains('/') || self.suffix.contains('/') {
-            return Err("--prefix and --suffix: a '/' would name another folder".to_string());
-        }
-        if self.prefix.starts_with(MARK) {
-            return Err(format!("--prefix: files that begin with {MARK} say whose folder it is"));
-        }
-        Ok(())
     }
 }
 
@@ -385,51 +347,5 @@ mod tests {
         for text in ["interval", "interval=", "interval=30s"] {
             assert!(told(text).is_err(), "{text}");
         }
-    }
-
-    #[test]
-    fn names_of_two_jobs_may_be_the_same() {
-        let of = |(prefix, suffix): (&str, &str)| Names { prefix: prefix.to_string(), suffix: suffix.to_string() };
-        for (one, other, may_be) in [
-            (("", ""), ("", ""), true),
-            (("s-", ".bin"), ("s-", ".bin"), true),
-            (("s-", ".bin"), ("t-", ".bin"), false),
-            (("s-", ".bin"), ("s-", ".txt"), false),
-            (("s-", ".bin"), ("s-", ".bin.part"), true),
-            (("a", ""), ("a1", ""), true),
-            (("", "2"), ("1", ""), true),
-            (("a", ""), ("ab", ""), false),
-            (("s-", ""), ("", ""), false),
-        ] {
-            let (one, other) = (of(one), of(other));
-            assert_eq!((one.may_be_those_of(&other), other.may_be_those_of(&one)), (may_be, may_be));
-        }
-    }
-
-    #[test]
-    fn a_name_has_one_number() {
-        let names = Names { prefix: "state-".to_string(), suffix: ".bin".to_string() };
-        assert_eq!(names.number(&names.of(u64::MAX)), Some(u64::MAX));
-        for name in [
-            "state-.bin",
-            "state-07.bin",
-            "state-+7.bin",
-            "state-7",
-            "7.bin",
-            "state-18446744073709551616.bin",
-            "state-7.bin~",
-            "state-7.bin.part",
-        ] {
-            assert_eq!(names.number(name), None, "{name}");
-        }
-    }
-
-    #[test]
-    fn a_file_that_is_not_whole_has_a_number_too() {
-        let names = Names { prefix: "state-".to_string(), suffix: ".bin".to_string() };
-        let found = ["state-7.bin", "state-7.bin.part", "state-7.bin.part.part", "state-07.bin.part", ".part"];
-        assert_eq!(found.map(|name| names.number_or_part(name)), [Some(7), Some(7), None, None, None]);
-        let plain = Names { prefix: String::new(), suffix: String::new() };
-        assert_eq!(["7", "7.part", "7.bin"].map(|name| plain.number_or_part(name)), [Some(7), Some(7), None]);
     }
 }

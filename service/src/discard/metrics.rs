@@ -1,5 +1,5 @@
 //! The discarder's metrics for Prometheus, which `--metrics` serves.
-use super::folder::Outcome;
+use crate::files::Gone;
 use crate::log;
 use prometheus::{Gauge, IntCounter, IntCounterVec, IntGauge, Opts, Registry};
 use relkvanu_client::Error;
@@ -35,8 +35,8 @@ impl Metrics {
                 "1 while this discarder has the folder; 0 while it waits for the service, or for another discarder.",
             ))?,
         };
-        for outcome in [Outcome::Deleted, Outcome::Absent, Outcome::Failed] {
-            metrics.files.with_label_values(&[word(outcome)]);
+        for outcome in ["deleted", "absent", "failed"] {
+            metrics.files.with_label_values(&[outcome]);
         }
         metrics.registry.register(Box::new(metrics.files.clone()))?;
         metrics.registry.register(Box::new(metrics.lost.clone()))?;
@@ -57,19 +57,19 @@ impl Metrics {
     }
 
     /// Files were reported.
-    pub fn reported(&self, outcomes: &[Outcome]) {
-        for outcome in outcomes {
-            self.files.with_label_values(&[word(*outcome)]).inc();
+    pub fn reported(&self, files: &[Gone]) {
+        for gone in files {
+            self.files.with_label_values(&[word(gone)]).inc();
         }
         let now = SystemTime::now().duration_since(UNIX_EPOCH).unwrap_or_default();
         self.reported.set(now.as_secs_f64());
     }
 }
 
-fn word(outcome: Outcome) -> &'static str {
-    match outcome {
-        Outcome::Deleted => "deleted",
-        Outcome::Absent => "absent",
-        Outcome::Failed => "failed",
+fn word(gone: &Gone) -> &'static str {
+    match gone {
+        Gone::Deleted => "deleted",
+        Gone::Absent => "absent",
+        Gone::Failed(_) => "failed",
     }
 }

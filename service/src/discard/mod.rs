@@ -1,16 +1,14 @@
-//! `relkvanu discard`: deletes the files that a job hands out. They are in a folder, with their numbers in their names.
-mod folder;
+//! `relkvanu discard`: deletes the files that a job hands out. They are in a folder or a bucket, with their numbers in their names.
+mod deletions;
 mod metrics;
-pub mod others;
-
-pub use folder::{no_marker, Marked, Owner, Stop};
 
 use crate::cli;
 use crate::exit::NOT_TO_START;
-use crate::exposed;
+use crate::files::{Gone, Names, Owner, Stop};
 use crate::log;
+use crate::metrics_server;
 use crate::remote;
-use folder::{Folder, NotOpen, Outcome};
+use deletions::{Deletions, Known, NotOpen};
 use metrics::Metrics;
 use relkvanu_client::{new_key, Answer, Call, Error, Job, Service};
 use serde_json::Value;
@@ -35,10 +33,10 @@ const ONCE_PATIENCE: Duration = Duration::from_secs(60);
 /// How long a new marker waits for the history, which tells whether files were deleted before.
 const HISTORY_PATIENCE: Duration = Duration::from_secs(10);
 
-struct Discarder {
-    job: Job,
-    folder: Arc<Folder>,
-    metrics: Arc<Metrics>,
+struct Discarder<'a> {
+    job: &'a Job,
+    deletions: Deletions,
+    metrics: &'a Metrics,
     once: bool,
 }
 
@@ -61,7 +59,8 @@ impl Pause {
 }
 
 pub fn run(given: &cli::Discard) -> ExitCode {
-    let runtime = tokio::runtime::Builder::new_current_thread().enable_all().build();
+    // a deletion keeps the thread of the work, and the other one serves metrics
+    let runtime = tokio::runtime::Builder::new_multi_thread().worker_threads(1).enable_all().build();
     let worked = match runtime {
         Ok(runtime) => runtime.block_on(work(given)),
         Err(error) => Err(Stop::Again(error.to_string())),
@@ -76,30 +75,48 @@ pub fn run(given: &cli::Discard) -> ExitCode {
     }
 }
 
+/// Works in the place until somebody has to look, or with `--once` until no file waits. It opens the place anew after each failure, so a disk that
+/// is mounted again is found, and a server that answers again.
 async fn work(given: &cli::Discard) -> Result<(), Stop> {
-    let service = service(given)?;
+    let (service, names) = service(given)?;
     let metrics = Arc::new(Metrics::new(&given.job).map_err(|error| Stop::Again(error.to_string()))?);
     if let Some(address) = given.metrics {
-        exposed::serve(&metrics.registry, address).map_err(Stop::Again)?;
+        metrics_server::serve(&metrics.registry, address).map_err(Stop::Again)?;
     }
     let noticed = Arc::clone(&metrics);
     let service = service.within(given.once.then_some(ONCE_PATIENCE)).noticing(move |error| noticed.lost(error));
-    let job = service.job(&given.job);
-    let folder = Arc::new(folder(given, &job, &metrics).await?);
-    Discarder { job, folder, metrics, once: given.once }.work().await
+    let (job, mut pause) = (service.job(&given.job), Pause::new());
+    loop {
+        let began = Instant::now();
+        match discard(given, &job, &names, &metrics).await {
+            Err(Stop::Again(why)) if !given.once => log::warn(&format!("it tries again later: {why}")),
+            ended => return ended,
+        }
+        metrics.works(false);
+        if began.elapsed() > LONGEST_PAUSE {
+            pause = Pause::new();
+        }
+        pause.rest().await;
+    }
 }
 
-/// Opens the folder, once no other discarder works in it. Each try reads anew whose files it has: the job may be another one by then.
+async fn discard(given: &cli::Discard, job: &Job, names: &Names, metrics: &Metrics) -> Result<(), Stop> {
+    let deletions = deletions(given, job, names, metrics).await?;
+    Discarder { job, deletions, metrics, once: given.once }.work().await
+}
+
+/// Begins in the place, once no other discarder works there. Each try reads anew whose files it has: the job may be another one by then.
 /// `--once` does not wait.
-async fn folder(given: &cli::Discard, job: &Job, metrics: &Metrics) -> Result<Folder, Stop> {
+async fn deletions(given: &cli::Discard, job: &Job, names: &Names, metrics: &Metrics) -> Result<Deletions, Stop> {
     let (mut pause, mut waits) = (Pause::new(), false);
     loop {
-        let owner = owner(job, given).await?;
-        let why = format!("another discarder works in {}", given.folder.display());
-        match Folder::open(given, &owner) {
-            Ok(folder) => {
+        let known = known(job, given).await?;
+        let place = given.place.open(&given.names, &known.owner)?;
+        let why = format!("another discarder works in {}", place.title());
+        match Deletions::begin(place, given, names, &known) {
+            Ok(deletions) => {
                 metrics.works(true);
-                return Ok(folder);
+                return Ok(deletions);
             }
             Err(NotOpen::Stop(stop)) => return Err(stop),
             Err(NotOpen::Busy) if given.once => return Err(Stop::Again(why)),
@@ -110,19 +127,20 @@ async fn folder(given: &cli::Discard, job: &Job, metrics: &Metrics) -> Result<Fo
     }
 }
 
-fn service(given: &cli::Discard) -> Result<Service, Stop> {
-    if !given.folder.is_dir() {
-        return Err(Stop::Again(format!("--folder: {} is no folder", given.folder.display())));
+fn service(given: &cli::Discard) -> Result<(Service, Names), Stop> {
+    if let Some(folder) = given.place.folder.as_deref().filter(|folder| !folder.is_dir()) {
+        return Err(Stop::Again(format!("--folder: {} is no folder", folder.display())));
     }
     if !crate::http::is_name(&given.job) {
         return Err(Stop::Again(format!("--job: {:?} is no name of a job", given.job)));
     }
-    given.names.check().map_err(Stop::Again)?;
-    remote::service(&given.urls, given.token_file.as_deref()).map_err(|error| Stop::Again(error.to_string()))
+    let names = given.place.names(&given.names).map_err(Stop::Again)?;
+    let service = remote::service(&given.urls, given.token_file.as_deref());
+    Ok((service.map_err(|error| Stop::Again(error.to_string()))?, names))
 }
 
-/// Whose files the folder has, and whether this is the first run for the job: none of its files was taken before.
-async fn owner(job: &Job, given: &cli::Discard) -> Result<Owner, Stop> {
+/// Whose files the place has, and whether this is the first run for the job: none of its files was taken before.
+async fn known(job: &Job, given: &cli::Discard) -> Result<Known, Stop> {
     let until = Instant::now() + HISTORY_PATIENCE;
     loop {
         let state = insist(given.once, || job.state()).await?;
@@ -132,8 +150,8 @@ async fn owner(job: &Job, given: &cli::Discard) -> Result<Owner, Stop> {
         let is_read = number(&files, "upto") >= number(&state, "seq");
         if is_read || Instant::now() >= until {
             let is_first = is_read && number(&state, "first") == 1 && is_empty("taken") && is_empty("deleted");
-            let has_names = state["names"] == true;
-            return Ok(Owner { job: given.job.clone(), opened: number(&state, "opened"), is_first, has_names });
+            let owner = Owner { job: given.job.clone(), opened: number(&state, "opened") };
+            return Ok(Known { owner, is_first, has_names: state["names"] == true });
         }
         tokio::time::sleep(Duration::from_millis(100)).await;
     }
@@ -156,17 +174,19 @@ where
     }
 }
 
-impl Discarder {
-    /// Deletes the files that an earlier run left taken, then those that wait: for ever, or until none waits.
+impl Discarder<'_> {
+    /// Deletes the files that an earlier run left taken, then those that wait: for ever, or until none waits, or one can't be deleted.
     async fn work(&self) -> Result<(), Stop> {
         let mut pause = Pause::new();
         let mut looked = Instant::now();
         let mut files = self.left().await?;
         loop {
-            if self.discard(&files).await? {
-                pause = Pause::new();
-            } else {
-                pause.rest().await;
+            match self.discard(&files).await? {
+                0 => pause = Pause::new(),
+                failed if self.once => {
+                    return Err(Stop::Again(format!("{failed} files can't be deleted, and wait again")))
+                }
+                _ => pause.rest().await,
             }
             files = self.take().await?;
             match (files.is_empty(), self.once) {
@@ -199,28 +219,25 @@ impl Discarder {
         insist(self.once, ask).await
     }
 
-    /// Deletes files, syncs their folder and then reports each. Returns whether none is still there.
-    async fn discard(&self, files: &[u64]) -> Result<bool, Stop> {
+    /// Deletes files for good and then reports each. Returns how many could not be deleted.
+    async fn discard(&self, files: &[u64]) -> Result<usize, Stop> {
         let mut failed = 0;
         for files in files.chunks(MOST as usize) {
-            failed += self.discard_some(files.to_vec()).await?;
+            failed += self.discard_some(files).await?;
         }
-        Ok(failed == 0)
+        Ok(failed)
     }
 
-    /// Returns how many could not be deleted.
-    async fn discard_some(&self, files: Vec<u64>) -> Result<usize, Stop> {
-        let folder = Arc::clone(&self.folder);
-        let given = files.clone();
-        let done = tokio::task::spawn_blocking(move || folder.delete(&given)).await;
-        match done.map_err(|error| Stop::Again(error.to_string()))? {
-            Ok(outcomes) => {
-                let reports: Vec<Call> =
-                    files.iter().zip(&outcomes).map(|(file, outcome)| report(*file, *outcome)).collect();
+    /// The same of those that one request may have.
+    async fn discard_some(&self, files: &[u64]) -> Result<usize, Stop> {
+        match self.deletions.delete(files) {
+            Ok(gone) => {
+                let reports: Vec<Call> = files.iter().zip(&gone).map(|(file, gone)| report(*file, gone)).collect();
                 let refused = self.report(&reports).await?;
-                self.metrics.reported(&outcomes);
-                let of = |wanted: Outcome| outcomes.iter().filter(|outcome| **outcome == wanted).count();
-                let (deleted, absent, failed) = (of(Outcome::Deleted), of(Outcome::Absent), of(Outcome::Failed));
+                self.metrics.reported(&gone);
+                let of = |wanted: fn(&Gone) -> bool| gone.iter().filter(|gone| wanted(gone)).count();
+                let (deleted, absent) = (of(|gone| *gone == Gone::Deleted), of(|gone| *gone == Gone::Absent));
+                let failed = gone.len() - deleted - absent;
                 log::info(&format!("deleted={deleted} absent={absent} failed={failed} refused_reports={refused}"));
                 Ok(failed)
             }
@@ -243,9 +260,9 @@ impl Discarder {
 }
 
 /// A file that was absent counts as deleted for the coordinator.
-fn report(file: u64, outcome: Outcome) -> Call {
-    match outcome {
-        Outcome::Deleted | Outcome::Absent => Call::Deleted { file },
-        Outcome::Failed => Call::Undeleted { file },
+fn report(file: u64, gone: &Gone) -> Call {
+    match gone {
+        Gone::Deleted | Gone::Absent => Call::Deleted { file },
+        Gone::Failed(_) => Call::Undeleted { file },
     }
 }

@@ -1,7 +1,7 @@
 //! The history of files: which subtask wrote each, which call released it, and when it was taken and deleted. The
 //! coordinator hands files out in the order of their release. So the counts of released files determine which call released
 //! which file.
-use super::follow::Made;
+use super::follow::LoggedCall;
 use super::records::is_late;
 use super::tables::Tables;
 use crate::model::{AckBytes, Call, Entry, Reply};
@@ -42,8 +42,8 @@ impl Outbox {
     }
 
     /// Adds a call of the log.
-    pub fn follow(&mut self, tables: &Tables, made: &Made) -> rusqlite::Result<()> {
-        let Made { entry, call, reply, said } = made;
+    pub fn follow(&mut self, tables: &Tables, made: &LoggedCall) -> rusqlite::Result<()> {
+        let LoggedCall { entry, call, reply, said } = made;
         let names_files = match call {
             Call::Ack { fresh, .. } => !fresh.is_empty(),
             Call::Take { .. } | Call::Deleted { .. } => true,

@@ -18,7 +18,7 @@ const ABOUT: u32 = 2000;
 const PAST: u32 = 1000;
 
 /// A row of the log, with its call and its answer.
-pub struct Made<'a> {
+pub struct LoggedCall<'a> {
     pub entry: &'a Entry,
     pub call: Call,
     pub reply: Reply,
@@ -26,11 +26,11 @@ pub struct Made<'a> {
     pub said: Option<&'a AckBytes>,
 }
 
-impl Made<'_> {
+impl LoggedCall<'_> {
     /// `None` if the row has no call, or no answer.
-    fn of(entry: &Entry) -> Option<Made<'_>> {
+    fn of(entry: &Entry) -> Option<LoggedCall<'_>> {
         let (_, call) = parse_line(&entry.line)?;
-        Some(Made { entry, call, reply: entry.reply()?, said: None })
+        Some(LoggedCall { entry, call, reply: entry.reply()?, said: None })
     }
 }
 
@@ -128,7 +128,7 @@ impl Follower {
         tables.within(|| {
             let mut ended = Vec::new();
             for entry in page {
-                if let Some(mut made) = Made::of(entry) {
+                if let Some(mut made) = LoggedCall::of(entry) {
                     let place = said.binary_search_by_key(&entry.seq, |one| one.seq);
                     made.said = place.ok().map(|place| &said[place]);
                     let by_it = self.records.follow(tables, &made)?;
@@ -203,7 +203,7 @@ fn acked(reader: &mut dyn Reader, job: i64, id: u64, upto: u64, pending: &mut Pe
 
 /// The acknowledgements of a record among entries of the log up to a place.
 fn acks_of(entries: &[Entry], upto: u64) -> impl Iterator<Item = (Subtask, u64)> + '_ {
-    let made = entries.iter().filter(move |entry| entry.seq <= upto).filter_map(Made::of);
+    let made = entries.iter().filter(move |entry| entry.seq <= upto).filter_map(LoggedCall::of);
     made.filter_map(|made| match (made.call, made.reply) {
         (_, Reply::Answered(Answer::AckLate { .. })) => None,
         (Call::Ack { subtask, .. }, _) => Some((subtask, made.entry.at)),

@@ -1,7 +1,7 @@
 //! The thread that makes the history.
 use super::error::Error;
 use super::follow::Follower;
-use super::place::Place;
+use super::history_file::HistoryFile;
 use super::samples::Samples;
 use super::summary::Summary;
 use super::tables::Tables;
@@ -33,7 +33,7 @@ const OPEN_WITHIN: Duration = Duration::from_secs(3);
 const MEASURE_EACH: Duration = Duration::from_secs(15);
 
 pub struct Historian {
-    pub place: Arc<Place>,
+    pub file: Arc<HistoryFile>,
     pub reader: Box<dyn Reader>,
     pub board: Arc<Board>,
     pub metrics: Arc<Metrics>,
@@ -60,14 +60,14 @@ impl Historian {
     /// Follows the log for as long as the process lives. After an error it begins again from the tables.
     fn run(mut self) {
         loop {
-            let opened = self.place.open();
+            let opened = self.file.open();
             if let Some(waiting) = self.opened.take() {
                 let _ = waiting.send(()); // it may have waited long enough
             }
             if let Ok(tables) = opened {
                 if let Err(error) = self.work(&tables) {
                     drop(tables);
-                    self.place.failed(&error);
+                    self.file.failed(&error);
                 }
             }
             self.measure();
@@ -295,7 +295,7 @@ impl Historian {
         }
         self.measured = Some(Instant::now());
         let database = self.reader.room().map_err(|error| error.to_string());
-        let history = room_of(self.place.path()).map_err(|error| error.to_string());
+        let history = room_of(self.file.path()).map_err(|error| error.to_string());
         for (of, told) in [("database", database), ("history", history)] {
             match told {
                 Ok(room) => {

@@ -3,7 +3,7 @@ mod error;
 mod files;
 mod follow;
 mod historian;
-mod place;
+mod history_file;
 mod read;
 mod records;
 mod samples;
@@ -13,5 +13,5 @@ mod version;
 
 pub use error::Error;
 pub use historian::Historian;
-pub use place::{Door, Place};
+pub use history_file::{Door, HistoryFile};
 pub use read::{FileRow, HistoryReader, RecordRow, Search};

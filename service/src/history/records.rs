@@ -1,5 +1,5 @@
 //! The history of records: when each was triggered and acknowledged, when and how it ended, and which subtasks were missing.
-use super::follow::Made;
+use super::follow::LoggedCall;
 use super::tables::Tables;
 use crate::model::{AckBytes, Answer, Call, Entry, Kind, Reply, Subtask};
 use std::collections::{BTreeMap, BTreeSet, HashSet};
@@ -86,8 +86,8 @@ impl Records {
     }
 
     /// Adds a call of the log, and returns which records stopped being pending by it.
-    pub fn follow(&mut self, tables: &Tables, made: &Made) -> rusqlite::Result<Vec<Ended>> {
-        let Made { entry, call, reply, said } = made;
+    pub fn follow(&mut self, tables: &Tables, made: &LoggedCall) -> rusqlite::Result<Vec<Ended>> {
+        let LoggedCall { entry, call, reply, said } = made;
         let mut ended = Vec::new();
         if let (Call::Ack { id, subtask, .. }, Reply::Answered(answer)) = (call, reply) {
             if let (Some(pending), Some(said), false) = (self.pending.get_mut(id), said, is_late(answer)) {

@@ -9,7 +9,7 @@ pub const STEPS: [&str; 1] = [include_str!("../../sql/history.sql")];
 /// The table of a service's calls, which no history has.
 const CALLS: &str = "call";
 
-/// The version of the tables; 0 if there are none. A database that has calls is none: nobody may set that aside.
+/// The version of the tables; 0 if there are none. A database with a table `call` is a log and not a history: it is never set aside.
 pub fn version(connection: &Connection) -> Result<i64, Error> {
     let sql = "select count(*), count(*) filter (where name = ?) from sqlite_master";
     let (count, calls): (i64, i64) = connection.query_row(sql, [CALLS], |row| Ok((row.get(0)?, row.get(1)?)))?;

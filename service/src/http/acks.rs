@@ -21,7 +21,7 @@ struct Ack {
 }
 
 impl Ack {
-    /// `None` if the entry is none.
+    /// `None` if the entry is not an acknowledgement.
     fn of(entry: &Entry) -> Option<Ack> {
         let (_, Call::Ack { subtask, fresh, reused, .. }) = parse_line(&entry.line)? else {
             return None;

@@ -1,5 +1,5 @@
 //! One connection: its requests, and when it ends.
-use super::seats::Seat;
+use super::slots::Slot;
 use super::{gate, App};
 use hyper::server::conn::Http;
 use hyper::service::service_fn;
@@ -14,7 +14,7 @@ use tokio::io::{AsyncRead, AsyncWrite, ReadBuf};
 
 /// Bytes of a request's line and headers.
 const HEAD_BYTES: usize = 32 << 10;
-/// How long a connection that lost its place may go on to send its last answer.
+/// How long a connection that lost its slot may go on to send its last answer.
 const LEAVE_WITHIN: Duration = Duration::from_secs(2);
 
 /// The bytes of a connection, with or without TLS.
@@ -22,16 +22,16 @@ pub trait Stream: AsyncRead + AsyncWrite + Unpin + Send + 'static {}
 
 impl<S: AsyncRead + AsyncWrite + Unpin + Send + 'static> Stream for S {}
 
-/// Answers the requests of a connection until its client ends it, it is idle for too long, another connection needs its place, or
+/// Answers the requests of a connection until its client ends it, it is idle for too long, another connection needs its slot, or
 /// the service stops. A request that has begun gets its whole answer.
-pub async fn serve<S: Stream>(app: Arc<App>, stream: S, seat: Arc<Seat>) {
+pub async fn serve<S: Stream>(app: Arc<App>, stream: S, slot: Arc<Slot>) {
     let activity = Arc::new(Activity::new());
     let stream = Watched { stream, activity: Arc::clone(&activity) };
     let service = service_fn(|request| {
-        let (app, activity, seat) = (Arc::clone(&app), Arc::clone(&activity), Arc::clone(&seat));
+        let (app, activity, slot) = (Arc::clone(&app), Arc::clone(&activity), Arc::clone(&slot));
         async move {
             activity.begin();
-            let reply = gate::answer(app, &seat, request).await;
+            let reply = gate::answer(app, &slot, request).await;
             activity.end();
             Ok::<_, Infallible>(reply)
         }
@@ -41,12 +41,12 @@ pub async fn serve<S: Stream>(app: Arc<App>, stream: S, seat: Arc<Seat>) {
     let mut connection = pin!(http.serve_connection(stream, service));
     let most_idle = Duration::from_secs(app.limits.idle_seconds);
     let lost = tokio::select! {
-        // a request that has come is seen before the place is given up
+        // a request that has come is seen before the slot is given up
         biased;
         // a connection that ends badly is its client's business
         _ = connection.as_mut() => return,
         () = activity.idle_for(most_idle) => return,
-        () = seat.lost() => true,
+        () = slot.lost() => true,
         () = app.board.stopping() => false,
     };
     if activity.is_new() {

@@ -1,10 +1,10 @@
 //! The checks that every request passes: its route, its token, its origin, and whether this process leads.
 use super::audit::Asked;
-use super::members::PATH;
+use super::json_members::PATH;
 use super::reply::{as_problem, error, text, wants_problems, with_header, Reply};
 use super::route::{NoRoute, Route};
-use super::seats::{Kind, Seat};
-use super::{names, operate, others, page, reads, room, stream, trace, view, writes, App};
+use super::slots::{Kind, Slot};
+use super::{forward, names, operate, page, reads, room, stream, trace, view, writes, App};
 use crate::auth::Caller;
 use crate::log;
 use crate::model::Call;
@@ -25,13 +25,13 @@ const SLOW_COMMIT: Duration = Duration::from_secs(3);
 /// How long to look for the leader's address.
 const FIND_LEADER: Duration = Duration::from_secs(1);
 
-/// Answers a request, once its connection has a place for it.
-pub async fn answer(app: Arc<App>, seat: &Arc<Seat>, request: Request<Body>) -> Reply {
+/// Answers a request, once its connection has a slot for it.
+pub async fn answer(app: Arc<App>, slot: &Arc<Slot>, request: Request<Body>) -> Reply {
     let trace = trace::of(request.headers());
-    log::traced(trace, answered(app, seat, request)).await
+    log::traced(trace, answered(app, slot, request)).await
 }
 
-async fn answered(app: Arc<App>, seat: &Arc<Seat>, request: Request<Body>) -> Reply {
+async fn answered(app: Arc<App>, slot: &Arc<Slot>, request: Request<Body>) -> Reply {
     let route = Route::of(request.method(), request.uri().path());
     let name = route.as_ref().map_or("none", Route::name);
     let asked =
@@ -40,7 +40,7 @@ async fn answered(app: Arc<App>, seat: &Arc<Seat>, request: Request<Body>) -> Re
     let (kind, checked) = checked(&app, route, request.headers());
     let by = checked.as_ref().ok().and_then(|(_, caller)| caller.as_ref()).map(|caller| caller.name.clone());
     let wants_problems = wants_problems(request.headers());
-    let mut reply = match (seat.begin(kind), checked) {
+    let mut reply = match (slot.begin(kind), checked) {
         (None, _) => crowded(),
         (Some(_), Err(refused)) => *refused,
         // the page's files are a part of the program
@@ -71,7 +71,7 @@ fn shortened(path: &str) -> String {
 /// A route, and who asks for it, if it needs a token.
 type Admitted = (Route, Option<Caller>);
 
-/// The route of a request that may be made, and the kind of place that it needs.
+/// The route of a request that may be made, and the kind of slot that it needs.
 fn checked(app: &App, route: Result<Route, NoRoute>, headers: &HeaderMap) -> (Kind, Result<Admitted, Box<Reply>>) {
     match route {
         Err(none) => (Kind::Stranger, Err(no_route(&none).into())),
@@ -82,7 +82,7 @@ fn checked(app: &App, route: Result<Route, NoRoute>, headers: &HeaderMap) -> (Ki
     }
 }
 
-/// All places of the request's kind are taken. The connection ends.
+/// All slots of the request's kind are taken. The connection ends.
 fn crowded() -> Reply {
     with_header(busy("too many connections do this"), CONNECTION, "close")
 }
@@ -91,7 +91,7 @@ async fn dispatched(app: &Arc<App>, route: Route, caller: Option<Caller>, reques
     let caller = caller.unwrap_or_else(Caller::local);
     let job = route.job().map(str::to_string);
     let reply = dispatch(app, route, &caller, request).await.unwrap_or_else(|refused| *refused);
-    others::looked_again(app, job.as_deref(), reply).await
+    forward::looked_again(app, job.as_deref(), reply).await
 }
 
 async fn dispatch(app: &Arc<App>, route: Route, caller: &Caller, request: Request<Body>) -> Result<Reply, Box<Reply>> {
@@ -100,7 +100,7 @@ async fn dispatch(app: &Arc<App>, route: Route, caller: &Caller, request: Reques
     }
     let request = match route.job() {
         // the page's view of a job has the names of all jobs too
-        Some(job) if !matches!(route, Route::View(_)) => others::answered(app, job, request).await?,
+        Some(job) if !matches!(route, Route::View(_)) => forward::answered(app, job, request).await?,
         _ => request,
     };
     match route {
@@ -184,7 +184,7 @@ fn names_loopback(headers: &HeaderMap) -> bool {
 
 fn health(app: &App) -> Reply {
     match app.board.silence() {
-        silence if silence < STUCK && app.place.works() => text(200, "ok\n"),
+        silence if silence < STUCK && app.history_file.works() => text(200, "ok\n"),
         // calls go on, so a start of the process would do harm and no good
         silence if silence < STUCK => text(200, "ok, but the history is broken: the service's log says why\n"),
         _ => text(503, "the writer is stuck\n"),

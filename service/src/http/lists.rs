@@ -1,5 +1,5 @@
 //! Lists of all jobs, of which each process that shares them has a part.
-use super::others::{self, was_passed};
+use super::forward::{self, was_passed};
 use super::reply::{json_reply, Reply};
 use super::App;
 use crate::model::Shards;
@@ -34,7 +34,7 @@ where
         for (headers, body) in told.as_ref().map_or(&[][..], Vec::as_slice) {
             // the shards of a part that can't be read are missing
             if let Ok(part) = serde_json::from_slice::<Value>(body) {
-                shards = shards.with(others::shards_of(headers));
+                shards = shards.with(forward::shards_of(headers));
                 parts.push(part);
             }
         }
@@ -75,7 +75,7 @@ pub fn joined(mut parts: Vec<Value>, after: u64, most: usize) -> Value {
 pub fn reply(request: &Request<Body>, shards: Shards, told: &Value) -> Reply {
     let reply = json_reply(200, told);
     if was_passed(request.headers()) {
-        others::with_shards(reply, shards)
+        forward::with_shards(reply, shards)
     } else {
         reply
     }

@@ -3,23 +3,23 @@ mod acks;
 mod audit;
 mod bodies;
 mod connection;
+mod forward;
 mod gate;
+mod json_members;
 mod keys;
 mod lists;
-mod members;
+mod log_position;
 mod names;
 mod operate;
-mod others;
 mod page;
-mod places;
 mod query;
 mod reads;
 mod render;
 mod reply;
 mod room;
 mod route;
-mod seats;
 mod server;
+mod slots;
 mod stream;
 mod tls;
 mod trace;
@@ -29,14 +29,14 @@ mod writes;
 
 pub use audit::Audit;
 pub use bodies::Bodies;
+pub use forward::Others;
 pub use keys::Keys;
-pub use others::Others;
 pub use server::serve;
 pub use tls::{NoTls, Tls, TlsFiles};
 pub use wire::{is_name, NO_NAME};
 
 use crate::config::Limits;
-use crate::history::{self, Door, HistoryReader, Place};
+use crate::history::{self, Door, HistoryFile, HistoryReader};
 use crate::log;
 use crate::metrics::Metrics;
 use crate::model::Shards;
@@ -63,7 +63,7 @@ pub struct App {
     /// Reads of events, which do not wait for those of the log.
     pub events: Arc<Mutex<Box<dyn Reader>>>,
     pub history: Arc<Mutex<Door>>,
-    pub place: Arc<Place>,
+    pub history_file: Arc<HistoryFile>,
     pub keys: Arc<Keys>,
     /// The other processes, if this one shares the jobs with them.
     pub others: Option<Others>,
@@ -172,6 +172,6 @@ async fn waited<R: Send + 'static, T: Send + 'static, E: Error + Send + 'static>
 
 fn no_job(job: &str) -> Reply {
     let mut reply = error(404, &format!("there is no job {job}"));
-    reply.extensions_mut().insert(others::NoSuchJob);
+    reply.extensions_mut().insert(forward::NoSuchJob);
     reply
 }

@@ -1,5 +1,5 @@
 //! The numbers of a query, as `after=4000&limit=100`.
-use super::members::shown;
+use super::json_members::shown;
 use super::reply::{bad_field, Reply};
 
 /// Reads the wanted parameters, each a number within its limits, or its default. Others are refused.

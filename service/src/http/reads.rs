@@ -1,6 +1,6 @@
 //! Requests that read: jobs, records, files, the log, events and metrics.
-use super::others::was_passed;
-use super::places::{self, Place};
+use super::forward::was_passed;
+use super::log_position::{self, LogPosition};
 use super::query::{self, numbers, Parameter};
 use super::render::{self, Metadata};
 use super::reply::{bad_field, body, error, json_reply, with_type, Reply};
@@ -80,7 +80,7 @@ async fn metrics(app: &App, query: &str) -> Result<Reply, Box<Reply>> {
         app.metrics.queue.followed();
     }
     app.metrics.commit_takes(app.board.commit_takes());
-    app.metrics.upkeep.history_up(app.place.works());
+    app.metrics.upkeep.history_up(app.history_file.works());
     // those of many jobs take long, and the other requests go on by another thread
     let text = tokio::task::block_in_place(|| app.metrics.text(&jobs, || app.board.served()));
     let text = text.map_err(|why| error(500, &why.to_string()))?;
@@ -262,8 +262,8 @@ async fn log(app: &App, job: &str, caller: &Caller, query: &str) -> Result<Reply
 async fn events(app: &App, job: &str, query: &str) -> Result<Reply, Box<Reply>> {
     let wait = Parameter { name: "wait", most: MOST_WAIT, default: 0 };
     let (known, query) = query::text(query, "log");
-    let [after, wait, most] = numbers(&query, [places::AFTER, wait, limit(MOST_ROWS, MOST_ROWS)])?;
-    let place = Place::of(app, job, places::given(after))?;
+    let [after, wait, most] = numbers(&query, [log_position::AFTER, wait, limit(MOST_ROWS, MOST_ROWS)])?;
+    let place = LogPosition::of(app, job, log_position::given(after))?;
     let number = place.number;
     place.check_log(app, known).await?;
     let after = place.after.unwrap_or(app.board.first(job) - 1);

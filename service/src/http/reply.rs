@@ -1,5 +1,5 @@
 //! Answers: JSON bodies, and errors that name the field.
-use super::members::Invalid;
+use super::json_members::Invalid;
 use hyper::header::{
     HeaderMap, HeaderName, HeaderValue, ACCEPT, CONTENT_TYPE, REFERRER_POLICY, X_CONTENT_TYPE_OPTIONS, X_FRAME_OPTIONS,
 };

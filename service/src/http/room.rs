@@ -1,6 +1,6 @@
 //! Large answers keep room for themselves until they are sent, so that slow readers can't fill the memory.
 use super::reply::Reply;
-use super::seats::Turn;
+use super::slots::Turn;
 use super::{gate, units, App};
 use futures_core::Stream;
 use hyper::body::{Bytes, HttpBody};

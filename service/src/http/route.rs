@@ -1,6 +1,6 @@
 //! The routes: which paths there are, and what each needs.
 use super::page::{self, Asset};
-use super::seats::Kind;
+use super::slots::Kind;
 use super::wire::{is_name, parse_file};
 use crate::auth::Access;
 use hyper::Method;

@@ -1,5 +1,5 @@
 //! Accepts connections until the service stops, and then waits until each request that was begun has its answer.
-use super::seats::{Places, Seat, YOUNG, YOUNG_BY_TLS};
+use super::slots::{Slot, Slots, YOUNG, YOUNG_BY_TLS};
 use super::tls::Tls;
 use super::{connection, App};
 use crate::log;
@@ -28,15 +28,15 @@ pub async fn serve(app: Arc<App>, listener: TcpListener, stop: impl Future<Outpu
     tokio::time::timeout(ANSWER_WITHIN, all.recv()).await.is_ok()
 }
 
-/// A connection that finds no place waits for one, and those behind it wait in the system's queue.
+/// A connection that finds no slot waits for one, and those behind it wait in the system's queue.
 async fn accept(app: &Arc<App>, listener: &TcpListener, is_open: mpsc::Sender<()>) {
-    let places = Places::of(&app.limits);
+    let slots = Slots::of(&app.limits);
     let keeps = if app.keys.tls().is_some() { YOUNG_BY_TLS } else { YOUNG };
     loop {
         match listener.accept().await {
             Ok((stream, _)) => {
-                let seat = places.enter(keeps).await;
-                tokio::spawn(connected(Arc::clone(app), stream, seat, is_open.clone()));
+                let slot = slots.enter(keeps).await;
+                tokio::spawn(connected(Arc::clone(app), stream, slot, is_open.clone()));
             }
             Err(error) => {
                 log::warn(&format!("a connection was not accepted: {error}"));
@@ -46,27 +46,27 @@ async fn accept(app: &Arc<App>, listener: &TcpListener, is_open: mpsc::Sender<()
     }
 }
 
-async fn connected(app: Arc<App>, stream: TcpStream, seat: Arc<Seat>, _is_open: mpsc::Sender<()>) {
+async fn connected(app: Arc<App>, stream: TcpStream, slot: Arc<Slot>, _is_open: mpsc::Sender<()>) {
     app.metrics.connections().inc();
     // a peer that has gone does not need the option
     let _ = stream.set_nodelay(true);
     match app.keys.tls().map(Tls::acceptor) {
-        None => connection::serve(Arc::clone(&app), stream, seat).await,
+        None => connection::serve(Arc::clone(&app), stream, slot).await,
         Some(acceptor) => {
-            if let Some(stream) = agreed(&app, &seat, acceptor.accept(stream)).await {
-                connection::serve(Arc::clone(&app), stream, seat).await;
+            if let Some(stream) = agreed(&app, &slot, acceptor.accept(stream)).await {
+                connection::serve(Arc::clone(&app), stream, slot).await;
             }
         }
     }
     app.metrics.connections().dec();
 }
 
-/// What a connection agrees on by TLS, unless it takes too long, another connection needs its place, or the service stops. One that
+/// What a connection agrees on by TLS, unless it takes too long, another connection needs its slot, or the service stops. One that
 /// does not agree is its client's business.
-async fn agreed<S, E>(app: &App, seat: &Seat, agree: impl Future<Output = Result<S, E>>) -> Option<S> {
+async fn agreed<S, E>(app: &App, slot: &Slot, agree: impl Future<Output = Result<S, E>>) -> Option<S> {
     tokio::select! {
         agreed = tokio::time::timeout(Duration::from_secs(app.limits.idle_seconds), agree) => agreed.ok()?.ok(),
-        () = seat.lost() => None,
+        () = slot.lost() => None,
         () = app.board.stopping() => None,
     }
 }

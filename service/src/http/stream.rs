@@ -1,5 +1,5 @@
 //! The events of a job as one answer that does not end: server-sent events, for pages and other programs that would poll.
-use super::places::{self, Place};
+use super::log_position::{self, LogPosition};
 use super::query::{self, numbers};
 use super::render;
 use super::reply::{bad_field, with_type, Reply};
@@ -32,12 +32,12 @@ pub async fn answer(
     request: &Request<Body>,
 ) -> Result<Reply, Box<Reply>> {
     let (known, query) = query::text(request.uri().query().unwrap_or(""), "log");
-    let [after] = numbers(&query, [places::AFTER])?;
+    let [after] = numbers(&query, [log_position::AFTER])?;
     let (after, known) = match last_id(request.headers())? {
         Some((after, log)) => (Some(after), Some(log)),
-        None => (places::given(after), known.map(str::to_string)),
+        None => (log_position::given(after), known.map(str::to_string)),
     };
-    let place = Place::of(app, &job, after)?;
+    let place = LogPosition::of(app, &job, after)?;
     let (number, epoch) = (place.number, place.epoch);
     place.check_log(app, known.as_deref()).await?;
     let first = place.check_cut(app)?;
@@ -109,7 +109,7 @@ impl Stream {
 
     /// The text of what has come, and whether it is the last. Nothing comes of a log that is another process's by now.
     async fn next(&mut self) -> Result<(String, bool), Box<Reply>> {
-        let place = Place { job: &self.job, number: self.number, after: Some(self.after), epoch: self.epoch };
+        let place = LogPosition { job: &self.job, number: self.number, after: Some(self.after), epoch: self.epoch };
         let is_cut = place.check_cut(&self.app).is_err();
         if !place.is_owned(&self.app) {
             return Ok((String::new(), true));

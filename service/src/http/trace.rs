@@ -5,11 +5,11 @@ const HEADER: &str = "traceparent";
 /// How many digits the parts have: the version, the trace, the parent and the flags.
 const LENGTHS: [usize; 4] = [2, 32, 16, 2];
 
-/// The trace's number. A header that is none is passed over, as the standard says.
+/// The trace's number. An invalid header is ignored, as the standard says.
 pub fn of(headers: &HeaderMap) -> Option<String> {
     let mut given = headers.get_all(HEADER).iter();
     let text = given.next()?.to_str().ok()?;
-    // two of them are none
+    // if there are two, neither counts
     given.next().is_none().then_some(())?;
     let parts: Vec<&str> = text.trim().split('-').collect();
     let are_right =

@@ -1,6 +1,6 @@
 //! All that a tab of the page shows, in one answer: the jobs by name and mode, and one job with its pending records, its savepoints,
 //! its history and its files.
-use super::others::{self, was_passed, Served};
+use super::forward::{self, was_passed, Served};
 use super::query::{numbers, Parameter};
 use super::reads::{files_of, metadata, FilesRead};
 use super::render;
@@ -43,7 +43,7 @@ pub async fn answer(
     let wanted = numbers(query, [RECORDS, SAMPLES, FILES])?;
     let elsewhere = match (&name, &app.others) {
         (Some(job), Some(others)) => match others.find(app, job).await? {
-            Some(Served::At(_)) if was_passed(request.headers()) => return Err(others::moves().into()),
+            Some(Served::At(_)) if was_passed(request.headers()) => return Err(forward::moves().into()),
             Some(Served::At(address)) => Some((others, job.clone(), address)),
             Some(Served::Here) | None => None,
         },
@@ -58,11 +58,11 @@ pub async fn answer(
     names.sort_by(|one, other| one["name"].as_str().cmp(&other["name"].as_str()));
     let mut told = match elsewhere {
         Some((others, job, address)) => {
-            let reply = others.pass(app, &address, &job, others::get(&place(&request), request.headers())).await?;
+            let reply = others.pass(app, &address, &job, forward::get(&place(&request), request.headers())).await?;
             if reply.status() != 200 {
                 return Err(reply.into());
             }
-            others::json(reply).await?
+            forward::json(reply).await?
         }
         // where this process has none, the first job of another one
         None => match parts.iter().position(|part| !part["job"].is_null()) {

@@ -1,5 +1,5 @@
 //! Reads the bodies of requests. An error names the place of the bad value, such as `calls[3].fresh[0]`.
-use super::members::{each, invalid, items, read, shown, text, Checked, Members};
+use super::json_members::{each, invalid, items, read, shown, text, Checked, Members};
 use crate::model::{check_shape, settings_of, Call, Change, Settings, Subtask, Target, FIELDS};
 use serde_json::value::RawValue;
 
@@ -10,10 +10,10 @@ const LONGEST_NAME: usize = 64;
 /// How many parts of a shape are read. A list that is too long is refused by its length.
 const MOST_VERTICES: usize = 1 << 16;
 pub const NO_NAME: &str = "is no name: 1 to 64 of a-z, A-Z, 0-9, '-', '_' and '.', and a letter or digit first";
-// embed/bindings makes the names of calls
+// bindings/generate makes the names of calls
 const CALLS: &str =
     "ack, decline, tick, savepoint, dispose, restore, cancel, take, deleted, undeleted, reserve, forfeit and trigger";
-// embed/bindings: end
+// bindings/generate: end
 /// How many names a task reserves at once, and gives up.
 const MOST_RESERVED: u64 = 65_536;
 const MOST_FORFEITED: usize = 4096;
@@ -227,7 +227,7 @@ pub fn calls(bytes: &[u8], most: usize) -> Checked<Vec<Call>> {
 fn call(mut members: Members, term: u64) -> Checked<Call> {
     let name = members.text("call")?;
     let call = match name.as_ref() {
-        // embed/bindings makes the calls of one number
+        // bindings/generate makes the calls of one number
         "tick" => Call::Tick,
         "savepoint" => Call::Savepoint,
         "dispose" => Call::Dispose { id: members.id()? },
@@ -235,7 +235,7 @@ fn call(mut members: Members, term: u64) -> Checked<Call> {
         "deleted" => Call::Deleted { file: members.file()? },
         "undeleted" => Call::Undeleted { file: members.file()? },
         "trigger" => Call::Trigger,
-        // embed/bindings: end
+        // bindings/generate: end
         "ack" => ack(&mut members, term)?,
         "decline" => Call::Decline { term: members.term(term)?, id: members.id()?, subtask: members.subtask()? },
         "restore" => restore(&mut members)?,

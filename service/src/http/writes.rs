@@ -1,7 +1,7 @@
 //! Requests that change something: a new job, and calls.
 use super::audit::Did;
 use super::bodies::Room;
-use super::others::{self, was_passed, Served};
+use super::forward::{self, was_passed, Served};
 use super::query::{numbers, Parameter};
 use super::reply::{bad_field, body, error, invalid, json_reply, refusal, with_header, Reply};
 use super::{gate, no_job, wire, App};
@@ -40,7 +40,7 @@ pub async fn new_job(app: &App, caller: &Caller, request: Request<Body>) -> Resu
         // another process has opened it in this moment, or has to
         Created::Elsewhere => match elsewhere(app, &at).await? {
             Some(address) => return pass_new(app, &address, &at, head, bytes).await,
-            None => others::moves(),
+            None => forward::moves(),
         },
         Created::New { names } => {
             told["names"] = json!(names);
@@ -80,7 +80,7 @@ async fn pass_new(
         Some(others) if !was_passed(&head.headers) => {
             others.pass(app, address, job, Request::from_parts(head, Body::from(bytes))).await
         }
-        _ => Err(others::moves().into()),
+        _ => Err(forward::moves().into()),
     }
 }
 

@@ -85,7 +85,7 @@ impl Job {
 
 #[cfg(test)]
 mod tests {
-    use super::super::outcome::Beside;
+    use super::super::outcome::Extra;
     use super::super::{Opening, Settings};
     use super::*;
     use std::error::Error;
@@ -130,7 +130,7 @@ mod tests {
         let (outcome, made) = go_back(&mut job, 2, 40);
         let lines: Vec<&str> = made.iter().map(|one| one.entry.line.as_str()).collect();
         assert_eq!(lines, ["savepoint 40", "ack 40 4 0.0 =10 =20", "ack 40 4 0.1 =21", "restore 40 4"]);
-        assert!(matches!(outcome, Outcome::Made { beside: Beside::Nothing, .. }), "{outcome:?}");
+        assert!(matches!(outcome, Outcome::Made { beside: Extra::Nothing, .. }), "{outcome:?}");
         // the savepoint alone is left, with the files of checkpoint 2 alone
         assert_eq!(job.live().keys().copied().collect::<Vec<_>>(), [4]);
         assert_eq!((job.engine().choice(), job.engine().counts().in_use), (Choice::Savepoint(4), 3));

@@ -62,10 +62,10 @@ impl Target {
     }
 }
 
-/// A call, without the moment that the writer gives it. A term of 0 is none.
+/// A call, without the moment that the writer gives it. The term is 0 if the call names no term.
 #[derive(Clone, Debug, PartialEq, Eq)]
 pub enum Call {
-    // embed/bindings makes the calls of one number
+    // bindings/generate makes the calls of one number
     Tick,
     Savepoint,
     Dispose {
@@ -79,7 +79,7 @@ pub enum Call {
         file: u64,
     },
     Trigger,
-    // embed/bindings: end
+    // bindings/generate: end
     /// `bytes` are those of each fresh file, or none. The log's line does not have them.
     Ack {
         term: u64,
@@ -134,7 +134,7 @@ impl Call {
     /// The first word of the call's line, after its term, and the `call` of a request.
     pub fn name(&self) -> &'static str {
         match self {
-            // embed/bindings makes the names of calls of one number
+            // bindings/generate makes the names of calls of one number
             Call::Tick => "tick",
             Call::Savepoint => "savepoint",
             Call::Dispose { .. } => "dispose",
@@ -142,7 +142,7 @@ impl Call {
             Call::Deleted { .. } => "deleted",
             Call::Undeleted { .. } => "undeleted",
             Call::Trigger => "trigger",
-            // embed/bindings: end
+            // bindings/generate: end
             Call::Ack { .. } => "ack",
             Call::Decline { .. } => "decline",
             Call::Restore { .. } => "restore",

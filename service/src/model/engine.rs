@@ -1,4 +1,4 @@
-//! The proved coordinator of one job, through the crate of `embed/rust`.
+//! The proved coordinator of one job, through the crate of `bindings/rust`.
 use super::call::Call;
 use super::live::Live;
 use super::outcome::Reply;

@@ -3,10 +3,10 @@ use super::bases::Bases;
 use super::call::Call;
 use super::engine::{Engine, Lendable, Made, NoJob};
 use super::image::Image;
-use super::kept::Kept;
 use super::live::{ended, Live};
-use super::outcome::{Beside, Outcome, Reply};
+use super::outcome::{Extra, Outcome, Reply};
 use super::phase::Phase;
+use super::retention::Retention;
 use super::settings::pending_limit;
 use super::sizes::{FileBytes, SizeChange, Sizes, Use};
 use super::told::Told;
@@ -85,7 +85,7 @@ pub struct Job {
     /// What a restore would have begun from.
     pub bases: Bases,
     /// What the database has of the log, if this process leads.
-    pub kept: Kept,
+    pub retention: Retention,
     /// The bytes of files, if this process leads.
     pub sizes: Sizes,
     /// How many milliseconds its moments are ahead of the writer's clock: it came from a process whose clock is ahead of this one's.
@@ -100,7 +100,7 @@ pub struct Job {
 impl Job {
     pub fn open(opening: Opening) -> Result<Job, NoJob> {
         let engine = Lendable::of(Engine::open(&opening.settings, &opening.shape, opening.started)?);
-        let (shape, at, kept) = (opening.shape.clone(), opening.started, Kept::default());
+        let (shape, at, retention) = (opening.shape.clone(), opening.started, Retention::default());
         let (live, sizes) = (Live::new(), Sizes::default());
         let (seq, last_event, ahead, is_deleted) = (0, 0, 0, false);
         let (bases, settings) = (Bases::from(seq, Choice::Fresh), opening.settings);
@@ -114,7 +114,7 @@ impl Job {
             last_restored: None,
             last_event,
             bases,
-            kept,
+            retention,
             sizes,
             ahead,
             phase: Phase::Running,
@@ -139,7 +139,7 @@ impl Job {
     /// The job was deleted: frees what it takes, as far as memory allows.
     pub fn close(&mut self) {
         self.is_deleted = true;
-        (self.kept, self.sizes, self.live, self.ahead) = (Kept::default(), Sizes::default(), Live::new(), 0);
+        (self.retention, self.sizes, self.live, self.ahead) = (Retention::default(), Sizes::default(), Live::new(), 0);
         if let Ok(engine) = Engine::open(&self.opening.settings, &self.opening.shape, self.opening.started) {
             self.engine = Lendable::of(engine);
         }
@@ -180,14 +180,14 @@ impl Job {
             Err(fault) => return (fault.into(), None),
         };
         if reply.changed_nothing() {
-            return (Outcome::Made { seq: None, reply, beside: Beside::Nothing }, None);
+            return (Outcome::Made { seq: None, reply, beside: Extra::Nothing }, None);
         }
         let (record, ended) = self.take_in(call, now, &reply);
         let waiting = released.end.saturating_sub(released.start);
         let sizes = self.resize(call, &reply, released);
         let (job, seq, at) = (self.opening.number, self.seq, self.at);
         let entry = Entry { job, seq, at, record, line, told: Told::of(&reply), ended, waiting };
-        self.kept.note(entry.bytes() as u64);
+        self.retention.count_bytes(entry.bytes() as u64);
         let beside = self.beside(call);
         (Outcome::Made { seq: Some(self.seq), reply, beside }, Some(Logged { entry, sizes }))
     }
@@ -227,21 +227,21 @@ impl Job {
             Err(fault) => return fault.into(),
         };
         if reply.changed_nothing() {
-            return Outcome::Made { seq: None, reply, beside: Beside::Nothing };
+            return Outcome::Made { seq: None, reply, beside: Extra::Nothing };
         }
         self.take_in(call, now, &reply);
-        Outcome::Made { seq: Some(self.seq), reply, beside: Beside::Nothing }
+        Outcome::Made { seq: Some(self.seq), reply, beside: Extra::Nothing }
     }
 
     /// What the answer of a call that was made tells beside its text: whoever restarts the tasks learns the term here.
-    fn beside(&self, call: &Call) -> Beside {
+    fn beside(&self, call: &Call) -> Extra {
         match call {
-            Call::Reserve { count, .. } => Beside::Names(*count),
-            Call::Configure { .. } => Beside::Settings(self.settings),
+            Call::Reserve { count, .. } => Extra::Names(*count),
+            Call::Configure { .. } => Extra::Settings(self.settings),
             Call::Restore { .. } | Call::Advance { .. } | Call::Cancel | Call::Fence { .. } => {
-                self.engine.term().map_or(Beside::Nothing, |now| Beside::Term(now.term))
+                self.engine.term().map_or(Extra::Nothing, |now| Extra::Term(now.term))
             }
-            _ => Beside::Nothing,
+            _ => Extra::Nothing,
         }
     }
 

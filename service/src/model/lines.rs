@@ -18,7 +18,7 @@ impl Call {
     pub fn of_library(&self, now: u64) -> relkvanu::Call<'_> {
         use relkvanu::Call as C;
         match self {
-            // embed/bindings makes what writes the calls of one number
+            // bindings/generate makes what writes the calls of one number
             Call::Tick => C::Tick { now },
             Call::Savepoint => C::Savepoint { now },
             Call::Dispose { id } => C::Dispose { id: *id },
@@ -26,7 +26,7 @@ impl Call {
             Call::Deleted { file } => C::Deleted { file: *file },
             Call::Undeleted { file } => C::Undeleted { file: *file },
             Call::Trigger => C::Trigger { now },
-            // embed/bindings: end
+            // bindings/generate: end
             Call::Ack { term: 0, id, subtask, fresh, reused, .. } => {
                 C::Ack { now, id: *id, subtask: subtask.into(), fresh, reused }
             }
@@ -86,7 +86,7 @@ pub fn parse_line(line: &str) -> Option<(u64, Call)> {
 fn changing(said: relkvanu::Call<'_>) -> Option<(u64, Call)> {
     use relkvanu::Call as C;
     Some(match said {
-        // embed/bindings makes what reads the calls of one number
+        // bindings/generate makes what reads the calls of one number
         C::Tick { now } => (now, Call::Tick),
         C::Savepoint { now } => (now, Call::Savepoint),
         C::Dispose { id } => (0, Call::Dispose { id }),
@@ -94,7 +94,7 @@ fn changing(said: relkvanu::Call<'_>) -> Option<(u64, Call)> {
         C::Deleted { file } => (0, Call::Deleted { file }),
         C::Undeleted { file } => (0, Call::Undeleted { file }),
         C::Trigger { now } => (now, Call::Trigger),
-        // embed/bindings: end
+        // bindings/generate: end
         C::Ack { now, id, subtask, fresh, reused } => (now, ack(0, id, subtask, fresh, reused)),
         C::AckIn { term, now, id, subtask, fresh, reused } => (now, ack(term, id, subtask, fresh, reused)),
         C::Decline { now, id, subtask } => (now, Call::Decline { term: 0, id, subtask: subtask.into() }),
@@ -195,7 +195,7 @@ mod tests {
         }
     }
 
-    /// embed/python/tests/test_rows.py says that each call is in a row.
+    /// bindings/python/tests/test_rows.py says that each call is in a row.
     #[test]
     fn calls_of_the_rows_are_written_again() -> std::io::Result<()> {
         let mut written = BTreeSet::new();

@@ -17,7 +17,7 @@ pub enum Reply {
 #[derive(Clone, Debug, PartialEq, Eq)]
 pub enum Outcome {
     /// The call was made. `seq` is its place in the log; a take that finds no file has none.
-    Made { seq: Option<u64>, reply: Reply, beside: Beside },
+    Made { seq: Option<u64>, reply: Reply, beside: Extra },
     /// The coordinator refused the call, or the term or the names did, or the library does not take it: nothing changed.
     Refused(Fault),
     /// The service refuses it, which knows that the coordinator would: nothing changed.
@@ -57,7 +57,7 @@ impl Unable {
 
 /// What an answer tells beside what the log has of it.
 #[derive(Clone, Copy, Debug, Default, PartialEq, Eq)]
-pub enum Beside {
+pub enum Extra {
     #[default]
     Nothing,
     /// The term that began with the call.
@@ -101,13 +101,13 @@ fn answer_json(answer: Answer) -> Value {
         Answer::HeldAtOnce { expired } => json!({"tick": "held", "expired": expired, "why": "at-once"}),
         Answer::HeldPause { expired } => json!({"tick": "held", "expired": expired, "why": "pause"}),
         Answer::Failed { expired } => json!({"tick": "failed", "expired": expired}),
-        // embed/bindings makes the answers to calls of one number
+        // bindings/generate makes the answers to calls of one number
         Answer::SavepointTriggered(id) => json!({"savepoint": "triggered", "id": id}),
         Answer::Disposed { released } => json!({"dispose": "disposed", "released": released}),
         Answer::Cancelled { dropped, released } => {
             json!({"cancel": "cancelled", "dropped": dropped, "released": released})
         }
-        // embed/bindings: end
+        // bindings/generate: end
         Answer::AckPending { missing } => json!({"ack": "pending", "missing": missing}),
         Answer::AckCompleted { dropped, released } => {
             json!({"ack": "completed", "dropped": dropped, "released": released})
@@ -148,10 +148,10 @@ impl Outcome {
                     told["seq"] = json!(seq);
                 }
                 match beside {
-                    Beside::Nothing => {}
-                    Beside::Term(term) => told["term"] = json!(term),
-                    Beside::Names(count) => told["count"] = json!(count),
-                    Beside::Settings(settings) => told["settings"] = settings_json(settings),
+                    Extra::Nothing => {}
+                    Extra::Term(term) => told["term"] = json!(term),
+                    Extra::Names(count) => told["count"] = json!(count),
+                    Extra::Settings(settings) => told["settings"] = settings_json(settings),
                 }
                 told
             }

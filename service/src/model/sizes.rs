@@ -211,7 +211,7 @@ mod tests {
         let change = sizes.follow(&ack(&[1, 2], &[], &[100, 20]), &pending, &[]);
         assert_eq!(change.files, [(1, Some(100)), (2, Some(20))]);
         assert_eq!(change.said, Some(AckBytes { fresh: vec![(1, 100), (2, 20)], full: 120, ..AckBytes::default() }));
-        // a file of which nothing was said counts as none
+        // a file of which nothing was said counts as 0 bytes
         let change = sizes.follow(&ack(&[3], &[1, 9], &[7]), &pending, &[]);
         assert_eq!(change.said.map(|said| (said.fresh_bytes(), said.full)), Some((7, 107)));
         let sum = |sizes: &Sizes| (sizes.sum().in_use, sizes.sum().waiting, sizes.sum().taken, sizes.sum().files);

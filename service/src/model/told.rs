@@ -38,7 +38,7 @@ impl Told {
         };
         let files = files.split(' ').filter(|word| !word.is_empty()).map(|word| word.parse().ok());
         let reply = Reply::Taken(files.collect::<Option<_>>()?);
-        // what is written otherwise, as with a sign, is none of ours
+        // what is written otherwise, as with a sign, is not of ours
         Some(reply).filter(|reply| Told::of(reply) == *self)
     }
 

@@ -1,18 +1,16 @@
-//! `relkvanu sweep`: finds the garbage of a folder, and deletes it. Garbage has a name that the job gave out, and nobody will ever use it. So
+//! `relkvanu sweep`: finds the garbage of a folder or a bucket, and deletes it. Garbage has a name that the job gave out, and nobody will ever use it. So
 //! a sweep may run at any time, beside the job's tasks, beside another sweep, and late.
 mod metrics;
-mod pages;
 
 use crate::cli;
-use crate::discard::others::{self, Need};
-use crate::discard::{Marked, Owner, Stop};
 use crate::exit::NOT_TO_START;
-use crate::exposed;
+use crate::files::{self, Found, Gone, Marked, Names, Need, Owner, Stop};
 use crate::log;
+use crate::metrics_server;
 use crate::remote;
 use metrics::Metrics;
-use pages::{Gone, Page, Pages};
 use relkvanu_client::{Error, Job};
+use std::collections::BTreeMap;
 use std::fmt;
 use std::io::Write;
 use std::process::ExitCode;
@@ -24,6 +22,9 @@ const PAGE: usize = 10_000;
 /// The exit status if there are files whose names were never given out.
 const UNISSUED: u8 = 3;
 const NO_NAMES: &str = "NoNames";
+
+/// Files by their numbers: one that is being written has another name.
+type Page = BTreeMap<u64, Vec<Found>>;
 
 /// The sums of a sweep.
 #[derive(Debug, Default)]
@@ -47,7 +48,8 @@ impl fmt::Display for Swept {
 }
 
 pub fn run(given: &cli::Sweep) -> ExitCode {
-    let runtime = tokio::runtime::Builder::new_current_thread().enable_all().build();
+    // a deletion keeps the thread of the work, and the other one serves metrics
+    let runtime = tokio::runtime::Builder::new_multi_thread().worker_threads(1).enable_all().build();
     let worked = match runtime {
         Ok(runtime) => runtime.block_on(work(given)),
         Err(error) => Err(Stop::Again(error.to_string())),
@@ -68,11 +70,11 @@ pub fn run(given: &cli::Sweep) -> ExitCode {
 
 /// Sweeps once, or again and again until somebody has to look.
 async fn work(given: &cli::Sweep) -> Result<Swept, Stop> {
-    given.names.check().map_err(Stop::Again)?;
+    let names = given.place.names(&given.names).map_err(Stop::Again)?;
     let metrics = Metrics::new(&given.job, given.every).map_err(|error| Stop::Again(error.to_string()))?;
     let metrics = Arc::new(metrics);
     if let Some(address) = given.metrics {
-        exposed::serve(&metrics.registry, address).map_err(Stop::Again)?;
+        metrics_server::serve(&metrics.registry, address).map_err(Stop::Again)?;
     }
     let service = remote::service(&given.urls, given.token_file.as_deref());
     let service = service.map_err(|error| Stop::Again(error.to_string()))?;
@@ -82,7 +84,7 @@ async fn work(given: &cli::Sweep) -> Result<Swept, Stop> {
     let job = service.job(&given.job);
     loop {
         let began = Instant::now();
-        let told = sweep(given, &job, &metrics).await;
+        let told = sweep(given, &job, &names, &metrics).await;
         match (told, given.every) {
             (told, None) | (told @ Err(Stop::Never(_)), _) => return told,
             (Ok(_), Some(_)) => {}
@@ -93,21 +95,16 @@ async fn work(given: &cli::Sweep) -> Result<Swept, Stop> {
     }
 }
 
-/// One sweep. It opens the folder anew, so a disk that is mounted again is found.
-async fn sweep(given: &cli::Sweep, job: &Job, metrics: &Metrics) -> Result<Swept, Stop> {
+/// One sweep. It opens the place anew, so a disk that is mounted again is found.
+async fn sweep(given: &cli::Sweep, job: &Job, names: &Names, metrics: &Metrics) -> Result<Swept, Stop> {
     let began = Instant::now();
     let state = job.state().await.map_err(stopped)?;
-    let owner = Owner {
-        job: given.job.clone(),
-        opened: state["opened"].as_u64().unwrap_or_default(),
-        is_first: false,
-        has_names: true,
-    };
-    let folder = Marked::open(&given.folder, &owner)?;
-    others::check(&folder.folder, &folder.path, &owner.marker(), &given.names, Need::Prefix)?;
-    // a job without names has no garbage to ask for, also if the folder has no file
+    let owner = Owner { job: given.job.clone(), opened: state["opened"].as_u64().unwrap_or_default() };
+    let place = Marked::open(given.place.open(&given.names, &owner)?, &owner)?;
+    files::check(&*place, place.marker(), names, Need::Prefix)?;
+    // a job without names has no garbage to ask for, also if the place has no file
     job.garbage(&[]).await.map_err(stopped)?;
-    let mut sweep = Sweep { given, job, folder: &folder, metrics, swept: Swept::default() };
+    let mut sweep = Sweep { given, job, names, place: &place, metrics, swept: Swept::default() };
     let told = sweep.pages().await;
     say(&[format!("{} seconds={:.1}", sweep.swept, began.elapsed().as_secs_f64())])?;
     told?;
@@ -115,78 +112,103 @@ async fn sweep(given: &cli::Sweep, job: &Job, metrics: &Metrics) -> Result<Swept
     Ok(sweep.swept)
 }
 
-/// A sweep of a folder.
+/// A sweep of a place.
 struct Sweep<'a> {
     given: &'a cli::Sweep,
     job: &'a Job,
-    folder: &'a Marked,
+    names: &'a Names,
+    place: &'a Marked,
     metrics: &'a Metrics,
     swept: Swept,
 }
 
 impl Sweep<'_> {
     async fn pages(&mut self) -> Result<(), Stop> {
-        let mut listing = Pages::of(self.folder, &self.given.names)?;
+        let place = self.place;
+        let mut listing = place.pages(&self.names.prefix)?;
         loop {
-            let page = listing.next(PAGE)?;
-            if page.is_empty() {
+            let found = listing.next(PAGE)?;
+            if found.is_empty() {
                 return Ok(());
             }
-            self.page(&page).await?;
+            let page = self.numbered(found);
+            if !page.is_empty() {
+                self.page(&page).await?;
+            }
         }
+    }
+
+    /// In a bucket no file is being written under another name.
+    fn numbered(&self, found: Vec<Found>) -> Page {
+        let mut page = Page::new();
+        for found in found {
+            let is_bucket = self.place.is_bucket();
+            let number =
+                if is_bucket { self.names.number(&found.name) } else { self.names.number_or_part(&found.name) };
+            if let Some(number) = number {
+                page.entry(number).or_default().push(found);
+            }
+        }
+        page
     }
 
     async fn page(&mut self, page: &Page) -> Result<(), Stop> {
         let numbers: Vec<u64> = page.keys().copied().collect();
         let (garbage, unissued) = self.job.garbage(&numbers).await.map_err(stopped)?;
-        let (garbage, unissued) = (names(page, &garbage)?, names(page, &unissued)?);
+        let (garbage, unissued) = (named(page, &garbage)?, named(page, &unissued)?);
         self.swept.listed += page.values().map(Vec::len).sum::<usize>() as u64;
-        let deletes = self.given.delete && !garbage.is_empty();
-        if deletes {
-            self.folder.check()?;
-        }
-        let mut lines: Vec<String> = garbage.iter().filter_map(|name| self.garbage(name)).collect();
-        lines.extend(unissued.iter().map(|name| {
+        let mut lines = self.garbage(&garbage)?;
+        lines.extend(unissued.iter().map(|found| {
             self.swept.unissued += 1;
-            format!("unissued {name} {}", pages::bytes(self.folder, name).unwrap_or_default())
+            format!("unissued {} {}", self.place.title_of(&found.name), self.bytes(found).unwrap_or_default())
         }));
-        if !self.given.quiet {
-            say(&lines)?;
+        if self.given.quiet {
+            return Ok(());
         }
-        if deletes {
-            self.folder.sync()?;
-        }
-        Ok(())
+        say(&lines)
     }
 
-    /// The line of a file that is garbage, after its deletion; `None` if another sweep has deleted it.
-    fn garbage(&mut self, name: &str) -> Option<String> {
-        let bytes = pages::bytes(self.folder, name)?;
-        self.swept.garbage += 1;
-        self.swept.bytes += bytes;
-        if !self.given.delete {
-            return Some(format!("garbage {name} {bytes}"));
+    /// Of a file that is there.
+    fn bytes(&self, found: &Found) -> Option<u64> {
+        found.bytes.or_else(|| self.place.bytes(&found.name))
+    }
+
+    /// Deletes garbage, if that is asked for. Returns a line for each file but those that another sweep has deleted.
+    fn garbage(&mut self, garbage: &[&Found]) -> Result<Vec<String>, Stop> {
+        let sized = garbage.iter().filter_map(|found| Some((found.name.clone(), self.bytes(found)?)));
+        let (names, bytes): (Vec<String>, Vec<u64>) = sized.unzip();
+        self.swept.garbage += names.len() as u64;
+        self.swept.bytes += bytes.iter().sum::<u64>();
+        if !self.given.delete || names.is_empty() {
+            let line = |(name, bytes): (&String, &u64)| format!("garbage {} {bytes}", self.place.title_of(name));
+            return Ok(names.iter().zip(&bytes).map(line).collect());
         }
-        Some(match pages::delete(self.folder, name) {
-            Gone::Deleted => {
-                self.swept.deleted += 1;
-                self.metrics.deleted(bytes);
-                format!("deleted {name} {bytes}")
-            }
-            Gone::Failed(why) => {
-                self.swept.failed += 1;
-                self.metrics.failed();
-                format!("failed {name} {bytes} {why}")
-            }
-        })
+        self.place.check()?;
+        let gone = self.place.delete(&names)?;
+        self.place.check()?;
+        let each = names.iter().zip(&bytes).zip(&gone);
+        Ok(each.map(|((name, bytes), gone)| self.deleted(name, *bytes, gone)).collect())
+    }
+
+    /// The line of a file after its deletion. One that another sweep has deleted meanwhile is gone too.
+    fn deleted(&mut self, name: &str, bytes: u64, gone: &Gone) -> String {
+        let name = self.place.title_of(name);
+        if let Gone::Failed(why) = gone {
+            self.swept.failed += 1;
+            self.metrics.failed();
+            return format!("failed {name} {bytes} {why}");
+        }
+        self.swept.deleted += 1;
+        self.metrics.deleted(bytes);
+        format!("deleted {name} {bytes}")
     }
 }
 
-/// The names of these files, which are on the page.
-fn names(page: &Page, files: &[u64]) -> Result<Vec<String>, Stop> {
-    let found = files.iter().map(|file| page.get(file).cloned()).collect::<Option<Vec<_>>>();
+/// These files, which are on the page.
+fn named<'a>(page: &'a Page, files: &[u64]) -> Result<Vec<&'a Found>, Stop> {
+    let found = files.iter().map(|file| page.get(file)).collect::<Option<Vec<_>>>();
     let strange = || Stop::Again("the service's answer has a file that was not in the question".to_string());
-    found.map(|names| names.into_iter().flatten().collect()).ok_or_else(strange)
+    found.map(|found| found.into_iter().flatten().collect()).ok_or_else(strange)
 }
 
 /// Writes lines to the standard output.

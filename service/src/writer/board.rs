@@ -146,9 +146,12 @@ impl Board {
         u64::try_from(self.started.elapsed().as_millis()).unwrap_or(u64::MAX)
     }
 
-    /// A commit begins, or has been done.
-    pub fn commits(&self, begins: bool) {
-        self.commits.store(if begins { self.now() + 1 } else { 0 }, Ordering::SeqCst);
+    pub fn commit_begins(&self) {
+        self.commits.store(self.now() + 1, Ordering::SeqCst);
+    }
+
+    pub fn commit_ended(&self) {
+        self.commits.store(0, Ordering::SeqCst);
     }
 
     /// For how long the commit that is under way has not been possible; zero if none is.
@@ -199,7 +202,7 @@ impl Board {
     pub fn publish(&self, job: &Job) {
         if let Some(watched) = self.read().get(&job.opening.name) {
             watched.length.store(job.seq, Ordering::SeqCst);
-            watched.first.store(job.kept.first(), Ordering::SeqCst);
+            watched.first.store(job.retention.first(), Ordering::SeqCst);
             watched.lag.note(job.seq, watched.read.load(Ordering::SeqCst));
             let mut bases = watched.bases.lock().unwrap_or_else(PoisonError::into_inner);
             if bases.changed() != job.bases.changed() {
@@ -213,7 +216,7 @@ impl Board {
             number: job.opening.number,
             since: wall(),
             length: AtomicU64::new(job.seq),
-            first: AtomicU64::new(job.kept.first()),
+            first: AtomicU64::new(job.retention.first()),
             read: AtomicU64::new(0),
             lag: Lag::default(),
             bases: Mutex::new(job.bases.clone()),
@@ -302,12 +305,12 @@ fn write_answer(body: &mut String, outcome: &Outcome) {
 #[cfg(test)]
 mod tests {
     use super::*;
-    use crate::model::Beside;
+    use crate::model::Extra;
 
     #[test]
     fn all_answers_are_written_alike() {
         let reply = Reply::Answered(Answer::AckPending { missing: 3 });
-        let made = Outcome::Made { seq: Some(7), reply, beside: Beside::Nothing };
+        let made = Outcome::Made { seq: Some(7), reply, beside: Extra::Nothing };
         let outcomes = [made, Outcome::NoMemory, Outcome::NotMade];
         let told = outcomes.each_ref().map(Outcome::json);
         let board = Board::new();

@@ -4,7 +4,6 @@ use super::round::{Done, Round};
 use super::{state, Writer};
 use crate::exit;
 use crate::log;
-use crate::model::Moment;
 use crate::store::{Failure, Group};
 use std::time::{Duration, Instant};
 use tokio::sync::oneshot::Sender;
@@ -26,14 +25,10 @@ impl Writer {
 
     fn write(&mut self, round: &mut Round) {
         let first = Instant::now();
-        self.board.commits(true);
+        self.board.commit_begins();
         loop {
-            let since = Moment::now();
-            match self.store.commit(&round.group) {
-                Ok(committed) => {
-                    self.lease.committed(committed, since);
-                    break;
-                }
+            match self.lease.commit(self.store.as_mut(), &round.group) {
+                Ok(()) => break,
                 // calls do not wait for an image that can't be written
                 Err(Failure::Again(why) | Failure::TooLarge(why)) if round.upkeep.is_some() => {
                     self.keeper.put_off(&mut self.jobs, round, &self.metrics, &why.to_string());
@@ -56,7 +51,7 @@ impl Writer {
                 Err(why) => lose(&why),
             }
         }
-        self.board.commits(false);
+        self.board.commit_ended();
         self.board.set_lease(&self.lease);
         self.board.beat();
         self.keeper.written(round, &self.jobs, &self.metrics);
@@ -133,7 +128,7 @@ impl Writer {
             if let (true, Some(place), Some(seq)) = (is_written, job, whole) {
                 let job = self.jobs.at(place);
                 let keeping = self.keeper.keeping(job);
-                job.kept.add_summary(seq, keeping);
+                job.retention.add_summary(seq, keeping);
                 self.keeper.called(&[place].into());
             }
             let _ = reply.send(is_written);

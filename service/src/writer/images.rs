@@ -75,11 +75,11 @@ impl Images {
         let (job, long) = (jobs.at(place), saved.image.is_long().then_some(saved.image.seq));
         let text = long.and_then(|_| saved.image.part(part));
         let is_whole = text.as_ref().is_none_or(|(_, is_last)| *is_last);
-        round.upkeep = Some(Upkeep { place, before: job.kept.clone(), long, is_whole });
+        round.upkeep = Some(Upkeep { place, before: job.retention.clone(), long, is_whole });
         round.touched.insert(place);
         round.group.image_parts.extend(text.map(|(text, _)| text));
         if is_whole {
-            let gone = job.kept.add(&saved.image, keeping);
+            let gone = job.retention.add(&saved.image, keeping);
             round.group.dropped.extend(gone.into_iter().map(|seq| (saved.image.job, seq)));
             round.group.images.push(*saved);
         } else {
@@ -108,7 +108,7 @@ impl Images {
         if let Some(long) = self.given_up.remove(&place) {
             let job = jobs.at(place);
             round.group.dropped.push((job.opening.number, long));
-            round.upkeep = Some(Upkeep { place, before: job.kept.clone(), long: Some(long), is_whole: false });
+            round.upkeep = Some(Upkeep { place, before: job.retention.clone(), long: Some(long), is_whole: false });
             round.touched.insert(place);
         }
     }

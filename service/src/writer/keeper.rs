@@ -6,7 +6,7 @@ use super::jobs::Jobs;
 use super::round::Round;
 use crate::log;
 use crate::metrics::Metrics;
-use crate::model::{Job, Keeping, Kept, Moment};
+use crate::model::{Job, Keeping, Moment, Retention};
 use std::collections::{BTreeMap, BTreeSet};
 use std::time::Duration;
 
@@ -42,7 +42,7 @@ struct Pause {
 /// What a round writes for one job beside calls, and what the database has of its log if that can't be written.
 pub struct Upkeep {
     pub place: usize,
-    pub before: Kept,
+    pub before: Retention,
     /// The place of a long image, of which the database may have parts if this can't be written.
     pub long: Option<u64>,
     /// Whether it is no part of an image before the last.
@@ -64,7 +64,7 @@ impl Keeper {
 
     /// What is kept of a job: fewer calls if the logs of all jobs take too many bytes.
     pub fn keeping(&self, job: &Job) -> Keeping {
-        let calls = self.keeping.keep_calls.min(job.kept.calls_in(self.level));
+        let calls = self.keeping.keep_calls.min(job.retention.calls_in(self.level));
         Keeping { keep_calls: calls, ..self.keeping }
     }
 
@@ -82,7 +82,7 @@ impl Keeper {
         for (place, _) in places.into_iter().zip(taken).filter(|(_, bytes)| *bytes > level) {
             let job = jobs.at(place);
             let keeping = self.keeping(job);
-            job.kept.aim(keeping);
+            job.retention.set_limits(keeping);
             self.attend.insert(place);
         }
     }
@@ -110,19 +110,19 @@ impl Keeper {
             if job.is_deleted {
                 continue;
             }
-            if job.kept.wants_image(job.seq, self.keeping(job)) {
+            if job.retention.wants_image(job.seq, self.keeping(job)) {
                 later.insert(place);
                 if self.images.begin(place) {
                     continue;
                 }
                 break;
             }
-            let before = job.kept.clone();
+            let before = job.retention.clone();
             let (number, most) = (job.opening.number, CUT_CALLS + added as u64);
-            let (images, summaries) = job.kept.take_old();
+            let (images, summaries) = job.retention.take_old();
             round.group.dropped.extend(images.into_iter().map(|seq| (number, seq)));
             round.group.dropped_summaries.extend(summaries.into_iter().map(|seq| (number, seq)));
-            round.group.cuts.extend(job.kept.cut(number, most, board.history(&job.opening.name)));
+            round.group.cuts.extend(job.retention.cut(number, most, board.history(&job.opening.name)));
             if !round.group.is_empty() {
                 round.upkeep = Some(Upkeep { place, before, long: None, is_whole: true });
                 round.touched.insert(place);
@@ -130,7 +130,7 @@ impl Keeper {
                 break;
             }
             // the history has to read calls before they are deleted
-            later.extend(job.kept.is_cutting().then_some(place));
+            later.extend(job.retention.is_cutting().then_some(place));
         }
         self.attend.append(&mut later);
         round
@@ -171,7 +171,7 @@ impl Keeper {
             let job = jobs.at(place);
             log::warn(&format!("image job={} calls={}: memory ran out; the log grows", job.opening.name, job.seq));
             metrics.image_fails(&job.opening.name, true);
-            job.kept.postpone(job.seq);
+            job.retention.postpone(job.seq);
         }
     }
 
@@ -191,7 +191,7 @@ impl Keeper {
             self.images.give_up(place, long);
         }
         let job = jobs.at(place);
-        job.kept = before;
+        job.retention = before;
         let length = self.failing.get(&place).map_or(PAUSE, |pause| (pause.length * 2).min(LONGEST_PAUSE));
         self.failing.insert(place, Pause { since: Moment::now(), length });
         self.last_failure = Some(Moment::now());
@@ -214,7 +214,7 @@ fn is_put_off(failing: &BTreeMap<usize, Pause>, place: usize) -> bool {
 }
 
 fn bytes_of(job: &Job) -> u64 {
-    job.kept.bytes(job.seq)
+    job.retention.bytes(job.seq)
 }
 
 /// The greatest number that each of these may have so that all have no more than `most` together; the smaller ones stay as they are.

@@ -19,8 +19,16 @@ impl Lease {
         Lease { length: store.lease(), since: asked }
     }
 
+    /// Commits a group. A commit that renews the lease counts from before the database wrote it.
+    pub fn commit(&mut self, store: &mut dyn Store, group: &Group) -> Result<(), Failure> {
+        let since = Moment::now();
+        let committed = store.commit(group)?;
+        self.committed(committed, since);
+        Ok(())
+    }
+
     /// A commit that began then was made.
-    pub fn committed(&mut self, committed: Committed, since: Moment) {
+    fn committed(&mut self, committed: Committed, since: Moment) {
         if committed.renews {
             self.since = since;
         }
@@ -51,10 +59,7 @@ impl Lease {
 
     /// Renews it by an empty commit.
     pub fn renew(&mut self, store: &mut dyn Store) -> Result<(), Failure> {
-        let since = Moment::now();
-        let committed = store.commit(&Group::default())?;
-        self.committed(committed, since);
-        Ok(())
+        self.commit(store, &Group::default())
     }
 }
 

@@ -7,7 +7,7 @@ const NO_MEMORY: u16 = 507;
 /// A call. A subtask is a vertex and an index.
 #[derive(Clone, Debug, PartialEq, Eq)]
 pub enum Call {
-    // embed/bindings makes the calls of one number
+    // bindings/generate makes the calls of one number
     Tick,
     Savepoint,
     Dispose {
@@ -21,7 +21,7 @@ pub enum Call {
         file: u64,
     },
     Trigger,
-    // embed/bindings: end
+    // bindings/generate: end
     Ack {
         id: u64,
         subtask: (u16, u16),
@@ -80,7 +80,7 @@ impl Call {
     pub(crate) fn json(&self) -> Value {
         let subtask = |(vertex, index): &(u16, u16)| format!("{vertex}.{index}");
         match self {
-            // embed/bindings makes the requests of calls of one number
+            // bindings/generate makes the requests of calls of one number
             Call::Tick => json!({"call": "tick"}),
             Call::Savepoint => json!({"call": "savepoint"}),
             Call::Dispose { id } => json!({"call": "dispose", "id": id}),
@@ -88,7 +88,7 @@ impl Call {
             Call::Deleted { file } => json!({"call": "deleted", "file": file.to_string()}),
             Call::Undeleted { file } => json!({"call": "undeleted", "file": file.to_string()}),
             Call::Trigger => json!({"call": "trigger"}),
-            // embed/bindings: end
+            // bindings/generate: end
             Call::Ack { id, subtask: of, fresh, reused } => {
                 json!({"call": "ack", "id": id, "subtask": subtask(of), "fresh": texts(fresh), "reused": texts(reused)})
             }

@@ -1,7 +1,7 @@
 //! How jobs are brought up to date with the log, in a number of statements that does not depend on that of the jobs.
 use super::super::replay::{missing, repeat, resume, StartError};
 use super::{Beat, Jobs};
-use crate::model::{Entry, FileBytes, Keeping, Kept, KeptImage, KeptSummary};
+use crate::model::{Entry, FileBytes, Keeping, KeptImage, KeptSummary, Retention};
 use crate::store::Reader;
 use std::collections::{BTreeMap, BTreeSet, HashMap};
 
@@ -194,7 +194,7 @@ impl Jobs {
             let number = job.opening.number;
             let images = images.remove(&number).unwrap_or_default();
             let summaries = summaries.remove(&number).unwrap_or_default();
-            job.kept = Kept::of(images, &summaries, firsts.get(&number).copied(), keeping);
+            job.retention = Retention::of(images, &summaries, firsts.get(&number).copied(), keeping);
         }
         self.take_phases(reader)?;
         if keeping.keep_bytes > 0 {
@@ -207,7 +207,7 @@ impl Jobs {
     fn take_means(&mut self, means: Vec<(i64, u64)>) {
         for (job, bytes) in means {
             if let Some(place) = self.place_of(job) {
-                self.jobs[place].kept.set_mean(bytes);
+                self.jobs[place].retention.set_mean(bytes);
             }
         }
     }

@@ -10,16 +10,16 @@ use std::path::{Path, PathBuf};
 use std::sync::atomic::{AtomicBool, AtomicU64, Ordering};
 use std::sync::Arc;
 
-pub struct Place {
+pub struct HistoryFile {
     path: PathBuf,
     works: AtomicBool,
     /// How often the file was set aside: a reader that opened it before has to open it again.
     replaced: AtomicU64,
 }
 
-impl Place {
-    pub fn new(path: PathBuf) -> Place {
-        Place { path, works: AtomicBool::new(true), replaced: AtomicU64::new(0) }
+impl HistoryFile {
+    pub fn new(path: PathBuf) -> HistoryFile {
+        HistoryFile { path, works: AtomicBool::new(true), replaced: AtomicU64::new(0) }
     }
 
     pub fn path(&self) -> &Path {
@@ -95,20 +95,20 @@ pub fn with_end(path: &Path, end: &str) -> PathBuf {
 
 /// The reader of requests. It is opened at the first read, and again after the file was set aside.
 pub struct Door {
-    place: Arc<Place>,
+    file: Arc<HistoryFile>,
     opened: Option<(u64, HistoryReader)>,
 }
 
 impl Door {
-    pub fn new(place: Arc<Place>) -> Door {
-        Door { place, opened: None }
+    pub fn new(file: Arc<HistoryFile>) -> Door {
+        Door { file, opened: None }
     }
 
     pub fn reader(&mut self) -> Result<&HistoryReader, Error> {
-        let replaced = self.place.replaced.load(Ordering::SeqCst);
+        let replaced = self.file.replaced.load(Ordering::SeqCst);
         let opened = match self.opened.take() {
             Some((when, reader)) if when == replaced => reader,
-            _ => HistoryReader::open(&self.place.path)?,
+            _ => HistoryReader::open(&self.file.path)?,
         };
         Ok(&self.opened.insert((replaced, opened)).1)
     }

@@ -5,7 +5,7 @@ use super::{gate, no_job, App};
 use crate::model::length_in;
 use serde_json::json;
 
-/// What an engine is told whose place the log never had.
+/// The answer to an engine whose place was never in this log.
 const OTHER_LOG: &str =
     "is no place of this log: a backup was restored, or another service answers. End the engine and its tasks, and \
     restore the job to a record whose files are all there, which relkvanu savepoints finds";
@@ -19,7 +19,7 @@ pub fn given(after: u64) -> Option<u64> {
 }
 
 /// A place in a job's log. `None`: before the first call that the log has.
-pub struct Place<'a> {
+pub struct LogPosition<'a> {
     pub job: &'a str,
     pub number: i64,
     pub after: Option<u64>,
@@ -27,13 +27,13 @@ pub struct Place<'a> {
     pub epoch: u64,
 }
 
-impl<'a> Place<'a> {
+impl<'a> LogPosition<'a> {
     /// A place of a job that this process has.
-    pub fn of(app: &App, job: &'a str, after: Option<u64>) -> Result<Place<'a>, Box<Reply>> {
+    pub fn of(app: &App, job: &'a str, after: Option<u64>) -> Result<LogPosition<'a>, Box<Reply>> {
         let number = app.number(job)?;
         match app.board.epoch_of(number) {
             0 => Err(no_job(job).into()),
-            epoch => Ok(Place { job, number, after, epoch }),
+            epoch => Ok(LogPosition { job, number, after, epoch }),
         }
     }
 

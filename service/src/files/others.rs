@@ -1,24 +1,23 @@
-//! Other jobs whose files are in the same folder. Each job that gives out names begins with 1, so two of them need names that differ.
-use super::folder::{begins, write_whole, Stop};
-use crate::ask::Names;
+//! Other jobs whose files are in the same place. Each job that gives out names begins with 1, so two of them need names that differ.
+use super::marked::begins;
+use super::{Names, Place, Stop};
 use crate::http::is_name;
-use rustix::fs::{unlinkat, AtFlags, Dir};
 use serde_json::{json, Value};
 use std::collections::BTreeSet;
-use std::fs::File;
-use std::io::Read;
-use std::path::Path;
 
 /// How the name of each marker begins.
 pub const MARK: &str = ".relkvanu-";
 /// What follows a marker's name in the names of the files beside it.
 const BESIDE: [&str; 2] = [NAMES, BEGUN];
+/// The marker that an engine's storage has by itself, and how it says whose it is.
+const STORAGE: &str = ".relkvanu-storage";
+const STORAGE_OF: &str = "relkvanu: state files of the job ";
 /// The file in which a discarder says how its files are named.
 const NAMES: &str = ".names";
 /// The file in which it says which files it deletes now.
 pub const BEGUN: &str = ".begun";
 
-/// What a job needs beside another one of which it is not known how its files are named.
+/// What a job needs if another job in the folder has not written down how its files are named.
 #[derive(Clone, Copy, Debug, PartialEq, Eq)]
 pub enum Need {
     /// A prefix or a suffix.
@@ -29,24 +28,23 @@ pub enum Need {
 
 /// Refuses a folder with the marker of a job that is named as a file beside this job's marker is, or the other way round. Each of the two
 /// would overwrite what the other one wrote.
-pub fn check_markers(folder: &File, path: &Path, own: &str) -> Result<(), Stop> {
+pub fn check_markers(place: &dyn Place, own: &str) -> Result<(), Stop> {
     let clash = |one: &str, other: &str| [NAMES, BEGUN].iter().any(|end| one.strip_suffix(end) == Some(other));
-    let Some(other) = others(folder, path, own)?.into_iter().find(|other| clash(other, own) || clash(own, other))
-    else {
+    let Some(other) = others(place, own)?.into_iter().find(|other| clash(other, own) || clash(own, other)) else {
         return Ok(());
     };
     Err(Stop::Never(format!(
         "another job has files in {}, as {other} says: one of the two jobs needs a folder of its own, since the marker of one is named \
          as a file beside the marker of the other",
-        path.display()
+        place.title()
     )))
 }
 
 /// Refuses a folder in which another job may have files of the same names.
-pub fn check(folder: &File, path: &Path, own: &str, names: &Names, need: Need) -> Result<(), Stop> {
-    check_markers(folder, path, own)?;
-    for other in others(folder, path, own)? {
-        let why = match names_of(folder, &other) {
+pub fn check(place: &dyn Place, own: &str, names: &Names, need: Need) -> Result<(), Stop> {
+    check_markers(place, own)?;
+    for other in others(place, own)? {
+        let why = match names_of(place, &other)? {
             Some(others) if names.may_be_those_of(&others) => "so --prefix or --suffix is needed that differs from its own",
             Some(_) => continue,
             None if names.prefix.is_empty() && names.suffix.is_empty() => "so --prefix or --suffix is needed",
@@ -55,7 +53,7 @@ pub fn check(folder: &File, path: &Path, own: &str, names: &Names, need: Need) -
             }
             None => continue,
         };
-        let path = path.display();
+        let path = place.title();
         return Err(Stop::Never(format!(
             "another job has files in {path}, as {other} says: {why}. If that job was deleted, delete {other} and {other}{NAMES}"
         )));
@@ -65,12 +63,12 @@ pub fn check(folder: &File, path: &Path, own: &str, names: &Names, need: Need) -
 
 /// Refuses other names than those that the job's files have had here: none of its files would be found, and another job could take the
 /// names that they have.
-pub fn check_own(folder: &File, path: &Path, own: &str, names: &Names) -> Result<(), Stop> {
-    match names_of(folder, own) {
+pub fn check_own(place: &dyn Place, own: &str, names: &Names) -> Result<(), Stop> {
+    match names_of(place, own)? {
         Some(Names { prefix, suffix }) if prefix != names.prefix || suffix != names.suffix => Err(Stop::Never(format!(
             "{}/{own}{NAMES} says that the files of this job are named {prefix}NUMBER{suffix}: is --prefix or --suffix wrong? If the \
              files have other names now, run it once with --init",
-            path.display()
+            place.title()
         ))),
         _ => Ok(()),
     }
@@ -78,51 +76,51 @@ pub fn check_own(folder: &File, path: &Path, own: &str, names: &Names) -> Result
 
 /// Writes down how the files of the job are named, for discarders and sweepers of other jobs. What is known stays, unless it is to be said
 /// `anew`. Returns whether it was not known.
-pub fn say(folder: &File, own: &str, names: &Names, anew: bool) -> std::io::Result<bool> {
-    if names_of(folder, own).is_some() && !anew {
+pub fn say(place: &dyn Place, own: &str, names: &Names, anew: bool) -> Result<bool, Stop> {
+    if names_of(place, own)?.is_some() && !anew {
         return Ok(false);
     }
     let text = json!({"prefix": names.prefix, "suffix": names.suffix});
-    write_whole(folder, &format!("{own}{NAMES}"), &format!("{text}\n"))?;
+    place.write(&format!("{own}{NAMES}"), &format!("{text}\n"))?;
     Ok(true)
 }
 
 /// Forgets how they are named: no file was there.
-pub fn forget(folder: &File, own: &str) -> std::io::Result<()> {
-    Ok(unlinkat(folder, format!("{own}{NAMES}"), AtFlags::empty())?)
+pub fn forget(place: &dyn Place, own: &str) -> Result<(), Stop> {
+    place.remove(&format!("{own}{NAMES}"))
 }
 
-fn names_of(folder: &File, marker: &str) -> Option<Names> {
-    let said: Value = serde_json::from_str(&read(folder, &format!("{marker}{NAMES}"))?).ok()?;
-    Some(Names { prefix: said["prefix"].as_str()?.to_string(), suffix: said["suffix"].as_str()?.to_string() })
-}
-
-fn read(folder: &File, name: &str) -> Option<String> {
-    let mut text = String::new();
-    super::folder::open_to_read(folder, name).ok()?.read_to_string(&mut text).ok()?;
-    Some(text)
+fn names_of(place: &dyn Place, marker: &str) -> Result<Option<Names>, Stop> {
+    let text = place.read(&format!("{marker}{NAMES}"))?.unwrap_or_default();
+    let said: Value = serde_json::from_str(&text).unwrap_or_default();
+    let named = said["prefix"].as_str().zip(said["suffix"].as_str());
+    Ok(named.map(|(prefix, suffix)| Names { prefix: prefix.to_string(), suffix: suffix.to_string() }))
 }
 
 /// The markers of other jobs.
-fn others(folder: &File, path: &Path, own: &str) -> Result<BTreeSet<String>, Stop> {
-    let unread = |error: rustix::io::Errno| {
-        Stop::Again(format!("{} is not listed to its end: {}", path.display(), std::io::Error::from(error)))
-    };
-    let mut found = BTreeSet::new();
-    for entry in Dir::read_from(folder).map_err(unread)? {
-        let name = entry.map_err(unread)?.file_name().to_string_lossy().into_owned();
-        if name.strip_prefix(MARK).is_some_and(is_name) {
-            found.insert(name);
+fn others(place: &dyn Place, own: &str) -> Result<Vec<String>, Stop> {
+    let names = place.beginning(MARK)?.into_iter();
+    let known: BTreeSet<String> = names.filter(|name| name.strip_prefix(MARK).is_some_and(is_name)).collect();
+    let mut found = Vec::new();
+    for name in known.iter().filter(|name| *name != own) {
+        if !(is_beside(name, own, &known) || is_own_storage(place, name, own)?) || is_marker(place, name)? {
+            found.push(name.clone());
         }
     }
-    let is_other = |name: &&String| *name != own && (!is_beside(name, own, &found) || is_marker(folder, name));
-    Ok(found.iter().filter(is_other).cloned().collect())
+    Ok(found)
+}
+
+/// Whether a file is the marker of the storage of this job's engine.
+fn is_own_storage(place: &dyn Place, name: &str, own: &str) -> Result<bool, Stop> {
+    let job = own.strip_prefix(MARK).unwrap_or_default();
+    Ok(name == STORAGE
+        && place.read(name)?.is_some_and(|text| text.strip_prefix(STORAGE_OF) == Some(&format!("{job}\n"))))
 }
 
 /// Whether a file says that it is the marker of the job by which it is named. A job may be named as a file beside another one's marker is.
-fn is_marker(folder: &File, name: &str) -> bool {
+fn is_marker(place: &dyn Place, name: &str) -> Result<bool, Stop> {
     let job = name.strip_prefix(MARK).unwrap_or_default();
-    read(folder, name).is_some_and(|text| text.starts_with(&begins(job)))
+    Ok(place.read(name)?.is_some_and(|text| text.starts_with(&begins(job))))
 }
 
 /// Whether a file is one of those beside a marker, or one of them that is being written.

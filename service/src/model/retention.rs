@@ -38,7 +38,7 @@ pub struct Cut {
 }
 
 #[derive(Clone, Default)]
-pub struct Kept {
+pub struct Retention {
     images: Vec<KeptImage>,
     /// The places of summaries, at which the log may be cut.
     summaries: Vec<u64>,
@@ -60,9 +60,9 @@ const ROW_BYTES: f64 = 70.0;
 /// Of how many calls the average is that is kept.
 const MEAN_OF: f64 = 1000.0;
 
-impl Kept {
+impl Retention {
     /// What a database has: its images and summaries, which rise, and the first call.
-    pub fn of(images: Vec<KeptImage>, summaries: &[KeptSummary], first: Option<u64>, keeping: Keeping) -> Kept {
+    pub fn of(images: Vec<KeptImage>, summaries: &[KeptSummary], first: Option<u64>, keeping: Keeping) -> Retention {
         let all_gone = images.last().map_or(0, |image| image.seq);
         let gone = first.map_or(all_gone, |first| first.saturating_sub(1));
         // a summary is of no use if calls after it are missing
@@ -70,8 +70,8 @@ impl Kept {
         let (whole, old): (Vec<_>, Vec<_>) = summaries.iter().partition(is_of_use);
         let places = |these: Vec<&KeptSummary>| these.into_iter().map(|one| one.seq).collect();
         let (summaries, old_summaries) = (places(whole), places(old));
-        let mut kept = Kept { images, summaries, old_summaries, cut: gone, gone, ..Kept::default() };
-        kept.aim(keeping);
+        let mut kept = Retention { images, summaries, old_summaries, cut: gone, gone, ..Retention::default() };
+        kept.set_limits(keeping);
         kept
     }
 
@@ -81,7 +81,7 @@ impl Kept {
     }
 
     /// Notes a call whose line and files have so many bytes.
-    pub fn note(&mut self, bytes: u64) {
+    pub fn count_bytes(&mut self, bytes: u64) {
         let (mean, of) = self.mean;
         let of = (of + 1.0).min(MEAN_OF);
         self.mean = (mean + (bytes as f64 + ROW_BYTES - mean) / of, of);
@@ -98,7 +98,7 @@ impl Kept {
     }
 
     /// Sets up to where the log is to be cut: at the last summary before the image from which on it is kept.
-    pub fn aim(&mut self, keeping: Keeping) {
+    pub fn set_limits(&mut self, keeping: Keeping) {
         let base = self.base(keeping);
         self.cut = self.summaries.iter().rfind(|seq| **seq <= base).map_or(self.cut, |seq| self.cut.max(*seq));
     }
@@ -134,7 +134,7 @@ impl Kept {
     /// Adds a new image, and returns the places of images to delete.
     pub fn add(&mut self, image: &Image, keeping: Keeping) -> Vec<u64> {
         self.images.push(KeptImage { seq: image.seq, at: image.at, bytes: image.text.len() as u64 });
-        self.aim(keeping);
+        self.set_limits(keeping);
         self.take_needless_images(keeping)
     }
 
@@ -149,7 +149,7 @@ impl Kept {
     pub fn add_summary(&mut self, seq: u64, keeping: Keeping) {
         self.summaries.retain(|one| *one < seq);
         self.summaries.push(seq);
-        self.aim(keeping);
+        self.set_limits(keeping);
         let gone = needless(&self.summaries, self.cut, keeping);
         self.summaries.retain(|seq| gone.binary_search(seq).is_err());
         self.old_summaries.extend(gone);
@@ -200,13 +200,13 @@ mod tests {
         Image { job: 1, seq, at: seq, shape: vec![1], last_completed: None, last_event: 0, text }
     }
 
-    fn places(kept: &Kept) -> Vec<u64> {
+    fn places(kept: &Retention) -> Vec<u64> {
         kept.images.iter().map(|image| image.seq).collect()
     }
 
     #[test]
     fn images_come_after_so_many_calls_and_bytes() {
-        let mut kept = Kept::default();
+        let mut kept = Retention::default();
         assert!(!kept.wants_image(9, KEEPING) && kept.wants_image(10, KEEPING));
         kept.postpone(10);
         assert!(!kept.wants_image(19, KEEPING) && kept.wants_image(20, KEEPING));
@@ -219,7 +219,7 @@ mod tests {
 
     #[test]
     fn the_log_is_cut_at_a_summary_before_an_image() {
-        let mut kept = Kept::default();
+        let mut kept = Retention::default();
         for seq in 1..=9 {
             kept.add_summary(seq * 10 - 5, KEEPING);
             assert!(kept.add(&image(seq * 10, 1), KEEPING).is_empty());
@@ -238,7 +238,7 @@ mod tests {
 
     #[test]
     fn nothing_is_cut_without_a_summary() {
-        let mut kept = Kept::default();
+        let mut kept = Retention::default();
         (1..=20).for_each(|seq| assert!(kept.add(&image(seq * 10, 1), KEEPING).is_empty() || seq > 9));
         assert_eq!((kept.cut, kept.is_cutting(), places(&kept)[0]), (0, false, 10));
         kept.add_summary(130, KEEPING);
@@ -246,7 +246,7 @@ mod tests {
         kept.add(&image(210, 1), KEEPING);
         assert_eq!((kept.cut, places(&kept)[0]), (130, 130));
         // a summary of calls that could be cut before
-        let mut late = Kept::default();
+        let mut late = Retention::default();
         (1..=20).for_each(|seq| drop(late.add(&image(seq * 10, 1), KEEPING)));
         late.add_summary(95, KEEPING);
         assert_eq!((late.cut, late.take_old().0.last().copied(), places(&late)[0]), (95, Some(90), 100));
@@ -255,7 +255,7 @@ mod tests {
     #[test]
     fn images_and_summaries_between_near_ones_go() {
         let (mut kept, keeping) =
-            (Kept::default(), Keeping { image_calls: 1, keep_calls: 8000, keep_bytes: 0, keep_records: 1000 });
+            (Retention::default(), Keeping { image_calls: 1, keep_calls: 8000, keep_bytes: 0, keep_records: 1000 });
         for seq in 1..=20_000 {
             kept.add_summary(seq, keeping);
             kept.add(&image(seq, 1), keeping);
@@ -270,16 +270,16 @@ mod tests {
 
     #[test]
     fn a_log_tells_about_its_bytes() {
-        let mut kept = Kept::default();
+        let mut kept = Retention::default();
         assert_eq!((kept.bytes(10), kept.calls_in(1000)), (0, 1000));
-        (0..5000).for_each(|place| kept.note(if place % 2 == 0 { 20 } else { 40 }));
+        (0..5000).for_each(|place| kept.count_bytes(if place % 2 == 0 { 20 } else { 40 }));
         assert!((980..=1020).contains(&kept.bytes(10)), "{}", kept.bytes(10));
         kept.set_mean(130);
         assert_eq!((kept.bytes(10), kept.calls_in(1000)), (2000, 5));
         (1..=20).for_each(|seq| kept.add_summary(seq * 10, KEEPING));
         (1..=20).for_each(|seq| drop(kept.add(&image(seq * 10, 1), KEEPING)));
         assert_eq!(kept.cut, 120);
-        kept.aim(Keeping { keep_calls: 20, ..KEEPING });
+        kept.set_limits(Keeping { keep_calls: 20, ..KEEPING });
         assert_eq!(kept.cut, 180);
     }
 
@@ -288,7 +288,7 @@ mod tests {
         let at = |seq: u64| KeptImage { seq, at: 0, bytes: 1 };
         let told = |seq: u64, bytes: u64| KeptSummary { seq, bytes };
         let of = |images: &[u64], summaries: &[KeptSummary], first: Option<u64>| {
-            let kept = Kept::of(images.iter().map(|seq| at(*seq)).collect(), summaries, first, KEEPING);
+            let kept = Retention::of(images.iter().map(|seq| at(*seq)).collect(), summaries, first, KEEPING);
             (kept.cut, kept.gone, kept.old_summaries)
         };
         assert_eq!(of(&[10, 20], &[told(5, 1)], Some(1)), (0, 0, vec![]));

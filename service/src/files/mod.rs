@@ -1,0 +1,138 @@
+//! Where a job's files are: a folder, or a bucket. A `Place` is asked for what either can do. Whose place it is, and what may be deleted there, is
+//! decided in `marked`, `others` and the commands, once for both.
+mod bucket;
+mod folder;
+mod marked;
+mod names;
+mod others;
+
+pub use folder::Folder;
+pub use marked::{no_marker, Marked, Owner};
+pub use names::Names;
+pub use others::{check, check_markers, check_own, forget, say, Need, BEGUN, MARK};
+
+use bucket::Bucket;
+use clap::Args;
+use std::path::PathBuf;
+
+/// Why the work ends.
+#[derive(Debug, thiserror::Error)]
+pub enum Stop {
+    /// Another start may go on.
+    #[error("{0}")]
+    Again(String),
+    /// Somebody has to look first.
+    #[error("{0}")]
+    Never(String),
+}
+
+/// Where the files of a job are.
+#[derive(Args, Clone)]
+pub struct Where {
+    /// The folder of the files, which has a file .relkvanu-NAME of this job
+    #[arg(long, value_name = "DIR", conflicts_with = "bucket")]
+    pub folder: Option<PathBuf>,
+    /// The bucket of the files, which has an object .relkvanu-NAME of this job beside them
+    #[arg(long, value_name = "NAME")]
+    pub bucket: Option<String>,
+    /// Another S3 server than that of AWS
+    #[arg(long, value_name = "URL", requires = "bucket")]
+    pub endpoint: Option<String>,
+    /// The region of the bucket
+    #[arg(long, value_name = "NAME", requires = "bucket")]
+    pub region: Option<String>,
+    /// The bucket keeps versions, and its lifecycle rules delete old ones
+    #[arg(long, requires = "bucket")]
+    pub keeps_versions: bool,
+}
+
+impl Where {
+    /// The names of the files where they are, or why there can be no such names.
+    pub fn names(&self, names: &Names) -> Result<Names, String> {
+        let base = if self.bucket.is_some() { names.in_bucket().1 } else { names.clone() };
+        base.check().map(|()| base)
+    }
+
+    pub fn is_said(&self) -> bool {
+        self.folder.is_some() || self.bucket.is_some()
+    }
+
+    /// Opens it for a job.
+    pub fn open(&self, names: &Names, owner: &Owner) -> Result<Box<dyn Place>, Stop> {
+        match (&self.folder, &self.bucket) {
+            (Some(path), _) => Ok(Box::new(Folder::open(path)?)),
+            (None, Some(bucket)) => Ok(Box::new(Bucket::open(self, bucket, names, owner)?)),
+            (None, None) => Err(Stop::Never("--folder or --bucket says where the files are".to_string())),
+        }
+    }
+}
+
+/// What became of a file.
+#[derive(Clone, Debug, PartialEq, Eq)]
+pub enum Gone {
+    Deleted,
+    /// It was not there. A bucket does not tell that of one file among others.
+    Absent,
+    /// It may be there still.
+    Failed(String),
+}
+
+/// A file of a listing.
+pub struct Found {
+    pub name: String,
+    /// `None` if the listing does not have it.
+    pub bytes: Option<u64>,
+}
+
+/// A folder or a bucket with files. Names are those in it, without a path. It stays the same one until it is dropped, also if another disk is
+/// mounted or renamed to its path.
+pub trait Place {
+    /// What a person calls it.
+    fn title(&self) -> String;
+
+    /// What a person calls a file in it.
+    fn title_of(&self, name: &str) -> String;
+
+    fn is_bucket(&self) -> bool;
+
+    /// All names that begin so.
+    fn beginning(&self, with: &str) -> Result<Vec<String>, Stop>;
+
+    /// A small file; `None` if there is none, or it can't be read.
+    fn read(&self, name: &str) -> Result<Option<String>, Stop>;
+
+    /// Makes or replaces a small file, whole or not at all, and durable.
+    fn write(&self, name: &str, text: &str) -> Result<(), Stop>;
+
+    /// The same of one that may be cut short by an end of the process.
+    fn note(&self, name: &str, text: &str) -> Result<(), Stop>;
+
+    fn remove(&self, name: &str) -> Result<(), Stop>;
+
+    /// What the marker says; `None` if there is none. From here on it is this one that is locked, and that has to stay.
+    fn hold(&mut self, marker: &str) -> Result<Option<String>, Stop>;
+
+    /// Keeps other discarders out by the marker that is held; `false` if another one works here.
+    fn lock(&self) -> Result<bool, Stop>;
+
+    /// Whether the marker that is held is still there.
+    fn is_marked(&self) -> Result<bool, Stop>;
+
+    /// Whether one of these files is there, or it is not known.
+    fn has_any(&self, names: &[String]) -> Result<bool, Stop>;
+
+    /// How many bytes a file has; `None` if it is not there, or the listing alone tells.
+    fn bytes(&self, name: &str) -> Option<u64>;
+
+    /// Deletes files permanently: no loss of power brings one back that counts as deleted.
+    fn delete(&self, names: &[String]) -> Result<Vec<Gone>, Stop>;
+
+    /// Begins a listing of the files whose names begin so.
+    fn pages<'a>(&'a self, prefix: &'a str) -> Result<Box<dyn Pages + 'a>, Stop>;
+}
+
+/// A listing, in parts.
+pub trait Pages {
+    /// At most so many more files; none at the end.
+    fn next(&mut self, most: usize) -> Result<Vec<Found>, Stop>;
+}

@@ -1,0 +1,456 @@
+"""Records that leave a job of the service and become jobs, here and over the durable coordinator; and a database that is lost. Each command is ended before and
+after each of its writes, and each of its requests."""
+import contextlib
+import glob
+import json
+import os
+import pathlib
+import random
+import shutil
+import signal
+import subprocess
+import sys
+import tempfile
+import time
+import uuid
+
+from harness import COMMAND, HERE, PROGRAM, SERVICE, TOP, free_port, served
+from publishing_engine import PREFIX, SETTINGS, SUFFIX, TASKS, write
+from relkvanu_service import Failed, Service, cancel
+from run import Skipped
+
+LOSSES = int(os.environ.get("RELKVANU_LOST_LOGS", "6"))
+EACH = int(os.environ.get("RELKVANU_EACH", "6"))  # of so many writes and requests one is an end's, on average
+SEED = os.environ.get("SEED", "1")
+ENGINE = [sys.executable, f"{HERE}/publishing_engine.py"]
+STORE = f"{os.environ['RELKVANU_LIB']}/relkvanu-store"
+KILLED, INPUTS = 9, 10 ** 9
+ENVIRONMENT = {**os.environ, "PYTHONPATH": f"{TOP}/bindings/python:{SERVICE}/client/python"}
+
+
+def ran(words, **env):
+    given = [str(it) for it in words]
+    return subprocess.run(given, env={**ENVIRONMENT, **env}, stdout=subprocess.PIPE, stderr=subprocess.STDOUT, text=True, timeout=COMMAND, check=False)
+
+
+def place_of(server, folder):
+    return "--url", server.url, "--folder", folder, "--prefix", PREFIX, "--suffix", SUFFIX
+
+
+def did(words, status=0, text=""):
+    told = ran(words)
+    assert told.returncode == status and text in told.stdout, (words, told.returncode, told.stdout)
+    return told.stdout
+
+
+def record_of(told):
+    """The record that a job goes on from."""
+    return int(told.split("checkpoint ")[1].partition(",")[0])
+
+
+def killed(server, folder, seconds):
+    """Runs the engine, and kills it after it has published a record. Returns the last one that it said."""
+    with subprocess.Popen([*ENGINE, server.url, folder, str(INPUTS)], stdout=subprocess.PIPE, stderr=subprocess.PIPE, text=True, env=ENVIRONMENT) as process:
+        first = process.stdout.readline()
+        time.sleep(seconds)
+        process.send_signal(signal.SIGKILL)
+        told, wrong = process.stdout.read(), process.stderr.read()
+    assert first and process.returncode == -signal.SIGKILL, (process.returncode, wrong)
+    return int([it for it in (first + told).split("\n")[:-1] if it][-1])
+
+
+def lose(server):
+    """The database goes, and the service has a new one."""
+    server.kill()
+    for it in glob.glob(f"{server.database}*") + glob.glob(f"{server.folder}/history-*"):
+        os.remove(it)
+    server.start()
+
+
+def published(folder):
+    return [int(line) for it in (folder / "published").iterdir() for line in it.read_text().split()]
+
+
+def state_in(folder):
+    return {int(it.name[len(PREFIX):-len(SUFFIX)]): it.read_text() for it in folder.glob(f"{PREFIX}*{SUFFIX}")}
+
+
+def test_lost_databases():
+    """Each time the engine goes on from its last record, and in the end each input was published once. Some engines start before the recovery: a supervisor starts
+    them. They open an empty job, and end, because the folder is another's."""
+    chance = random.Random(SEED)
+    with served(names=True) as server:
+        folder, last = pathlib.Path(server.folder) / "job", 0
+        folder.mkdir()
+        for loss in range(LOSSES):
+            complete = killed(server, folder, chance.random() * chance.choice((0.02, 0.4)))
+            assert complete > last, (complete, last)
+            lose(server)
+            if loss % 2:
+                told = ran([*ENGINE, server.url, folder, "10"])
+                assert told.returncode != 0 and "names another job" in told.stdout, told.stdout
+            last = record_of(did([PROGRAM, "recover", "orders", *place_of(server, folder / "state")]))
+            assert last in (complete, complete + 1), (last, complete)  # a completion may not have been said
+        most = max(published(folder)) + 20
+        did([*ENGINE, server.url, folder, str(most)])
+        found = published(folder)
+        assert sorted(found) == list(range(most)), f"{len(found)} inputs, {len(set(found))} of them others, up to {most}"
+        swept = did([PROGRAM, "sweep", "orders", *place_of(server, folder / "state"), "--delete"])
+        assert "unissued=0" in swept and "failed=0" in swept, swept
+        job = Service(server.url).job("orders")
+        used = {int(it) for live in job.state()["live"] for ack in job.record(live["id"])["live"]["acks"] for it in ack["files"]}
+        assert set(state_in(folder / "state")) == used, (state_in(folder / "state"), used)
+        return f"{LOSSES} databases were lost, and {len(found)} inputs published once"
+
+
+class Ends:
+    """A command in a process of its own, which ends before or after one of its writes or requests. A fork takes less time than an interpreter."""
+
+    def __init__(self, at):
+        import relkvanu.service_moves
+
+        self.main, self.chance, self.temporary = relkvanu.service_moves.main, random.Random(SEED), at / "temporary"
+        self.temporary.mkdir()
+
+    def ended(self, at, after, words):
+        """Returns the status and what it said."""
+        read, write = os.pipe()
+        child = os.fork()
+        if child == 0:
+            tempfile.tempdir = str(self.temporary)  # what a process leaves that ends goes with the test
+            os.dup2(write, 1)
+            os.dup2(write, 2)
+            sys.stdout = sys.stderr = open(1, "w", encoding="utf-8", closefd=False, buffering=1)
+            try:
+                ends_at(at, after)
+                os._exit(self.main([str(it) for it in words]))
+            except BaseException as error:
+                print(repr(error))
+                os._exit(100)
+        os.close(write)
+        with open(read, encoding="utf-8") as told:
+            said = told.read()
+        return os.waitstatus_to_exitcode(os.waitpid(child, 0)[1]), said
+
+    def each(self, words, check):
+        """words(n) are those of a command over a copy of what it needs. Checks what each end leaves. Returns how many ends there were."""
+        ends, at, goes_on = 0, 0, True
+        while goes_on:
+            at += self.chance.randint(1, 2 * EACH - 1)
+            for after in (False, True):
+                given = words(f"{at}-{int(after)}")
+                status, said = self.ended(at, after, given)
+                assert status in (0, KILLED), (given, status, said)
+                goes_on = status == KILLED
+                ends += goes_on
+                check(given, goes_on)
+        assert ends > 1, ends
+        return ends
+
+
+WRITES = ("rename", "link", "fsync", "mkdir", "unlink", "rmdir")
+
+
+def ends_at(at, after):
+    """This process ends at a write or a request, without a word."""
+    import requests
+
+    count = 0
+
+    def ending(function):
+        def run(*given, **named):
+            nonlocal count
+            count += 1
+            if count == at and not after:
+                os._exit(KILLED)
+            mine = count
+            done = function(*given, **named)
+            if mine == at:
+                os._exit(KILLED)
+            return done
+        return run
+
+    for name in WRITES:
+        setattr(os, name, ending(getattr(os, name)))
+    requests.Session.request = ending(requests.Session.request)
+
+
+class Base:
+    """A folder whose database was lost, and the service that has a new one."""
+
+    def __init__(self, server):
+        self.server, self.at = server, pathlib.Path(server.folder)
+        self.folder = self.at / "base"
+        self.folder.mkdir()
+        self.complete = killed(server, self.folder, 0.05)
+        job = Service(server.url).job("orders")
+        self.settings, self.term = job.state()["settings"], job.term()
+        self.state = state_in(self.folder / "state")
+
+    def removed(self):
+        """The job of an earlier trial goes."""
+        service = Service(self.server.url)
+        with contextlib.suppress(Failed):
+            service.job("orders").call(cancel())
+            service.delete("orders", abandon=True)
+
+    def engine_meanwhile(self, folder):
+        """An engine that starts before the command is given again finds a job that is whole, or ends."""
+        job = Service(self.server.url).job("orders")
+        try:
+            job.open(SETTINGS, [TASKS])
+            job.claim(folder)
+        except Failed as failed:
+            assert failed.status == 409 or "no marker" in str(failed), failed
+        except FileNotFoundError:
+            return  # an import that has no folder yet
+        else:
+            assert job.state()["choice"].get("id") in (self.complete, self.complete + 1), job.state()
+
+    def check(self, folder):
+        """The job is whole, and its folder has one list of manifests."""
+        job = Service(self.server.url).open("orders", SETTINGS, [TASKS])
+        state = job.state()
+        assert state["settings"] == self.settings and state["choice"]["id"] in (self.complete, self.complete + 1), state
+        job.claim(folder)
+        now = job.term()
+        assert now["term"] > self.term["term"] and now["next_name"] >= self.term["next_name"], (now, self.term)
+        start = job.begin()
+        assert start.term > now["term"] and sorted(start.files) == [f"0.{task}" for task in range(TASKS)], start.files
+        for (file,) in start.files.values():
+            assert state_in(folder)[file] == self.state[file], file
+        (listed,) = list((folder / ".relkvanu.records").iterdir())
+        assert f"record-{start.id}.manifest" in os.listdir(listed), os.listdir(listed)
+        assert not list(folder.parent.glob("*.part")), list(folder.parent.iterdir())
+        return job.checkpoint()["id"]
+
+
+def test_a_recovery_at_each_end():
+    with served(names=True) as server:
+        base, ends = Base(server), Ends(pathlib.Path(server.folder))
+        lose(server)
+
+        def words(n):
+            base.removed()
+            shutil.copytree(base.folder / "state", base.at / n)
+            return ["recover", "orders", *place_of(server, base.at / n)]
+
+        def check(given, is_killed):
+            folder = given[given.index("--folder") + 1]
+            if is_killed:
+                base.engine_meanwhile(folder)
+            status, said = ends.ended(0, False, given)
+            assert (is_killed and status == 0) or "the place is its own" in said, (is_killed, status, said)
+            assert base.check(folder) > base.complete
+            shutil.rmtree(folder)
+
+        return f"{ends.each(words, check)} ends"
+
+
+def exported(base):
+    did([PROGRAM, "export", "orders", "latest", base.at / "out", *place_of(base.server, base.folder / "state")])
+    return base.at / "out"
+
+
+def test_imports_at_each_end():
+    """With a claim the files leave what was exported, and not before they are in the new folder."""
+    with served(names=True) as server:
+        base, ends, told = Base(server), Ends(pathlib.Path(server.folder)), []
+        out = exported(base)
+        lose(server)
+        for claim in ([], ["--claim"]):
+            def words(n, claim=claim):
+                base.removed()
+                source, target = base.at / f"from-{n}", base.at / f"into-{n}"
+                shutil.copytree(out, source)
+                return ["import", source, "orders", *claim, *place_of(server, target)]
+
+            def check(given, is_killed, claim=claim):
+                source, target = given[1], given[given.index("--folder") + 1]
+                if is_killed and target.exists():
+                    base.engine_meanwhile(target)
+                status, said = ends.ended(0, False, given)
+                # once a claim has ended its source is gone
+                assert (is_killed and status == 0) or "the place is its own" in said or (claim and "it is there" in said), (is_killed, status, said)
+                base.check(target)
+                assert source.exists() != bool(claim), (claim, list(base.at.iterdir()))
+                shutil.rmtree(target)
+                shutil.rmtree(source, ignore_errors=True)
+
+            told.append(ends.each(words, check))
+        return f"{told[0]} ends of imports, {told[1]} of claims"
+
+
+def test_exports_at_each_end():
+    with served(names=True) as server:
+        base, ends = Base(server), Ends(pathlib.Path(server.folder))
+
+        def words(n):
+            return ["export", "orders", "latest", base.at / f"out-{n}", *place_of(server, base.folder / "state")]
+
+        def check(given, is_killed):
+            status, said = ends.ended(0, False, given)
+            assert (is_killed and status == 0) or "not empty" in said, (is_killed, status, said)
+            told = did([STORE, "show", given[3]])
+            assert told.count("whole; ") == 1 and not list(base.at.glob("*.part")), told
+
+        return f"{ends.each(words, check)} ends"
+
+
+def test_between_the_service_and_the_durable_coordinator():
+    """One format: what the service exports begins a job of the durable coordinator, and the other way round, with the same files. A claim fences that one."""
+    from relkvanu import Settings
+    from relkvanu.store import Store, StoreError
+
+    with served(names=True) as server:
+        base = Base(server)
+        job = Service(server.url).job("orders")
+        held, record = job._held(job.state()["choice"]["id"]), job.state()["choice"]["id"]
+        out, store, state = exported(base), base.at / "store.db", base.at / "store"
+        with open(f"{TOP}/docs/manifest.schema.json", encoding="utf-8") as it:
+            import jsonschema
+            jsonschema.validate(json.loads((out / f"record-{record}.manifest").read_text()), json.load(it))
+        assert f"checkpoint {record}, which has {TASKS} files" in did([STORE, "import", out, store, state])
+        settings = Settings(interval=SETTINGS["interval"], timeout=SETTINGS["timeout"], tolerable=1000, retained=2)
+        with Store(store, settings, [TASKS], storage=state, manifests=True) as durable:
+            made = durable.restore()
+            assert made.reply.id == record and made.term > job.term()["term"] and durable.reserve(made.term, 1)[0] >= job.term()["next_name"], made
+            with durable.read() as reads:
+                files = {f"0.{task}": list(reads.files_of(record, 0, task)) for task in range(TASKS)}
+        assert files == held and {it: (state / str(it)).read_text() for (it,) in files.values()} == {it: base.state[it] for (it,) in held.values()}
+        assert not durable.report.settings_differ, durable.report
+        lose(server)
+        back, words = base.at / "back", ["orders", *place_of(server, base.at / "back")]
+        did([PROGRAM, "import", base.at / "out", *words])
+        base.check(back)
+        did([PROGRAM, "import", base.at / "out", *words], 1, "there is a job")
+        did([PROGRAM, "import", state, *words], 1, "it is there")
+        base.removed()
+        shutil.rmtree(back)
+        did([PROGRAM, "import", "--claim", state, *words])
+        base.check(back)
+        with contextlib.suppress(StoreError):
+            Store(store, settings, [TASKS], storage=state)
+            raise AssertionError("the old job of a claim was opened")
+        assert not [it for it in state.iterdir() if it.name.isdecimal() and int(it.name) in base.state], list(state.iterdir())
+        return f"record {record} there and back"
+
+
+def test_what_the_commands_refuse():
+    with served(names=True) as server:
+        base = Base(server)
+        here, there = place_of(server, base.folder / "state"), place_of(server, base.at)
+        did([PROGRAM, "export", "orders", "latest", base.at / "out", *there], 78, "no marker")
+        did([PROGRAM, "export", "orders", "999999", base.at / "out", *here], 1, "404")
+        did([PROGRAM, "export", "orders", "last", base.at / "out", *here], 2, "latest")
+        did([PROGRAM, "recover", "orders", *here], 1, "there is a job")
+        did([PROGRAM, "recover", "orders", *there], 78, "no marker")
+        did([PROGRAM, "recover", "orders", *here[:2]], 2, "--folder")
+        did([PROGRAM, "keep", "orders", *here], 0, "has a manifest")
+        did([PROGRAM, "import", base.at / "none", "others", *place_of(server, base.at / "others")], 1, "No such file")
+        did([PROGRAM, "keep", "orders", "--url", f"http://127.0.0.1:{free_port()}", "--within", "1", *here[2:]], 1, "")
+        job = Service(server.url).open("one", {"interval": 1 << 40}, [1])
+        os.mkdir(base.at / "one")
+        job.claim(base.at / "one")
+        did([PROGRAM, "keep", "one", *place_of(server, base.at / "one")], 1, "`retained` has to be above `at_once`")
+        job.set(retained=2)
+        did([PROGRAM, "keep", "one", *place_of(server, base.at / "one")], 0, "no record is complete")
+        # another job of that name has records: nothing is replaced
+        shutil.copytree(base.folder / "state", base.at / "copy")
+        marker = (base.at / "copy" / ".relkvanu-orders")
+        manifests = next((base.at / "copy" / ".relkvanu.records").iterdir())
+        other = marker.read_text().replace("opened at ", "opened at 1")
+        marker.write_text(other)
+        from relkvanu.service_manifests import identity_of
+        manifests.rename(manifests.parent / identity_of(other.encode()))
+        did([PROGRAM, "recover", "orders", *place_of(server, base.at / "copy")], 1, "another job of this name")
+        return "wrong places, jobs that are there, and a service that is away"
+
+
+def test_savepoints_live_on():
+    """A job whose database is lost keeps its savepoints, under new numbers, and its shape and settings. A manifest whose files are gone is passed over."""
+    with served(names=True) as server:
+        at = pathlib.Path(server.folder) / "state"
+        at.mkdir()
+        job = Service(server.url).open("orders", {**SETTINGS, "pause": 5}, [1, 2])
+        job.claim(at)
+        task = job.begin().session(block=10)
+
+        def completes(call, reused=()):
+            record = call["id"]
+            for nth, subtask in enumerate(("0.0", "1.0", "1.1")):
+                name = task.name()
+                write(at / f"{PREFIX}{name}{SUFFIX}", f"{record} {subtask}")
+                task.ack(record, subtask, [name], reused if nth == 0 else ())
+            return record, [int(it) for ack in job.record(record)["live"]["acks"] for it in ack["files"]]
+
+        saved, kept = completes(job.call({"call": "savepoint"}))
+        completes(job.checkpoint())
+        last, _ = completes(job.checkpoint(), reused=kept[:1])
+        newest, files = completes(job.checkpoint(), reused=kept[:1])
+        did([PROGRAM, "keep", "orders", *place_of(server, at)], 0, f"record {newest} has a manifest")
+        os.remove(at / f"{PREFIX}{max(files)}{SUFFIX}")
+        lose(server)
+        told = did([PROGRAM, "recover", "orders", *place_of(server, at)])
+        assert record_of(told) == last and "1 other savepoints live on" in told and "1 manifests were passed over" in told, told
+        state = job.state()
+        assert (state["shape"], state["settings"]["pause"], state["choice"]["id"]) == ([1, 2], 5, last), state
+        (living,) = [it["id"] for it in state["live"] if it["kind"] == "savepoint"]
+        assert sorted(int(it) for ack in job.record(living)["live"]["acks"] for it in ack["files"]) == sorted(kept) and living > newest, (living, newest, saved)
+        start = job.begin(living)
+        assert start.kind == "savepoint" and start.id == living, start
+        return f"savepoint {saved} is {living}"
+
+
+@contextlib.contextmanager
+def s3_server():
+    """A server, its client, and the words of a command."""
+    if not shutil.which("radosgw"):
+        raise Skipped("radosgw", "there is no S3 server")
+    import boto3
+
+    with tempfile.TemporaryDirectory(prefix="relkvanu-") as at:
+        try:
+            subprocess.run([f"{TOP}/bindings/s3/start", f"{at}/server"], check=True, stdout=subprocess.DEVNULL)
+            env = dict(line.split("=", 1) for line in pathlib.Path(f"{at}/server/env").read_text().splitlines())
+            os.environ.update(env)
+            ENVIRONMENT.update(env)
+            yield boto3.client("s3", endpoint_url=env["S3_ENDPOINT"], region_name=env["S3_REGION"]), ["--endpoint", env["S3_ENDPOINT"], "--region", env["S3_REGION"]]
+        finally:
+            subprocess.run([f"{TOP}/bindings/s3/stop", f"{at}/server"], check=False)
+
+
+def test_a_job_over_a_bucket():
+    """Its database is lost. Its record goes to a folder, to another bucket, and back."""
+    from relkvanu.service_manifests import Manifests, service_bucket
+
+    with s3_server() as (s3, words), served(names=True) as server:
+        bucket, at = f"b{uuid.uuid4().hex}", pathlib.Path(server.folder)
+        s3.create_bucket(Bucket=bucket)
+        job = Service(server.url).open("orders", SETTINGS, [TASKS])
+        s3.put_object(Bucket=bucket, Key="orders/.relkvanu-orders", Body=job.marker()[1].encode())
+        task = job.begin().session(block=10)
+        record, names = job.checkpoint()["id"], [task.name() for _ in range(TASKS)]
+        for subtask, name in enumerate(names):
+            s3.put_object(Bucket=bucket, Key=f"orders/s-{name}.bin", Body=b"state %d" % name)
+            task.ack(record, f"0.{subtask}", [name])
+        manifests = Manifests(job, service_bucket("orders", bucket, "orders/s-", ".bin", s3))
+        assert manifests.keep() == record
+        there = ["--url", server.url, *words, "--bucket", bucket, "--suffix", ".bin", "--prefix"]
+        did([PROGRAM, "export", "orders", record, at / "out", *there, "orders/s-"])
+        did([PROGRAM, "export", "orders", "latest", f"s3://{bucket}/out", *there, "orders/s-"])
+        assert {it: (at / "out" / str(it)).read_bytes() for it in names} == {it: b"state %d" % it for it in names}
+        lose(server)
+        assert record_of(did([PROGRAM, "recover", "orders", *there, "orders/s-"])) == record
+        start = job.begin()
+        assert start.files == {f"0.{it}": [name] for it, name in enumerate(names)} and start.session().name() > max(names), start.files
+        for source, name in ((at / "out", "two"), (f"s3://{bucket}/out", "three")):
+            did([PROGRAM, "import", source, name, *there, f"{name}/s-"])
+            other = Service(server.url).open(name, SETTINGS, [TASKS])
+            assert other.begin().files == start.files, other.state()
+            found = {it["Key"] for it in s3.list_objects_v2(Bucket=bucket, Prefix=f"{name}/")["Contents"]}
+            assert {f"{name}/s-{it}.bin" for it in names} | {f"{name}/.relkvanu-{name}"} < found and len(found) == TASKS + 2, found
+        did([PROGRAM, "import", "--claim", f"s3://{bucket}/out", "four", *words, *place_of(server, at / "four")])
+        assert "Contents" not in s3.list_objects_v2(Bucket=bucket, Prefix="out/")
+        assert state_in(at / "four") == {it: f"state {it}" for it in names}
+        return f"record {record} in a bucket, in three other places, and back"
