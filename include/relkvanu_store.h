@@ -29,7 +29,8 @@
  *   returned it may or may not be in the log. Close the store and open it again, or end the process, and do what a recovery does.
  * - A thread that calls has 256 KiB of stack or more: one that commits also makes the calls of those that wait.
  * - A list or buffer that is passed stays as it is until the function returns, or until the completion of a submit.
- * - A thread that reads (relkvanu_store_read) makes no call before relkvanu_store_read_end, except a submit.
+ * - A thread that reads (relkvanu_store_read) makes no call before relkvanu_store_read_end, except a submit: it would wait for itself. Such a call is
+ *   RELKVANU_STORE_BAD_ARGUMENT, relkvanu_store_why says so, and relkvanu_store_close does nothing then.
  * - In a forked child each function returns RELKVANU_STORE_FORKED, and relkvanu_store_close does nothing.
  * - No call is made from a signal handler, and no thread is cancelled inside of one.
  * - relkvanu_store_close comes after the last call of each other thread.

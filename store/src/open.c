@@ -534,7 +534,7 @@ static void close_cleanly(relkvanu_store *s) {
 
 void relkvanu_store_close(relkvanu_store *s) {
     relkvanu *handle;
-    if (s == NULL || rks_is_forked(s)) {
+    if (s == NULL || rks_is_forked(s) || rks_is_reading(s)) {
         return; /* in a child SQLite would take the file for its own */
     }
     if (relkvanu_store_read(s, &handle) == RELKVANU_STORE_OK) {

@@ -209,6 +209,7 @@ struct relkvanu_store {
     relkvanu_store_counts led; /* counts of the leaders */
     uint64_t seen[RKS_SEEN];   /* of the coordinator, when a read began */
 
+    _Atomic(const char *) reader;  /* the thread that reads, or NULL */
     _Atomic uint64_t clock_offset; /* the moment minus the system's clock, modulo 2^64 */
 
     /* the queue; all below is guarded by the mutex */
@@ -502,7 +503,10 @@ int rks_check_calls(relkvanu_store *s, relkvanu_store_call *calls, size_t calls_
 /* verbs.c: a call of this kind, at the moment of the store's clock. */
 relkvanu_call rks_of_kind(uint32_t kind);
 
-/* reads.c: moves those of the files to the front that are garbage, and counts those whose names were not given out. */
+/* reads.c: whether this thread reads, so that a call of it would wait for itself. */
+bool rks_is_reading(const relkvanu_store *s);
+
+/* Moves those of the files to the front that are garbage, and counts those whose names were not given out. */
 int rks_deletable(relkvanu_store *s, uint64_t *files, size_t *files_len, size_t *unissued);
 
 /* storage.c: the greatest number of a file in the folder, or of a part; 0 if there is none. RELKVANU_STORE_STORAGE: the folder is gone;

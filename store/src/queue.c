@@ -28,6 +28,10 @@ int rks_enter(relkvanu_store *s, struct rks_waiter *w) {
     if (rks_is_forked(s)) {
         return RELKVANU_STORE_FORKED;
     }
+    if (!w->is_submitted && rks_is_reading(s)) {
+        rks_why_words("this thread reads, so that the call would wait for itself: make it after the read");
+        return RELKVANU_STORE_BAD_ARGUMENT;
+    }
     w->next = w->wakes = NULL;
     w->wakes_len = 0;
     w->is_answered = false;

@@ -16,6 +16,13 @@ static void see(relkvanu *handle, uint64_t seen[RKS_SEEN]) {
     memcpy(seen, found, sizeof found);
 }
 
+/* A thread is told from others by the place of this. */
+static _Thread_local char own;
+
+bool rks_is_reading(const relkvanu_store *s) {
+    return s->reader == &own;
+}
+
 int relkvanu_store_read(relkvanu_store *s, relkvanu **handle) {
     struct rks_waiter w = {0};
     int status = rks_enter(s, &w);
@@ -25,6 +32,7 @@ int relkvanu_store_read(relkvanu_store *s, relkvanu **handle) {
     if (status == RELKVANU_STORE_OK) {
         rks_take_group(s); /* it is this read alone */
         see(s->handle, s->seen);
+        s->reader = &own;
         *handle = s->handle;
     }
     return status;
@@ -44,6 +52,7 @@ void relkvanu_store_read_end(relkvanu_store *s) {
     uint64_t seen[RKS_SEEN];
     see(s->handle, seen);
     bool is_same = memcmp(seen, s->seen, sizeof seen) == 0;
+    s->reader = NULL;
     if (!is_same) {
         snprintf(s->fault, sizeof s->fault, "%.300s: a call was made through the handle of a read, which the log does not have", s->path);
     }

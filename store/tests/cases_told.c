@@ -286,6 +286,43 @@ static void a_write_in_a_read(void) {
     CHECK(report.next_name == 1, "next name %" PRIu64, report.next_name);
 }
 
+static void *reserves_beside(void *store) {
+    relkvanu_answer answer;
+    CHECK(relkvanu_store_reserve(store, 1, 2, &answer) == RELKVANU_STORE_OK && answer.code == RELKVANU_DONE, "another thread");
+    return NULL;
+}
+
+/* It would wait for itself. A submit does not wait, and other threads do. */
+static void a_call_in_a_read(void) {
+    relkvanu_store *store = opened();
+    relkvanu *handle;
+    relkvanu_answer answer;
+    relkvanu_store_completion done_of[2];
+    relkvanu_store_call call = {.call = {.kind = RELKVANU_CALL_RESERVE, .number = 1, .term = 1}}, tick;
+    char words[RELKVANU_STORE_MESSAGE];
+    pthread_t thread;
+    size_t completed = 0;
+    CHECK(relkvanu_store_read(store, &handle) == RELKVANU_STORE_OK, "a read");
+    CHECK(pthread_create(&thread, NULL, reserves_beside, store) == 0, "a thread");
+    CHECK(relkvanu_store_reserve(store, 1, 5, &answer) == RELKVANU_STORE_BAD_ARGUMENT && answer.code == RELKVANU_STORE_NOT_MADE, "a call");
+    relkvanu_store_why(words, sizeof words);
+    CHECK(strstr(words, "this thread reads") != NULL, "%s", words);
+    CHECK(relkvanu_store_read(store, &handle) == RELKVANU_STORE_BAD_ARGUMENT, "another read");
+    CHECK(relkvanu_store_term(store, &answer) == RELKVANU_STORE_BAD_ARGUMENT, "a read of the term");
+    CHECK(relkvanu_store_stop_job(store, &tick) == RELKVANU_STORE_BAD_ARGUMENT && tick.answer.code == RELKVANU_STORE_NOT_MADE, "a stop");
+    CHECK(relkvanu_store_submit(store, &call, 1, 7) == RELKVANU_STORE_OK, "a submit");
+    relkvanu_store_close(store); /* does nothing */
+    CHECK(relkvanu_term(handle).b == 1, "it reads on");
+    relkvanu_store_read_end(store);
+    pthread_join(thread, NULL);
+    while (completed == 0) {
+        completed = relkvanu_store_completed(store, done_of, 2);
+    }
+    CHECK(done_of[0].status == RELKVANU_STORE_OK && call.answer.code == RELKVANU_DONE, "the submit");
+    CHECK(relkvanu_store_reserve(store, 1, 5, &answer) == RELKVANU_STORE_OK && answer.a == 4, "name %" PRIu64, answer.a);
+    relkvanu_store_close(store);
+}
+
 /* A thread with the least stack that relkvanu_store.h names does all. */
 #if defined(__SANITIZE_ADDRESS__) || defined(__SANITIZE_THREAD__)
 enum { LEAST_STACK = 1 << 20 }; /* each frame is larger */
@@ -356,5 +393,5 @@ static void a_fork_beside_a_hung_disk(void) {
 
 const struct test told_cases[] = {{"errors_of_a_storage", errors_of_a_storage}, {"errors_of_an_opening", errors_of_an_opening},
     {"measures", measures}, {"a_discarder_for_a_while", a_discarder_for_a_while}, {"the_job_of_an_opening", the_job_of_an_opening},
-    {"put_from_elsewhere", put_from_elsewhere}, {"a_write_in_a_read", a_write_in_a_read}, {"the_least_stack", the_least_stack},
-    {"a_fork_beside_a_hung_disk", a_fork_beside_a_hung_disk}, {NULL, NULL}};
+    {"put_from_elsewhere", put_from_elsewhere}, {"a_write_in_a_read", a_write_in_a_read}, {"a_call_in_a_read", a_call_in_a_read},
+    {"the_least_stack", the_least_stack}, {"a_fork_beside_a_hung_disk", a_fork_beside_a_hung_disk}, {NULL, NULL}};

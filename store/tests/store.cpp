@@ -85,6 +85,8 @@ static void calls(const std::string &path) {
     CHECK(job.counts().calls == 4 && job.message().empty() && job.folder() == -1);
     ckpt::Store moved = std::move(job);
     CHECK(std::holds_alternative<ckpt::savepoint_triggered>(moved.savepoint()));
+    CHECK(
+        !moved.read([&](relkvanu *) { CHECK(why(moved.savepoint()) == ckpt::store_error::bad_argument); })); /* it would wait for itself */
     try {
         CHECK(!moved.read([](relkvanu *) { throw std::runtime_error("look"); }));
         CHECK(false);
