@@ -208,8 +208,7 @@ static int go_back(relkvanu_store *s, uint64_t id, relkvanu_store_call *call) {
     relkvanu_close(&s->handles[s->handle == s->handles]); /* the other one, before the next thread leads */
     if (is_made) {
         rks_hold(s, call->answer);
-        status = rks_commit_alone(s);
-        call->answer = rks_told(s, 0);
+        status = rks_commit_alone(s, &call->answer);
     } else {
         rks_hand_on(s, 0);
     }
@@ -230,7 +229,7 @@ int relkvanu_store_go_back(relkvanu_store *s, uint64_t checkpoint, uint32_t flag
     int status = rks_enter(s, &w);
     status = status == RELKVANU_STORE_OK && w.is_answered ? w.status : status;
     if (status == RELKVANU_STORE_OK) {
-        rks_take_group(s); /* it is this one alone */
+        rks_take_alone(s);
         status = go_back(s, checkpoint, call);
     }
     if (status != RELKVANU_STORE_OK) {

@@ -39,14 +39,14 @@ static bool has_room(void **at, size_t *room, size_t len, size_t size) {
     return true;
 }
 
-/* A call triggers at most one record, and each record ends at most once, and completes at most once. */
+/* A call triggers at most one record, and each record ends at most once, and completes at most once. The group may have ended some before. */
 bool rks_has_room_beside(relkvanu_store *s, size_t calls) {
     struct rks_beside *b = &s->beside;
     size_t most = b->live_len + calls;
     void *live = b->live, *ended = b->ended, *past = b->past;
     bool has_all = has_room(&live, &b->live_room, most, sizeof *b->live);
-    has_all = has_room(&ended, &b->ended_room, most, sizeof *b->ended) && has_all;
-    has_all = has_room(&past, &b->past_room, most, sizeof *b->past) && has_all;
+    has_all = has_room(&ended, &b->ended_room, b->ended_len + most, sizeof *b->ended) && has_all;
+    has_all = has_room(&past, &b->past_room, b->past_len + most, sizeof *b->past) && has_all;
     b->live = live;
     b->ended = ended;
     b->past = past;
@@ -58,10 +58,10 @@ static size_t part_room(const relkvanu_store_call *call) {
     return sizeof(struct rks_subtask) + files * sizeof(uint64_t) + call->more->payload_len;
 }
 
-bool rks_has_room_for_parts(relkvanu_store *s, const struct rks_waiter *group) {
+bool rks_has_room_for_parts(relkvanu_store *s, const struct rks_waiter *more) {
     struct rks_beside *b = &s->beside;
     size_t len = 0, room = 0;
-    for (const struct rks_waiter *w = group; w != NULL; w = w->next) {
+    for (const struct rks_waiter *w = more; w != NULL; w = w->next) {
         for (size_t i = 0; i < w->calls_len; i++) {
             const relkvanu_store_call *call = &w->calls[i];
             bool has_part = call->more != NULL && call->call.kind == RELKVANU_CALL_ACK;
@@ -70,7 +70,7 @@ bool rks_has_room_for_parts(relkvanu_store *s, const struct rks_waiter *group) {
         }
     }
     void *runs = b->runs;
-    bool has_all = has_room(&runs, &b->runs_room, len, sizeof *b->runs);
+    bool has_all = has_room(&runs, &b->runs_room, b->runs_len + len, sizeof *b->runs);
     b->runs = runs;
     return has_all && (len == 0 || rks_room(&b->parts, room));
 }

@@ -199,7 +199,7 @@ static void make(relkvanu_store *s, const struct rks_waiter *w, relkvanu_store_c
 
 /* After a call without memory the later ones of its list are not made. */
 static void make_list(relkvanu_store *s, struct rks_waiter *w) {
-    bool is_out = w->is_not_now = !rks_allows(s, w->verb);
+    bool is_out = w->refusal != RELKVANU_STORE_OK;
     s->beside.now = w->now;
     w->first = s->receipts_len;
     for (size_t i = 0; i < w->calls_len; i++) {
@@ -212,20 +212,26 @@ static void make_list(relkvanu_store *s, struct rks_waiter *w) {
     }
 }
 
-/* Makes the calls of a group, and notes what has to be committed. Without memory none is made. */
-int rks_make(relkvanu_store *s, struct rks_waiter *group) {
-    size_t len = 1; /* the restore that ends a stop */
+void rks_begin_calls(relkvanu_store *s) {
     rks_begin_group(s);
     rks_begin_lines(s);
-    for (const struct rks_waiter *w = group; w != NULL; w = w->next) {
+    rks_forget_beside(s);
+}
+
+static bool has_room(relkvanu_store *s, const struct rks_waiter *more) {
+    size_t len = s->receipts_len + 1; /* the restore that ends a stop */
+    for (const struct rks_waiter *w = more; w != NULL; w = w->next) {
         len += w->calls_len;
     }
-    rks_forget_beside(s);
-    if (!rks_has_rows(s, len) || !rks_has_room_for_parts(s, group)) {
-        return RELKVANU_STORE_NO_MEMORY;
+    return rks_has_rows(s, len) && rks_has_room_for_parts(s, more);
+}
+
+void rks_make(relkvanu_store *s, struct rks_waiter *more) {
+    bool is_out = !has_room(s, more);
+    for (struct rks_waiter *w = more; w != NULL; w = w->next) {
+        w->refusal = is_out ? RELKVANU_STORE_NO_MEMORY : rks_allows(s, w->verb) ? RELKVANU_STORE_OK : RELKVANU_STORE_NOT_NOW;
+        if (!is_out) {
+            make_list(s, w);
+        }
     }
-    for (struct rks_waiter *w = group; w != NULL; w = w->next) {
-        make_list(s, w);
-    }
-    return RELKVANU_STORE_OK;
 }

@@ -52,8 +52,8 @@ struct rks_waiter {
     uint64_t token;
     uint64_t now; /* the moment of its calls that have RELKVANU_STORE_NOW */
     enum rks_verb verb;
-    bool is_not_now; /* the phase of the job does not allow the verb */
-    size_t first;    /* of its calls, in the receipts of the group */
+    int refusal;  /* NOT_NOW: the phase of the job does not allow the verb. NO_MEMORY: it was not made */
+    size_t first; /* of its calls, in the receipts of the group */
 };
 
 /* The line of a call that was made. */
@@ -203,8 +203,8 @@ struct relkvanu_store {
     bool names_last;           /* the job is made again of manifests, and gets its names after its records */
     uint64_t tick_after;       /* the moment before which no tick is made again after one without memory */
     uint64_t committed_at;     /* when the last commit was, in ms of the wall clock; 0: none since the opening */
-    uint64_t took;             /* the last group, in ns */
-    size_t callers, expected;  /* of the last group; those and the ones that waited when it ended */
+    uint64_t took;             /* the last commit, in ns */
+    size_t callers, expected;  /* of the group; those of the last one, and the ones that waited when it ended */
     size_t rests, resting;     /* for how many groups no leader waits for callers who did not come back; how many are left */
     relkvanu_store_counts led; /* counts of the leaders */
     uint64_t seen[RKS_SEEN];   /* of the coordinator, when a read began */
@@ -216,9 +216,9 @@ struct relkvanu_store {
     pthread_mutex_t mutex;
     pthread_cond_t changed;
     struct rks_waiter *head, **tail;
-    size_t queued; /* how many wait in it */
+    size_t queued, loners; /* how many wait in it; and of these, join no group */
     bool is_led;
-    size_t gathers; /* who leads waits until so many do; 0: it does not wait */
+    size_t gathers; /* who leads waits until so many do; 0: it does not wait for them */
     pthread_cond_t gathered;
     int dead; /* the status that closed the store */
     struct rks_view view;
@@ -288,7 +288,7 @@ void rks_clear_more(const relkvanu_store_call *call);
  * that is committed. Each returns a status, or whether there was memory. */
 int rks_begin_beside(relkvanu_store *s);
 bool rks_has_room_beside(relkvanu_store *s, size_t calls);
-bool rks_has_room_for_parts(relkvanu_store *s, const struct rks_waiter *group);
+bool rks_has_room_for_parts(relkvanu_store *s, const struct rks_waiter *more);
 void rks_note_beside(relkvanu_store *s, const relkvanu_store_call *call);
 void rks_forget_beside(relkvanu_store *s);
 void rks_free_beside(relkvanu_store *s);
@@ -435,8 +435,9 @@ int rks_commit(relkvanu_store *s, bool wants_image);
 /* replay.c */
 int rks_replay(relkvanu_store *s, relkvanu_store_report *report);
 
-/* make.c */
-int rks_make(relkvanu_store *s, struct rks_waiter *group);
+/* make.c: begins a group; makes more of its calls, and notes what has to be committed. Without memory none of these is made. */
+void rks_begin_calls(relkvanu_store *s);
+void rks_make(relkvanu_store *s, struct rks_waiter *more);
 
 /* Begins the lines of a group; frees them all. */
 void rks_begin_lines(relkvanu_store *s);
@@ -483,9 +484,9 @@ bool rks_next_order(relkvanu_store *s, struct rks_order *order);
 /* queue.c */
 int rks_enter(relkvanu_store *s, struct rks_waiter *w);
 
-/* For a thread that leads alone: commits the rows, shows what is committed, and hands on. */
-int rks_commit_alone(relkvanu_store *s);
-struct rks_waiter *rks_take_group(relkvanu_store *s);
+/* For a thread that leads alone: takes it out of the queue; commits the rows, shows what is committed, tells the first answer, and hands on. */
+void rks_take_alone(relkvanu_store *s);
+int rks_commit_alone(relkvanu_store *s, relkvanu_answer *answer);
 void rks_lead(relkvanu_store *s, struct rks_waiter *self);
 void rks_hand_on(relkvanu_store *s, int dead);
 void rks_drop_answers(relkvanu_store_call *calls, size_t calls_len);

@@ -5,7 +5,7 @@
 #include <string.h>
 #include <time.h>
 
-enum { LONGEST_GATHERING = 5000000, WOKEN_BY_ONE = 16 }; /* ns; callers */
+enum { LONGEST_GATHERING = 5000000, WOKEN_BY_ONE = 16, MADE_AT_ONCE = 32 }; /* ns; callers; callers */
 
 void rks_drop_answers(relkvanu_store_call *calls, size_t calls_len) {
     for (size_t i = 0; i < calls_len; i++) {
@@ -21,6 +21,11 @@ static void wake(struct rks_waiter *w, size_t len) {
         next = w->next;
         sem_post(&w->turn);
     }
+}
+
+/* Whether it may be behind others in a group. At most one stop ends in a group, since rks_make has room for one restore that it ends with. */
+static bool joins(const struct rks_waiter *w) {
+    return w->calls != NULL && w->verb != RKS_STOPS;
 }
 
 /* Appends to the queue. With RELKVANU_STORE_OK a waiter that is neither submitted nor answered leads now. */
@@ -46,7 +51,8 @@ int rks_enter(relkvanu_store *s, struct rks_waiter *w) {
     *s->tail = w;
     s->tail = &w->next;
     s->queued++;
-    if (s->gathers != 0 && (s->queued >= s->gathers || w->calls == NULL)) {
+    s->loners += !joins(w);
+    if (s->gathers != 0 && (s->queued >= s->gathers || s->loners != 0)) {
         s->gathers = 0;
         pthread_cond_signal(&s->gathered);
     }
@@ -65,32 +71,44 @@ int rks_enter(relkvanu_store *s, struct rks_waiter *w) {
     return RELKVANU_STORE_OK;
 }
 
-/* The head, and if it calls, the calls behind it up to the first read, or the first stop. So at most one stop ends in a group: rks_make has room for one
- * restore that it ends with. */
-struct rks_waiter *rks_take_group(relkvanu_store *s) {
-    pthread_mutex_lock(&s->mutex);
-    struct rks_waiter *group = s->head, **end = &group->next;
-    size_t len = group->calls_len, waiters = 1;
-    while (group->calls != NULL && *end != NULL && (*end)->calls != NULL && (*end)->verb != RKS_STOPS &&
-           len + (*end)->calls_len <= RELKVANU_STORE_MOST_CALLS) {
-        len += (*end)->calls_len;
-        end = &(*end)->next;
-        waiters++;
-    }
-    s->queued -= waiters;
-    s->callers = waiters;
-    s->head = *end;
-    *end = NULL;
+/* Takes the head out of the queue. With the mutex. */
+static struct rks_waiter *take_head(relkvanu_store *s) {
+    struct rks_waiter *head = s->head;
+    s->head = head->next;
+    head->next = NULL;
     if (s->head == NULL) {
         s->tail = &s->head;
     }
+    s->queued--;
+    s->loners -= !joins(head);
+    s->callers++;
+    return head;
+}
+
+void rks_take_alone(relkvanu_store *s) {
+    pthread_mutex_lock(&s->mutex);
+    s->callers = 0;
+    take_head(s);
     pthread_mutex_unlock(&s->mutex);
-    return group;
+}
+
+/* Moves calls from the queue to the end of a group: the head if the group is empty, and those behind it that join it. Returns the first of them,
+ * or NULL. */
+static struct rks_waiter *take_calls(relkvanu_store *s, struct rks_waiter ***end, size_t *len) {
+    struct rks_waiter **first = *end;
+    pthread_mutex_lock(&s->mutex);
+    while (s->head != NULL && (s->callers == 0 || joins(s->head)) && *len + s->head->calls_len <= RELKVANU_STORE_MOST_CALLS) {
+        *len += s->head->calls_len;
+        **end = take_head(s);
+        *end = &(**end)->next;
+    }
+    pthread_mutex_unlock(&s->mutex);
+    return *first;
 }
 
 /* Afterwards a waiter that was submitted is not the store's any more. */
 static void answer(relkvanu_store *s, struct rks_waiter *w, int status) {
-    w->status = status == RELKVANU_STORE_OK && w->is_not_now ? RELKVANU_STORE_NOT_NOW : status;
+    w->status = status == RELKVANU_STORE_OK ? w->refusal : status;
     w->is_answered = true;
     if (w->status != RELKVANU_STORE_OK) {
         rks_drop_answers(w->calls, w->calls_len);
@@ -113,7 +131,7 @@ static struct rks_waiter *share(struct rks_waiter *w) {
     return behind;
 }
 
-/* Nobody wakes them all: some are woken here, and wake the others. */
+/* Nobody wakes them all: some are woken here, and wake the others. Afterwards a waiter belongs to who waits for it. */
 static void wake_all(struct rks_waiter *sleepers) {
     for (struct rks_waiter *w = sleepers, *next; w != NULL; w = next) {
         next = share(w);
@@ -121,8 +139,8 @@ static void wake_all(struct rks_waiter *sleepers) {
     }
 }
 
-/* Afterwards a waiter belongs to who waits for it. */
-static void answer_all(relkvanu_store *s, struct rks_waiter *group, int status, const struct rks_waiter *own) {
+/* Returns those of the group who sleep, and have to be woken: not who leads, and no submits. */
+static struct rks_waiter *answer_all(relkvanu_store *s, struct rks_waiter *group, int status, const struct rks_waiter *own) {
     struct rks_waiter *sleepers = NULL, **end = &sleepers;
     for (struct rks_waiter *next; group != NULL; group = next) {
         next = group->next;
@@ -133,7 +151,7 @@ static void answer_all(relkvanu_store *s, struct rks_waiter *group, int status, 
         answer(s, group, status);
     }
     *end = NULL;
-    wake_all(sleepers);
+    return sleepers;
 }
 
 /* Closes the store for good. Nobody may be told of a failure before. */
@@ -156,7 +174,7 @@ void rks_hand_on(relkvanu_store *s, int dead) {
         failed = s->head;
         s->head = NULL;
         s->tail = &s->head;
-        s->queued = 0;
+        s->queued = s->loners = 0;
     }
     s->expected = s->callers + s->queued;
     s->is_led = s->head != NULL;
@@ -167,7 +185,7 @@ void rks_hand_on(relkvanu_store *s, int dead) {
         pthread_cond_broadcast(&s->changed);
     }
     pthread_mutex_unlock(&s->mutex);
-    answer_all(s, failed, RELKVANU_STORE_CLOSED, NULL);
+    wake_all(answer_all(s, failed, RELKVANU_STORE_CLOSED, NULL));
 }
 
 /* Commits the calls that were made. */
@@ -186,19 +204,13 @@ static int commit(relkvanu_store *s) {
     return status;
 }
 
-/* Makes and commits the calls of a group. Returns the status of its callers. */
-static int work(relkvanu_store *s, struct rks_waiter *group) {
-    int status = rks_make(s, group);
-    if (status == RELKVANU_STORE_OK && s->rows_len != 0) {
-        return commit(s);
-    }
-    rks_end_group(s, RELKVANU_STORE_OK); /* all rows so far are committed */
-    return status;
+static bool is_untidy(const relkvanu_store *s) {
+    return s->pages >= RKS_WAL_PAGES;
 }
 
 /* Brings the -wal into the file. Returns the status that closes the store, or 0. */
 static int tidy(relkvanu_store *s) {
-    int status = s->pages >= RKS_WAL_PAGES ? rks_checkpoint(s, SQLITE_CHECKPOINT_PASSIVE) : RELKVANU_STORE_OK;
+    int status = is_untidy(s) ? rks_checkpoint(s, SQLITE_CHECKPOINT_PASSIVE) : RELKVANU_STORE_OK;
     return status == RELKVANU_STORE_FAILED || status == RELKVANU_STORE_DAMAGED ? RELKVANU_STORE_FAILED : 0;
 }
 
@@ -213,50 +225,99 @@ static bool closes(relkvanu_store *s, int status) {
     return is_dead;
 }
 
-/* When a gathering ends that begins now. */
-static struct timespec end_of_gathering(const relkvanu_store *s) {
-    uint64_t most = s->took / 2 < LONGEST_GATHERING ? s->took / 2 : LONGEST_GATHERING;
+/* How a leader waits for more callers. */
+struct gathering {
     struct timespec end;
-    clock_gettime(CLOCK_MONOTONIC, &end);
-    uint64_t until = (uint64_t)end.tv_nsec + most;
-    return (struct timespec){end.tv_sec + (time_t)(until / 1000000000), (long)(until % 1000000000)};
+    size_t before; /* callers of the group without it */
+    bool rests, is_over;
+};
+
+/* At most half as long as the last commit took, from now on. */
+static struct gathering begin_gathering(relkvanu_store *s) {
+    uint64_t most = s->took / 2 < LONGEST_GATHERING ? s->took / 2 : LONGEST_GATHERING;
+    struct timespec now;
+    clock_gettime(CLOCK_MONOTONIC, &now);
+    uint64_t until = (uint64_t)now.tv_nsec + most;
+    struct timespec end = {now.tv_sec + (time_t)(until / 1000000000), (long)(until % 1000000000)};
+    bool rests = s->resting != 0;
+    s->resting -= rests;
+    return (struct gathering){.end = end, .rests = rests, .is_over = rests};
 }
 
-/* Callers that were answered together come back one after the other. Who leads waits for them a little, so that they share a sync again: otherwise
- * each second commit would be that of the first few. If they do not come back, the next leaders do not wait: of 1, 3, 7 and at most 63 groups. */
-static void gather(relkvanu_store *s) {
-    const struct timespec end = end_of_gathering(s);
+/* Waits until all callers are in the group or in the queue, or some more, or one that joins no group. Returns whether the first joins the group. */
+static bool has_more(relkvanu_store *s, struct gathering *g) {
+    if (s->callers >= s->expected || g->is_over) {
+        return false;
+    }
+    size_t missing = s->expected - s->callers, wanted = missing < MADE_AT_ONCE ? missing : MADE_AT_ONCE;
     pthread_mutex_lock(&s->mutex);
-    size_t before = s->queued;
-    s->gathers = before < s->expected ? s->expected : 0;
-    for (int code = 0; s->gathers != 0 && code == 0;) {
-        code = pthread_cond_timedwait(&s->gathered, &s->mutex, &end);
+    for (s->gathers = s->queued < wanted && s->loners == 0 ? wanted : 0; s->gathers != 0 && !g->is_over;) {
+        g->is_over = pthread_cond_timedwait(&s->gathered, &s->mutex, &g->end) != 0;
     }
     s->gathers = 0;
-    bool is_of_use = before >= s->expected || 4 * (s->queued - before) >= s->expected - before;
+    bool is_more = s->head != NULL && joins(s->head);
     pthread_mutex_unlock(&s->mutex);
+    return is_more;
+}
+
+/* If callers did not come back, the next leaders do not wait: of 1, 3, 7 and at most 63 groups. */
+static void end_gathering(relkvanu_store *s, const struct gathering *g) {
+    if (g->rests) {
+        return;
+    }
+    bool is_of_use = g->before >= s->expected || 4 * (s->callers - g->before) >= s->expected - g->before;
     s->rests = is_of_use ? 0 : s->rests < 63 ? 2 * s->rests + 1 : s->rests;
     s->resting = s->rests;
 }
 
-void rks_lead(relkvanu_store *s, struct rks_waiter *own) {
-    if (s->expected > 1 && s->resting == 0) {
-        gather(s);
-    } else {
-        s->resting -= s->resting != 0;
+/* Takes a group out of the queue, and makes its calls. Callers that were answered together come back one after the other. Who leads makes their calls as
+ * they come, and waits for them a little, so that they share a sync again: otherwise each second commit would be that of the first few. */
+static struct rks_waiter *make_group(relkvanu_store *s) {
+    struct rks_waiter *group = NULL, **end = &group, *more;
+    struct gathering g = begin_gathering(s);
+    size_t len = 0;
+    s->callers = 0;
+    rks_begin_calls(s);
+    while ((more = take_calls(s, &end, &len)) != NULL) {
+        rks_make(s, more);
+        g.before = g.before == 0 ? s->callers : g.before;
+        if (!has_more(s, &g)) {
+            break;
+        }
     }
-    uint64_t began = rks_clock_ns();
-    struct rks_waiter *group = rks_take_group(s);
-    int status = work(s, group);
-    s->took = rks_clock_ns() - began;
-    bool is_dead = closes(s, status);
-    answer_all(s, group, status, own);
-    rks_hand_on(s, is_dead ? 0 : tidy(s));
+    end_gathering(s, &g);
+    return group;
 }
 
-int rks_commit_alone(relkvanu_store *s) {
+/* Commits the calls that were made, if there are some. Without any all rows so far are committed. */
+static int commit_group(relkvanu_store *s) {
+    if (s->rows_len != 0) {
+        return commit(s);
+    }
+    rks_end_group(s, RELKVANU_STORE_OK);
+    return RELKVANU_STORE_OK;
+}
+
+/* The next one leads before all are awake. Who waits for a turn to lead waits for the -wal too, and who is answered does not. */
+void rks_lead(relkvanu_store *s, struct rks_waiter *own) {
+    struct rks_waiter *group = make_group(s);
+    uint64_t began = rks_clock_ns();
+    int status = commit_group(s);
+    s->took = rks_clock_ns() - began;
+    bool is_dead = closes(s, status);
+    struct rks_waiter *sleepers = answer_all(s, group, status, own);
+    if (is_untidy(s)) {
+        wake_all(sleepers);
+        sleepers = NULL;
+    }
+    rks_hand_on(s, is_dead ? 0 : tidy(s));
+    wake_all(sleepers);
+}
+
+int rks_commit_alone(relkvanu_store *s, relkvanu_answer *answer) {
     int status = commit(s);
     bool is_dead = closes(s, status);
+    *answer = rks_told(s, 0);
     rks_hand_on(s, is_dead ? 0 : tidy(s));
     return status;
 }

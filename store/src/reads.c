@@ -30,7 +30,7 @@ int relkvanu_store_read(relkvanu_store *s, relkvanu **handle) {
         status = w.status;
     }
     if (status == RELKVANU_STORE_OK) {
-        rks_take_group(s); /* it is this read alone */
+        rks_take_alone(s);
         see(s->handle, s->seen);
         s->reader = &own;
         *handle = s->handle;
