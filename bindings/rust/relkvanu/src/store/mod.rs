@@ -1,6 +1,7 @@
 //! A durable coordinator: one SQLite file for each job (`include/relkvanu_store.h`).
 mod calls;
 mod error;
+mod files;
 mod next;
 mod opening;
 mod phase;
@@ -516,15 +517,9 @@ impl Store {
     /// A discarder of the storage folder's files, as [`discard`](Self::discard).
     pub fn discard_files(&self, batch: usize) -> Result<(), StoreError> {
         self.outside()?;
-        // SAFETY: the store outlives the call, and the function takes it.
-        let status = unsafe {
-            sys::store::relkvanu_store_discard(
-                self.at(),
-                batch,
-                sys::store::relkvanu_store_delete_files,
-                self.at().cast(),
-            )
-        };
+        // SAFETY: without a storage the library takes that of the store.
+        let status =
+            unsafe { sys::store::relkvanu_store_discard_storage(self.at(), batch, ptr::null()) };
         match status {
             sys::store::RELKVANU_STORE_STOPPED => Ok(()),
             other => self.check(other),
