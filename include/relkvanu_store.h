@@ -520,8 +520,9 @@ int relkvanu_store_put_from(relkvanu_store *store, uint64_t file, relkvanu_store
  * with errno EXDEV: it is on another file system, so relkvanu_store_put_from copies it; EINVAL: it is no regular file; ELOOP: a symbolic link. */
 int relkvanu_store_put_link(relkvanu_store *store, uint64_t file, int from, const char *name);
 
-/* Why the last put, sweep or discarder of this thread returned another status than RELKVANU_STORE_OK: a text with a zero at its end, such as "file 7:
- * Too many open files". Empty if nothing failed. Returns its length, also if text_len is too short. */
+/* Why the last put, sweep or discarder of this thread returned another status than RELKVANU_STORE_OK, or why the first call of its last list that was refused
+ * was: a text with a zero at its end, such as "file 7: Too many open files", or "record 6, subtask 2.0, term 1: fenced OldTerm; term 2 runs". Empty if
+ * nothing failed. Returns its length, also if text_len is too short. */
 size_t relkvanu_store_why(char *text, size_t text_len);
 
 /* Deletes files of the folder, also what is there in part, and syncs nothing: relkvanu_store_discard_storage(store, 0, NULL) does all that a discarder

@@ -158,6 +158,7 @@ struct rks_view {
     uint64_t tick;              /* the moment of the next one; UINT64_MAX: only a call can bring one */
     uint64_t clock;             /* clock_offset */
     bool is_running, has_files; /* the job; files that wait for deletion */
+    uint64_t term;              /* that runs */
     struct rks_phase phase;
 };
 
@@ -396,6 +397,9 @@ int rks_drop_tail(relkvanu_store *s);
 void rks_why(const char *what, int storage_status);
 void rks_why_file(uint64_t file, int storage_status);
 void rks_why_words(const char *words);
+
+/* Why a call was refused, and what it is about, while this term runs. */
+void rks_why_refused(const relkvanu_store_call *call, uint64_t term);
 void rks_forget_why(void);
 
 /* own_folder.c: the storage folder at an opening */
