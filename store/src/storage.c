@@ -41,6 +41,7 @@ void rks_begin_own(relkvanu_store *s) {
 
 /* Whether there is a folder to put into. */
 static int has_folder(const relkvanu_store *s) {
+    rks_forget_why();
     return rks_is_forked(s) ? RELKVANU_STORE_FORKED : s->folder < 0 ? RELKVANU_STORE_BAD_ARGUMENT : RELKVANU_STORE_OK;
 }
 
