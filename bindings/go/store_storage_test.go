@@ -270,6 +270,20 @@ type readerOf func(to []byte) (int, error)
 
 func (r readerOf) Read(to []byte) (int, error) { return r(to) }
 
+// A refusal names the record, the subtask, the file and both terms.
+func TestStoreRefusalsSayWhatTheyAreAbout(t *testing.T) {
+	store := must(relkvanu.OpenStore(newStoreFolder(t).job, storeOptions()))
+	defer store.Close()
+	subtask := relkvanu.Subtask{Vertex: 7, Index: 3}
+	equal(t, errorOf(store.AckIn(1, 6, subtask, nil, nil)).Error(), "relkvanu: the call is refused: UnknownCheckpoint (record 6, subtask 7.3, term 1: refused UnknownCheckpoint)")
+	must(store.Savepoint())
+	equal(t, errorOf(store.AckIn(1, 1, relkvanu.Subtask{}, []uint64{77}, nil)).Error(), "relkvanu: fenced: NeverReserved 77 (record 1, subtask 0.0, term 1: fenced NeverReserved 77)")
+	must(store.Restore(nil))
+	outcomes := must(store.Calls(relkvanu.Call{Kind: relkvanu.CallSavepoint, Now: relkvanu.StoreNow}, relkvanu.Call{Kind: relkvanu.CallDecline, Now: relkvanu.StoreNow, Number: 1, Subtask: subtask, Term: 1}))
+	equal(t, outcomes[0].Err, nil)
+	equal(t, outcomes[1].Err.Error(), "relkvanu: fenced: OldTerm (record 1, subtask 7.3, term 1: fenced OldTerm; term 2 runs)")
+}
+
 func TestStoreJobOfAnOpening(t *testing.T) {
 	folder, options := newStoreFolder(t), storeOptions()
 	options.Settings.KeepOnCancel, options.Shape = true, []uint64{2, 1}

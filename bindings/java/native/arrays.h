@@ -39,4 +39,10 @@ static inline void tell_text(JNIEnv *env, jbyteArray to, const char *text, size_
     (*env)->SetByteArrayRegion(env, to, 0, (jsize)len, (const jbyte *)text);
 }
 
+/* Why the last put or call of this thread was not made; empty: it was. */
+static inline void tell_why(JNIEnv *env, jbyteArray to) {
+    char text[RELKVANU_STORE_MESSAGE];
+    tell_text(env, to, text, relkvanu_store_why(text, sizeof text) + 1);
+}
+
 #endif

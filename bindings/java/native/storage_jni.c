@@ -10,11 +10,7 @@
 
 /* Why the last put of this thread was not made. */
 static int told_of_put(JNIEnv *env, int status, jbyteArray why) {
-    char text[RELKVANU_STORE_MESSAGE] = "";
-    if (status != RELKVANU_STORE_OK) {
-        relkvanu_store_why(text, sizeof text);
-    }
-    tell_text(env, why, text, sizeof text);
+    tell_why(env, why);
     return status;
 }
 

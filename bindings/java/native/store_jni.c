@@ -102,13 +102,15 @@ static int made(relkvanu_store *store, jlong *given, size_t len, uint64_t *words
     return status;
 }
 
-JNIEXPORT jint JNICALL Java_relkvanu_StoreNative_calls(JNIEnv *env, jclass of, jlong store, jlongArray given, jlongArray words) {
+JNIEXPORT jint JNICALL Java_relkvanu_StoreNative_calls(
+    JNIEnv *env, jclass of, jlong store, jlongArray given, jlongArray words, jbyteArray why) {
     (void)of;
     size_t given_len, words_len;
     uint64_t *given_copy = longs_of(env, given, &given_len), *words_copy = longs_of(env, words, &words_len);
     int status = RELKVANU_STORE_NO_MEMORY;
     if (given_copy != NULL && words_copy != NULL) {
         status = made(store_at(store), (jlong *)given_copy, given_len / GIVEN, words_copy);
+        tell_why(env, why);
     }
     if (status == RELKVANU_STORE_OK) {
         tell(env, given, (const jlong *)given_copy, given_len);

@@ -216,13 +216,15 @@ public final class Store implements AutoCloseable {
         List<StoreCall> own = List.copyOf(calls);
         long[] numbers = StoreCall.numbers(own);
         long[] words = StoreCall.words(own);
-        checked(() -> StoreNative.calls(address, numbers, words));
+        byte[] why = new byte[StoreNative.MESSAGE];
+        checked(() -> StoreNative.calls(address, numbers, words, why));
         List<StoreOutcome> outcomes = new ArrayList<>();
         int at = 0;
         for (StoreCall it : own) {
             outcomes.add(outcome(numbers, outcomes.size() * StoreNative.CALL, words, it.buffer(at)));
             at = it.after(at);
         }
+        outcomes.stream().filter(StoreOutcome.NotMade.class::isInstance).findFirst().ifPresent(it -> ((StoreOutcome.NotMade) it).why().about(text(why)));
         return outcomes;
     }
 

@@ -24,7 +24,7 @@ final class StoreNative {
 
     static native void close(long store);
 
-    static native int calls(long store, long[] calls, long[] words);
+    static native int calls(long store, long[] calls, long[] words, byte[] why);
 
     static native int forfeit(long store, long term, long[] names, long[] answer);
 

@@ -288,6 +288,21 @@ class StorageTest {
         }
     }
 
+    /** A refusal names the record, the subtask, the file and both terms. */
+    @Test
+    void whatRefusalsAreAbout() {
+        try (Store job = open(creates())) {
+            Exception refused = assertThrows(CoordinatorException.Refused.class, () -> job.ackIn(1, 6, 7, 3, new long[0]));
+            assertEquals("UnknownCheckpoint (record 6, subtask 7.3, term 1: refused UnknownCheckpoint)", refused.getMessage());
+            job.savepoint();
+            Exception fenced = assertThrows(CoordinatorException.Fenced.class, () -> job.ackIn(1, 1, 0, 0, new long[] {77}));
+            assertEquals("NeverReserved 77 (record 1, subtask 0.0, term 1: fenced NeverReserved 77)", fenced.getMessage());
+            job.restoreLatest();
+            List<StoreOutcome> list = job.calls(List.of(StoreCall.savepoint(), StoreCall.declineIn(1, 1, 7, 3)));
+            assertEquals("OldTerm (record 1, subtask 7.3, term 1: fenced OldTerm; term 2 runs)", ((StoreOutcome.NotMade) list.get(1)).why().getMessage());
+        }
+    }
+
     @Test
     void theJobOfAnOpening() {
         Store.open(path, SETTINGS.withKeepOnCancel(true), new long[] {2, 1}, creates()).close();

@@ -3,8 +3,8 @@
 mod common;
 
 use common::{new_job, triggered, Place, SETTINGS};
-use relkvanu::store::{Options, Store, StoreErrorKind};
-use relkvanu::Settings;
+use relkvanu::store::{why, Options, Store, StoreErrorKind, NOW};
+use relkvanu::{Call, Settings};
 use std::fs;
 use std::io::{self, Read};
 use std::os::unix::fs::MetadataExt;
@@ -76,6 +76,32 @@ fn a_file_that_is_there() {
     let link = store.put_link(2, &place.0.join("link")).unwrap_err();
     assert_eq!(link.kind, StoreErrorKind::NotPut);
     assert!(!place.state().join("2").exists());
+}
+
+#[test]
+fn why_a_call_was_refused() {
+    let place = Place::new("why");
+    let store = store(&place);
+    let ack = |term| {
+        let refused = store.call(Call::AckIn {
+            now: NOW,
+            term,
+            id: 6,
+            subtask: (1, 0),
+            fresh: &[],
+            reused: &[],
+        });
+        assert!(refused.is_err());
+        why()
+    };
+    assert_eq!(
+        ack(1),
+        "record 6, subtask 1.0, term 1: refused UnknownCheckpoint"
+    );
+    assert_eq!(
+        ack(7),
+        "record 6, subtask 1.0, term 7: fenced OldTerm; term 1 runs"
+    );
 }
 
 #[test]

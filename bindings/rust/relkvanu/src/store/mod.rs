@@ -12,7 +12,7 @@ pub use calls::{Made, More, Outcome};
 pub use error::{CallError, StoreError, StoreErrorKind};
 pub use next::{Awaited, Next};
 pub use opening::{Options, Report, Step};
-pub use phase::{JobPhase, Phase, StopFailed};
+pub use phase::{why, JobPhase, Phase, StopFailed};
 pub use whole::{Ending, Part, Past, Restored, Whole};
 
 use crate::answer::{self, Answer, Garbage, RunningTerm};
