@@ -169,7 +169,23 @@ static void set_fault(struct objects *objects, int fault) {
     pthread_mutex_unlock(&objects->mutex);
 }
 
-/* The files of the first checkpoint are deleted once the storage is back. Those of the second are in use. */
+static uint64_t not_reported(relkvanu_store *store) {
+    relkvanu_reads *reads;
+    CHECK(relkvanu_store_look(store, &reads) == RELKVANU_STORE_OK, "a read");
+    relkvanu_counts counts = relkvanu_reads_file_counts(reads);
+    relkvanu_store_read_end(store);
+    return counts.waiting + counts.taken;
+}
+
+/* Waits until each file that was released is reported as deleted. */
+static void await_reports(relkvanu_store *store) {
+    for (int i = 0; i < 60000 && not_reported(store) != 0; i++) {
+        usleep(1000);
+    }
+    CHECK(not_reported(store) == 0, "%" PRIu64 " are left", not_reported(store));
+}
+
+/* The files of the first checkpoint are deleted once the storage is back; one of them is missing there. Those of the second are in use. */
 static void a_discarder_of_objects(void) {
     static struct objects objects;
     relkvanu_storage storage = storage_of(&objects);
@@ -177,7 +193,7 @@ static void a_discarder_of_objects(void) {
     struct discarding it = {.store = store, .storage = &storage};
     pthread_t thread;
     for (uint64_t file = 100; file < 100 + 4 * SUBTASKS; file++) {
-        objects.is_there[file] = true;
+        objects.is_there[file] = file != 103;
     }
     checkpoint(store, 100);
     checkpoint(store, 100 + 2 * SUBTASKS);
@@ -191,6 +207,7 @@ static void a_discarder_of_objects(void) {
     while (is_there(&objects, 100, 99 + 2 * SUBTASKS)) {
         usleep(1000);
     }
+    await_reports(store);
     relkvanu_store_stop(store);
     CHECK(pthread_join(thread, NULL) == 0 && it.status == RELKVANU_STORE_STOPPED, "status %d", it.status);
     for (uint64_t file = 100 + 2 * SUBTASKS; file < 100 + 4 * SUBTASKS; file++) {
@@ -291,14 +308,6 @@ static void put_and_complete(relkvanu_store *store, uint64_t file) {
     checkpoint(store, file);
 }
 
-static uint64_t not_reported(relkvanu_store *store) {
-    relkvanu_reads *reads;
-    CHECK(relkvanu_store_look(store, &reads) == RELKVANU_STORE_OK, "a read");
-    relkvanu_counts counts = relkvanu_reads_file_counts(reads);
-    relkvanu_store_read_end(store);
-    return counts.waiting + counts.taken;
-}
-
 /* The store's own storage is taken as any other one, and by NULL. What its folder has not synced is not reported. */
 static void the_own_storage_discards(void) {
     relkvanu_store_options options = storage_options(RELKVANU_STORE_CREATE, 0);
@@ -322,9 +331,7 @@ static void the_own_storage_discards(void) {
     pthread_t thread;
     struct discarding it = {.store = store, .storage = &counting};
     CHECK(pthread_create(&thread, NULL, discards, &it) == 0, "a thread");
-    while (not_reported(store) != 0) {
-        usleep(1000);
-    }
+    await_reports(store);
     relkvanu_store_stop(store);
     CHECK(pthread_join(thread, NULL) == 0 && it.status == RELKVANU_STORE_STOPPED && counted == 2 * SUBTASKS, "status %d", it.status);
     CHECK(access(in("storage/101"), F_OK) != 0 && access(in("storage/201"), F_OK) == 0, "the files");
