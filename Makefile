@@ -50,10 +50,14 @@ ARCHIVE = crates/relkvanu/out/librelkvanu.a
 PAGES = build/pages
 SOURCES := $(wildcard crates/*/src/*.rt crates/*/src/*/*.rt crates/*/specs/*.antt)
 
+# What to do: apart, because a comma would end an argument of `if`.
+OLDER = is older than $(firstword $?). Run make, which proves it again (half an hour). If no source has changed since it was made, touch it
+ABSENT = is not there. Run make, which proves it (half an hour)
+
 # `make install` never proves: sources that git has just written are newer than a library that was proved of the same.
 $(ARCHIVE): $(SOURCES)
 ifneq ($(filter install,$(MAKECMDGOALS)),)
-	@echo 'install: $(ARCHIVE) $(if $(wildcard $(ARCHIVE)),is older than $(firstword $?). Run make, which proves it again (half an hour). If no source has changed since it was made, touch it,is not there. Run make, which proves it (half an hour)).' >&2
+	@echo 'install: $(ARCHIVE) $(if $(wildcard $(ARCHIVE)),$(OLDER),$(ABSENT)).' >&2
 	@exit 1
 else
 	@echo 'make: proving $(ARCHIVE), which $(if $(wildcard $(ARCHIVE)),is older than $(firstword $?),is not there)'

@@ -488,7 +488,7 @@ int relkvanu_store_discard(relkvanu_store *store, size_t batch, relkvanu_store_d
 typedef bool (*relkvanu_store_delete_some)(void *with, const uint64_t *files, size_t files_len, uint8_t *is_gone);
 
 /* The discarder for at most so many ms: for a thread that looks after something else now and then, and for a function of the engine that may end
- * it. delete_files NULL: those of the folder options.storage are deleted. Each file that it took is reported before it returns, but after
+ * it. delete_files NULL: those of the folder options.storage are deleted; without one RELKVANU_STORE_BAD_ARGUMENT. Each file that it took is reported before it returns, but after
  * RELKVANU_STORE_STOPPED without memory: then the next discarder begins with it. It knows from the one before it how long it has to wait after a batch
  * of which no file was gone.
  *
@@ -521,12 +521,13 @@ int relkvanu_store_put_from(relkvanu_store *store, uint64_t file, relkvanu_store
  * with errno EXDEV: it is on another file system, so relkvanu_store_put_from copies it; EINVAL: it is no regular file; ELOOP: a symbolic link. */
 int relkvanu_store_put_link(relkvanu_store *store, uint64_t file, int from, const char *name);
 
-/* Why the last put, sweep or discarder of this thread returned another status than RELKVANU_STORE_OK: a text with a zero at its end, such as "file 7:
- * Too many open files". Empty if nothing failed. Returns its length, also if text_len is too short. */
+/* Why the last put, sweep or discarder of this thread returned another status than RELKVANU_STORE_OK, or why the first call of its last list that was refused
+ * was: a text with a zero at its end, such as "file 7: Too many open files", or "record 6, subtask 2.0, term 1: fenced OldTerm; term 2 runs". Empty if
+ * nothing failed. Returns its length, also if text_len is too short. */
 size_t relkvanu_store_why(char *text, size_t text_len);
 
-/* Deletes files of the folder, also what is there in part. It is for relkvanu_store_discard: relkvanu_store_discard(store, 0,
- * relkvanu_store_delete_files, store). That syncs the folder, and looks for the marker. */
+/* Deletes files of the folder, also what is there in part, and syncs nothing: relkvanu_store_discard_storage(store, 0, NULL) does all that a discarder
+ * of the folder does. */
 void relkvanu_store_delete_files(void *store, const uint64_t *files, size_t files_len, uint8_t *is_gone);
 
 /* A sweep: deletes the files of the folder that are garbage (relkvanu_store_garbage), also what is there in part, and syncs the folder. Writes how many it
@@ -543,11 +544,11 @@ int relkvanu_store_sweep(relkvanu_store *store, size_t *left);
 int relkvanu_store_storage(relkvanu_store *store, relkvanu_storage *storage);
 
 /* As relkvanu_store_discard, with deletions in a storage: that of the engine (an object store, say), a folder of relkvanu_storage_open_folder, or
- * the store's own. It has check, delete_files and list; the others may be NULL. RELKVANU_STORE_BAD_ARGUMENT otherwise. If the storage is that of another
+ * the store's own, which NULL stands for too. It has check, delete_files and list; the others may be NULL. RELKVANU_STORE_BAD_ARGUMENT otherwise. If the storage is that of another
  * job, RELKVANU_STORE_STORAGE; while it is not there, no file counts as gone, and it tries again. With options.storage both have to be the job's. */
 int relkvanu_store_discard_storage(relkvanu_store *store, size_t batch, const relkvanu_storage *storage);
 
-/* As relkvanu_store_sweep, of such a storage. RELKVANU_STORE_STORAGE: it is not there, or it is another job's; RELKVANU_STORE_NOT_DONE: it was not listed
+/* As relkvanu_store_sweep, of such a storage; NULL: relkvanu_store_sweep itself. RELKVANU_STORE_STORAGE: it is not there, or it is another job's; RELKVANU_STORE_NOT_DONE: it was not listed
  * or not swept to its end; RELKVANU_STORE_NO_MEMORY: part of it may be swept. */
 int relkvanu_store_sweep_storage(relkvanu_store *store, const relkvanu_storage *storage, size_t *left);
 

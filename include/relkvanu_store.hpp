@@ -11,6 +11,8 @@
 #include "relkvanu_storage.hpp"
 #include "relkvanu_store.h"
 
+#include <fcntl.h>
+
 namespace ckpt {
 
 enum class store_error : int {
@@ -247,6 +249,15 @@ public:
     ~Store() { relkvanu_store_close(store_); }
 
     [[nodiscard]] const relkvanu_store_report &report() const noexcept { return report_; }
+
+    /* The settings and the shape that the job has now: for after an opening whose report says settings_differ, or before configure. Makes an image. */
+    [[nodiscard]] std::error_code job(relkvanu_settings &settings, std::vector<std::uint64_t> &shape) {
+        std::size_t len = RELKVANU_STORE_MOST_VERTICES;
+        shape.resize(len);
+        int status = relkvanu_store_job(store_, &settings, shape.data(), &len);
+        shape.resize(status == RELKVANU_STORE_OK ? len : 0);
+        return store_code(status);
+    }
 
     /* The calls. Without a moment each has that of the store's clock. */
 
@@ -571,9 +582,38 @@ public:
     [[nodiscard]] std::error_code put(std::uint64_t file, std::string_view contents) noexcept {
         return store_code(relkvanu_store_put(store_, file, contents.data(), contents.size()));
     }
+
+    /* The same of a file that does not fit into memory: source(to, room) writes the next bytes, at most room, and returns how many; 0: the file ends
+     * here. It makes no call. What it throws ends the put, which throws it too: the task forfeits the name. */
+    template <class Source> [[nodiscard]] std::error_code put_from(std::uint64_t file, Source source) {
+        struct reading {
+            Source &source;
+            std::exception_ptr thrown;
+        } with{source, nullptr};
+        auto next = [](void *from, void *to, std::size_t room) noexcept -> std::int64_t {
+            auto &it = *static_cast<reading *>(from);
+            try {
+                return static_cast<std::int64_t>(it.source(static_cast<char *>(to), room));
+            } catch (...) {
+                it.thrown = std::current_exception();
+                return -1;
+            }
+        };
+        int status = relkvanu_store_put_from(store_, file, next, &with);
+        if (with.thrown != nullptr) {
+            std::rethrow_exception(with.thrown);
+        }
+        return store_code(status);
+    }
+
+    /* The same of a file that exists, which gets the number as a second name, and which nobody writes afterwards. store_error::not_put with EXDEV in errno:
+     * it is on another file system, so put_from copies it. */
+    [[nodiscard]] std::error_code put_link(std::uint64_t file, const std::string &path) noexcept {
+        return store_code(relkvanu_store_put_link(store_, file, AT_FDCWD, path.c_str()));
+    }
     [[nodiscard]] std::error_code sweep(std::size_t &left) noexcept { return store_code(relkvanu_store_sweep(store_, &left)); }
     [[nodiscard]] std::error_code discard_files(std::size_t batch = 0) noexcept {
-        return store_code(relkvanu_store_discard(store_, batch, relkvanu_store_delete_files, store_));
+        return store_code(relkvanu_store_discard_storage(store_, batch, nullptr));
     }
 
     /* Makes a backup of the job in a new file, while other threads call: relkvanu_store_backup has what it is, and when it may be opened. */

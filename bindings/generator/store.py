@@ -190,10 +190,10 @@ def in_rust() -> Dict[str, str]:
     return {"store.rs": rust(STORE, of_store(), uses), "storage.rs": rust(STORAGE, of_storage(), "use std::ffi::{c_char, c_int, c_void};\n")}
 
 
-def java() -> str:
-    text = f"package relkvanu;\n\n/** {MADE.format(STORE.name)} */\nfinal class StoreHeader {{\n    private StoreHeader() {{}}\n\n"
-    own = [it._replace(name=it.name.removeprefix("RELKVANU_STORE_")) for it in header.macros(STORE)]
+def java(path: Any, name: str, prefix: str) -> str:
+    text = f"package relkvanu;\n\n/** {MADE.format(path.name)} */\nfinal class {name} {{\n    private {name}() {{}}\n\n"
+    own = [it._replace(name=it.name.removeprefix(prefix)) for it in header.macros(path)]
     for it in own:
         text += f"    static final long {it.name} = -1;\n" if it.value == "UINT64_MAX" else f"    static final int {it.name} = {it.value.rstrip('u')};\n"
-    names = "".join(f" {name.removeprefix('RELKVANU_STORE_')}," for name in statuses(STORE))
+    names = "".join(f" {name.removeprefix(prefix)}," for name in statuses(path))
     return text + f"    /** All statuses. */\n    static final int[] STATUSES = {{{names.rstrip(',').lstrip()}}};\n}}\n"

@@ -60,6 +60,8 @@ func (r Refusal) Error() string { return "relkvanu: the call is refused: " + r.S
 type Refused struct {
 	Why  Refusal
 	File uint64 // the file that is to blame, after NameTaken and FileGone
+
+	About string // of the first call of a list of a store that was refused: its record, subtask and term, and the refusal
 }
 
 var refusalsOfFiles = map[Refusal]bool{
@@ -72,7 +74,9 @@ var refusalsOfFiles = map[Refusal]bool{
 // String is as a script prints it, such as "NameTaken 7".
 func (e *Refused) String() string { return withFile(e.Why, refusalsOfFiles[e.Why], e.File) }
 
-func (e *Refused) Error() string { return "relkvanu: the call is refused: " + e.String() }
+func (e *Refused) Error() string {
+	return "relkvanu: the call is refused: " + withAbout(e.String(), e.About)
+}
 
 // Unwrap is the Refusal.
 func (e *Refused) Unwrap() error { return e.Why }
@@ -83,6 +87,8 @@ func (e *Refused) Unwrap() error { return e.Why }
 type FencedError struct {
 	Why  Fenced
 	File uint64 // the file that is to blame, after FencedSpent and FencedNeverReserved
+
+	About string // as that of Refused. After FencedOldTerm it has both terms
 }
 
 var fencedOfFiles = map[Fenced]bool{
@@ -95,10 +101,17 @@ var fencedOfFiles = map[Fenced]bool{
 // String is as a log prints it, such as "Spent 7".
 func (e *FencedError) String() string { return withFile(e.Why, fencedOfFiles[e.Why], e.File) }
 
-func (e *FencedError) Error() string { return "relkvanu: fenced: " + e.String() }
+func (e *FencedError) Error() string { return "relkvanu: fenced: " + withAbout(e.String(), e.About) }
 
 // Unwrap is the Fenced.
 func (e *FencedError) Unwrap() error { return e.Why }
+
+func withAbout(text, about string) string {
+	if about == "" {
+		return text
+	}
+	return text + " (" + about + ")"
+}
 
 // withFile is a name, and the file if it has one.
 func withFile(why fmt.Stringer, has bool, file uint64) string {

@@ -10,6 +10,7 @@ package relkvanu
 import "C"
 
 import (
+	"errors"
 	"fmt"
 	"strconv"
 	"sync"
@@ -29,7 +30,12 @@ import (
 //   - StoreNotPut: it can't be opened, written, synced or read, and Cause says why. After a put the same as above.
 type StateFolder struct {
 	path  string
-	mutex sync.RWMutex
+	store *Store // whose own folder it is, or nil
+	close func(it *C.relkvanu_storage)
+
+	lock  sync.Mutex          // of the fields below; no call waits in it, so that a page of a listing may delete
+	left  *sync.Cond          // a call has ended
+	users int                 // calls under way
 	it    *C.relkvanu_storage // nil: closed
 }
 
@@ -39,18 +45,31 @@ func OpenStateFolder(folder, job string, epoch uint64) (*StateFolder, error) {
 	if err != nil {
 		return nil, err
 	}
-	it := (*C.relkvanu_storage)(C.calloc(1, C.sizeof_relkvanu_storage))
-	if it == nil {
-		return nil, ErrNoMemory
-	}
+	f := &StateFolder{path: folder, close: func(it *C.relkvanu_storage) { C.relkvanu_storage_close_task(it) }}
 	name := C.CString(folder)
 	defer C.free(unsafe.Pointer(name))
-	status, why := C.relkvanu_storage_open_task(it, name, &identity[0], C.uint64_t(epoch))
-	if status != C.RELKVANU_STORAGE_OK {
-		C.free(unsafe.Pointer(it))
-		return nil, storageError(folder, status, why)
+	err = f.open(func(it *C.relkvanu_storage) (C.int, error) {
+		status, why := C.relkvanu_storage_open_task(it, name, &identity[0], C.uint64_t(epoch))
+		return status, why
+	})
+	if err != nil {
+		return nil, err
 	}
-	return &StateFolder{path: folder, it: it}, nil
+	return f, nil
+}
+
+// open opens it by a function of C.
+func (f *StateFolder) open(by func(*C.relkvanu_storage) (C.int, error)) error {
+	it := (*C.relkvanu_storage)(C.calloc(1, C.sizeof_relkvanu_storage))
+	if it == nil {
+		return ErrNoMemory
+	}
+	if status, why := by(it); status != C.RELKVANU_STORAGE_OK {
+		C.free(unsafe.Pointer(it))
+		return storageError(f.path, status, why)
+	}
+	f.it, f.left = it, sync.NewCond(&f.lock)
+	return nil
 }
 
 // identityOf is the two numbers of an identity: 32 hexadecimal digits.
@@ -69,14 +88,25 @@ func identityOf(job string) (identity [2]C.uint64_t, err error) {
 }
 
 var storageFaults = map[C.int]StoreFault{C.RELKVANU_STORAGE_NOT_THERE: StoreStorage, C.RELKVANU_STORAGE_OTHER_JOB: StoreStorage,
-	C.RELKVANU_STORAGE_PRESENT: StorePresent, C.RELKVANU_STORAGE_ABSENT: StoreAbsent}
+	C.RELKVANU_STORAGE_NOT_EMPTY: StoreStorage, C.RELKVANU_STORAGE_PRESENT: StorePresent, C.RELKVANU_STORAGE_ABSENT: StoreAbsent,
+	C.RELKVANU_STORAGE_BAD_ARGUMENT: StoreBadArgument}
+
+// What StoreStorage means of a Storage, as its cause: errors.Is(err, ErrOtherJob).
+var (
+	ErrNotThere = errors.New("relkvanu: the storage is not there, or has no marker") // a wrong path, or not mounted. No file of it counts as deleted
+	ErrOtherJob = errors.New("relkvanu: the storage is that of another job")
+	ErrNotEmpty = errors.New("relkvanu: a new job needs a storage without state files")
+)
+
+var storageCauses = map[C.int]error{C.RELKVANU_STORAGE_NOT_THERE: ErrNotThere, C.RELKVANU_STORAGE_OTHER_JOB: ErrOtherJob,
+	C.RELKVANU_STORAGE_NOT_EMPTY: ErrNotEmpty}
 
 func storageError(what string, status C.int, why error) error {
 	if status == C.RELKVANU_STORAGE_NO_MEMORY {
 		return ErrNoMemory
 	}
 	if fault, isKnown := storageFaults[status]; isKnown {
-		return &StoreError{Fault: fault, Message: what}
+		return &StoreError{Fault: fault, Message: what, Cause: storageCauses[status]}
 	}
 	if why == nil {
 		why = syscall.EIO
@@ -84,14 +114,40 @@ func storageError(what string, status C.int, why error) error {
 	return &StoreError{Fault: StoreNotPut, Message: what + ": " + why.Error(), Cause: why}
 }
 
+// enter keeps the folder open until leave.
+func (f *StateFolder) enter() (*C.relkvanu_storage, error) {
+	f.lock.Lock()
+	defer f.lock.Unlock()
+	if f.it == nil {
+		return nil, ErrClosed
+	}
+	if f.store != nil {
+		if err := f.store.hold(); err != nil {
+			return nil, err
+		}
+	}
+	f.users++
+	return f.it, nil
+}
+
+func (f *StateFolder) leave() {
+	if f.store != nil {
+		f.store.leave()
+	}
+	f.lock.Lock()
+	defer f.lock.Unlock()
+	f.users--
+	f.left.Broadcast()
+}
+
 // use calls a function of the open folder.
 func (f *StateFolder) use(what string, call func(*C.relkvanu_storage) (C.int, error)) error {
-	f.mutex.RLock()
-	defer f.mutex.RUnlock()
-	if f.it == nil {
-		return ErrClosed
+	it, err := f.enter()
+	if err != nil {
+		return err
 	}
-	status, why := call(f.it)
+	defer f.leave()
+	status, why := call(it)
 	if status == C.RELKVANU_STORAGE_OK {
 		return nil
 	}
@@ -140,11 +196,15 @@ func (f *StateFolder) Get(file uint64) ([]byte, error) {
 
 // Close closes it once no other goroutine uses it.
 func (f *StateFolder) Close() {
-	f.mutex.Lock()
-	defer f.mutex.Unlock()
-	if f.it != nil {
-		C.relkvanu_storage_close_task(f.it)
-		C.free(unsafe.Pointer(f.it))
-		f.it = nil
+	f.lock.Lock()
+	defer f.lock.Unlock()
+	it := f.it
+	f.it = nil
+	for f.users != 0 {
+		f.left.Wait()
+	}
+	if it != nil {
+		f.close(it)
+		C.free(unsafe.Pointer(it))
 	}
 }

@@ -6,9 +6,17 @@ package relkvanu
 // #include <stdlib.h>
 // #include <string.h>
 // static void *zeroed(size_t len) { return calloc(len, 1); }
+// static int calls(relkvanu_store *s, relkvanu_store_call *calls, size_t len, char *why, size_t why_len) { /* why is the thread's */
+//     int status = relkvanu_store_calls(s, calls, len);
+//     relkvanu_store_why(why, why_len);
+//     return status;
+// }
 import "C"
 
-import "unsafe"
+import (
+	"errors"
+	"unsafe"
+)
 
 // MostTaken is how many files a take of a store fetches at most.
 const MostTaken = 1 << 20
@@ -112,14 +120,31 @@ func (s *Store) Calls(calls ...Call) ([]Outcome, error) {
 		return nil, err
 	}
 	defer list.free()
-	if err := s.check(C.relkvanu_store_calls(s.store, list.at, C.size_t(list.length))); err != nil {
+	var why [C.RELKVANU_STORE_MESSAGE]C.char
+	if err := s.check(C.calls(s.store, list.at, C.size_t(list.length), &why[0], C.size_t(len(why)))); err != nil {
 		return nil, err
 	}
 	outcomes := make([]Outcome, len(calls))
+	isTold := false
 	for place := range outcomes {
 		outcomes[place] = outcomeOf(&list.calls()[place])
+		if err := outcomes[place].Err; err != nil && !isTold {
+			tellAbout(err, C.GoString(&why[0]))
+			isTold = true
+		}
 	}
 	return outcomes, nil
+}
+
+// tellAbout says what a refused call was about.
+func tellAbout(err error, about string) {
+	var refused *Refused
+	var fenced *FencedError
+	if errors.As(err, &refused) {
+		refused.About = about
+	} else if errors.As(err, &fenced) {
+		fenced.About = about
+	}
 }
 
 // one makes a call, whose reply has a type.

@@ -28,7 +28,7 @@ func relkvanu_go_delete(with unsafe.Pointer, files *C.uint64_t, length C.size_t,
 }
 
 func discardFiles(store *C.relkvanu_store) C.int {
-	return C.relkvanu_store_discard(store, 0, C.relkvanu_store_delete(C.relkvanu_store_delete_files), unsafe.Pointer(store))
+	return C.relkvanu_store_discard_storage(store, 0, nil)
 }
 
 func discard(store *C.relkvanu_store, batch C.size_t, with unsafe.Pointer) C.int {

@@ -188,10 +188,7 @@ func (s *Store) Put(file uint64, contents []byte) error {
 	defer s.leave()
 	at, length := text(contents)
 	status, why := C.relkvanu_store_put(s.store, C.uint64_t(file), unsafe.Pointer(at), length)
-	if status == C.RELKVANU_STORE_NOT_PUT {
-		return &StoreError{Fault: StoreNotPut, Message: why.Error(), Cause: why}
-	}
-	return s.check(status)
+	return s.checkPut(status, why)
 }
 
 // Backup makes a backup of the job in a new file, while other goroutines call. It is whole and durable when this returns nil. Otherwise there is none,

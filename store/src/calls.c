@@ -42,6 +42,20 @@ int rks_check_calls(relkvanu_store *s, relkvanu_store_call *calls, size_t calls_
     return status;
 }
 
+/* Notes why the first call that was refused was. */
+static void note_refused(relkvanu_store *s, const relkvanu_store_call *calls, size_t calls_len) {
+    size_t at = 0;
+    while (at < calls_len && calls[at].answer.code == RELKVANU_DONE) {
+        at++;
+    }
+    if (at < calls_len) {
+        pthread_mutex_lock(&s->mutex);
+        uint64_t term = s->view.term;
+        pthread_mutex_unlock(&s->mutex);
+        rks_why_refused(&calls[at], term);
+    }
+}
+
 int rks_call(relkvanu_store *s, relkvanu_store_call *calls, size_t calls_len, enum rks_verb verb) {
     struct rks_waiter w = {.calls = calls, .calls_len = calls_len, .verb = verb, .now = relkvanu_store_now(s)};
     int status = rks_check_calls(s, calls, calls_len);
@@ -53,7 +67,10 @@ int rks_call(relkvanu_store *s, relkvanu_store_call *calls, size_t calls_len, en
     if (!w.is_answered) {
         rks_lead(s, &w);
     }
-    return w.status; /* who led wrote it, maybe before rks_enter returned */
+    if (w.status == RELKVANU_STORE_OK) { /* who led wrote it, maybe before rks_enter returned */
+        note_refused(s, calls, calls_len);
+    }
+    return w.status;
 }
 
 int relkvanu_store_calls(relkvanu_store *s, relkvanu_store_call *calls, size_t calls_len) {

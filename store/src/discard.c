@@ -10,16 +10,21 @@ enum { BATCH = 256, LEAST_WAIT = 100, MOST_WAIT = 60000, NO_MEMORY_WAIT = 1000 }
 
 struct discarder {
     relkvanu_store *s;
+    const relkvanu_storage *storage;
+    uint64_t end;  /* until when, by rks_clock_ns */
+    bool is_ended; /* the engine's function has ended it */
+    size_t batch, files_len;
+    uint64_t *files, *next;     /* that are deleted now; that a take fetches */
+    uint8_t *outcomes;          /* of the deletions */
+    relkvanu_store_call *calls; /* a report for each file, and a take */
+};
+
+/* A function of the engine, in place of a storage. */
+struct function {
+    struct discarder *d;
     relkvanu_store_delete delete_files;
     relkvanu_store_delete_some delete_some; /* instead of it; NULL: it */
     void *with;
-    const relkvanu_storage *storage; /* instead of both; NULL: the function */
-    uint64_t end;                    /* until when, by rks_clock_ns */
-    bool is_ended;                   /* the engine's function has ended it */
-    size_t batch, files_len;
-    uint64_t *files, *next; /* that are deleted now; that a take fetches */
-    uint8_t *is_gone;
-    relkvanu_store_call *calls; /* a report for each file, and a take */
 };
 
 static bool is_stopped(relkvanu_store *s) {
@@ -69,48 +74,59 @@ static int await_files(struct discarder *d) {
     return status == RELKVANU_STORE_OK && is_over(d) ? RELKVANU_STORE_TIMED_OUT : status;
 }
 
-/* Deletes the batch, by the engine's function or in its storage. Returns the status of a storage. */
-static int delete_taken(struct discarder *d) {
-    if (d->storage == NULL && d->delete_some != NULL) {
-        d->is_ended = !d->delete_some(d->with, d->files, d->files_len, d->is_gone);
-        return RELKVANU_STORAGE_OK;
+/* Deletes by the engine's function, which says of each file whether it is gone. */
+static int delete_by_function(void *with, const uint64_t *files, size_t len, uint8_t *outcomes) {
+    struct function *f = with;
+    if (f->delete_some != NULL) {
+        f->d->is_ended = !f->delete_some(f->with, files, len, outcomes);
+    } else {
+        f->delete_files(f->with, files, len, outcomes);
     }
-    if (d->storage == NULL) {
-        d->delete_files(d->with, d->files, d->files_len, d->is_gone);
-        return RELKVANU_STORAGE_OK;
+    for (size_t i = 0; i < len; i++) {
+        outcomes[i] = outcomes[i] != 0 ? RELKVANU_STORAGE_DELETED : RELKVANU_STORAGE_UNDELETED;
     }
-    int status = d->storage->delete_files(d->storage->with, d->files, d->files_len, d->is_gone);
-    for (size_t i = 0; i < d->files_len; i++) {
-        bool is_gone = d->is_gone[i] == RELKVANU_STORAGE_DELETED || d->is_gone[i] == RELKVANU_STORAGE_MISSING;
-        d->is_gone[i] = status == RELKVANU_STORAGE_OK && is_gone;
+    return RELKVANU_STORAGE_OK;
+}
+
+/* Deletes the batch elsewhere than in the store's own storage, whose folder has to be the job's all the same, and is synced: an engine's function may
+ * delete in it. Returns the status of a storage. */
+static int delete_elsewhere(struct discarder *d) {
+    int status = rks_owner(d->s);
+    if (status == RELKVANU_STORAGE_OK) {
+        status = d->storage->delete_files(d->storage->with, d->files, d->files_len, d->outcomes);
     }
-    return status;
+    if (status == RELKVANU_STORAGE_OK) {
+        status = rks_owner(d->s);
+    }
+    return status == RELKVANU_STORAGE_OK && d->s->folder >= 0 && fsync(d->s->folder) != 0 ? RELKVANU_STORAGE_FAILED : status;
 }
 
 /* Has the files deleted. Without its marker the folder may be another one: nothing is deleted, and no missing file counts as gone; after a
  * sync that failed none does either. If another opening has taken the folder, its files are no longer this one's to delete. */
 static int delete_batch(struct discarder *d) {
-    memset(d->is_gone, 0, d->batch);
-    int owner = rks_owner(d->s);
-    if (owner == RELKVANU_STORAGE_OK) {
-        int deleted = delete_taken(d);
-        owner = deleted == RELKVANU_STORAGE_OK ? rks_owner(d->s) : deleted;
+    memset(d->outcomes, RELKVANU_STORAGE_UNDELETED, d->batch);
+    const relkvanu_storage *it = d->storage, *own = &d->s->own;
+    bool is_own = it->with == own->with && it->delete_files == own->delete_files;
+    int status = is_own ? it->delete_files(it->with, d->files, d->files_len, d->outcomes) : delete_elsewhere(d);
+    if (status != RELKVANU_STORAGE_OK) {
+        memset(d->outcomes, RELKVANU_STORAGE_UNDELETED, d->batch);
     }
-    if (owner != RELKVANU_STORAGE_OK || (d->s->folder >= 0 && fsync(d->s->folder) != 0)) {
-        memset(d->is_gone, 0, d->batch);
-    }
-    if (owner != RELKVANU_STORAGE_OTHER_JOB) {
+    if (status != RELKVANU_STORAGE_OTHER_JOB) {
         return RELKVANU_STORE_OK;
     }
-    rks_why("the discarder", owner);
+    rks_why("the discarder", status);
     return RELKVANU_STORE_STORAGE;
+}
+
+static bool is_gone(const struct discarder *d, size_t i) {
+    return d->outcomes[i] == RELKVANU_STORAGE_DELETED || d->outcomes[i] == RELKVANU_STORAGE_MISSING;
 }
 
 /* Counts the files of the batch that are not gone. */
 static void count_failed(struct discarder *d) {
     uint64_t failed = 0;
     for (size_t i = 0; i < d->files_len; i++) {
-        failed += d->is_gone[i] == 0;
+        failed += !is_gone(d, i);
     }
     pthread_mutex_lock(&d->s->mutex);
     d->s->failed_deletions += failed;
@@ -137,7 +153,7 @@ static int make_all(struct discarder *d, size_t len) {
 static int report(struct discarder *d, bool takes) {
     size_t len = d->files_len;
     for (size_t i = 0; i < len; i++) {
-        uint32_t kind = d->is_gone[i] ? RELKVANU_CALL_DELETED : RELKVANU_CALL_UNDELETED;
+        uint32_t kind = is_gone(d, i) ? RELKVANU_CALL_DELETED : RELKVANU_CALL_UNDELETED;
         d->calls[i] = (relkvanu_store_call){.call = {.kind = kind, .number = d->files[i]}};
     }
     d->calls[len] =
@@ -154,11 +170,11 @@ static int report(struct discarder *d, bool takes) {
 }
 
 static bool any_gone(const struct discarder *d) {
-    bool is_gone = false;
+    bool any = false;
     for (size_t i = 0; i < d->files_len; i++) {
-        is_gone = is_gone || d->is_gone[i] != 0;
+        any = any || is_gone(d, i);
     }
-    return is_gone;
+    return any;
 }
 
 /* Deletes the batch, reports it, and has the next one, or none. */
@@ -169,9 +185,9 @@ static int discard_batch(struct discarder *d) {
         return status; /* the batch stays taken: whoever has the job settles it */
     }
     count_failed(d);
-    bool is_gone = any_gone(d), goes_on = is_gone && !d->is_ended && !is_stopped(s) && !is_over(d);
-    s->try_wait = is_gone || s->try_wait == 0 ? LEAST_WAIT : s->try_wait * 2 < MOST_WAIT ? s->try_wait * 2 : MOST_WAIT;
-    s->tries_at = is_gone ? 0 : rks_clock_ns() + s->try_wait * 1000000;
+    bool any = any_gone(d), goes_on = any && !d->is_ended && !is_stopped(s) && !is_over(d);
+    s->try_wait = any || s->try_wait == 0 ? LEAST_WAIT : s->try_wait * 2 < MOST_WAIT ? s->try_wait * 2 : MOST_WAIT;
+    s->tries_at = any ? 0 : rks_clock_ns() + s->try_wait * 1000000;
     return report(d, goes_on);
 }
 
@@ -243,10 +259,10 @@ static int settle_once(struct discarder *d) {
 static int run(struct discarder *d) {
     d->files = malloc(d->batch * sizeof *d->files);
     d->next = malloc(d->batch * sizeof *d->next);
-    d->is_gone = malloc(d->batch);
+    d->outcomes = malloc(d->batch);
     d->calls = malloc((d->batch + 1) * sizeof *d->calls);
     int status = RELKVANU_STORE_NO_MEMORY;
-    if (d->files != NULL && d->next != NULL && d->is_gone != NULL && d->calls != NULL) {
+    if (d->files != NULL && d->next != NULL && d->outcomes != NULL && d->calls != NULL) {
         status = settle_once(d);
     }
     if (status == RELKVANU_STORE_OK) {
@@ -255,7 +271,7 @@ static int run(struct discarder *d) {
     }
     free(d->files);
     free(d->next);
-    free(d->is_gone);
+    free(d->outcomes);
     free(d->calls);
     return status;
 }
@@ -266,7 +282,7 @@ static int discard(struct discarder *d) {
         return RELKVANU_STORE_FORKED;
     }
     d->batch = d->batch == 0 ? BATCH : d->batch;
-    if (d->batch >= RELKVANU_STORE_MOST_CALLS || (d->storage != NULL && !rks_is_storage(d->storage))) {
+    if (d->batch >= RELKVANU_STORE_MOST_CALLS || d->storage == NULL) {
         return RELKVANU_STORE_BAD_ARGUMENT;
     }
     pthread_mutex_lock(&s->mutex);
@@ -286,19 +302,31 @@ static int discard(struct discarder *d) {
     return status;
 }
 
-int relkvanu_store_discard(relkvanu_store *s, size_t batch, relkvanu_store_delete delete_files, void *with) {
-    return discard(&(struct discarder){.s = s, .delete_files = delete_files, .with = with, .batch = batch, .end = UINT64_MAX});
-}
-
-int relkvanu_store_discard_for(relkvanu_store *s, size_t batch, uint64_t longest, relkvanu_store_delete_some delete_some, void *with) {
-    struct discarder d = {.s = s, .delete_some = delete_some, .with = with, .batch = batch, .end = rks_after(longest)};
-    if (delete_some == NULL) {
-        d.delete_files = relkvanu_store_delete_files;
-        d.with = s;
-    }
-    return discard(&d);
+/* The store's own storage, if it has a folder. */
+static const relkvanu_storage *own_of(const relkvanu_store *s) {
+    return s->folder >= 0 ? &s->own : NULL;
 }
 
 int relkvanu_store_discard_storage(relkvanu_store *s, size_t batch, const relkvanu_storage *storage) {
-    return discard(&(struct discarder){.s = s, .storage = storage, .batch = batch, .end = UINT64_MAX});
+    const relkvanu_storage *it = storage == NULL ? own_of(s) : rks_is_storage(storage) ? storage : NULL;
+    return discard(&(struct discarder){.s = s, .storage = it, .batch = batch, .end = UINT64_MAX});
+}
+
+/* A discarder by a function of the engine. */
+static int discard_by(struct function f, relkvanu_store *s, size_t batch, uint64_t end) {
+    const relkvanu_storage storage = {.with = &f, .delete_files = delete_by_function};
+    struct discarder d = {.s = s, .storage = &storage, .batch = batch, .end = end};
+    f.d = &d;
+    return discard(&d);
+}
+
+int relkvanu_store_discard(relkvanu_store *s, size_t batch, relkvanu_store_delete delete_files, void *with) {
+    return discard_by((struct function){.delete_files = delete_files, .with = with}, s, batch, UINT64_MAX);
+}
+
+int relkvanu_store_discard_for(relkvanu_store *s, size_t batch, uint64_t longest, relkvanu_store_delete_some delete_some, void *with) {
+    if (delete_some == NULL) {
+        return discard(&(struct discarder){.s = s, .storage = own_of(s), .batch = batch, .end = rks_after(longest)});
+    }
+    return discard_by((struct function){.delete_some = delete_some, .with = with}, s, batch, rks_after(longest));
 }

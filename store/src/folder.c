@@ -136,11 +136,20 @@ int rks_folder_make(const struct rks_folder *f, const char *part, const char *na
     return finish(f, part, name, write_part(f, part, contents, len));
 }
 
+/* In a forked child a store's folder is not there. */
+static bool is_others(const struct rks_folder *f) {
+    return f->process != 0 && f->process != getpid();
+}
+
+static int look(const struct rks_folder *f) {
+    return is_others(f) ? RELKVANU_STORAGE_NOT_THERE : f->check(f->with);
+}
+
 /* The names of a file that is put, if the folder is there. */
 static int begin_put(const struct rks_folder *f, uint64_t file, char part[NAME], char name[NAME]) {
     name_of(f, file, PART, part);
     name_of(f, file, "", name);
-    return f->check(f->with);
+    return look(f);
 }
 
 int rks_folder_put(const struct rks_folder *f, uint64_t file, const void *contents, size_t len) {
@@ -175,9 +184,13 @@ static ssize_t read_whole(int file, char *to, size_t room) {
     return (ssize_t)len;
 }
 
-int rks_folder_get(const struct rks_folder *f, uint64_t file, void *contents, size_t room, uint64_t *len) {
+static int get(void *with, uint64_t file, void *contents, size_t room, uint64_t *len) {
+    const struct rks_folder *f = with;
     char name[NAME];
     struct stat found;
+    if (is_others(f)) {
+        return RELKVANU_STORAGE_NOT_THERE;
+    }
     name_of(f, file, "", name);
     int from = openat(f->fd, name, O_RDONLY | O_NOFOLLOW | O_NONBLOCK | O_CLOEXEC);
     if (from < 0) {
@@ -218,13 +231,14 @@ static void tell_none(uint8_t *outcomes, size_t len) {
     }
 }
 
-int rks_folder_delete(const struct rks_folder *f, const uint64_t *files, size_t files_len, uint8_t *outcomes) {
+static int delete_files(void *with, const uint64_t *files, size_t files_len, uint8_t *outcomes) {
+    const struct rks_folder *f = with;
     tell_none(outcomes, files_len);
-    int status = f->check(f->with);
+    int status = look(f);
     for (size_t place = 0; status == RELKVANU_STORAGE_OK && place < files_len; place++) {
         outcomes[place] = rks_folder_unlink(f, files[place]);
     }
-    if (status == RELKVANU_STORAGE_OK && (status = f->check(f->with)) == RELKVANU_STORAGE_OK) {
+    if (status == RELKVANU_STORAGE_OK && (status = look(f)) == RELKVANU_STORAGE_OK) {
         int error = sync_folder(f);
         status = error == 0 ? RELKVANU_STORAGE_OK : failed(error);
     }
@@ -323,4 +337,20 @@ int rks_folder_list(const struct rks_folder *f, size_t most, relkvanu_storage_pa
     closedir(entries);
     errno = error;
     return status;
+}
+
+static int check(void *with) {
+    return look(with);
+}
+
+static int put(void *with, uint64_t file, const void *contents, size_t len) {
+    return rks_folder_put(with, file, contents, len);
+}
+
+static int list(void *with, size_t most, relkvanu_storage_page page, void *with_page) {
+    return is_others(with) ? RELKVANU_STORAGE_NOT_THERE : rks_folder_list(with, most, page, with_page);
+}
+
+relkvanu_storage rks_folder_storage(struct rks_folder *f) {
+    return (relkvanu_storage){.with = f, .check = check, .put = put, .get = get, .delete_files = delete_files, .list = list};
 }

@@ -3,24 +3,13 @@
 #define RELKVANU_STORE_FOLDER_H
 #include "parts.h"
 
-#include <dirent.h>
+/* A folder as a storage, for as long as the folder stays where it is. */
+relkvanu_storage rks_folder_storage(struct rks_folder *f);
 
-struct rks_folder {
-    int fd;
-    const char *prefix, *suffix;    /* of the names */
-    mode_t mode;                    /* of a file that is made */
-    bool needs_sync;                /* a file system that can't sync a folder is refused */
-    int (*check)(const void *with); /* a status of relkvanu_storage.h: whether the folder is there, and the job's */
-    bool (*is_listed)(const void *with, const struct dirent *entry); /* whether an entry with a number is a state file */
-    const void *with;
-};
-
-/* The functions of a storage, over such a folder. Each returns a status of relkvanu_storage.h. */
+/* Functions of a storage, over such a folder. Each returns a status of relkvanu_storage.h. */
 int rks_folder_put(const struct rks_folder *f, uint64_t file, const void *contents, size_t len);
 int rks_folder_put_from(const struct rks_folder *f, uint64_t file, relkvanu_store_source source, void *with);
 int rks_folder_link(const struct rks_folder *f, uint64_t file, int from, const char *name);
-int rks_folder_get(const struct rks_folder *f, uint64_t file, void *contents, size_t room, uint64_t *len);
-int rks_folder_delete(const struct rks_folder *f, const uint64_t *files, size_t files_len, uint8_t *outcomes);
 int rks_folder_list(const struct rks_folder *f, size_t most, relkvanu_storage_page page, void *with_page);
 
 /* Deletes a file, whole or in part, without a sync. Returns what became of it. */
@@ -34,5 +23,25 @@ bool rks_is_storage(const relkvanu_storage *storage);
 
 /* Whether a name is that of a file, whole or in part. */
 bool rks_folder_names(const struct rks_folder *f, const char *name, uint64_t *file);
+
+/* marker.c. That of a store's folder, and the file that becomes it. */
+#define RKS_MARKER ".relkvanu-job"
+#define RKS_NEW_MARKER ".relkvanu-job.new"
+
+struct rks_marker {
+    char job[RKS_IDENTITY + 1]; /* empty: it names none */
+    uint64_t epoch;             /* 0: an earlier version of the library wrote it */
+};
+
+/* Reads it, and says whose the folder is. RELKVANU_STORAGE_NOT_THERE: there is none, or errno is ELOOP; RELKVANU_STORAGE_OTHER_JOB: it names another
+ * job or a later opening; RELKVANU_STORAGE_FAILED: errno says why it can't be read. */
+int rks_marker_read(int folder, struct rks_marker *found);
+int rks_owner_of(int folder, const char *job, uint64_t epoch);
+
+/* Writes it, durably. Returns 0, or what is wrong as errno. */
+int rks_marker_write(int folder, const char *job, uint64_t epoch);
+
+/* Compares what a marker of any name says, as a storage says whose it is. */
+int rks_marker_says(int folder, const char *name, const char *text);
 
 #endif

@@ -6,6 +6,7 @@
 #endif
 #include "../../include/relkvanu_store.h"
 
+#include <dirent.h>
 #include <pthread.h>
 #include <semaphore.h>
 #include <sqlite3.h>
@@ -157,10 +158,23 @@ struct rks_view {
     uint64_t tick;              /* the moment of the next one; UINT64_MAX: only a call can bring one */
     uint64_t clock;             /* clock_offset */
     bool is_running, has_files; /* the job; files that wait for deletion */
+    uint64_t term;              /* that runs */
     struct rks_phase phase;
 };
 
 enum rks_statement { RKS_BEGIN, RKS_COMMIT, RKS_ROLLBACK, RKS_INSERT, RKS_IMAGE, RKS_CUT_LOG, RKS_DROP_IMAGES, RKS_STATEMENTS };
+
+/* An open folder with state files, which have their numbers in their names (folder.c). */
+struct rks_folder {
+    int fd;
+    const char *prefix, *suffix;    /* of the names */
+    mode_t mode;                    /* of a file that is made */
+    bool needs_sync;                /* a file system that can't sync a folder is refused */
+    pid_t process;                  /* the one that may use it; 0: any */
+    int (*check)(const void *with); /* a status of relkvanu_storage.h: whether the folder is there, and the job's */
+    bool (*is_listed)(const void *with, const struct dirent *entry); /* whether an entry with a number is a state file */
+    const void *with;
+};
 
 struct relkvanu_store {
     relkvanu handles[2], *handle;   /* the coordinator is one of the two */
@@ -170,6 +184,8 @@ struct relkvanu_store {
     /* files */
     char *path, *wal;
     int lock, shm, folder;
+    struct rks_folder files; /* the folder, as one of state files, */
+    relkvanu_storage own;    /* and as a storage; without one it has no functions */
     struct stat path_is, wal_is;
     relkvanu_settings settings;      /* those that the job has, which may be others than those of the options: of the thread that leads */
     char identity[RKS_IDENTITY + 1]; /* of the job, in hexadecimal digits */
@@ -382,9 +398,12 @@ int rks_drop_tail(relkvanu_store *s);
 void rks_why(const char *what, int storage_status);
 void rks_why_file(uint64_t file, int storage_status);
 void rks_why_words(const char *words);
+
+/* Why a call was refused, and what it is about, while this term runs. */
+void rks_why_refused(const relkvanu_store_call *call, uint64_t term);
 void rks_forget_why(void);
 
-/* marker.c */
+/* own_folder.c: the storage folder at an opening */
 int rks_open_folder(relkvanu_store *s, const char *folder);
 int rks_check_new_folder(relkvanu_store *s, const char *folder);
 int rks_write_marker(relkvanu_store *s, const char *folder, uint64_t epoch);
@@ -404,12 +423,8 @@ bool rks_has_marker(const relkvanu_store *s);
 bool rks_has_own(const relkvanu_store *s);
 bool rks_is_own(const relkvanu_store *s, const char *name);
 
-/* Whose folder it is, as a storage says it. RELKVANU_STORAGE_OK: this opening's, or there is none; RELKVANU_STORAGE_NOT_THERE: it has no marker;
- * RELKVANU_STORAGE_OTHER_JOB: its marker names another job or a later opening; RELKVANU_STORAGE_FAILED: errno says why it can't be read. */
+/* Whose folder it is, as rks_owner_of says it. RELKVANU_STORAGE_OK: this opening's, or there is none. */
 int rks_owner(const relkvanu_store *s);
-
-/* The same of an open folder, a job and one of its openings. */
-int rks_owner_of(int folder, const char *job, uint64_t epoch);
 
 /* lite.c */
 int rks_fault(relkvanu_store *s, const char *what);
@@ -510,7 +525,10 @@ bool rks_is_reading(const relkvanu_store *s);
 /* Moves those of the files to the front that are garbage, and counts those whose names were not given out. */
 int rks_deletable(relkvanu_store *s, uint64_t *files, size_t *files_len, size_t *unissued);
 
-/* storage.c: the greatest number of a file in the folder, or of a part; 0 if there is none. RELKVANU_STORE_STORAGE: the folder is gone;
+/* storage.c: the folder that was opened becomes the store's own storage. */
+void rks_begin_own(relkvanu_store *s);
+
+/* The greatest number of a file in the folder, or of a part; 0 if there is none. RELKVANU_STORE_STORAGE: the folder is gone;
  * RELKVANU_STORE_NOT_DONE: errno says why it can't be read. */
 int rks_greatest_file(relkvanu_store *s, uint64_t *greatest);
 

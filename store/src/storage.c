@@ -26,62 +26,29 @@ static bool is_state(const void *store, const struct dirent *entry) {
     return !rks_is_own(store, entry->d_name) || !rks_has_own(store);
 }
 
-static struct rks_folder folder_of(const relkvanu_store *s) {
-    return (struct rks_folder){.fd = s->folder,
+void rks_begin_own(relkvanu_store *s) {
+    s->files = (struct rks_folder){.fd = s->folder,
         .prefix = "",
         .suffix = "",
         .mode = 0600,
         .needs_sync = true,
+        .process = s->process,
         .check = check_owner,
         .is_listed = is_state,
         .with = s};
-}
-
-static int check(void *store) {
-    return rks_is_forked(store) ? RELKVANU_STORAGE_NOT_THERE : check_owner(store);
-}
-
-static int put(void *store, uint64_t file, const void *contents, size_t len) {
-    struct rks_folder folder = folder_of(store);
-    return rks_is_forked(store) ? RELKVANU_STORAGE_NOT_THERE : rks_folder_put(&folder, file, contents, len);
-}
-
-static int get(void *store, uint64_t file, void *contents, size_t room, uint64_t *len) {
-    struct rks_folder folder = folder_of(store);
-    return rks_is_forked(store) ? RELKVANU_STORAGE_NOT_THERE : rks_folder_get(&folder, file, contents, room, len);
-}
-
-static int delete_files(void *store, const uint64_t *files, size_t files_len, uint8_t *outcomes) {
-    struct rks_folder folder = folder_of(store);
-    if (!rks_is_forked(store)) {
-        return rks_folder_delete(&folder, files, files_len, outcomes);
-    }
-    for (size_t place = 0; place < files_len; place++) {
-        outcomes[place] = RELKVANU_STORAGE_UNDELETED;
-    }
-    return RELKVANU_STORAGE_NOT_THERE;
-}
-
-static int list(void *store, size_t most, relkvanu_storage_page page, void *with_page) {
-    struct rks_folder folder = folder_of(store);
-    return rks_is_forked(store) ? RELKVANU_STORAGE_NOT_THERE : rks_folder_list(&folder, most, page, with_page);
-}
-
-int relkvanu_store_storage(relkvanu_store *s, relkvanu_storage *storage) {
-    *storage = (relkvanu_storage){.with = NULL};
-    if (rks_is_forked(s)) {
-        return RELKVANU_STORE_FORKED;
-    }
-    if (s->folder < 0) {
-        return RELKVANU_STORE_BAD_ARGUMENT;
-    }
-    *storage = (relkvanu_storage){.with = s, .check = check, .put = put, .get = get, .delete_files = delete_files, .list = list};
-    return RELKVANU_STORE_OK;
+    s->own = rks_folder_storage(&s->files);
 }
 
 /* Whether there is a folder to put into. */
 static int has_folder(const relkvanu_store *s) {
+    rks_forget_why();
     return rks_is_forked(s) ? RELKVANU_STORE_FORKED : s->folder < 0 ? RELKVANU_STORE_BAD_ARGUMENT : RELKVANU_STORE_OK;
+}
+
+int relkvanu_store_storage(relkvanu_store *s, relkvanu_storage *storage) {
+    int status = has_folder(s);
+    *storage = status == RELKVANU_STORE_OK ? s->own : (relkvanu_storage){.with = NULL};
+    return status;
 }
 
 static int told_of_put(uint64_t file, int storage_status) {
@@ -90,28 +57,24 @@ static int told_of_put(uint64_t file, int storage_status) {
 }
 
 int relkvanu_store_put(relkvanu_store *s, uint64_t file, const void *contents, size_t len) {
-    struct rks_folder folder = folder_of(s);
     int status = has_folder(s);
-    return status != RELKVANU_STORE_OK ? status : told_of_put(file, rks_folder_put(&folder, file, contents, len));
+    return status != RELKVANU_STORE_OK ? status : told_of_put(file, rks_folder_put(&s->files, file, contents, len));
 }
 
 int relkvanu_store_put_from(relkvanu_store *s, uint64_t file, relkvanu_store_source source, void *with) {
-    struct rks_folder folder = folder_of(s);
     int status = has_folder(s);
-    return status != RELKVANU_STORE_OK ? status : told_of_put(file, rks_folder_put_from(&folder, file, source, with));
+    return status != RELKVANU_STORE_OK ? status : told_of_put(file, rks_folder_put_from(&s->files, file, source, with));
 }
 
 int relkvanu_store_put_link(relkvanu_store *s, uint64_t file, int from, const char *name) {
-    struct rks_folder folder = folder_of(s);
     int status = has_folder(s);
-    return status != RELKVANU_STORE_OK ? status : told_of_put(file, rks_folder_link(&folder, file, from, name));
+    return status != RELKVANU_STORE_OK ? status : told_of_put(file, rks_folder_link(&s->files, file, from, name));
 }
 
 void relkvanu_store_delete_files(void *store, const uint64_t *files, size_t files_len, uint8_t *is_gone) {
     const relkvanu_store *s = store;
-    struct rks_folder folder = folder_of(s);
     for (size_t place = 0; place < files_len; place++) {
-        is_gone[place] = s->folder >= 0 && rks_folder_unlink(&folder, files[place]) != RELKVANU_STORAGE_UNDELETED;
+        is_gone[place] = s->folder >= 0 && rks_folder_unlink(&s->files, files[place]) != RELKVANU_STORAGE_UNDELETED;
     }
 }
 
@@ -124,9 +87,8 @@ static bool note_greatest(void *with, const relkvanu_storage_file *files, size_t
 }
 
 int rks_greatest_file(relkvanu_store *s, uint64_t *greatest) {
-    struct rks_folder folder = folder_of(s);
     *greatest = 0;
-    return status_of(rks_folder_list(&folder, 0, note_greatest, greatest), RELKVANU_STORE_NOT_DONE);
+    return status_of(rks_folder_list(&s->files, 0, note_greatest, greatest), RELKVANU_STORE_NOT_DONE);
 }
 
 /* A sweep that is under way. */
@@ -190,6 +152,9 @@ static int list_all(struct sweep *sweep) {
 }
 
 int relkvanu_store_sweep_storage(relkvanu_store *s, const relkvanu_storage *storage, size_t *left) {
+    if (storage == NULL) {
+        return relkvanu_store_sweep(s, left);
+    }
     struct sweep sweep = {.s = s, .storage = storage, .status = RELKVANU_STORE_OK};
     *left = 0;
     if (rks_is_forked(s)) {
@@ -214,9 +179,8 @@ int relkvanu_store_sweep_storage(relkvanu_store *s, const relkvanu_storage *stor
 }
 
 int relkvanu_store_sweep(relkvanu_store *s, size_t *left) {
-    relkvanu_storage own;
     *left = 0;
-    int status = relkvanu_store_storage(s, &own);
-    status = status == RELKVANU_STORE_OK ? relkvanu_store_sweep_storage(s, &own, left) : status;
+    int status = has_folder(s);
+    status = status == RELKVANU_STORE_OK ? relkvanu_store_sweep_storage(s, &s->own, left) : status;
     return status == RELKVANU_STORE_OK ? rks_sweep_manifests(s, left) : status;
 }

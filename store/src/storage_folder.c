@@ -29,31 +29,9 @@ static void free_opened(struct opened *it) {
     free(it);
 }
 
-/* Compares what a marker says. */
-static int compare(int marker, const char *text) {
-    char found[256];
-    size_t at = 0, len = strlen(text);
-    ssize_t more;
-    while ((more = read(marker, found, sizeof found)) > 0 || (more < 0 && errno == EINTR)) {
-        size_t some = more > 0 ? (size_t)more : 0;
-        if (some > len - at || memcmp(found, text + at, some) != 0) {
-            return RELKVANU_STORAGE_OTHER_JOB;
-        }
-        at += some;
-    }
-    return more < 0 ? RELKVANU_STORAGE_FAILED : at == len ? RELKVANU_STORAGE_OK : RELKVANU_STORAGE_OTHER_JOB;
-}
-
 static int check_marker(const void *with) {
     const struct opened *it = with;
-    int marker = openat(it->folder.fd, it->marker, O_RDONLY | O_NOFOLLOW | O_NONBLOCK | O_CLOEXEC);
-    if (marker < 0) {
-        return errno == ENOENT ? RELKVANU_STORAGE_NOT_THERE : RELKVANU_STORAGE_FAILED;
-    }
-    int status = compare(marker, it->text), error = errno;
-    close(marker);
-    errno = error;
-    return status;
+    return rks_marker_says(it->folder.fd, it->marker, it->text);
 }
 
 static bool is_regular(const void *with, const struct dirent *entry) {
@@ -147,30 +125,6 @@ static int open_folder(struct opened *it, const relkvanu_storage_options *option
     return status == RELKVANU_STORAGE_OK ? check_marker(it) : status;
 }
 
-static int check(void *with) {
-    return check_marker(with);
-}
-
-static int put(void *with, uint64_t file, const void *contents, size_t len) {
-    const struct opened *it = with;
-    return rks_folder_put(&it->folder, file, contents, len);
-}
-
-static int get(void *with, uint64_t file, void *contents, size_t room, uint64_t *len) {
-    const struct opened *it = with;
-    return rks_folder_get(&it->folder, file, contents, room, len);
-}
-
-static int delete_files(void *with, const uint64_t *files, size_t files_len, uint8_t *outcomes) {
-    const struct opened *it = with;
-    return rks_folder_delete(&it->folder, files, files_len, outcomes);
-}
-
-static int list(void *with, size_t most, relkvanu_storage_page page, void *with_page) {
-    const struct opened *it = with;
-    return rks_folder_list(&it->folder, most, page, with_page);
-}
-
 int relkvanu_storage_open_folder(relkvanu_storage *storage, const relkvanu_storage_options *options) {
     *storage = (relkvanu_storage){.with = NULL};
     if (!are_valid(options)) {
@@ -188,7 +142,7 @@ int relkvanu_storage_open_folder(relkvanu_storage *storage, const relkvanu_stora
         errno = error;
         return status;
     }
-    *storage = (relkvanu_storage){.with = it, .check = check, .put = put, .get = get, .delete_files = delete_files, .list = list};
+    *storage = rks_folder_storage(&it->folder);
     return RELKVANU_STORAGE_OK;
 }
 

@@ -19,20 +19,6 @@ static int check_owner(const void *with) {
     return rks_owner_of(it->folder.fd, it->identity, it->epoch);
 }
 
-static int check(void *with) {
-    return check_owner(with);
-}
-
-static int put(void *with, uint64_t file, const void *contents, size_t len) {
-    const struct task *it = with;
-    return rks_folder_put(&it->folder, file, contents, len);
-}
-
-static int get(void *with, uint64_t file, void *contents, size_t room, uint64_t *len) {
-    const struct task *it = with;
-    return rks_folder_get(&it->folder, file, contents, room, len);
-}
-
 int relkvanu_storage_open_task(relkvanu_storage *storage, const char *path, const uint64_t job[2], uint64_t epoch) {
     *storage = (relkvanu_storage){.with = NULL};
     struct task *it = calloc(1, sizeof *it);
@@ -44,7 +30,9 @@ int relkvanu_storage_open_task(relkvanu_storage *storage, const char *path, cons
     it->folder = (struct rks_folder){.prefix = "", .suffix = "", .mode = 0600, .needs_sync = true, .check = check_owner, .with = it};
     it->folder.fd = open(path, O_RDONLY | O_DIRECTORY | O_CLOEXEC);
     int status = it->folder.fd < 0 ? RELKVANU_STORAGE_NOT_THERE : check_owner(it), error = errno;
-    *storage = (relkvanu_storage){.with = it, .check = check, .put = put, .get = get};
+    *storage = rks_folder_storage(&it->folder);
+    storage->delete_files = NULL;
+    storage->list = NULL;
     if (status != RELKVANU_STORAGE_OK) {
         relkvanu_storage_close_task(storage);
         errno = error;

@@ -98,6 +98,7 @@ void rks_show(relkvanu_store *s) {
         .clock = s->clock_offset,
         .is_running = relkvanu_mode(s->handle).what == RELKVANU_MODE_RUNNING,
         .has_files = relkvanu_file_counts(s->handle).waiting != 0,
+        .term = relkvanu_term(s->handle).a,
         .phase = s->phase};
     pthread_mutex_lock(&s->mutex);
     bool is_other = rks_show_phase(s) || s->has_stopped || !is_same(&view, &s->view);

@@ -1,6 +1,7 @@
 /* The discarder. */
 #include "cases.h"
 
+#include <dirent.h>
 #include <errno.h>
 #include <fcntl.h>
 #include <pthread.h>
@@ -204,5 +205,44 @@ static void another_opening(void) {
     relkvanu_store_close(store);
 }
 
+/* Whether the folder has so many files, beside the marker. */
+static bool has_files(relkvanu_store *store, size_t files) {
+    DIR *entries = fdopendir(dup(relkvanu_store_folder(store)));
+    size_t found = 0;
+    CHECK(entries != NULL, "the folder");
+    for (const struct dirent *entry = readdir(entries); entry != NULL; entry = readdir(entries)) {
+        found += entry->d_name[0] != '.';
+    }
+    rewinddir(entries);
+    closedir(entries);
+    return found == files;
+}
+
+/* The job ends for a while, without a cancel. Its tasks were killed with names that they had reserved: what they wrote by these is garbage once the term has
+ * ended, and not before. Then the folder has the files of the last checkpoint alone. */
+static void an_end_without_a_cancel(void) {
+    relkvanu_store_options options = storage_options(RELKVANU_STORE_CREATE, 0);
+    relkvanu_store *store = opens(&options, RELKVANU_STORE_OK);
+    size_t left;
+    checkpoint_with_files(store, 1);
+    checkpoint_with_files(store, 101); /* releases 1 to 16 */
+    CHECK(relkvanu_store_put(store, 50, "state", 5) == RELKVANU_STORE_OK, "a put");
+    CHECK(renameat(relkvanu_store_folder(store), "50", relkvanu_store_folder(store), "60.part") == 0, "a part");
+    CHECK(relkvanu_store_put(store, 50, "state", 5) == RELKVANU_STORE_OK, "a put");
+    CHECK(relkvanu_store_sweep(store, &left) == RELKVANU_STORE_OK && left == 0 && has_files(store, 34), "a sweep alone leaves them");
+    done(store, RELKVANU_CALL_RESTORE, RELKVANU_STORE_NOW, 0);
+    CHECK(relkvanu_store_sweep(store, &left) == RELKVANU_STORE_OK && left == 0 && has_files(store, 32), "a sweep after the restore");
+    while (counts_of(store).waiting + counts_of(store).taken != 0) {
+        CHECK(relkvanu_store_discard_for(store, 0, 10, NULL, NULL) == RELKVANU_STORE_TIMED_OUT, "the discarder");
+    }
+    CHECK(has_files(store, 16) && has_file(store, 101) && has_file(store, 116), "the folder");
+    relkvanu_store_close(store);
+    options.flags = RELKVANU_STORE_RECOVER;
+    store = opens(&options, RELKVANU_STORE_OK);
+    CHECK(report.taken == 0 && report.choice.what == RELKVANU_CHOICE_CHECKPOINT && report.choice.a == 2, "the next opening");
+    relkvanu_store_close(store);
+}
+
 const struct test discard_cases[] = {{"deletes_and_reports", deletes_and_reports}, {"never_gives_up", never_gives_up}, {"settles", settles},
-    {"without_marker", without_marker}, {"another_opening", another_opening}, {NULL, NULL}};
+    {"without_marker", without_marker}, {"another_opening", another_opening}, {"an_end_without_a_cancel", an_end_without_a_cancel},
+    {NULL, NULL}};

@@ -1,6 +1,7 @@
 /* A store over a storage of the engine's own, objects in memory, and its own folder as a storage. */
 #include "cases.h"
 
+#include <errno.h>
 #include <pthread.h>
 #include <stdatomic.h>
 #include <sys/stat.h>
@@ -168,7 +169,23 @@ static void set_fault(struct objects *objects, int fault) {
     pthread_mutex_unlock(&objects->mutex);
 }
 
-/* The files of the first checkpoint are deleted once the storage is back. Those of the second are in use. */
+static uint64_t not_reported(relkvanu_store *store) {
+    relkvanu_reads *reads;
+    CHECK(relkvanu_store_look(store, &reads) == RELKVANU_STORE_OK, "a read");
+    relkvanu_counts counts = relkvanu_reads_file_counts(reads);
+    relkvanu_store_read_end(store);
+    return counts.waiting + counts.taken;
+}
+
+/* Waits until each file that was released is reported as deleted. */
+static void await_reports(relkvanu_store *store) {
+    for (int i = 0; i < 60000 && not_reported(store) != 0; i++) {
+        usleep(1000);
+    }
+    CHECK(not_reported(store) == 0, "%" PRIu64 " are left", not_reported(store));
+}
+
+/* The files of the first checkpoint are deleted once the storage is back; one of them is missing there. Those of the second are in use. */
 static void a_discarder_of_objects(void) {
     static struct objects objects;
     relkvanu_storage storage = storage_of(&objects);
@@ -176,7 +193,7 @@ static void a_discarder_of_objects(void) {
     struct discarding it = {.store = store, .storage = &storage};
     pthread_t thread;
     for (uint64_t file = 100; file < 100 + 4 * SUBTASKS; file++) {
-        objects.is_there[file] = true;
+        objects.is_there[file] = file != 103;
     }
     checkpoint(store, 100);
     checkpoint(store, 100 + 2 * SUBTASKS);
@@ -190,6 +207,7 @@ static void a_discarder_of_objects(void) {
     while (is_there(&objects, 100, 99 + 2 * SUBTASKS)) {
         usleep(1000);
     }
+    await_reports(store);
     relkvanu_store_stop(store);
     CHECK(pthread_join(thread, NULL) == 0 && it.status == RELKVANU_STORE_STOPPED, "status %d", it.status);
     for (uint64_t file = 100 + 2 * SUBTASKS; file < 100 + 4 * SUBTASKS; file++) {
@@ -223,16 +241,25 @@ static bool note_sum(void *with, const relkvanu_storage_file *files, size_t len)
     return true;
 }
 
+struct store_and_own {
+    relkvanu_store *store;
+    relkvanu_storage own;
+};
+
 static int in_a_child(void *with) {
-    relkvanu_storage *own = with, again;
+    struct store_and_own *it = with;
+    relkvanu_storage *own = &it->own, again;
     uint64_t file = 7, sums[2] = {0};
     uint8_t outcome = 9;
     size_t left;
+    uint64_t len;
     bool is_refused = own->check(own->with) == RELKVANU_STORAGE_NOT_THERE && own->put(own->with, 8, "", 0) == RELKVANU_STORAGE_NOT_THERE &&
                       own->delete_files(own->with, &file, 1, &outcome) == RELKVANU_STORAGE_NOT_THERE &&
                       outcome == RELKVANU_STORAGE_UNDELETED && own->list(own->with, 0, note_sum, sums) == RELKVANU_STORAGE_NOT_THERE &&
-                      relkvanu_store_storage(own->with, &again) == RELKVANU_STORE_FORKED && again.with == NULL &&
-                      relkvanu_store_sweep_storage(own->with, own, &left) == RELKVANU_STORE_FORKED;
+                      own->get(own->with, 7, NULL, 0, &len) == RELKVANU_STORAGE_NOT_THERE &&
+                      relkvanu_store_storage(it->store, &again) == RELKVANU_STORE_FORKED && again.with == NULL &&
+                      relkvanu_store_sweep_storage(it->store, own, &left) == RELKVANU_STORE_FORKED &&
+                      relkvanu_store_discard_storage(it->store, 0, NULL) == RELKVANU_STORE_FORKED;
     return is_refused ? 0 : 1;
 }
 
@@ -247,7 +274,7 @@ static void the_own_folder(void) {
     CHECK(own.put(own.with, 7, "state", 5) == RELKVANU_STORAGE_OK && relkvanu_store_put(store, 7, "", 0) == RELKVANU_STORE_PRESENT, "put");
     CHECK(own.get(own.with, 7, found, sizeof found, &len) == RELKVANU_STORAGE_OK && len == 5 && strcmp(found, "state") == 0, "%s", found);
     CHECK(own.list(own.with, 0, note_sum, sums) == RELKVANU_STORAGE_OK && sums[0] == 7 && sums[1] == 5, "%" PRIu64 " bytes", sums[1]);
-    CHECK(in_child(in_a_child, &own) == 0, "a child");
+    CHECK(in_child(in_a_child, &(struct store_and_own){store, own}) == 0, "a child");
     CHECK(rename(in("storage/.relkvanu-job"), in("marker")) == 0 && own.check(own.with) == RELKVANU_STORAGE_NOT_THERE, "the marker");
     CHECK(
         own.delete_files(own.with, files, 2, outcomes) == RELKVANU_STORAGE_NOT_THERE && outcomes[0] == 0 && outcomes[1] == 0, "deletions");
@@ -259,6 +286,63 @@ static void the_own_folder(void) {
     CHECK(unlink(in("x.db")) == 0 && unlink(in("x.db-wal")) == 0, "x.db");
     store = opens(&options, RELKVANU_STORE_OK);
     CHECK(relkvanu_store_storage(store, &own) == RELKVANU_STORE_BAD_ARGUMENT && own.with == NULL, "no folder");
+    CHECK(relkvanu_store_discard_storage(store, 0, NULL) == RELKVANU_STORE_BAD_ARGUMENT, "a discarder without a folder");
+    CHECK(relkvanu_store_discard_for(store, 0, 1, NULL, NULL) == RELKVANU_STORE_BAD_ARGUMENT, "one for a while");
+    CHECK(sweeps_as(store, NULL, RELKVANU_STORE_BAD_ARGUMENT) == 0, "a sweep");
+    relkvanu_store_close(store);
+}
+
+/* A storage that counts its deletions, over the store's own. */
+static relkvanu_storage under;
+static atomic_uint counted;
+
+static int count_deletions(void *with, const uint64_t *files, size_t len, uint8_t *outcomes) {
+    counted += (unsigned)len;
+    return under.delete_files(with, files, len, outcomes);
+}
+
+static void put_and_complete(relkvanu_store *store, uint64_t file) {
+    for (uint64_t at = file; at < file + 2 * SUBTASKS; at++) {
+        CHECK(relkvanu_store_put(store, at, "state", 5) == RELKVANU_STORE_OK, "file %" PRIu64, at);
+    }
+    checkpoint(store, file);
+}
+
+/* The store's own storage is taken as any other one, and by NULL. What its folder has not synced is not reported. */
+static void the_own_storage_discards(void) {
+    relkvanu_store_options options = storage_options(RELKVANU_STORE_CREATE, 0);
+    relkvanu_store *store = opens(&options, RELKVANU_STORE_OK);
+    put_and_complete(store, 1);
+    put_and_complete(store, 101);
+    fail_syncs("/storage", EIO);
+    CHECK(relkvanu_store_discard_for(store, 0, 50, NULL, NULL) == RELKVANU_STORE_TIMED_OUT, "a discarder");
+    CHECK(not_reported(store) == 2 * SUBTASKS && access(in("storage/1"), F_OK) != 0, "%" PRIu64 " are left", not_reported(store));
+    fail_syncs("", 0);
+    CHECK(rename(in("storage/.relkvanu-job"), in("marker")) == 0, "the marker");
+    CHECK(relkvanu_store_discard_for(store, 0, 500, NULL, NULL) == RELKVANU_STORE_TIMED_OUT, "without a marker");
+    CHECK(not_reported(store) == 2 * SUBTASKS && rename(in("marker"), in("storage/.relkvanu-job")) == 0, "the marker");
+    while (not_reported(store) != 0) {
+        CHECK(relkvanu_store_discard_for(store, 0, 500, NULL, NULL) == RELKVANU_STORE_TIMED_OUT, "a discarder");
+    }
+    put_and_complete(store, 201);
+    CHECK(relkvanu_store_storage(store, &under) == RELKVANU_STORE_OK, "a storage");
+    relkvanu_storage counting = under;
+    counting.delete_files = count_deletions;
+    pthread_t thread;
+    struct discarding it = {.store = store, .storage = &counting};
+    CHECK(pthread_create(&thread, NULL, discards, &it) == 0, "a thread");
+    await_reports(store);
+    relkvanu_store_stop(store);
+    CHECK(pthread_join(thread, NULL) == 0 && it.status == RELKVANU_STORE_STOPPED && counted == 2 * SUBTASKS, "status %d", it.status);
+    CHECK(access(in("storage/101"), F_OK) != 0 && access(in("storage/201"), F_OK) == 0, "the files");
+    CHECK(relkvanu_store_discard_storage(store, 0, NULL) == RELKVANU_STORE_STOPPED, "a discarder of its own");
+    relkvanu_store_close(store);
+    options.flags = RELKVANU_STORE_RECOVER;
+    store = opens(&options, RELKVANU_STORE_OK);
+    CHECK(relkvanu_store_put(store, 50, "state", 5) == RELKVANU_STORE_OK, "a file that no record has");
+    done(store, RELKVANU_CALL_RESTORE, RELKVANU_STORE_NOW, 0);
+    CHECK(sweeps_as(store, NULL, RELKVANU_STORE_OK) == 0, "a sweep");
+    CHECK(access(in("storage/50"), F_OK) != 0 && access(in("storage/201"), F_OK) == 0, "the files");
     relkvanu_store_close(store);
 }
 
@@ -269,5 +353,6 @@ const struct test object_cases[] = {
     {"a_discarder_of_objects", a_discarder_of_objects},
     {"a_discarder_of_another_job", a_discarder_of_another_job},
     {"the_own_folder", the_own_folder},
+    {"the_own_storage_discards", the_own_storage_discards},
     {NULL, NULL},
 };

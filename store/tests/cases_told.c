@@ -191,6 +191,41 @@ static void a_discarder_for_a_while(void) {
 }
 
 /* A thread that waits in await_tick hears of a failed job by a status of its own: cases_calls.c. */
+static void says_why(relkvanu_store *store, relkvanu_call call, const uint64_t *first, size_t first_len, const char *words) {
+    char found[RELKVANU_STORE_MESSAGE];
+    relkvanu_store_call it = {.call = call, .first = first, .first_len = first_len};
+    CHECK(relkvanu_store_calls(store, &it, 1) == RELKVANU_STORE_OK, "a call");
+    relkvanu_store_why(found, sizeof found);
+    CHECK(strcmp(found, words) == 0, "%s, not %s", found, words);
+}
+
+/* What was refused names the record, the subtask, the file and both terms; what was made says nothing. */
+static void why_a_call_was_refused(void) {
+    const uint64_t file = 77, own = 1;
+    relkvanu_store_options options = job_options(RELKVANU_STORE_CREATE, 0);
+    relkvanu_store *store = opens(&options, RELKVANU_STORE_OK);
+    relkvanu_call ack = {.kind = RELKVANU_CALL_ACK, .now = RELKVANU_STORE_NOW, .number = 1, .term = 1};
+    relkvanu_call reserve = {.kind = RELKVANU_CALL_RESERVE, .number = 4, .term = 1}, dispose = {.kind = RELKVANU_CALL_DISPOSE, .number = 9};
+    says_why(store, ack, NULL, 0, "record 1, subtask 0.0, term 1: refused UnknownCheckpoint");
+    done(store, RELKVANU_CALL_SAVEPOINT, RELKVANU_STORE_NOW, 0);
+    says_why(store, reserve, NULL, 0, "");
+    says_why(store, ack, &file, 1, "record 1, subtask 0.0, term 1: fenced NeverReserved 77");
+    ack.vertex = 7;
+    ack.index = 3;
+    says_why(store, ack, &own, 1, "record 1, subtask 7.3, term 1: refused UnknownSubtask");
+    says_why(store, dispose, NULL, 0, "record 9: refused NoSuchSavepoint");
+    says_why(store, (relkvanu_call){.kind = RELKVANU_CALL_TAKE}, NULL, 0, "");
+    done(store, RELKVANU_CALL_RESTORE, RELKVANU_STORE_NOW, 0);
+    says_why(store, ack, NULL, 0, "record 1, subtask 7.3, term 1: fenced OldTerm; term 2 runs");
+    ack.kind = RELKVANU_CALL_DECLINE;
+    ack.term = 0;
+    says_why(store, ack, NULL, 0, "record 1, subtask 7.3, no term: fenced OldTerm; term 2 runs");
+    says_why(store, reserve, NULL, 0, "term 1: fenced OldTerm; term 2 runs");
+    done(store, RELKVANU_CALL_CANCEL, RELKVANU_STORE_NOW, 0);
+    says_why(store, (relkvanu_call){.kind = RELKVANU_CALL_SAVEPOINT, .now = RELKVANU_STORE_NOW}, NULL, 0, "refused NotRunning");
+    relkvanu_store_close(store);
+}
+
 static void the_job_of_an_opening(void) {
     relkvanu_store_options options = job_options(RELKVANU_STORE_CREATE, 0);
     relkvanu_settings settings;
@@ -393,5 +428,6 @@ static void a_fork_beside_a_hung_disk(void) {
 
 const struct test told_cases[] = {{"errors_of_a_storage", errors_of_a_storage}, {"errors_of_an_opening", errors_of_an_opening},
     {"measures", measures}, {"a_discarder_for_a_while", a_discarder_for_a_while}, {"the_job_of_an_opening", the_job_of_an_opening},
-    {"put_from_elsewhere", put_from_elsewhere}, {"a_write_in_a_read", a_write_in_a_read}, {"a_call_in_a_read", a_call_in_a_read},
-    {"the_least_stack", the_least_stack}, {"a_fork_beside_a_hung_disk", a_fork_beside_a_hung_disk}, {NULL, NULL}};
+    {"why_a_call_was_refused", why_a_call_was_refused}, {"put_from_elsewhere", put_from_elsewhere},
+    {"a_write_in_a_read", a_write_in_a_read}, {"a_call_in_a_read", a_call_in_a_read}, {"the_least_stack", the_least_stack},
+    {"a_fork_beside_a_hung_disk", a_fork_beside_a_hung_disk}, {NULL, NULL}};

@@ -1,6 +1,7 @@
 /* store FOLDER: the class ckpt::Store of include/relkvanu_store.hpp: calls, refusals, errors, moves, reads that throw, submits, a discarder, state files and names. */
 #include "../../include/relkvanu_store.hpp"
 
+#include <algorithm>
 #include <chrono>
 #include <cstdio>
 #include <set>
@@ -225,6 +226,39 @@ static void files(const std::string &path) {
     CHECK(ended == ckpt::store_error::stopped);
     CHECK(std::holds_alternative<ckpt::restored>(job.restore()));
     CHECK(!job.sweep(left) && left == 0 && access((folder + "/77").c_str(), F_OK) != 0 && access((folder + "/12").c_str(), F_OK) == 0);
+}
+
+/* Files that come part by part, and those that are there; and what the job of an opening is. */
+static void puts(const std::string &path) {
+    const std::string folder = path + "-puts";
+    CHECK(mkdir(folder.c_str(), 0700) == 0);
+    relkvanu_store_options with = options(RELKVANU_STORE_CREATE);
+    with.storage = folder.c_str();
+    ckpt::Store job = std::move(std::get<ckpt::Store>(ckpt::Store::open(path + "15", with)));
+    CHECK(std::get<ckpt::reserved>(job.reserve(1, 9)).first == 1);
+    std::size_t left = 600000;
+    auto source = [&left](char *to, std::size_t room) {
+        std::size_t len = left < room ? left : room;
+        std::fill(to, to + len, left == 600000 ? 'a' : 'b');
+        left -= len;
+        return len;
+    };
+    struct stat found;
+    CHECK(!job.put_from(1, source) && left == 0 && stat((folder + "/1").c_str(), &found) == 0 && found.st_size == 600000);
+    CHECK(job.put_from(1, source) == ckpt::store_error::present);
+    bool is_thrown = false;
+    try {
+        (void)job.put_from(2, [](char *, std::size_t) -> std::size_t { throw std::runtime_error("no source"); });
+    } catch (const std::runtime_error &why) {
+        is_thrown = why.what() == std::string("no source");
+    }
+    CHECK(is_thrown && access((folder + "/2").c_str(), F_OK) != 0 && access((folder + "/2.part").c_str(), F_OK) != 0);
+    CHECK(!job.put_link(3, folder + "/1") && stat((folder + "/3").c_str(), &found) == 0 && found.st_nlink == 2);
+    CHECK(job.put_link(4, folder + "/none") == ckpt::store_error::not_put && errno == ENOENT);
+    CHECK(job.put_link(3, folder + "/1") == ckpt::store_error::present);
+    relkvanu_settings settings = {};
+    std::vector<std::uint64_t> shape;
+    CHECK(!job.job(settings, shape) && shape == std::vector<std::uint64_t>{2} && settings.interval == 10 && settings.tolerable == 1000);
 }
 
 /* The same files in a storage that the engine has opened by itself. */
@@ -477,6 +511,7 @@ int main(int argc, char **argv) {
     submitted_commands(path);
     discarder(path);
     files(path);
+    puts(path);
     storage(path);
     names(path);
     limits(path + "11");

@@ -111,6 +111,18 @@ class Calls(Folder):
             made = job.tick(job.now() + 20)
             self.assertEqual((made.reply, made.choice), (Triggered(0, 2), Chosen(1, Kind.CHECKPOINT)))
 
+    def test_refusals_say_what_they_are_about(self):
+        with self.open() as job:
+            with self.assertRaises(Refused) as refused:
+                job.ack_in(1, 6, 7, 3, [])
+            self.assertEqual(str(refused.exception), "UnknownCheckpoint (record 6, subtask 7.3, term 1: refused UnknownCheckpoint)")
+            job.savepoint()
+            with self.assertRaises(Fenced) as fenced:
+                job.ack_in(1, 1, 0, 0, [77])
+            self.assertEqual(str(fenced.exception), "NeverReserved 77 (record 1, subtask 0.0, term 1: fenced NeverReserved 77)")
+            job.restore()
+            self.assertEqual(job.calls([Call.savepoint(), Call.decline(1, 7, 3, term=1)])[1].about, "record 1, subtask 7.3, term 1: fenced OldTerm; term 2 runs")
+
     def test_sweep(self):
         with self.open() as job:
             self.raises("BadArgument", job.sweep)  # no folder

@@ -1,46 +1,13 @@
 /* The functions of include/relkvanu_store.h over JNI, for the class StoreNative: calls and their lists as arrays of numbers. Arrays are copied, so
  * nothing is pinned while a commit lasts. The coordinator itself is that of librelkvanu_jni.so. */
-#define _POSIX_C_SOURCE 200809L /* strerror_r */
-
-#include "../../../include/relkvanu_store.h"
+#include "arrays.h"
 #include "structs.h"
 
-#include <errno.h>
-#include <jni.h>
-#include <stdlib.h>
 #include <string.h>
 
 /* Numbers of a call: those of relkvanu_call, and the lengths of its two lists and of its buffer. Of an outcome: the answer, the choice's what
  * and a, the place, and the term. */
 enum { GIVEN = CALL_NUMBERS + 3, TOLD = ANSWER_NUMBERS + 4, OPTIONS = 4, REPORT = 14 };
-
-static relkvanu_store *store_at(jlong at) {
-    return (relkvanu_store *)(uintptr_t)at;
-}
-
-/* A copy of an array with a place more; NULL without memory. */
-static uint64_t *longs_of(JNIEnv *env, jlongArray array, size_t *len) {
-    *len = (size_t)(*env)->GetArrayLength(env, array);
-    uint64_t *copy = malloc((*len + 1) * sizeof *copy);
-    if (copy != NULL) {
-        (*env)->GetLongArrayRegion(env, array, 0, (jsize)*len, (jlong *)copy);
-    }
-    return copy;
-}
-
-/* A copy of bytes, with a zero at its end; NULL without memory, or if there is no array. */
-static char *text_of(JNIEnv *env, jbyteArray array) {
-    size_t len = array == NULL ? 0 : (size_t)(*env)->GetArrayLength(env, array);
-    char *copy = array == NULL ? NULL : calloc(len + 1, 1);
-    if (copy != NULL) {
-        (*env)->GetByteArrayRegion(env, array, 0, (jsize)len, (jbyte *)copy);
-    }
-    return copy;
-}
-
-static void tell(JNIEnv *env, jlongArray to, const jlong *numbers, size_t len) {
-    (*env)->SetLongArrayRegion(env, to, 0, (jsize)len, numbers);
-}
 
 static void tell_report(JNIEnv *env, jlongArray to, const relkvanu_store_report *it) {
     jlong numbers[REPORT + RELKVANU_STORE_MOST_STEPS] = {it->is_recovered, it->settings_differ, (jlong)it->epoch, (jlong)it->job[0],
@@ -135,13 +102,15 @@ static int made(relkvanu_store *store, jlong *given, size_t len, uint64_t *words
     return status;
 }
 
-JNIEXPORT jint JNICALL Java_relkvanu_StoreNative_calls(JNIEnv *env, jclass of, jlong store, jlongArray given, jlongArray words) {
+JNIEXPORT jint JNICALL Java_relkvanu_StoreNative_calls(
+    JNIEnv *env, jclass of, jlong store, jlongArray given, jlongArray words, jbyteArray why) {
     (void)of;
     size_t given_len, words_len;
     uint64_t *given_copy = longs_of(env, given, &given_len), *words_copy = longs_of(env, words, &words_len);
     int status = RELKVANU_STORE_NO_MEMORY;
     if (given_copy != NULL && words_copy != NULL) {
         status = made(store_at(store), (jlong *)given_copy, given_len / GIVEN, words_copy);
+        tell_why(env, why);
     }
     if (status == RELKVANU_STORE_OK) {
         tell(env, given, (const jlong *)given_copy, given_len);
@@ -265,105 +234,6 @@ JNIEXPORT jint JNICALL Java_relkvanu_StoreNative_nextTick(JNIEnv *env, jclass of
     return status;
 }
 
-JNIEXPORT jint JNICALL Java_relkvanu_StoreNative_put(JNIEnv *env, jclass of, jlong store, jlong file, jbyteArray contents, jbyteArray why) {
-    (void)of;
-    char *copy = text_of(env, contents), text[RELKVANU_STORE_MESSAGE] = "";
-    int status = copy == NULL ? RELKVANU_STORE_NO_MEMORY
-                              : relkvanu_store_put(store_at(store), (uint64_t)file, copy, (size_t)(*env)->GetArrayLength(env, contents));
-    if (status != RELKVANU_STORE_OK) {
-        relkvanu_store_why(text, sizeof text);
-    }
-    (*env)->SetByteArrayRegion(env, why, 0, sizeof text, (const jbyte *)text);
-    free(copy);
-    return status;
-}
-
-/* What the status of a storage is to a caller of the store, as of its own put. */
-static int status_of_storage(int status) {
-    switch (status) {
-    case RELKVANU_STORAGE_OK: return RELKVANU_STORE_OK;
-    case RELKVANU_STORAGE_NO_MEMORY: return RELKVANU_STORE_NO_MEMORY;
-    case RELKVANU_STORAGE_NOT_THERE:
-    case RELKVANU_STORAGE_OTHER_JOB: return RELKVANU_STORE_STORAGE;
-    case RELKVANU_STORAGE_PRESENT: return RELKVANU_STORE_PRESENT;
-    case RELKVANU_STORAGE_ABSENT: return RELKVANU_STORE_ABSENT;
-    default: return RELKVANU_STORE_NOT_PUT;
-    }
-}
-
-/* Tells why a storage did not do what it was to do: the system's words, where it failed. */
-static int told_of_task(JNIEnv *env, int status, jbyteArray why) {
-    char text[RELKVANU_STORE_MESSAGE] = "";
-    if (status == RELKVANU_STORAGE_FAILED) {
-        strerror_r(errno, text, sizeof text);
-    }
-    (*env)->SetByteArrayRegion(env, why, 0, sizeof text, (const jbyte *)text);
-    return status_of_storage(status);
-}
-
-static relkvanu_storage *task_at(jlong at) {
-    return (relkvanu_storage *)(uintptr_t)at;
-}
-
-JNIEXPORT jint JNICALL Java_relkvanu_StoreNative_openTask(
-    JNIEnv *env, jclass of, jbyteArray folder, jlong first, jlong second, jlong epoch, jlongArray task, jbyteArray why) {
-    (void)of;
-    char *path = text_of(env, folder);
-    relkvanu_storage *it = malloc(sizeof *it);
-    int status = path == NULL || it == NULL
-                     ? RELKVANU_STORAGE_NO_MEMORY
-                     : relkvanu_storage_open_task(it, path, (uint64_t[]){(uint64_t)first, (uint64_t)second}, (uint64_t)epoch);
-    int told = told_of_task(env, status, why);
-    free(path);
-    if (status == RELKVANU_STORAGE_OK) {
-        tell(env, task, &(jlong){(jlong)(uintptr_t)it}, 1);
-    } else {
-        free(it);
-    }
-    return told;
-}
-
-JNIEXPORT void JNICALL Java_relkvanu_StoreNative_closeTask(JNIEnv *env, jclass of, jlong task) {
-    (void)env;
-    (void)of;
-    relkvanu_storage_close_task(task_at(task));
-    free(task_at(task));
-}
-
-JNIEXPORT jint JNICALL Java_relkvanu_StoreNative_checkTask(JNIEnv *env, jclass of, jlong task, jbyteArray why) {
-    (void)of;
-    return told_of_task(env, task_at(task)->check(task_at(task)->with), why);
-}
-
-JNIEXPORT jint JNICALL Java_relkvanu_StoreNative_putTask(
-    JNIEnv *env, jclass of, jlong task, jlong file, jbyteArray contents, jbyteArray why) {
-    (void)of;
-    char *copy = text_of(env, contents);
-    int status = copy == NULL
-                     ? RELKVANU_STORAGE_NO_MEMORY
-                     : task_at(task)->put(task_at(task)->with, (uint64_t)file, copy, (size_t)(*env)->GetArrayLength(env, contents));
-    int told = told_of_task(env, status, why);
-    free(copy);
-    return told;
-}
-
-/* Reads as much as the array has room for. */
-JNIEXPORT jint JNICALL Java_relkvanu_StoreNative_getTask(
-    JNIEnv *env, jclass of, jlong task, jlong file, jbyteArray contents, jlongArray length, jbyteArray why) {
-    (void)of;
-    size_t room = (size_t)(*env)->GetArrayLength(env, contents);
-    uint64_t len = 0;
-    char *copy = malloc(room + 1);
-    int status = copy == NULL ? RELKVANU_STORAGE_NO_MEMORY : task_at(task)->get(task_at(task)->with, (uint64_t)file, copy, room, &len);
-    int told = told_of_task(env, status, why);
-    if (status == RELKVANU_STORAGE_OK) {
-        (*env)->SetByteArrayRegion(env, contents, 0, (jsize)(len < room ? len : room), (const jbyte *)copy);
-        tell(env, length, &(jlong){(jlong)len}, 1);
-    }
-    free(copy);
-    return told;
-}
-
 JNIEXPORT jint JNICALL Java_relkvanu_StoreNative_backup(JNIEnv *env, jclass of, jlong store, jbyteArray path, jbyteArray message) {
     (void)of;
     char *copy = text_of(env, path), text[RELKVANU_STORE_MESSAGE] = "";
@@ -454,20 +324,6 @@ JNIEXPORT jint JNICALL Java_relkvanu_StoreNative_carry(JNIEnv *env, jclass of, j
     free(name);
     free(place);
     return status;
-}
-
-JNIEXPORT jint JNICALL Java_relkvanu_StoreNative_sweep(JNIEnv *env, jclass of, jlong store, jlongArray told) {
-    (void)of;
-    size_t left = 0;
-    int status = relkvanu_store_sweep(store_at(store), &left);
-    tell(env, told, &(jlong){(jlong)left}, 1);
-    return status;
-}
-
-JNIEXPORT jint JNICALL Java_relkvanu_StoreNative_discardFiles(JNIEnv *env, jclass of, jlong store) {
-    (void)env;
-    (void)of;
-    return relkvanu_store_discard(store_at(store), 0, relkvanu_store_delete_files, store_at(store));
 }
 
 JNIEXPORT jint JNICALL Java_relkvanu_StoreNative_folder(JNIEnv *env, jclass of, jlong store) {

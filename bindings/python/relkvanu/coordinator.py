@@ -68,9 +68,11 @@ class Refused(Error):
         super().__init__(name, file)  # with these it is made again where it is copied or unpickled
         self.name = name
         self.file = file
+        self.about = ""  # of a call of a Store: its record, subtask and term, and both terms
 
     def __str__(self) -> str:
-        return self.name if self.file is None else f"{self.name} {self.file}"
+        text = self.name if self.file is None else f"{self.name} {self.file}"
+        return f"{text} ({self.about})" if self.about else text
 
 
 class Fenced(Error):
@@ -82,9 +84,11 @@ class Fenced(Error):
         super().__init__(name, file)
         self.name = name
         self.file = file
+        self.about = ""  # of a call of a Store: its record, subtask and term, and both terms
 
     def __str__(self) -> str:
-        return self.name if self.file is None else f"{self.name} {self.file}"
+        text = self.name if self.file is None else f"{self.name} {self.file}"
+        return f"{text} ({self.about})" if self.about else text
 
 
 class BadArgument(Error, ValueError):

@@ -16,7 +16,7 @@ from typing import Any, Callable, Container, ContextManager, Dict, Iterable, Lis
 
 from relkvanu import header, store_header
 from relkvanu.coordinator import (
-    U64, BadArgument, Coordinator, Error, OutOfMemory, Settings, _done, _made, _settings, _told, _u64, _within, _words,
+    U64, BadArgument, Coordinator, Error, Fenced, OutOfMemory, Refused, Settings, _done, _made, _settings, _told, _u64, _within, _words,
 )
 from relkvanu.lines import _numbers
 from relkvanu.reads import CHOSEN, Chosen, Garbage, Kind, Mode, RunningTerm
@@ -643,8 +643,18 @@ class Store:
     def calls(self, calls: Sequence[Call]) -> List[Outcome]:
         """Makes 1 to 4096 calls with no other in between, and returns once they are committed. A refused one is a Refused in the list."""
         made = _List(calls)
-        self._made(_library.relkvanu_store_calls, made.calls, made.length, says=True)
-        return made.outcomes()
+        about: List[str] = []
+
+        def make(*words: Any) -> int:
+            status: int = _library.relkvanu_store_calls(*words)
+            about.append(_why())
+            return status
+
+        self._made(make, made.calls, made.length, says=True)
+        outcomes = made.outcomes()
+        for refused in [it for it in outcomes if isinstance(it, (Refused, Fenced))][:1]:
+            refused.about = about[0]
+        return outcomes
 
     def call(self, call: Call) -> Made:
         """One call."""

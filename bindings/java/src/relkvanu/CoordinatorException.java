@@ -14,6 +14,19 @@ public abstract sealed class CoordinatorException extends RuntimeException {
         super(text, null, true, hasTrace);
     }
 
+    /** @serial what the call was about, or empty */
+    private String about = "";
+
+    /** Says what the call of a store was about: its record, subtask and term, and the refusal. */
+    void about(String words) {
+        about = words;
+    }
+
+    @Override
+    public String getMessage() {
+        return about.isEmpty() ? super.getMessage() : super.getMessage() + " (" + about + ")";
+    }
+
     private static String withFile(String text, boolean hasFile, long file) {
         return hasFile ? text + " " + FileNumbers.toString(file) : text;
     }

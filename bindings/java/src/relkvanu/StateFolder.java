@@ -23,14 +23,24 @@ import java.util.function.ToIntFunction;
  * </ul>
  */
 public final class StateFolder implements AutoCloseable {
+    /** The kinds of {@link StoreNative#closeStorage}. */
+    static final int OF_A_TASK = 0;
+    static final int OWN_MARKER = 1;
+    static final int OF_THE_STORE = 2;
+
     private final ReadWriteLock lock = new ReentrantReadWriteLock();
-    private final Path path;
+    final Path path;
+    private final int kind;
+    /** Whose own folder it is, or null. */
+    private final Store store;
     /** 0: closed. */
     private long address;
 
-    private StateFolder(Path path, long address) {
+    StateFolder(Path path, long address, int kind, Store store) {
         this.path = path;
         this.address = address;
+        this.kind = kind;
+        this.store = store;
     }
 
     /**
@@ -51,7 +61,7 @@ public final class StateFolder implements AutoCloseable {
         long first = Long.parseUnsignedLong(job.substring(0, 16), 16);
         int status = StoreNative.openTask(Store.bytes(folder), first, Long.parseUnsignedLong(job.substring(16), 16), epoch, task, why);
         check(status, folder.toString(), why);
-        return new StateFolder(folder, task[0]);
+        return new StateFolder(folder, task[0], OF_A_TASK, null);
     }
 
     /** Throws nothing if the folder is there and this opening's. */
@@ -101,7 +111,7 @@ public final class StateFolder implements AutoCloseable {
         lock.writeLock().lock();
         try {
             if (address != 0) {
-                StoreNative.closeTask(address);
+                StoreNative.closeStorage(address, kind);
                 address = 0;
             }
         } finally {
@@ -113,19 +123,19 @@ public final class StateFolder implements AutoCloseable {
         return "file " + FileNumbers.toString(file) + " of " + path;
     }
 
-    private int within(ToIntFunction<Long> use) {
+    int within(ToIntFunction<Long> use) {
         lock.readLock().lock();
         try {
             if (address == 0) {
                 throw new CoordinatorException.Closed();
             }
-            return use.applyAsInt(address);
+            return store == null ? use.applyAsInt(address) : store.within(() -> use.applyAsInt(address));
         } finally {
             lock.readLock().unlock();
         }
     }
 
-    private static void check(int status, String what, byte[] why) {
+    static void check(int status, String what, byte[] why) {
         if (status != StoreFault.OK) {
             String text = Store.text(why);
             throw Store.fault(status, text.isEmpty() ? what : what + ": " + text);

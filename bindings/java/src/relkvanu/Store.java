@@ -1,6 +1,8 @@
 package relkvanu;
 
 import java.io.File;
+import java.io.IOException;
+import java.io.InputStream;
 import java.nio.charset.Charset;
 import java.nio.charset.StandardCharsets;
 import java.nio.file.Path;
@@ -74,7 +76,11 @@ public final class Store implements AutoCloseable {
     }
 
     static byte[] bytes(Path path) {
-        return path.toString().getBytes(NAMES);
+        return bytes(path.toString());
+    }
+
+    static byte[] bytes(String text) {
+        return text.getBytes(NAMES);
     }
 
     static String text(byte[] message) {
@@ -117,7 +123,7 @@ public final class Store implements AutoCloseable {
     }
 
     /** The status of a function while the store is open. */
-    private int within(IntSupplier call) {
+    int within(IntSupplier call) {
         enter();
         try {
             return call.getAsInt();
@@ -210,13 +216,15 @@ public final class Store implements AutoCloseable {
         List<StoreCall> own = List.copyOf(calls);
         long[] numbers = StoreCall.numbers(own);
         long[] words = StoreCall.words(own);
-        checked(() -> StoreNative.calls(address, numbers, words));
+        byte[] why = new byte[StoreNative.MESSAGE];
+        checked(() -> StoreNative.calls(address, numbers, words, why));
         List<StoreOutcome> outcomes = new ArrayList<>();
         int at = 0;
         for (StoreCall it : own) {
             outcomes.add(outcome(numbers, outcomes.size() * StoreNative.CALL, words, it.buffer(at)));
             at = it.after(at);
         }
+        outcomes.stream().filter(StoreOutcome.NotMade.class::isInstance).findFirst().ifPresent(it -> ((StoreOutcome.NotMade) it).why().about(text(why)));
         return outcomes;
     }
 
@@ -564,15 +572,117 @@ public final class Store implements AutoCloseable {
     public void put(long file, byte[] contents) {
         Objects.requireNonNull(contents, "contents");
         byte[] why = new byte[StoreNative.MESSAGE];
-        enter();
-        try {
-            int status = StoreNative.put(address, file, contents, why);
-            if (status != StoreFault.OK) {
-                throw fault(status, text(why));
-            }
-        } finally {
-            leave();
+        checkPut(within(() -> StoreNative.put(address, file, contents, why)), why);
+    }
+
+    private static void checkPut(int status, byte[] why) {
+        if (status != StoreFault.OK) {
+            throw fault(status, text(why));
         }
+    }
+
+    /**
+     * As {@link #put}, of all that a stream gives, part by part: for a file that does not fit into memory. The stream makes no call of the store. What it throws
+     * goes on to the caller: the task forfeits the name, as after any exception.
+     *
+     * @param file the number: one that the task has reserved
+     * @param contents what it contains; it stays open
+     * @throws IOException of the stream
+     */
+    public void putFrom(long file, InputStream contents) throws IOException {
+        Source source = new Source(Objects.requireNonNull(contents, "contents"));
+        byte[] why = new byte[StoreNative.MESSAGE];
+        int status = within(() -> StoreNative.putFrom(address, file, source, new byte[1 << 16], why));
+        source.check();
+        checkPut(status, why);
+    }
+
+    /**
+     * As {@link #put}, of a file that exists: it is synced, and gets the number as a second name. Both are one file, so nobody writes it afterwards, and the caller
+     * removes the first name when it likes. {@code NOT_PUT} if it is on another file system, which {@link #putFrom} can copy from, or is a symbolic link or another
+     * thing than a file: the message says which.
+     *
+     * @param file the number: one that the task has reserved
+     * @param existing the file
+     */
+    public void putLink(long file, Path existing) {
+        byte[] name = bytes(existing);
+        byte[] why = new byte[StoreNative.MESSAGE];
+        checkPut(within(() -> StoreNative.putLink(address, file, name, why)), why);
+    }
+
+    /**
+     * What a job is.
+     *
+     * @param settings its settings
+     * @param shape the number of subtasks of each vertex
+     */
+    public record Job(Settings settings, List<Long> shape) {}
+
+    /**
+     * {@return the settings and the shape that the job has now: for after an opening whose report says {@link StoreReport#settingsDiffer}} Makes an image.
+     */
+    public Job job() {
+        long[] settings = new long[NONE.length];
+        long[] shape = new long[StoreHeader.MOST_VERTICES];
+        long[] length = new long[1];
+        checked(() -> StoreNative.job(address, settings, shape, length));
+        return new Job(Settings.of(settings), Arrays.stream(shape, 0, (int) length[0]).boxed().toList());
+    }
+
+    /**
+     * {@return the folder of the store as a storage, for as long as the store is open} Its put is that of the store. Throws {@code NotStored} with {@code
+     * BAD_ARGUMENT} if there is no folder.
+     */
+    public Folder storage() {
+        long[] storage = new long[1];
+        checked(() -> StoreNative.ownStorage(address, storage));
+        return new Folder(new StateFolder(Path.of("the storage"), storage[0], StateFolder.OF_THE_STORE, this));
+    }
+
+    /**
+     * A discarder of the files of any storage, as {@link #discard(Delete, int)} is one by a function: the engine's own, a {@link Folder}, or that of {@link
+     * #storage}. Throws {@code NotStored} with {@code STORAGE} once the storage is another job's. While it is not there, no file counts as gone, and it tries
+     * again. If the store has a folder too, both have to be the job's. If the storage throws what is no {@link IOException} and no {@code NotStored}, the
+     * store is stopped, and that is thrown.
+     *
+     * @param storage the storage
+     * @param batch the most files of a batch, 1 to 4095; 0 is 256
+     */
+    public void discardStorage(Storage storage, int batch) {
+        long size = Checks.natural(batch, "a batch");
+        over(storage, () -> StoreNative.stop(address), (at, calls) -> stopped(StoreNative.discardStorage(address, size, at, calls)));
+    }
+
+    /**
+     * A sweep of any storage, as {@link #sweep} is one of the store's folder. Throws {@code NotStored} with {@code STORAGE} if the storage is not there, or
+     * another job's; with {@code NOT_DONE} if it was not listed or not swept to its end.
+     *
+     * @param storage the storage
+     * @return how many files it could not delete
+     */
+    public long sweepStorage(Storage storage) {
+        long[] left = new long[1];
+        over(storage, () -> {}, (at, calls) -> StoreNative.sweepStorage(address, at, calls, left));
+        return left[0];
+    }
+
+    private interface Over {
+        int run(long storage, StorageCalls calls);
+    }
+
+    /** Runs a loop over a storage: one of the library by its address, another one by its methods. */
+    private void over(Storage storage, Runnable stop, Over loop) {
+        if (storage instanceof Folder folder) {
+            checked(() -> folder.files.within(at -> loop.run(at, null)));
+            return;
+        }
+        StorageCalls calls = new StorageCalls(Objects.requireNonNull(storage, "storage"), stop);
+        checked(() -> {
+            int status = loop.run(0, calls);
+            calls.rethrow();
+            return status;
+        });
     }
 
     /**
@@ -608,7 +718,7 @@ public final class Store implements AutoCloseable {
      */
     public long sweep() {
         long[] left = new long[1];
-        checked(() -> StoreNative.sweep(address, left));
+        checked(() -> StoreNative.sweepStorage(address, 0, null, left));
         return left[0];
     }
 
@@ -623,14 +733,16 @@ public final class Store implements AutoCloseable {
 
     /** A discarder of the files that {@link #put} has made, in batches of 256: see {@link #discard(Delete, int)}. */
     public void discard() {
-        discarded(() -> StoreNative.discardFiles(address));
+        discarded(() -> StoreNative.discardStorage(address, 0, 0, null));
     }
 
     private void discarded(IntSupplier loop) {
-        checked(() -> {
-            int status = loop.getAsInt();
-            return status == StoreFault.STOPPED.status ? StoreFault.OK : status;
-        });
+        checked(() -> stopped(loop.getAsInt()));
+    }
+
+    /** The status of a loop, which a stop ends as it should. */
+    private static int stopped(int status) {
+        return status == StoreFault.STOPPED.status ? StoreFault.OK : status;
     }
 
     /**

@@ -24,7 +24,7 @@ final class StoreNative {
 
     static native void close(long store);
 
-    static native int calls(long store, long[] calls, long[] words);
+    static native int calls(long store, long[] calls, long[] words, byte[] why);
 
     static native int forfeit(long store, long term, long[] names, long[] answer);
 
@@ -55,9 +55,19 @@ final class StoreNative {
 
     static native int put(long store, long file, byte[] contents, byte[] why);
 
+    static native int putFrom(long store, long file, Source source, byte[] room, byte[] why);
+
+    static native int putLink(long store, long file, byte[] path, byte[] why);
+
+    static native int job(long store, long[] settings, long[] shape, long[] length);
+
+    static native int openFolder(byte[][] texts, boolean isNew, long[] storage, byte[] why);
+
+    static native int ownStorage(long store, long[] storage);
+
     static native int openTask(byte[] folder, long first, long second, long epoch, long[] task, byte[] why);
 
-    static native void closeTask(long task);
+    static native void closeStorage(long storage, int kind);
 
     static native int checkTask(long task, byte[] why);
 
@@ -65,15 +75,22 @@ final class StoreNative {
 
     static native int getTask(long task, long file, byte[] contents, long[] length, byte[] why);
 
+    static native int deleteIn(long storage, long[] files, byte[] outcomes, byte[] why);
+
+    static native int list(long storage, long most, Folder.Pages pages, byte[] why);
+
+    static native boolean turn(long turn, long[] files);
+
     static native int backup(long store, byte[] path, byte[] message);
 
     static native int records(byte[] folder, long[][] found, byte[] message);
 
     static native int carry(int what, byte[] from, long record, byte[] path, byte[] folder, long[] made, byte[] message);
 
-    static native int sweep(long store, long[] left);
+    /** Over the storage at an address, that of calls, or with neither (0 and null) the store's own. */
+    static native int sweepStorage(long store, long storage, StorageCalls calls, long[] left);
 
-    static native int discardFiles(long store);
+    static native int discardStorage(long store, long batch, long storage, StorageCalls calls);
 
     static native int folder(long store);
 

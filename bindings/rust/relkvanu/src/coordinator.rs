@@ -73,6 +73,20 @@ impl From<&Settings> for sys::relkvanu_settings {
     }
 }
 
+impl From<&sys::relkvanu_settings> for Settings {
+    fn from(it: &sys::relkvanu_settings) -> Self {
+        Settings {
+            interval: it.interval,
+            pause: it.pause,
+            at_once: it.at_once,
+            timeout: it.timeout,
+            tolerable: it.tolerable,
+            retained: it.retained,
+            keep_on_cancel: it.keep_on_cancel,
+        }
+    }
+}
+
 /// The checkpoint coordinator of one job.
 ///
 /// The library allows one call or read at a time for each handle, because a read takes the state out of its handle and

@@ -1,6 +1,7 @@
 //! A durable coordinator: one SQLite file for each job (`include/relkvanu_store.h`).
 mod calls;
 mod error;
+mod files;
 mod next;
 mod opening;
 mod phase;
@@ -11,7 +12,7 @@ pub use calls::{Made, More, Outcome};
 pub use error::{CallError, StoreError, StoreErrorKind};
 pub use next::{Awaited, Next};
 pub use opening::{Options, Report, Step};
-pub use phase::{JobPhase, Phase, StopFailed};
+pub use phase::{why, JobPhase, Phase, StopFailed};
 pub use whole::{Ending, Part, Past, Restored, Whole};
 
 use crate::answer::{self, Answer, Garbage, RunningTerm};
@@ -516,15 +517,9 @@ impl Store {
     /// A discarder of the storage folder's files, as [`discard`](Self::discard).
     pub fn discard_files(&self, batch: usize) -> Result<(), StoreError> {
         self.outside()?;
-        // SAFETY: the store outlives the call, and the function takes it.
-        let status = unsafe {
-            sys::store::relkvanu_store_discard(
-                self.at(),
-                batch,
-                sys::store::relkvanu_store_delete_files,
-                self.at().cast(),
-            )
-        };
+        // SAFETY: without a storage the library takes that of the store.
+        let status =
+            unsafe { sys::store::relkvanu_store_discard_storage(self.at(), batch, ptr::null()) };
         match status {
             sys::store::RELKVANU_STORE_STOPPED => Ok(()),
             other => self.check(other),

@@ -155,6 +155,12 @@ impl Store {
     }
 }
 
+/// Why the last put or command of this thread was not made, or the first call of its last list that was refused was: such as "record 6, subtask 2.0, term
+/// 1: fenced OldTerm; term 2 runs". Empty if nothing failed.
+pub fn why() -> String {
+    said_why()
+}
+
 /// Why the last command of this thread was not made.
 pub(super) fn said_why() -> String {
     let mut text = [0; sys::store::RELKVANU_STORE_MESSAGE];
