@@ -21,7 +21,7 @@ from test_loop import NAMES, engine_of, known, sweep, sweeping
 KILLS = int(os.environ.get("RELKVANU_MOVE_KILLS", "4"))
 SETTINGS = {"interval": 1 << 40, "retained": 2}
 KEEPING = "image_calls = 20\nkeep_calls = 30\n"
-TABLES = ["job", "call", "request", "image", "image_part", "log_start", "clock", "size", "ack_size", "gone_job", "summary", "past", "phase"]
+TABLES = ["job", "call", "request", "image", "image_part", "log_start", "clock", "size", "ack_size", "gone_job", "summary", "past", "phase", "subtask_state", "figure"]
 MOVED = 1_000_000  # is added to the version of the tables of a marked database
 
 
@@ -302,6 +302,9 @@ def nasty(path, rows, long=0):
     base.executemany("insert into call values(900, ?, ?, ?, ?, ?, ?, ?, ?, ?, 1)", calls)
     base.executemany("insert into size values(900, ?, ?)", ((it, place) for place, it in enumerate(numbers)))
     base.executemany("insert into ack_size values(900, ?, ?, ?)", ((place, it, place) for place, it in enumerate(text)))
+    states = ((place, place % 7, place, it, it, place, place) for place, it in enumerate(text))
+    base.executemany("insert into subtask_state values(900, ?, ?, ?, ?, ?, ?, ?)", states)
+    base.executemany("insert into figure values(900, ?, ?, 5, ?)", ((place, place, it if place % 3 else None) for place, it in enumerate(text)))
     base.executemany("insert into past values(900, ?, ?)", enumerate(text))
     # (a service reads all of these)
     phases = (("stopped", place, place, numbers[place] if numbers[place] > 0 else None, None) if place % 3 else ("running", place, place, None, "expired") for place in range(rows))

@@ -6,7 +6,7 @@ use serde_json::value::RawValue;
 use std::borrow::Cow;
 use std::fmt;
 
-/// How many members an object may have; no object of the API has more than eight.
+/// How many members an object may have; no object of the API has more than nine.
 const MOST_MEMBERS: usize = 16;
 /// How many characters of a client's text an error shows.
 const SHOWN: usize = 40;
