@@ -5,7 +5,7 @@ import os
 import sqlite3
 import time
 
-from harness import Server, caught_up, configured, folder, lose_history, served
+from harness import Server, caught_up, configured, folder, lose_history, served, until
 from postgres import postgres
 from relkvanu_service import Failed, Service, ack, cancel, decline, dispose, restore, savepoint, trigger
 
@@ -136,11 +136,7 @@ def test_rows_go_however_a_record_ends():
         other = service.open("other", {**SETTINGS, "timeout": 300}, [2])
         other.calls([savepoint(), both(1, b"a")[0]])
         assert rows(server) == [1]
-        other.follower(0)
-        until = time.monotonic() + 60
-        while rows(server) and time.monotonic() < until:
-            time.sleep(0.05)
-        assert rows(server) == [], "it expired"
+        until(lambda: not rows(server))  # it expires
         return "declined, subsumed, restored, disposed of, cancelled, expired"
 
 
@@ -163,6 +159,17 @@ def test_a_savepoint_of_an_older_checkpoint_has_its_payloads():
             assert gone(job, 3)
         assert rows(server) == []
         return "also in one commit with them"
+
+
+def test_a_deleted_job_leaves_no_rows():
+    with served() as server:
+        service = Service(server.url)
+        job = service.open("orders", SETTINGS, [2])
+        job.calls([savepoint(), *both(1, b"a"), savepoint(), decline(2, "0.0", reason="no disk"), ack(1, "0.0", size=5), cancel()])
+        assert rows(server) == [1, 1] and rows(server, "figure") == [5], rows(server, "figure")
+        assert service.delete("orders")
+        until(lambda: not rows(server) and not rows(server, "figure"))
+        return "with a savepoint of payloads"
 
 
 def figures(job):
