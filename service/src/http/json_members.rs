@@ -71,6 +71,11 @@ impl<'a> Members<'a> {
         self.members.iter().any(|(found, _)| found == name)
     }
 
+    /// Whether all members were taken out.
+    pub fn are_taken(&self) -> bool {
+        self.members.is_empty()
+    }
+
     /// Takes a member out. `null` is no member.
     pub fn take(&mut self, name: &str) -> Option<&'a RawValue> {
         let at = self.members.iter().position(|(found, _)| found == name)?;

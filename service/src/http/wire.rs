@@ -135,6 +135,9 @@ impl Members<'_> {
 
     /// What an acknowledgement gives beside its files, if it names one of it.
     fn given(&mut self, bytes: Option<u64>) -> Checked<Option<Box<Given>>> {
+        if bytes.is_none() && self.are_taken() {
+            return Ok(None);
+        }
         let payload = self.payload()?;
         let millis = if self.has("millis") { Some(self.number("millis", 0, GREATEST)?) } else { None };
         if payload.is_none() && bytes.is_none() && millis.is_none() {

@@ -75,8 +75,8 @@ impl Job {
                 return outcome;
             }
         }
-        if let Some(last) = made.last_mut() {
-            last.states.copy = self.states.copy(checkpoint, id);
+        if let (Some(last), Some(copy)) = (made.last_mut(), self.states.copy(checkpoint, id)) {
+            last.states.get_or_insert_with(Box::default).copy = Some(copy);
         }
         let restore = Call::Restore { target: Target::Savepoint(id), shape: shape.map(<[u64]>::to_vec) };
         let outcome = self.step(&restore, now, made);

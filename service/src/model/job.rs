@@ -65,7 +65,7 @@ impl Entry {
 pub struct Logged {
     pub entry: Entry,
     pub sizes: SizeChange,
-    pub states: StateChange,
+    pub states: Option<Box<StateChange>>,
 }
 
 pub struct Job {

@@ -79,17 +79,18 @@ impl States {
         self.0.contains(&record)
     }
 
-    /// Takes in a call that was made.
-    pub fn follow(&mut self, call: &Call, reply: &Reply, entry: &Entry) -> StateChange {
+    /// Takes in a call that was made; `None` if it changes no row, as most calls don't.
+    pub fn follow(&mut self, call: &Call, reply: &Reply, entry: &Entry) -> Option<Box<StateChange>> {
+        let gives = matches!(call, Call::Ack { given: Some(_), .. } | Call::Decline { reason: Some(_), .. });
+        if !gives && (entry.ended.is_none() || self.0.is_empty()) {
+            return None;
+        }
         let (new, figure) = (given(call, reply, entry.job), figure(call, reply, entry));
-        let mut change = StateChange { new, figure, ..StateChange::default() };
-        if let Some(new) = &change.new {
+        if let Some(new) = &new {
             self.0.insert(new.record);
         }
-        if entry.ended.is_some() && !self.0.is_empty() {
-            change.gone = entry.ended().into_iter().filter(|record| self.0.remove(record)).collect();
-        }
-        change
+        let gone = entry.ended().into_iter().filter(|record| self.0.remove(record)).collect();
+        Some(Box::new(StateChange { new, figure, gone, copy: None }))
     }
 
     /// A savepoint that is made of a checkpoint has what this one has.
@@ -137,7 +138,7 @@ mod tests {
         let reply = Reply::Answered(answer);
         let (told, ended) = (Told::of(&reply), ended.map(str::to_string));
         let entry = Entry { job: 7, seq: 1, at: 1, record: None, line: String::new(), told, ended, waiting: 0 };
-        states.follow(call, &reply, &entry)
+        states.follow(call, &reply, &entry).map_or_else(StateChange::default, |change| *change)
     }
 
     fn ack(id: u64, given: Option<Given>) -> Call {

@@ -69,7 +69,9 @@ impl Group {
     /// Adds a call.
     pub fn log(&mut self, logged: Logged) {
         let Logged { entry, sizes, states } = logged;
-        self.change_states(entry.job, states);
+        if let Some(change) = states {
+            self.change_states(entry.job, *change);
+        }
         self.sizes.extend(sizes.files.into_iter().map(|(file, bytes)| ((entry.job, file), bytes)));
         self.said.extend(sizes.said);
         self.entries.push(entry);
