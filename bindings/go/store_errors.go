@@ -33,7 +33,7 @@ const (
 	StoreNotDone     StoreFault = C.RELKVANU_STORE_NOT_DONE      // Sweep: the folder could not be read or synced: sweep again later
 	StoreJobStopped  StoreFault = C.RELKVANU_STORE_JOB_STOPPED   // Await: the job is stopped, so no tick is due until it begins again
 	StoreNotStopped  StoreFault = C.RELKVANU_STORE_NOT_STOPPED   // Await: a stop of the job has failed, and Phase says why
-	StoreFileLost    StoreFault = C.RELKVANU_STORE_FILE_LOST     // A load of a record: a state file of it is not in the storage. No call of this package makes one
+	StoreFileLost    StoreFault = C.RELKVANU_STORE_FILE_LOST     // Load: a state file of the record is not in the storage
 )
 
 var storeFaults = map[StoreFault]string{

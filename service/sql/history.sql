@@ -3,11 +3,13 @@ create table version(number integer primary key) strict;
 -- The last entry of the log that was read, and its moment.
 create table progress(
     job integer primary key, upto integer not null, at integer not null, shape text not null) strict;
--- Records. The bytes are those of its new files, and of all that its acknowledgements name; `saved` says whether the database keeps it too.
+-- Records. The bytes of files are those of its new ones, and of all that its acknowledgements name; the others, and the milliseconds, are what tasks
+-- told of their snapshots: their sum, and the greatest. `saved` says whether the database keeps it too.
 create table record(
     job integer not null, id integer not null, kind text not null, shape text not null, started integer not null,
     finished integer, how text not null, gone integer, why text, first_ack integer, last_ack integer, slowest text,
     acks integer not null, missing text, saved integer not null default 0, fresh_bytes integer, full_bytes integer,
+    median integer, p99 integer, bytes integer, millis integer, reason text,
     primary key(job, id)) strict, without rowid;
 create index record_pending on record(job) where how = 'pending';
 create index record_unsaved on record(job, id) where gone is not null and saved = 0;

@@ -48,3 +48,12 @@ create table if not exists past(
 -- why the stop failed.
 create table if not exists phase(
     job integer primary key, phase text not null, record integer, at integer, term integer, failed text) strict;
+-- What a subtask has in a record beside its files, if its acknowledgement gave it: the files in their order, with a space between, a payload in base64,
+-- and the bytes and milliseconds of its snapshot. It goes with its record.
+create table if not exists subtask_state(
+    job integer not null, record integer not null, vertex integer not null, place integer not null, files text not null,
+    payload text not null, bytes integer not null, millis integer not null, primary key(job, record, vertex, place)) strict;
+-- What the acknowledgements of the log told for the history: the bytes and milliseconds of a snapshot; and why a subtask declined.
+create table if not exists figure(
+    job integer not null, seq integer not null, bytes integer not null, millis integer not null, reason text,
+    primary key(job, seq)) strict, without rowid;

@@ -32,6 +32,11 @@ create table if not exists summary(
     primary key(job, seq, part));
 create table if not exists past(job bigint not null, id bigint not null, text text not null, primary key(job, id));
 create table if not exists phase(job bigint primary key, phase text not null, record bigint, at bigint, term bigint, failed text);
+create table if not exists figure(
+    job bigint not null, seq bigint not null, bytes bigint not null, millis bigint not null, reason text, primary key(job, seq));
+create table if not exists subtask_state(
+    job bigint not null, record bigint not null, vertex bigint not null, place bigint not null, files text not null,
+    payload text not null, bytes bigint not null, millis bigint not null, primary key(job, record, vertex, place));
 -- Jobs are spread over the processes of one database. A process that leads is a member. Each of its commits counts its beat up; a member
 -- whose beat stays the same for the length of its lease is deleted, and its shards are free.
 create table if not exists member(

@@ -41,13 +41,16 @@ d as (
     delete from image_part using l, unnest({1}::bigint[], {2}::bigint[]) u(job, seq)
     where image_part.job = u.job and image_part.seq = u.seq
 )
--- part calls that go, with what their acknowledgements said
+-- part calls that go, with what they said beside the log
 x as (
     delete from call using l, unnest({1}::bigint[], {2}::bigint[], {3}::bigint[]) u(job, after, upto)
     where call.job = u.job and call.seq > u.after and call.seq <= u.upto
 ), y as (
     delete from ack_size using l, unnest({1}::bigint[], {3}::bigint[]) u(job, upto)
     where ack_size.job = u.job and ack_size.seq <= u.upto
+), m as (
+    delete from figure using l, unnest({1}::bigint[], {3}::bigint[]) u(job, upto)
+    where figure.job = u.job and figure.seq <= u.upto
 )
 -- part summaries
 s as (
@@ -91,4 +94,25 @@ f as (
         {1}::bigint[], {2}::text[], {3}::bigint[], {4}::bigint[], {5}::bigint[], {6}::text[]) u(job, phase, record, at, term, failed)
     on conflict (job) do update set phase = excluded.phase, record = excluded.record, at = excluded.at, term = excluded.term,
         failed = excluded.failed
+)
+-- part states of subtasks
+b as (
+    insert into subtask_state select u.job, u.record, u.vertex, u.place, u.files, u.payload, u.bytes, u.millis from l, unnest(
+        {1}::bigint[], {2}::bigint[], {3}::bigint[], {4}::bigint[], {5}::text[], {6}::text[], {7}::bigint[], {8}::bigint[])
+        u(job, record, vertex, place, files, payload, bytes, millis)
+)
+-- part states that a savepoint of a checkpoint gets, as far as they were there before this statement
+h as (
+    insert into subtask_state select s.job, u.copy, s.vertex, s.place, s.files, s.payload, s.bytes, s.millis from l, unnest(
+        {1}::bigint[], {2}::bigint[], {3}::bigint[]) u(job, record, copy) join subtask_state s using (job, record)
+)
+-- part states that go
+k as (
+    delete from subtask_state using l, unnest({1}::bigint[], {2}::bigint[]) u(job, record)
+    where subtask_state.job = u.job and subtask_state.record = u.record
+)
+-- part figures for the history
+n as (
+    insert into figure select u.job, u.seq, u.bytes, u.millis, u.reason from l, unnest(
+        {1}::bigint[], {2}::bigint[], {3}::bigint[], {4}::bigint[], {5}::text[]) u(job, seq, bytes, millis, reason)
 )

@@ -58,6 +58,23 @@ def test_answers_fit_the_description():
         assert [answer for answer in answers if "refused" in answer] == [
             {"refused": "NotTaken"}, {"refused": "InUse"}, {"refused": "UnknownCheckpoint"},
         ], answers
+        fits("POST", "/v1/jobs", "/v1/jobs", {"name": "p", "settings": {"interval": 10_000}, "shape": [2], "names": False})
+        more = [
+            {"call": "savepoint"}, {"call": "ack", "id": 1, "subtask": "0.0", "fresh": ["2", "1"], "payload": "eA==", "bytes": 7, "millis": 3},
+            {"call": "ack", "id": 1, "subtask": "0.1"}, {"call": "savepoint"}, {"call": "decline", "id": 2, "subtask": "0.1", "reason": "no disk"},
+            {"call": "ack", "id": 2, "subtask": "0.1", "payload": ""}, {"call": "restore", "from": 1}, {"call": "cancel"}, {"call": "dispose", "id": 1},
+            {"call": "take", "most": 9}, {"call": "deleted", "file": "1"}, {"call": "ack", "id": 9, "subtask": "0.0"},
+        ]
+        told = fits("POST", "/v1/jobs/p/calls", f"{job}/calls", {"calls": more[:7], "ended": True}, "k")[2]["answers"]
+        assert fits("GET", "/v1/jobs/p/records/1/states", f"{job}/records/{{id}}/states")[2]["subtasks"] == [
+            {"subtask": "0.0", "files": ["2", "1"], "payload": "eA==", "bytes": 7, "millis": 3}, {"subtask": "0.1", "files": [], "payload": "", "bytes": 0, "millis": 0},
+        ]
+        told += fits("POST", "/v1/jobs/p/calls", f"{job}/calls", {"calls": more[7:], "ended": True}, "k2")[2]["answers"]
+        assert [(answer.get("kind"), answer.get("ended")) for answer in told] == [
+            ("savepoint", []), ("savepoint", []), ("savepoint", []), ("savepoint", []), ("savepoint", [2]), (None, []), ("savepoint", []), (None, []), ("savepoint", [1]),
+            (None, []), (None, []), (None, None),
+        ], told
+        until(lambda: fits("GET", "/v1/jobs/p/history?last=5", f"{job}/history")[2]["records"][:1] and server.get("/v1/jobs/p/files")[2]["upto"] == server.get("/v1/jobs/p")[2]["seq"])
         named = [
             {"call": "reserve", "term": 1, "count": 3}, {"call": "savepoint"}, {"call": "ack", "term": 1, "id": 1, "subtask": "0.0", "fresh": ["1"]},
             {"call": "decline", "term": 1, "id": 1, "subtask": "0.0"}, {"call": "forfeit", "term": 1, "names": ["2"]}, {"call": "restore", "from": "latest"},
@@ -80,6 +97,8 @@ def test_answers_fit_the_description():
             ("/v1/jobs/a/files/1", f"{job}/files/{{file}}"), ("/v1/jobs/a/files/9", f"{job}/files/{{file}}"), ("/v1/jobs/a/files/5", f"{job}/files/{{file}}"),
             ("/v1/jobs/a/log", f"{job}/log"), ("/v1/jobs/a/log?limit=x", f"{job}/log"), ("/v1/jobs/a/events", f"{job}/events"),
             ("/v1/jobs/a/samples", f"{job}/samples"), ("/v1/jobs/b", job), ("/v1/jobs/a/records/1/acks", f"{job}/records/{{id}}/acks"),
+            ("/v1/jobs/a/records/2/states", f"{job}/records/{{id}}/states"), ("/v1/jobs/a/records/77/states", f"{job}/records/{{id}}/states"),
+            ("/v1/jobs/a/history", f"{job}/history"), ("/v1/jobs/a/history?last=x", f"{job}/history"),
             ("/v1/jobs/a/records/77/acks", f"{job}/records/{{id}}/acks"), ("/v1/jobs/a/records?how=expired", f"{job}/records"),
             ("/v1/jobs/a/stream?after=99", f"{job}/stream"), ("/v1/jobs/b/stream", f"{job}/stream"), ("/healthz", "/healthz"), ("/readyz", "/readyz"), ("/metrics", "/metrics"),
             ("/openapi.json", "/openapi.json"), ("/v1/jobs/n", job), ("/v1/jobs/n/events", f"{job}/events"), ("/v1/jobs/n/log?terms=1", f"{job}/log"), ("/v1/jobs/n/term", f"{job}/term"),

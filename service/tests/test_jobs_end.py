@@ -13,7 +13,7 @@ from run import Skipped
 from test_images import SETTINGS, worked
 from test_metrics import scraped
 
-TABLES = ("call", "ack_size", "request", "image", "summary", "past", "size", "job")
+TABLES = ("call", "ack_size", "subtask_state", "figure", "request", "image", "summary", "past", "size", "job")
 HISTORY = ("record", "file", "queue", "place", "sample", "progress")
 
 

@@ -21,7 +21,7 @@ from test_loop import NAMES, engine_of, known, sweep, sweeping
 KILLS = int(os.environ.get("RELKVANU_MOVE_KILLS", "4"))
 SETTINGS = {"interval": 1 << 40, "retained": 2}
 KEEPING = "image_calls = 20\nkeep_calls = 30\n"
-TABLES = ["job", "call", "request", "image", "image_part", "log_start", "clock", "size", "ack_size", "gone_job", "summary", "past", "phase"]
+TABLES = ["job", "call", "request", "image", "image_part", "log_start", "clock", "size", "ack_size", "gone_job", "summary", "past", "phase", "subtask_state", "figure"]
 MOVED = 1_000_000  # is added to the version of the tables of a marked database
 
 
@@ -113,7 +113,8 @@ class Filled:
         for _ in range(12):
             record = job.call(savepoint())["id"]
             names = [task.name() for _ in range(3)]
-            job.calls([ack(record, subtask, [name], sizes=[100 + name], term=task.term) for subtask, name in zip(("0.0", "1.0", "1.1"), names)])
+            given = [{"sizes": [100 + name], "payload": b"%d" % name, "millis": name} for name in names]
+            job.calls([ack(record, subtask, [name], term=task.term, **more) for subtask, name, more in zip(("0.0", "1.0", "1.1"), names, given)])
             if record % 3 == 0:
                 job.call(dispose(record))
         taken = job.take(5)
@@ -121,7 +122,7 @@ class Filled:
         self.old = task
         self.task = job.begin(record - 1).session(block=40)
         self.pending = job.call(savepoint())["id"]
-        self.task.ack(self.pending, "0.0", [self.task.name()])
+        self.task.ack(self.pending, "0.0", [self.task.name()], payload=b"pending", size=7)
         self.key = job.call(savepoint(), key="once")
 
     def of_numbers(self):
@@ -130,7 +131,7 @@ class Filled:
         for number in range(15):
             record = job.call(savepoint())["id"]
             job.call(ack(record, "0.0", [(1 << 64) - 1 - number]))
-        job.call(decline(job.call(savepoint())["id"], "0.0"))
+        job.call(decline(job.call(savepoint())["id"], "0.0", reason="no disk"))
         job.calls([restore(), dispose(3), cancel()])
 
     def ready(self):
@@ -175,13 +176,15 @@ def reads_of(server):
         path = f"/v1/jobs/{job}"
         state = get(path)
         first = server.get(f"{path}/log?limit=1")[2].get("first", 1)
-        for end in ("records?limit=1000", "files?limit=1000", "log?terms=1&limit=1000", f"events?after={state['seq'] - 5}&limit=100", f"log?after={first + 3}&limit=7"):
+        for end in ("records?limit=1000", "history?last=1000", "files?limit=1000", "log?terms=1&limit=1000", f"events?after={state['seq'] - 5}&limit=100", f"log?after={first + 3}&limit=7"):
             get(f"{path}/{end}")
         get(f"/v1/view/{job}?records=50&samples=0&files=50")
         if state["names"]:
             get(f"{path}/term")
         for record in [it["id"] for it in server.get(f"{path}/records?limit=1000")[2]["records"]]:
             get(f"{path}/records/{record}")
+            if server.get(f"{path}/records/{record}/states")[0] == 200:
+                get(f"{path}/records/{record}/states")
             if server.get(f"{path}/records/{record}/acks")[0] == 200:
                 get(f"{path}/records/{record}/acks")
         for file in {file for line in server.get(f"{path}/log?limit=1000")[2]["calls"] for file in re.findall(r"\+(\d+)", line["line"])}:
@@ -302,6 +305,9 @@ def nasty(path, rows, long=0):
     base.executemany("insert into call values(900, ?, ?, ?, ?, ?, ?, ?, ?, ?, 1)", calls)
     base.executemany("insert into size values(900, ?, ?)", ((it, place) for place, it in enumerate(numbers)))
     base.executemany("insert into ack_size values(900, ?, ?, ?)", ((place, it, place) for place, it in enumerate(text)))
+    states = ((place, place % 7, place, it, it, place, place) for place, it in enumerate(text))
+    base.executemany("insert into subtask_state values(900, ?, ?, ?, ?, ?, ?, ?)", states)
+    base.executemany("insert into figure values(900, ?, ?, 5, ?)", ((place, place, it if place % 3 else None) for place, it in enumerate(text)))
     base.executemany("insert into past values(900, ?, ?)", enumerate(text))
     # (a service reads all of these)
     phases = (("stopped", place, place, numbers[place] if numbers[place] > 0 else None, None) if place % 3 else ("running", place, place, None, "expired") for place in range(rows))

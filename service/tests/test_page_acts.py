@@ -296,7 +296,7 @@ def test_a_record_and_older_ones():
             job = Service(server.url).open("orders", {**SETTINGS, "timeout": 6500}, [2])
             for number in range(1, 61):
                 acks = [ack(number, "0.0", [number], sizes=[1500]), ack(number, "0.1", sizes=[])]
-                job.calls([savepoint(), *([decline(number, "0.1")] if number % 2 else acks)])
+                job.calls([savepoint(), *([decline(number, "0.1", reason="no disk" if number == 57 else None)] if number % 2 else acks)])
             job.calls([savepoint()])
             for index in (0, 1):
                 time.sleep(0.1)
@@ -362,7 +362,7 @@ def looked_at(page, job):
     assert times == {"First": rows[1][1], "Median": rows[1][1], "99 of 100": rows[0][1], "Slowest": rows[0][1]}, times
     assert test_page.texts(page, "#record-size") == ["Its files have 5.0 MB, of which 5.0 MB are new."], test_page.texts(page, "#record-size")
     test_page.picture(page, "service-page-record")
-    for number, why in (("59", "Subtask 0.1 declined it."), ("60", "Each subtask acknowledged it, and it is kept.")):
+    for number, why in (("59", "Subtask 0.1 declined it."), ("57", "Subtask 0.1 declined it: no disk"), ("60", "Each subtask acknowledged it, and it is kept.")):
         page.execute_script("document.getElementById('record-number').value = arguments[0]; document.getElementById('record-form').requestSubmit()", number)
         until(lambda said=why: test_page.texts(page, "#record-why") == [said], 10, told=lambda: test_page.texts(page, "#record-why"))
     # the last one expires

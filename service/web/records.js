@@ -68,7 +68,7 @@ export function why(record, settings) {
     case "expired":
       return `It expired: within its timeout of ${duration(settings.timeout)} there was no acknowledgement of ${lack}.`;
     case "declined":
-      return `Subtask ${(record.why ?? "").replace("declined by ", "")} declined it.`;
+      return `Subtask ${(record.why ?? "").replace("declined by ", "")} declined it${record.reason === null ? "." : `: ${record.reason}`}`;
     case "failed over":
       return `Too many checkpoints failed in a row, so the job failed and dropped it. It lacked ${lack}.`;
     case "subsumed":

@@ -13,6 +13,7 @@ docs/SERVICE-API.md has the whole loop of an engine. If a request is not answere
 Idempotency-Key, so the service makes them once. File numbers are integers here, and strings in the API. Threads may share
 what is here.
 """
+import base64
 import copy
 import email.utils
 import math
@@ -105,16 +106,25 @@ def file_numbers():
         yield from range(begin, begin + (1 << _COUNT_BITS))
 
 
-def ack(record, subtask, fresh=(), reused=(), sizes=None, term=None):
+def ack(record, subtask, fresh=(), reused=(), sizes=None, term=None, payload=None, size=None, millis=None):
     """A subtask has taken its part of a record: its new files, and those of live records that it uses again. `sizes` are the bytes of
-    each new file, which the service shows; one of an earlier version refuses them. `term` is that of the task, if the job has names."""
+    each new file, which the service shows; one of an earlier version refuses them. `term` is that of the task, if the job has names.
+
+    A `payload` of at most 4096 bytes is the state of the task, if it is small: it is committed with the acknowledgement, and `Job.load` gives it
+    back as long as the record is there. `size` (the bytes of the whole snapshot, in place of `sizes`) and `millis` are figures for `Job.history`. With
+    one of these three the record keeps the files in the order given here."""
+    if sizes is not None and size is not None:
+        raise ValueError("sizes are those of each file, and size is that of the whole snapshot: not both")
     said = {} if sizes is None else {"bytes": list(sizes)}
+    said.update({} if size is None else {"bytes": size}, **({} if millis is None else {"millis": millis}))
+    said.update({} if payload is None else {"payload": base64.b64encode(payload).decode()})
     return {"call": "ack", **_in(term), "id": record, "subtask": subtask, "fresh": _texts(fresh), "reused": _texts(reused), **said}
 
 
-def decline(record, subtask, term=None):
-    """A subtask can't take its part of a record."""
-    return {"call": "decline", **_in(term), "id": record, "subtask": subtask}
+def decline(record, subtask, term=None, reason=None):
+    """A subtask can't take its part of a record. `Job.history` has the reason, of at most 200 bytes in UTF-8."""
+    said = {} if reason is None else {"reason": reason}
+    return {"call": "decline", **_in(term), "id": record, "subtask": subtask, **said}
 
 
 def reserve(term, count):
@@ -526,6 +536,25 @@ class Job:
         """A record: its metadata, its missing subtasks, and its history."""
         return self._get(f"/records/{number}")
 
+    def load(self, number, folder=None):
+        """A complete record as a whole, which has all that the tasks begin with after a restore: its `id`, `kind` and `shape`, and for each subtask,
+        by its name, its `files` in their order, its `payload`, and its figures `bytes` and `millis`. With the folder of the state files, in which
+        each has its number as its name, it looks that they are there, and raises FileNotFoundError if one is not: then the engine ends, and
+        starts no task. Raises `Failed` with status 404 if no such record is complete, or it has ended."""
+        told = self._get(f"/records/{number}/states")
+        subtasks = {it.pop("subtask"): it for it in told["subtasks"]}
+        for it in subtasks.values():
+            it["files"], it["payload"] = [int(file) for file in it["files"]], base64.b64decode(it["payload"])
+            for file in it["files"] if folder is not None else ():
+                os.stat(f"{folder}/{file}")
+        return {**told, "subtasks": subtasks}
+
+    def history(self, last=100):
+        """The last records that are complete or have failed, the greatest number first: how each ended, the milliseconds from its trigger to the
+        `first`, the `median`, the `p99` and the `slowest` acknowledgement, the `bytes` (their sum) and `millis` (the greatest) that the tasks told,
+        and the `reason` of a decline. A thread of the service makes it from the log, and may be a moment behind."""
+        return self._get("/history", last=last)["records"]
+
     def file(self, number):
         """A file: the records that use it, and its history."""
         return self._get(f"/files/{number}")
@@ -591,6 +620,10 @@ class Start:
             raise Failed(404, f"{self.kind} {self.id} has ended meanwhile: somebody else has restored or cancelled the job")
         self.follower = Follower(job, answer["seq"], log)
 
+    def load(self, folder=None):
+        """The record as a whole, as `Job.load`; None if there is none."""
+        return None if self.id is None else self._job.load(self.id, folder)
+
     def session(self, block=_RESERVED):
         """A task of this start in this process."""
         if self.term is None:
@@ -627,14 +660,14 @@ class Session:
         while True:
             yield self.name()
 
-    def ack(self, record, subtask, fresh=(), reused=(), sizes=None, key=None):
+    def ack(self, record, subtask, fresh=(), reused=(), sizes=None, key=None, payload=None, size=None, millis=None):
         """The function `ack` in the term. If it is refused, the names of the new files are the task's still: it names the files in a later
         acknowledgement, or gives the names up."""
-        return self._call(ack(record, subtask, fresh, reused, sizes, self.term), key)
+        return self._call(ack(record, subtask, fresh, reused, sizes, self.term, payload, size, millis), key)
 
-    def decline(self, record, subtask, key=None):
+    def decline(self, record, subtask, key=None, reason=None):
         """The function `decline` in the term."""
-        return self._call(decline(record, subtask, self.term), key)
+        return self._call(decline(record, subtask, self.term, reason), key)
 
     def calls(self, calls, key=None):
         """Makes acknowledgements and declines of several subtasks in one request, each in the term. Returns the answer of each, a refusal

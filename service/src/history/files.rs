@@ -43,7 +43,7 @@ impl Outbox {
 
     /// Adds a call of the log.
     pub fn follow(&mut self, tables: &Tables, made: &LoggedCall) -> rusqlite::Result<()> {
-        let LoggedCall { entry, call, reply, said } = made;
+        let LoggedCall { entry, call, reply, said, .. } = made;
         let names_files = match call {
             Call::Ack { fresh, .. } => !fresh.is_empty(),
             Call::Take { .. } | Call::Deleted { .. } => true,

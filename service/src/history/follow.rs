@@ -6,8 +6,8 @@ use super::summary::Summary;
 use super::tables::{Progress, Tables};
 use crate::log;
 use crate::model::{
-    parse_line, AckBytes, Answer, Call, Contents, Entry, Image, Keeping, KeptSummary, Opening, Reply, SavedRecord,
-    Subtask, CALL_BYTES,
+    parse_line, AckBytes, Answer, Call, Contents, Entry, Figure, Image, Keeping, KeptSummary, Opening, Reply,
+    SavedRecord, Subtask, CALL_BYTES,
 };
 use crate::store::{DbError, Reader};
 use std::collections::BTreeMap;
@@ -24,13 +24,15 @@ pub struct LoggedCall<'a> {
     pub reply: Reply,
     /// What an acknowledgement said of sizes.
     pub said: Option<&'a AckBytes>,
+    /// What the call told for the history.
+    pub figure: Option<&'a Figure>,
 }
 
 impl LoggedCall<'_> {
     /// `None` if the row has no call, or no answer.
     fn of(entry: &Entry) -> Option<LoggedCall<'_>> {
         let (_, call) = parse_line(&entry.line)?;
-        Some(LoggedCall { entry, call, reply: entry.reply()?, said: None })
+        Some(LoggedCall { entry, call, reply: entry.reply()?, said: None, figure: None })
     }
 }
 
@@ -123,14 +125,22 @@ impl Follower {
     }
 
     /// Adds a page of the log in one transaction, and returns which records stopped being pending, and when. `said` is what its
-    /// acknowledgements said of sizes, in order.
-    pub fn follow(&mut self, tables: &Tables, page: &[Entry], said: &[AckBytes]) -> Result<Vec<(u64, Ended)>, Error> {
+    /// acknowledgements said of sizes, and `figures` what calls told for the history, both in order.
+    pub fn follow(
+        &mut self,
+        tables: &Tables,
+        page: &[Entry],
+        said: &[AckBytes],
+        figures: &[Figure],
+    ) -> Result<Vec<(u64, Ended)>, Error> {
         tables.within(|| {
             let mut ended = Vec::new();
             for entry in page {
                 if let Some(mut made) = LoggedCall::of(entry) {
                     let place = said.binary_search_by_key(&entry.seq, |one| one.seq);
                     made.said = place.ok().map(|place| &said[place]);
+                    let place = figures.binary_search_by_key(&entry.seq, |one| one.seq);
+                    made.figure = place.ok().map(|place| &figures[place]);
                     let by_it = self.records.follow(tables, &made)?;
                     ended.extend(by_it.into_iter().map(|one| (entry.at, one)));
                     self.outbox.follow(tables, &made)?;

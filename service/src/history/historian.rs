@@ -155,7 +155,8 @@ impl Historian {
         }
         let last = page.last().map_or(follower.upto, |entry| entry.seq);
         let said = self.reader.said(follower.job, follower.upto, last)?;
-        let ended = follower.follow(tables, &page, &said)?;
+        let figures = self.reader.figures(follower.job, follower.upto, last)?;
+        let ended = follower.follow(tables, &page, &said, &figures)?;
         for (at, one) in ended.iter().filter(|(at, _)| *at >= self.since) {
             debug_assert!(*at >= self.since);
             let kind = one.kind.to_string();

@@ -15,3 +15,4 @@ pub use error::Error;
 pub use historian::Historian;
 pub use history_file::{Door, HistoryFile};
 pub use read::{FileRow, HistoryReader, RecordRow, Search};
+pub use records::rank;

@@ -10,7 +10,8 @@ use std::path::Path;
 use std::time::Duration;
 
 pub const RECORD: &str =
-    "id, kind, shape, started, finished, how, gone, why, first_ack, last_ack, slowest, acks, missing, fresh_bytes, full_bytes";
+    "id, kind, shape, started, finished, how, gone, why, first_ack, last_ack, slowest, acks, missing, fresh_bytes, full_bytes,
+    median, p99, bytes, millis, reason";
 const FILE: &str = "file, born, released, taken, deleted, bytes";
 
 /// The history of a record. Moments are milliseconds of Unix time.
@@ -38,6 +39,19 @@ pub struct RecordRow {
     /// The bytes of its new files, and of all files that its acknowledgements name.
     pub fresh_bytes: Option<i64>,
     pub full_bytes: Option<i64>,
+    /// Of its acknowledgements that the log had: the lower median of their milliseconds from the trigger on, and the 99th of 100 by rank.
+    #[serde(default)]
+    pub median: Option<i64>,
+    #[serde(default)]
+    pub p99: Option<i64>,
+    /// What its tasks told of their snapshots: the sum of the bytes, and the greatest milliseconds.
+    #[serde(default)]
+    pub bytes: Option<i64>,
+    #[serde(default)]
+    pub millis: Option<i64>,
+    /// Of its decline.
+    #[serde(default)]
+    pub reason: Option<String>,
 }
 
 /// The history of a file, as places in the log.
@@ -118,6 +132,13 @@ impl HistoryReader {
         );
         let before = i64::try_from(before).unwrap_or(i64::MAX);
         self.all(&sql, params![job, before, search.how, search.kind, bits(most)], record_of)
+    }
+
+    /// At most this many records that are complete or have failed, the greatest number first.
+    pub fn ended(&self, job: i64, most: u64) -> Result<Vec<RecordRow>, Error> {
+        let sql =
+            format!("select {RECORD} from record where job = ? and finished is not null order by id desc limit ?");
+        self.all(&sql, params![job, bits(most)], record_of)
     }
 
     pub fn record(&self, job: i64, id: u64) -> Result<Option<RecordRow>, Error> {
@@ -203,6 +224,11 @@ pub fn record_of(row: &Row) -> rusqlite::Result<RecordRow> {
         more_missing: more.first().and_then(|text| text[1..].parse().ok()).unwrap_or(0),
         fresh_bytes: row.get(13)?,
         full_bytes: row.get(14)?,
+        median: row.get(15)?,
+        p99: row.get(16)?,
+        bytes: row.get(17)?,
+        millis: row.get(18)?,
+        reason: row.get(19)?,
     })
 }
 

@@ -1,7 +1,7 @@
 //! The history of records: when each was triggered and acknowledged, when and how it ended, and which subtasks were missing.
 use super::follow::LoggedCall;
 use super::tables::Tables;
-use crate::model::{AckBytes, Answer, Call, Entry, Kind, Reply, Subtask};
+use crate::model::{AckBytes, Answer, Call, Entry, Figure, Kind, Reply, Subtask};
 use std::collections::{BTreeMap, BTreeSet, HashSet};
 
 /// How a record ended that one of its subtasks declined.
@@ -20,12 +20,29 @@ pub struct Pending {
     pub slowest: Option<Subtask>,
     /// The bytes of its new files, and of all files that its acknowledgements name, if one said some.
     pub bytes: Option<(u64, u64)>,
+    /// What its tasks told of their snapshots, if one did: the sum of the bytes, and the greatest milliseconds.
+    pub told: Option<(u64, u64)>,
+    /// The milliseconds of the acknowledgements that the log has, from the trigger on.
+    times: Vec<u64>,
 }
 
 impl Pending {
     pub fn new(kind: Kind, shape: Vec<u64>, started: u64) -> Pending {
         let (first_ack, last_ack, slowest, bytes) = (None, None, None, None);
-        Pending { kind, shape, started, acked: HashSet::new(), first_ack, last_ack, slowest, bytes }
+        let (acked, told, times) = (HashSet::new(), None, Vec::new());
+        Pending { kind, shape, started, acked, first_ack, last_ack, slowest, bytes, told, times }
+    }
+
+    fn add_figure(&mut self, figure: &Figure) {
+        let (bytes, millis) = self.told.unwrap_or_default();
+        self.told = Some((bytes.saturating_add(figure.bytes), millis.max(figure.millis)));
+    }
+
+    /// The lower median of its acknowledgements, and the 99th of 100 by rank.
+    pub fn ranks(&self) -> (Option<u64>, Option<u64>) {
+        let mut rising = self.times.clone();
+        rising.sort_unstable();
+        (rank(&rising, 50), rank(&rising, 99))
     }
 
     fn add_bytes(&mut self, said: &AckBytes) {
@@ -38,10 +55,11 @@ impl Pending {
         self.first_ack.get_or_insert(at);
         self.last_ack = Some(at);
         self.slowest = Some(subtask);
+        self.times.push(at.saturating_sub(self.started));
     }
 
     /// The first missing subtasks by name, then how many more there are; `None` if none is missing.
-    fn missing(&self) -> Option<String> {
+    pub fn missing(&self) -> Option<String> {
         let subtasks = self.shape.iter().zip(0..).flat_map(|(parallelism, vertex)| {
             (0..*parallelism).map(move |index| Subtask { vertex, index: u16::try_from(index).unwrap_or(u16::MAX) })
         });
@@ -87,13 +105,19 @@ impl Records {
 
     /// Adds a call of the log, and returns which records stopped being pending by it.
     pub fn follow(&mut self, tables: &Tables, made: &LoggedCall) -> rusqlite::Result<Vec<Ended>> {
-        let LoggedCall { entry, call, reply, said } = made;
+        let LoggedCall { entry, call, reply, said, figure } = made;
         let mut ended = Vec::new();
         if let (Call::Ack { id, subtask, .. }, Reply::Answered(answer)) = (call, reply) {
             if let (Some(pending), Some(said), false) = (self.pending.get_mut(id), said, is_late(answer)) {
                 pending.add_bytes(said);
             }
+            if let (Some(pending), Some(figure), false) = (self.pending.get_mut(id), figure, is_late(answer)) {
+                pending.add_figure(figure);
+            }
             ended.extend(self.ack(tables, *id, *subtask, answer, entry)?);
+        }
+        if let (Call::Decline { id, .. }, Some(Figure { reason: Some(reason), .. })) = (call, figure) {
+            tables.set_reason(entry.job, *id, reason)?;
         }
         for (place, id) in entry.ended().into_iter().enumerate() {
             ended.extend(self.end(tables, id, (place as u64) < expired(reply), call, entry)?);
@@ -170,7 +194,7 @@ impl Records {
         };
         self.changed.remove(&id);
         tables.acks(entry.job, id, &pending)?;
-        tables.finish(entry.job, id, entry.at, how, pending.missing())?;
+        tables.finish(entry.job, id, entry.at, how, &pending)?;
         let (kind, took, bytes) = (pending.kind, entry.at.saturating_sub(pending.started), pending.bytes);
         Ok(Some(Ended { kind, how, took, bytes }))
     }
@@ -184,6 +208,12 @@ impl Records {
         }
         Ok(())
     }
+}
+
+/// The least of these rising numbers that so many of a hundred do not exceed.
+pub fn rank(rising: &[u64], hundredths: usize) -> Option<u64> {
+    let place = (rising.len() * hundredths).div_ceil(100);
+    rising.get(place.saturating_sub(1)).copied()
 }
 
 pub fn is_late(answer: &Answer) -> bool {
@@ -229,6 +259,14 @@ fn how_done_ended(call: &Call) -> &'static str {
 #[cfg(test)]
 mod tests {
     use super::*;
+
+    #[test]
+    fn ranks_of_a_hundred() {
+        let hundred: Vec<u64> = (1..=100).collect();
+        assert_eq!((rank(&hundred, 50), rank(&hundred, 99)), (Some(50), Some(99)));
+        assert_eq!((rank(&hundred[..2], 50), rank(&hundred[..2], 99), rank(&[], 50)), (Some(1), Some(2), None));
+        assert_eq!((rank(&[7], 50), rank(&hundred[..99], 99)), (Some(7), Some(99)));
+    }
 
     #[test]
     fn names_who_is_missing() {

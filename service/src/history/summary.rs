@@ -134,14 +134,15 @@ impl Tables {
 
     fn set_record(&self, job: i64, it: &RecordRow, saved: bool) -> rusqlite::Result<()> {
         let sql = format!(
-            "insert or replace into record(job, {RECORD}, saved) values(?, ?, ?, ?, ?, ?, ?, ?, ?, ?, ?, ?, ?, ?, ?, ?, ?)"
+            "insert or replace into record(job, {RECORD}, saved)
+            values(?, ?, ?, ?, ?, ?, ?, ?, ?, ?, ?, ?, ?, ?, ?, ?, ?, ?, ?, ?, ?, ?)"
         );
         let (id, shape, missing) = (it.id, shape_words(&it.shape), it.missing_words());
         let RecordRow { kind, started, finished, how, gone, why, first_ack, last_ack, slowest, acks, .. } = it;
         let (fresh, full) = (it.fresh_bytes, it.full_bytes);
         let given = params![
             job, id, kind, shape, started, finished, how, gone, why, first_ack, last_ack, slowest, acks, missing,
-            fresh, full, saved
+            fresh, full, it.median, it.p99, it.bytes, it.millis, it.reason, saved
         ];
         self.run(&sql, given)
     }

@@ -10,7 +10,7 @@ use rusqlite::{params, Connection, OptionalExtension, Params, Row};
 use std::path::Path;
 
 const PENDING: &str =
-    "select id, kind, shape, started, first_ack, last_ack, slowest, fresh_bytes, full_bytes from record
+    "select id, kind, shape, started, first_ack, last_ack, slowest, fresh_bytes, full_bytes, bytes, millis from record
     where job = ? and how = 'pending'";
 const PROGRESS: &str = "select upto, at, shape from progress where job = ?";
 
@@ -195,7 +195,7 @@ impl Tables {
             let mut pending = Pending::new(kind, shape, unsigned(row.get(3)?));
             (pending.first_ack, pending.last_ack) = (moment(4)?, moment(5)?);
             pending.slowest = row.get::<_, Option<String>>(6)?.and_then(|text| text.parse().ok());
-            pending.bytes = moment(7)?.zip(moment(8)?);
+            (pending.bytes, pending.told) = (moment(7)?.zip(moment(8)?), moment(9)?.zip(moment(10)?));
             Ok((unsigned(row.get(0)?), pending))
         })?;
         rows.collect()
@@ -208,18 +208,27 @@ impl Tables {
     }
 
     pub fn acks(&self, job: i64, id: u64, record: &Pending) -> rusqlite::Result<()> {
-        let sql = "update record set first_ack = ?3, last_ack = ?4, slowest = ?5, acks = ?6, fresh_bytes = ?7, full_bytes = ?8
-            where job = ?1 and id = ?2";
+        let sql = "update record set first_ack = ?3, last_ack = ?4, slowest = ?5, acks = ?6, fresh_bytes = ?7, full_bytes = ?8,
+            bytes = ?9, millis = ?10 where job = ?1 and id = ?2";
         let slowest = record.slowest.map(|subtask| subtask.to_string());
         let acks = i64::try_from(record.acked.len()).unwrap_or(i64::MAX);
         let (first, last) = (record.first_ack.map(signed), record.last_ack.map(signed));
         let (fresh, full) = record.bytes.map(|(fresh, full)| (signed(fresh), signed(full))).unzip();
-        self.run(sql, params![job, signed(id), first, last, slowest, acks, fresh, full])
+        let (bytes, millis) = record.told.map(|(bytes, millis)| (signed(bytes), signed(millis))).unzip();
+        self.run(sql, params![job, signed(id), first, last, slowest, acks, fresh, full, bytes, millis])
     }
 
-    pub fn finish(&self, job: i64, id: u64, at: u64, how: &str, missing: Option<String>) -> rusqlite::Result<()> {
-        let sql = "update record set finished = ?3, how = ?4, missing = ?5 where job = ?1 and id = ?2";
-        self.run(sql, params![job, signed(id), signed(at), how, missing])
+    pub fn finish(&self, job: i64, id: u64, at: u64, how: &str, record: &Pending) -> rusqlite::Result<()> {
+        let sql =
+            "update record set finished = ?3, how = ?4, missing = ?5, median = ?6, p99 = ?7 where job = ?1 and id = ?2";
+        let (median, p99) = record.ranks();
+        let (median, p99) = (median.map(signed), p99.map(signed));
+        self.run(sql, params![job, signed(id), signed(at), how, record.missing(), median, p99])
+    }
+
+    /// Why a subtask has declined a record.
+    pub fn set_reason(&self, job: i64, id: u64, reason: &str) -> rusqlite::Result<()> {
+        self.run("update record set reason = ?3 where job = ?1 and id = ?2", params![job, signed(id), reason])
     }
 
     pub fn gone(&self, job: i64, id: u64, at: u64, why: &str) -> rusqlite::Result<()> {

@@ -2,6 +2,7 @@
 use super::query::{numbers, Parameter};
 use super::reply::{error, json_reply, Reply};
 use super::App;
+use crate::history::rank;
 use crate::model::{parse_line, AckBytes, Answer, Call, Entry, Reply as Made, Subtask};
 use crate::store::{DbError, Reader};
 use serde_json::{json, Value};
@@ -68,8 +69,8 @@ pub async fn answer(app: &App, job: String, id: u64, query: &str) -> Result<Repl
             // calls of it may have been cut
             "are_all": acks.len() as u64 >= u64::try_from(record.acks).unwrap_or(0),
             "first": took.first(),
-            "median": part(&took, 50),
-            "p99": part(&took, 99),
+            "median": rank(&took, 50),
+            "p99": rank(&took, 99),
             "slowest": took.last(),
             "acks": slowest.map(|ack| ack.json(started, &said)).collect::<Vec<_>>(),
         }),
@@ -92,24 +93,10 @@ fn acks(reader: &mut dyn Reader, job: i64, id: u64) -> Result<(Vec<Ack>, Vec<Ack
     Ok((found, said))
 }
 
-/// The least of these rising numbers that so many of a hundred do not exceed.
-fn part(rising: &[u64], hundredths: usize) -> Option<u64> {
-    let place = (rising.len() * hundredths).div_ceil(100);
-    rising.get(place.saturating_sub(1)).copied()
-}
-
 #[cfg(test)]
 mod tests {
     use super::*;
     use crate::model::Told;
-
-    #[test]
-    fn parts_of_a_hundred() {
-        let hundred: Vec<u64> = (1..=100).collect();
-        assert_eq!((part(&hundred, 50), part(&hundred, 99)), (Some(50), Some(99)));
-        assert_eq!((part(&hundred[..2], 50), part(&hundred[..2], 99), part(&[], 50)), (Some(1), Some(2), None));
-        assert_eq!((part(&[7], 50), part(&hundred[..99], 99)), (Some(7), Some(99)));
-    }
 
     #[test]
     fn other_calls_are_no_acknowledgements() {

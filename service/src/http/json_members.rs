@@ -6,7 +6,7 @@ use serde_json::value::RawValue;
 use std::borrow::Cow;
 use std::fmt;
 
-/// How many members an object may have; no object of the API has more than eight.
+/// How many members an object may have; no object of the API has more than nine.
 const MOST_MEMBERS: usize = 16;
 /// How many characters of a client's text an error shows.
 const SHOWN: usize = 40;
@@ -69,6 +69,11 @@ impl<'a> Members<'a> {
 
     pub fn has(&self, name: &str) -> bool {
         self.members.iter().any(|(found, _)| found == name)
+    }
+
+    /// Whether all members were taken out.
+    pub fn are_taken(&self) -> bool {
+        self.members.is_empty()
     }
 
     /// Takes a member out. `null` is no member.

@@ -20,6 +20,7 @@ mod room;
 mod route;
 mod server;
 mod slots;
+mod states;
 mod stream;
 mod tls;
 mod trace;

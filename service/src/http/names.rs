@@ -23,7 +23,7 @@ pub async fn fence(app: &App, caller: &Caller, job: String, request: Request<Bod
     let key = name.map(|name| Key { name, digest: sha256(&bytes) });
     let (at, calls) = (job.clone(), vec![Call::Fence { first_name }]);
     let did = Did::of(&calls);
-    let mut reply = match app.ask(|reply| Message::Calls { job, calls, key, reply }).await? {
+    let mut reply = match app.ask(|reply| Message::Calls { job, calls, tells: false, key, reply }).await? {
         CallsDone::Made(epoch, outcomes) => match &outcomes[..] {
             [Outcome::Refused(Fault::Fenced(why))] => fenced(&why.name()),
             _ => turned(&app.board.answers(epoch, &outcomes), first_name),
@@ -47,7 +47,7 @@ pub async fn advance(app: &App, caller: &Caller, job: String, request: Request<B
     let key = name.map(|name| Key { name, digest: sha256(&[b"advance", &bytes[..]].concat()) });
     let (at, calls) = (job.clone(), vec![Call::Advance { term, first_name }]);
     let did = Did::of(&calls);
-    let done = app.ask(|reply| Message::Calls { job, calls, key, reply }).await?;
+    let done = app.ask(|reply| Message::Calls { job, calls, tells: false, key, reply }).await?;
     Ok(answered(app, &at, done, did))
 }
 

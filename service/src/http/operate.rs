@@ -25,7 +25,7 @@ pub async fn one(
     let key = name.map(|name| Key { name, digest: sha256(&[word(&call).as_bytes(), &bytes].concat()) });
     let (at, calls) = (job.clone(), vec![call]);
     let did = Did::of(&calls);
-    let done = app.ask(|reply| Message::Calls { job, calls, key, reply }).await?;
+    let done = app.ask(|reply| Message::Calls { job, calls, tells: false, key, reply }).await?;
     Ok(answered(app, &at, done, did))
 }
 

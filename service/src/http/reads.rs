@@ -5,7 +5,7 @@ use super::query::{self, numbers, Parameter};
 use super::render::{self, Metadata};
 use super::reply::{bad_field, body, error, json_reply, with_type, Reply};
 use super::route::Route;
-use super::{acks, lists, names, no_job, App};
+use super::{acks, lists, names, no_job, states, App};
 use crate::auth::Caller;
 use crate::history::{FileRow, HistoryReader, Search};
 use crate::model::Shards;
@@ -31,8 +31,10 @@ pub async fn answer(app: &App, route: Route, caller: &Caller, query: &str) -> Re
         Route::Metrics => metrics(app, query).await,
         Route::Job(job) => one_job(app, job, query).await,
         Route::Records(job) => records(app, &job, query).await,
+        Route::History(job) => history(app, &job, query).await,
         Route::Record(job, id) => record(app, job, id, query).await,
         Route::Acks(job, id) => acks::answer(app, job, id, query).await,
+        Route::States(job, id) => states::answer(app, job, id, query).await,
         Route::Files(job) => files(app, &job, query).await,
         Route::File(job, file) => one_file(app, job, file, query).await,
         Route::Log(job) => log(app, &job, caller, query).await,
@@ -131,6 +133,16 @@ async fn records(app: &App, job: &str, query: &str) -> Result<Reply, Box<Reply>>
     let read =
         move |history: &HistoryReader| Ok((history.records(number, before, most, search)?, history.upto(number)?));
     let (records, upto) = app.read_history(read).await?;
+    Ok(json_reply(200, &json!({"upto": upto, "records": records})))
+}
+
+/// The last records that are complete or have failed, the greatest number first.
+async fn history(app: &App, job: &str, query: &str) -> Result<Reply, Box<Reply>> {
+    let [last] = numbers(query, [Parameter { name: "last", most: MOST_ROWS, default: 100 }])?;
+    let number = app.number(job)?;
+    let read = move |history: &HistoryReader| Ok((history.ended(number, last)?, history.upto(number)?));
+    let (records, upto) = app.read_history(read).await?;
+    let records: Vec<Value> = records.iter().map(render::past).collect();
     Ok(json_reply(200, &json!({"upto": upto, "records": records})))
 }
 

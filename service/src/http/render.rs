@@ -186,6 +186,20 @@ impl Metadata {
         serde_json::from_str(text).ok()
     }
 
+    pub fn is_done(&self) -> bool {
+        self.state == "done"
+    }
+
+    /// Its number, its kind and its shape.
+    pub fn head(&self) -> (u64, &str, &[u64]) {
+        (self.id, &self.kind, &self.shape)
+    }
+
+    /// The subtasks that have acknowledged, each with its files, which ascend.
+    pub fn acks(&self) -> impl Iterator<Item = (&str, &[u64])> {
+        self.acks.iter().map(|ack| (ack.subtask.as_str(), ack.files.as_slice()))
+    }
+
     /// The moment of its trigger.
     pub fn started(&self) -> u64 {
         self.started
@@ -212,6 +226,26 @@ impl Metadata {
         let names = self.acks.iter().filter(move |ack| ack.files.binary_search(&file).is_ok());
         names.map(|ack| json!({"record": self.id, "subtask": ack.subtask}))
     }
+}
+
+/// A record that is complete or has failed. Acknowledgements are milliseconds from its trigger on.
+pub fn past(row: &RecordRow) -> Value {
+    let after = |moment: Option<i64>| moment.map(|moment| moment - row.started);
+    json!({
+        "id": row.id,
+        "kind": row.kind,
+        "how": row.how,
+        "triggered": row.started,
+        "ended": row.finished,
+        "acks": row.acks,
+        "first": after(row.first_ack),
+        "median": row.median,
+        "p99": row.p99,
+        "slowest": after(row.last_ack),
+        "bytes": row.bytes.or(row.fresh_bytes),
+        "millis": row.millis,
+        "reason": row.reason,
+    })
 }
 
 /// A record: its metadata and missing subtasks if it is live, and its history.

@@ -34,9 +34,13 @@ pub enum Route {
     /// A job goes on from an older copy of its log, above the terms and names that it lost.
     Advance(String),
     Records(String),
+    /// The last records that are complete or have failed, with figures.
+    History(String),
     Record(String, u64),
     /// When each subtask acknowledged a record.
     Acks(String, u64),
+    /// What the subtasks of a complete record have.
+    States(String, u64),
     Files(String),
     File(String, u64),
     Log(String),
@@ -61,7 +65,7 @@ pub enum NoRoute {
 
 /// All routes of the API. The description must have each.
 #[cfg(test)]
-pub const API: [(&str, &str); 28] = [
+pub const API: [(&str, &str); 30] = [
     ("get", "/healthz"),
     ("get", "/readyz"),
     ("get", "/metrics"),
@@ -80,8 +84,10 @@ pub const API: [(&str, &str); 28] = [
     ("post", "/v1/jobs/{job}/begin"),
     ("post", "/v1/jobs/{job}/advance"),
     ("get", "/v1/jobs/{job}/records"),
+    ("get", "/v1/jobs/{job}/history"),
     ("get", "/v1/jobs/{job}/records/{id}"),
     ("get", "/v1/jobs/{job}/records/{id}/acks"),
+    ("get", "/v1/jobs/{job}/records/{id}/states"),
     ("get", "/v1/jobs/{job}/files"),
     ("get", "/v1/jobs/{job}/files/{file}"),
     ("get", "/v1/jobs/{job}/log"),
@@ -144,8 +150,10 @@ impl Route {
         let route = match rest {
             [] => Route::Job(name),
             ["records"] => Route::Records(name),
+            ["history"] => Route::History(name),
             ["records", id] => Route::Record(name, id.parse().map_err(|_| NoRoute::Part("id"))?),
             ["records", id, "acks"] => Route::Acks(name, id.parse().map_err(|_| NoRoute::Part("id"))?),
+            ["records", id, "states"] => Route::States(name, id.parse().map_err(|_| NoRoute::Part("id"))?),
             ["files"] => Route::Files(name),
             ["files", file] => Route::File(name, parse_file(file).ok_or(NoRoute::Part("file"))?),
             ["log"] => Route::Log(name),
@@ -178,6 +186,7 @@ impl Route {
         match self {
             Route::Job(job) | Route::DeleteJob(job) | Route::Calls(job) | Route::Records(job) => Some(job),
             Route::Record(job, _) | Route::Acks(job, _) | Route::Files(job) | Route::File(job, _) => Some(job),
+            Route::States(job, _) | Route::History(job) => Some(job),
             Route::Log(job) | Route::Events(job) | Route::Stream(job) | Route::Samples(job) => Some(job),
             Route::Fence(job) | Route::Term(job) | Route::Garbage(job) | Route::Advance(job) => Some(job),
             Route::Checkpoint(job) | Route::Settings(job) | Route::Stop(job) | Route::Begin(job) => Some(job),
@@ -228,8 +237,10 @@ impl Route {
             Route::Begin(_) => "begin",
             Route::Advance(_) => "advance",
             Route::Records(_) => "records",
+            Route::History(_) => "history",
             Route::Record(..) => "record",
             Route::Acks(..) => "acks",
+            Route::States(..) => "states",
             Route::Files(_) => "files",
             Route::File(..) => "file",
             Route::Log(_) => "log",

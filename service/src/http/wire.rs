@@ -1,6 +1,9 @@
 //! Reads the bodies of requests. An error names the place of the bad value, such as `calls[3].fresh[0]`.
 use super::json_members::{each, invalid, items, read, shown, text, Checked, Members};
-use crate::model::{check_shape, settings_of, Call, Change, Settings, Subtask, Target, FIELDS};
+use crate::model::{
+    check_shape, settings_of, Call, Change, Given, Settings, Subtask, Target, FIELDS, MOST_PAYLOAD, MOST_REASON,
+};
+use openssl::base64::{decode_block, encode_block};
 use serde_json::value::RawValue;
 
 /// The greatest number that every JSON reader keeps exactly.
@@ -85,14 +88,63 @@ impl Members<'_> {
         read(value).map(Some).ok_or_else(|| self.wrong(name, "is neither true nor false"))
     }
 
-    /// The bytes of fresh files, which are none if there is no such member.
-    fn bytes(&mut self) -> Checked<Vec<u64>> {
+    /// The bytes of fresh files, which are none if there is no such member, or those of the whole snapshot.
+    fn bytes(&mut self) -> Checked<(Vec<u64>, Option<u64>)> {
         let Some(value) = self.take("bytes") else {
-            return Ok(Vec::new());
+            return Ok((Vec::new(), None));
         };
+        if let Some(whole) = read::<u64>(value).filter(|it| *it <= GREATEST) {
+            return Ok((Vec::new(), Some(whole)));
+        }
         let wrong = |at: usize| invalid(&format!("{}[{at}]", self.field("bytes")), "is no whole number from 0 to 2^53");
         let number = |at, item: &RawValue| read::<u64>(item).filter(|it| *it <= GREATEST).ok_or_else(|| wrong(at));
-        each(value, number).unwrap_or_else(|| Err(self.wrong("bytes", "is no list of numbers")))
+        let why = "is neither a list of numbers nor a whole number from 0 to 2^53";
+        each(value, number).map_or_else(|| Err(self.wrong("bytes", why)), |list| Ok((list?, None)))
+    }
+
+    /// A payload in base64; `None` if there is no such member.
+    fn payload(&mut self) -> Checked<Option<String>> {
+        if !self.has("payload") {
+            return Ok(None);
+        }
+        let given = self.text("payload")?.into_owned();
+        let bytes = decode_block(&given).ok().filter(|bytes| encode_block(bytes) == given);
+        let bytes = bytes.ok_or_else(|| self.wrong("payload", "is no base64 in one line, with its padding"))?;
+        if bytes.len() > MOST_PAYLOAD {
+            let why = format!("has {} bytes, and not at most {MOST_PAYLOAD}", bytes.len());
+            return Err(self.wrong("payload", &why));
+        }
+        Ok(Some(given))
+    }
+
+    /// Why a subtask declines; `None` if there is no such member, or it is empty.
+    fn reason(&mut self) -> Checked<Option<String>> {
+        if !self.has("reason") {
+            return Ok(None);
+        }
+        let reason = self.text("reason")?.into_owned();
+        if reason.len() > MOST_REASON {
+            let why = format!("has {} bytes, and not at most {MOST_REASON}", reason.len());
+            return Err(self.wrong("reason", &why));
+        }
+        if reason.contains('\0') {
+            return Err(self.wrong("reason", "has a zero"));
+        }
+        Ok((!reason.is_empty()).then_some(reason))
+    }
+
+    /// What an acknowledgement gives beside its files, if it names one of it.
+    fn given(&mut self, bytes: Option<u64>) -> Checked<Option<Box<Given>>> {
+        if bytes.is_none() && self.are_taken() {
+            return Ok(None);
+        }
+        let payload = self.payload()?;
+        let millis = if self.has("millis") { Some(self.number("millis", 0, GREATEST)?) } else { None };
+        if payload.is_none() && bytes.is_none() && millis.is_none() {
+            return Ok(None);
+        }
+        let (payload, bytes, millis) = (payload.unwrap_or_default(), bytes.unwrap_or(0), millis.unwrap_or(0));
+        Ok(Some(Box::new(Given { payload, bytes, millis })))
     }
 
     fn shape(&mut self) -> Checked<Option<Vec<u64>>> {
@@ -211,17 +263,19 @@ pub fn is_name(text: &str) -> bool {
     begins && text.len() <= LONGEST_NAME && text.bytes().all(may_stand)
 }
 
-/// Reads the body of a request with calls, at most `most`. It may say the term of all that have none.
-pub fn calls(bytes: &[u8], most: usize) -> Checked<Vec<Call>> {
+/// Reads the body of a request with calls, at most `most`. It may say the term of all that have none, and whether the answers tell which
+/// records they have ended.
+pub fn calls(bytes: &[u8], most: usize) -> Checked<(Vec<Call>, bool)> {
     let mut members = Members::of_body(bytes)?;
-    let term = members.term(0)?;
+    let (term, tells) = (members.term(0)?, members.flag("ended")?.unwrap_or(false));
     let items = items(members.wanted("calls")?, most).ok_or_else(|| members.wrong("calls", "is no list"))?;
     members.finish()?;
     if items.count == 0 || items.count > most {
         return Err(invalid("calls", &format!("has {} calls, not 1 to {most}", items.count)));
     }
     let calls = items.first.into_iter().enumerate();
-    calls.map(|(at, item)| Members::of(&format!("calls[{at}]"), item).and_then(|members| call(members, term))).collect()
+    let read = |(at, item)| Members::of(&format!("calls[{at}]"), item).and_then(|members| call(members, term));
+    Ok((calls.map(read).collect::<Checked<_>>()?, tells))
 }
 
 fn call(mut members: Members, term: u64) -> Checked<Call> {
@@ -237,7 +291,7 @@ fn call(mut members: Members, term: u64) -> Checked<Call> {
         "trigger" => Call::Trigger,
         // bindings/generate: end
         "ack" => ack(&mut members, term)?,
-        "decline" => Call::Decline { term: members.term(term)?, id: members.id()?, subtask: members.subtask()? },
+        "decline" => decline(&mut members, term)?,
         "restore" => restore(&mut members)?,
         "take" => Call::Take { most: members.number("most", 1, MOST_TAKEN)? },
         "reserve" => Call::Reserve { term: members.term(term)?, count: members.number("count", 1, MOST_RESERVED)? },
@@ -250,12 +304,17 @@ fn call(mut members: Members, term: u64) -> Checked<Call> {
 
 fn ack(members: &mut Members, term: u64) -> Checked<Call> {
     let (term, id, subtask) = (members.term(term)?, members.id()?, members.subtask()?);
-    let (fresh, reused, bytes) = (members.files("fresh")?, members.files("reused")?, members.bytes()?);
+    let (fresh, reused, (bytes, whole)) = (members.files("fresh")?, members.files("reused")?, members.bytes()?);
     if !bytes.is_empty() && bytes.len() != fresh.len() {
         let why = format!("has {} numbers, and fresh has {} files", bytes.len(), fresh.len());
         return Err(members.wrong("bytes", &why));
     }
-    Ok(Call::Ack { term, id, subtask, fresh, reused, bytes })
+    Ok(Call::Ack { term, id, subtask, fresh, reused, bytes, given: members.given(whole)? })
+}
+
+fn decline(members: &mut Members, term: u64) -> Checked<Call> {
+    let (term, id, subtask) = (members.term(term)?, members.id()?, members.subtask()?);
+    Ok(Call::Decline { term, id, subtask, reason: members.reason()? })
 }
 
 /// A restore. To an older checkpoint it needs the consent that what sinks published since then stays published.
@@ -292,6 +351,20 @@ fn target(members: &mut Members) -> Checked<Target> {
 mod tests {
     use super::*;
 
+    fn calls(bytes: &[u8], most: usize) -> Checked<Vec<Call>> {
+        super::calls(bytes, most).map(|(calls, _)| calls)
+    }
+
+    #[test]
+    fn a_request_may_ask_what_ended() {
+        let tells = |rest: &str| {
+            let body = format!(r#"{{"calls":[{{"call":"tick"}}]{rest}}}"#);
+            super::calls(body.as_bytes(), 1).map(|(_, tells)| tells).map_err(|invalid| invalid.field)
+        };
+        assert_eq!((tells(""), tells(r#","ended":true"#)), (Ok(false), Ok(true)));
+        assert_eq!(tells(r#","ended":1"#), Err("ended".to_string()));
+    }
+
     fn field_of(body: &str) -> String {
         calls(body.as_bytes(), 10).map_or_else(|invalid| invalid.field, |calls| format!("{calls:?}"))
     }
@@ -303,8 +376,16 @@ mod tests {
             {"call":"take","most":64},{"call":"restore","from":3,"shape":[2]},{"call":"restore","from":"latest"}]}"#;
         let subtask = Subtask { vertex: 1, index: 0 };
         let wanted = vec![
-            Call::Ack { term: 0, id: 12, subtask, fresh: vec![31], reused: vec![u64::MAX], bytes: vec![] },
-            Call::Ack { term: 0, id: 12, subtask, fresh: vec![32, 30], reused: vec![], bytes: vec![0, 1 << 53] },
+            Call::Ack { term: 0, id: 12, subtask, fresh: vec![31], reused: vec![u64::MAX], bytes: vec![], given: None },
+            Call::Ack {
+                term: 0,
+                id: 12,
+                subtask,
+                fresh: vec![32, 30],
+                reused: vec![],
+                bytes: vec![0, 1 << 53],
+                given: None,
+            },
             Call::Take { most: 64 },
             Call::Restore { target: Target::Savepoint(3), shape: Some(vec![2]) },
             Call::Restore { target: Target::Latest, shape: None },
@@ -353,7 +434,8 @@ mod tests {
     #[test]
     fn reads_calls_of_tasks_with_a_term() {
         let subtask = Subtask { vertex: 1, index: 0 };
-        let ack = |term| Call::Ack { term, id: 12, subtask, fresh: vec![31], reused: vec![], bytes: vec![] };
+        let ack =
+            |term| Call::Ack { term, id: 12, subtask, fresh: vec![31], reused: vec![], bytes: vec![], given: None };
         let body = |of_all: &str| {
             format!(
                 r#"{{{of_all}"calls":[{{"call":"ack","id":12,"subtask":"1.0","fresh":["31"]}},
@@ -362,7 +444,7 @@ mod tests {
             )
         };
         let wanted = |term| {
-            let decline = Call::Decline { term, id: 12, subtask };
+            let decline = Call::Decline { term, id: 12, subtask, reason: None };
             let forfeit = Call::Forfeit { term: 3, names: vec![31, 32] };
             Ok(vec![ack(term), ack(3), decline, Call::Reserve { term, count: 1000 }, forfeit, Call::Cancel])
         };
@@ -409,6 +491,35 @@ mod tests {
         assert_eq!(field("{}"), "files");
         assert_eq!(field(r#"{"files":[7]}"#), "files[0]");
         assert_eq!(field(&format!(r#"{{"files":[{}]}}"#, vec![r#""7""#; MOST_GARBAGE + 1].join(","))), "files");
+    }
+
+    #[test]
+    fn reads_what_is_given_beside_files() {
+        let with = |rest: &str| format!(r#"{{"calls":[{{"call":"ack","id":1,"subtask":"0.0"{rest}}}]}}"#);
+        let given = |rest: &str| match calls(with(rest).as_bytes(), 1).ok().and_then(|mut calls| calls.pop()) {
+            Some(Call::Ack { given, .. }) => given.map(|it| (it.payload, it.bytes, it.millis)),
+            _ => None,
+        };
+        assert_eq!(given(""), None);
+        assert_eq!(given(r#","payload":"""#), Some((String::new(), 0, 0)));
+        assert_eq!(given(r#","payload":"eA==","bytes":7,"millis":8"#), Some(("eA==".to_string(), 7, 8)));
+        let most = encode_block(&[255; MOST_PAYLOAD]);
+        assert_eq!(given(&format!(r#","payload":"{most}""#)), Some((most, 0, 0)));
+        let wrong = |rest: &str| calls(with(rest).as_bytes(), 1).err().map(|it| format!("{} {}", it.field, it.why));
+        let long = encode_block(&[255; MOST_PAYLOAD + 1]);
+        let told = wrong(&format!(r#","payload":"{long}""#));
+        assert_eq!(told.as_deref(), Some("calls[0].payload has 4097 bytes, and not at most 4096"));
+        for other in [r#""x""#, r#""eA""#, r#"" eA==""#, r#""eB==""#, "7", r#""eA==\n""#] {
+            let told = wrong(&format!(r#","payload":{other}"#));
+            assert!(told.is_some_and(|it| it.starts_with("calls[0].payload ")), "{other}");
+        }
+        assert!(wrong(r#","millis":-1"#).is_some_and(|it| it.starts_with("calls[0].millis ")));
+        let decline =
+            |reason: &str| format!(r#"{{"calls":[{{"call":"decline","id":1,"subtask":"0.0","reason":"{reason}"}}]}}"#);
+        let long = "x".repeat(MOST_REASON + 1);
+        assert_eq!(field_of(&decline(&long)), "calls[0].reason");
+        assert_eq!(field_of(&decline("a\\u0000")), "calls[0].reason");
+        assert!(field_of(&decline(&long[1..])).contains("reason: Some(\"xx"));
     }
 
     #[test]

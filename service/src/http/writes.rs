@@ -115,13 +115,13 @@ pub async fn calls(app: &App, caller: &Caller, job: String, request: Request<Bod
     app.number(&job)?;
     let name = key_name(request.headers())?;
     let (bytes, _room) = read_body(app, caller, request.into_body()).await?;
-    let calls = wire::calls(&bytes, app.limits.calls).map_err(|why| invalid(&why))?;
+    let (calls, tells) = wire::calls(&bytes, app.limits.calls).map_err(|why| invalid(&why))?;
     if let Some(call) = calls.iter().find(|call| call.wants_key()).filter(|_| name.is_none()) {
         return Err(key_is_missing(call).into());
     }
     let key = name.map(|name| Key { name, digest: sha256(&bytes) });
     let (at, did) = (job.clone(), Did::of(&calls));
-    let done = app.ask(|reply| Message::Calls { job, calls, key, reply }).await?;
+    let done = app.ask(|reply| Message::Calls { job, calls, tells, key, reply }).await?;
     let mut reply = match done {
         CallsDone::Made(epoch, outcomes) => body(200, app.board.answers(epoch, &outcomes)),
         CallsDone::Known(answers) => body(200, answers),

@@ -33,7 +33,7 @@ impl Job {
             Ok(_) if self.engine().choice() == Choice::Checkpoint(checkpoint) => {
                 self.step(&Call::Restore { target: Target::Latest, shape: shape.map(<[u64]>::to_vec) }, now, made)
             }
-            Ok(parts) => self.restore_copy(&parts, shape, now, made),
+            Ok(parts) => self.restore_copy(checkpoint, &parts, shape, now, made),
         }
     }
 
@@ -52,9 +52,10 @@ impl Job {
         parts.collect::<Option<Vec<_>>>().ok_or(Outcome::NoMemory)
     }
 
-    /// Makes a savepoint of these parts, and restores the job to it.
+    /// Makes a savepoint of these parts of a checkpoint, and restores the job to it.
     fn restore_copy(
         &mut self,
+        checkpoint: u64,
         parts: &[(Subtask, Vec<u64>)],
         shape: Option<&[u64]>,
         now: u64,
@@ -67,12 +68,15 @@ impl Job {
         let term = self.engine().term().map_or(0, |now| now.term);
         for (subtask, files) in parts {
             let (subtask, reused) = (*subtask, files.clone());
-            let ack = Call::Ack { term, id, subtask, fresh: vec![], reused, bytes: vec![] };
+            let ack = Call::Ack { term, id, subtask, fresh: vec![], reused, bytes: vec![], given: None };
             let outcome = self.step(&ack, now, made);
             if !matches!(outcome, Outcome::Made { .. }) {
-                self.step(&Call::Decline { term, id, subtask }, now, made);
+                self.step(&Call::Decline { term, id, subtask, reason: None }, now, made);
                 return outcome;
             }
+        }
+        if let (Some(last), Some(copy)) = (made.last_mut(), self.states.copy(checkpoint, id)) {
+            last.states.get_or_insert_with(Box::default).copy = Some(copy);
         }
         let restore = Call::Restore { target: Target::Savepoint(id), shape: shape.map(<[u64]>::to_vec) };
         let outcome = self.step(&restore, now, made);
@@ -111,7 +115,7 @@ mod tests {
                 let (fresh, reused) = (vec![id * 10 + u64::from(index)], if id > 1 { vec![10] } else { vec![] });
                 let is_first = index == 0;
                 let reused = if is_first { reused } else { vec![] };
-                job.call(&Call::Ack { term: 0, id, subtask, fresh, reused, bytes: vec![] }, id * 10);
+                job.call(&Call::Ack { term: 0, id, subtask, fresh, reused, bytes: vec![], given: None }, id * 10);
             }
         }
         assert_eq!(job.live().values().filter(|live| live.done).count(), 3);
@@ -167,7 +171,7 @@ mod tests {
     fn a_savepoint_that_is_refused_changes_nothing() -> Result<(), Box<dyn Error>> {
         let mut job = with_three()?;
         job.call(&Call::Tick, 50);
-        job.call(&Call::Decline { term: 0, id: 4, subtask: Subtask { vertex: 0, index: 0 } }, 51);
+        job.call(&Call::Decline { term: 0, id: 4, subtask: Subtask { vertex: 0, index: 0 }, reason: None }, 51);
         // no failed checkpoint is tolerated, so the job has failed
         let (seq, image) = (job.seq, job.engine().image());
         let (outcome, made) = go_back(&mut job, 1, 60);

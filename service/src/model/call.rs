@@ -1,4 +1,5 @@
 //! The calls that change a job.
+use super::states::Given;
 use std::fmt;
 use std::num::NonZeroU64;
 use std::str::FromStr;
@@ -80,7 +81,7 @@ pub enum Call {
     },
     Trigger,
     // bindings/generate: end
-    /// `bytes` are those of each fresh file, or none. The log's line does not have them.
+    /// `bytes` are those of each fresh file, or none. The log's line does not have them, nor what is given beside.
     Ack {
         term: u64,
         id: u64,
@@ -88,11 +89,13 @@ pub enum Call {
         fresh: Vec<u64>,
         reused: Vec<u64>,
         bytes: Vec<u64>,
+        given: Option<Box<Given>>,
     },
     Decline {
         term: u64,
         id: u64,
         subtask: Subtask,
+        reason: Option<String>,
     },
     Restore {
         target: Target,
@@ -154,6 +157,14 @@ impl Call {
             Call::Advance { .. } => "advance",
             Call::Reserve { .. } => "reserve",
             Call::Forfeit { .. } => "forfeit",
+        }
+    }
+
+    /// The record that it names.
+    pub fn record(&self) -> Option<u64> {
+        match self {
+            Call::Ack { id, .. } | Call::Decline { id, .. } | Call::Dispose { id } => Some(*id),
+            _ => None,
         }
     }
 

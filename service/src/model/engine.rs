@@ -214,7 +214,7 @@ mod tests {
 
     fn ack(fresh: Vec<u64>) -> Call {
         let subtask = Subtask { vertex: 0, index: 0 };
-        Call::Ack { term: 0, id: 1, subtask, fresh, reused: vec![], bytes: vec![] }
+        Call::Ack { term: 0, id: 1, subtask, fresh, reused: vec![], bytes: vec![], given: None }
     }
 
     #[test]

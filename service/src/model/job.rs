@@ -9,6 +9,7 @@ use super::phase::Phase;
 use super::retention::Retention;
 use super::settings::pending_limit;
 use super::sizes::{FileBytes, SizeChange, Sizes, Use};
+use super::states::{StateChange, States};
 use super::told::Told;
 use relkvanu::{Answer, Choice, Fault, Kind, Live as LiveRecord, Mode, Settings};
 use std::collections::HashSet;
@@ -64,6 +65,7 @@ impl Entry {
 pub struct Logged {
     pub entry: Entry,
     pub sizes: SizeChange,
+    pub states: Option<Box<StateChange>>,
 }
 
 pub struct Job {
@@ -88,6 +90,8 @@ pub struct Job {
     pub retention: Retention,
     /// The bytes of files, if this process leads.
     pub sizes: Sizes,
+    /// The records with payloads and the like, if this process leads.
+    pub states: States,
     /// How many milliseconds its moments are ahead of the writer's clock: it came from a process whose clock is ahead of this one's.
     pub ahead: u64,
     /// As the database has it, and as the calls since have left it.
@@ -101,7 +105,7 @@ impl Job {
     pub fn open(opening: Opening) -> Result<Job, NoJob> {
         let engine = Lendable::of(Engine::open(&opening.settings, &opening.shape, opening.started)?);
         let (shape, at, retention) = (opening.shape.clone(), opening.started, Retention::default());
-        let (live, sizes) = (Live::new(), Sizes::default());
+        let (live, sizes, states) = (Live::new(), Sizes::default(), States::default());
         let (seq, last_event, ahead, is_deleted) = (0, 0, 0, false);
         let (bases, settings) = (Bases::from(seq, Choice::Fresh), opening.settings);
         Ok(Job {
@@ -116,6 +120,7 @@ impl Job {
             bases,
             retention,
             sizes,
+            states,
             ahead,
             phase: Phase::Running,
             is_deleted,
@@ -140,6 +145,7 @@ impl Job {
     pub fn close(&mut self) {
         self.is_deleted = true;
         (self.retention, self.sizes, self.live, self.ahead) = (Retention::default(), Sizes::default(), Live::new(), 0);
+        self.states = States::default();
         if let Ok(engine) = Engine::open(&self.opening.settings, &self.opening.shape, self.opening.started) {
             self.engine = Lendable::of(engine);
         }
@@ -188,8 +194,8 @@ impl Job {
         let (job, seq, at) = (self.opening.number, self.seq, self.at);
         let entry = Entry { job, seq, at, record, line, told: Told::of(&reply), ended, waiting };
         self.retention.count_bytes(entry.bytes() as u64);
-        let beside = self.beside(call);
-        (Outcome::Made { seq: Some(self.seq), reply, beside }, Some(Logged { entry, sizes }))
+        let (beside, states) = (self.beside(call), self.states.follow(call, &reply, &entry));
+        (Outcome::Made { seq: Some(self.seq), reply, beside }, Some(Logged { entry, sizes, states }))
     }
 
     /// What a call changed of the sizes, which released the files at these places among those that wait.

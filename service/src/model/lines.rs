@@ -33,8 +33,10 @@ impl Call {
             Call::Ack { term, id, subtask, fresh, reused, .. } => {
                 C::AckIn { term: *term, now, id: *id, subtask: subtask.into(), fresh, reused }
             }
-            Call::Decline { term: 0, id, subtask } => C::Decline { now, id: *id, subtask: subtask.into() },
-            Call::Decline { term, id, subtask } => C::DeclineIn { term: *term, now, id: *id, subtask: subtask.into() },
+            Call::Decline { term: 0, id, subtask, .. } => C::Decline { now, id: *id, subtask: subtask.into() },
+            Call::Decline { term, id, subtask, .. } => {
+                C::DeclineIn { term: *term, now, id: *id, subtask: subtask.into() }
+            }
             Call::Restore { target, shape } => {
                 C::Restore { now, savepoint: target.savepoint(), shape: shape.as_deref() }
             }
@@ -97,8 +99,8 @@ fn changing(said: relkvanu::Call<'_>) -> Option<(u64, Call)> {
         // bindings/generate: end
         C::Ack { now, id, subtask, fresh, reused } => (now, ack(0, id, subtask, fresh, reused)),
         C::AckIn { term, now, id, subtask, fresh, reused } => (now, ack(term, id, subtask, fresh, reused)),
-        C::Decline { now, id, subtask } => (now, Call::Decline { term: 0, id, subtask: subtask.into() }),
-        C::DeclineIn { term, now, id, subtask } => (now, Call::Decline { term, id, subtask: subtask.into() }),
+        C::Decline { now, id, subtask } => (now, decline(0, id, subtask)),
+        C::DeclineIn { term, now, id, subtask } => (now, decline(term, id, subtask)),
         C::Restore { now, savepoint, shape } => {
             let target = savepoint.map_or(Target::Latest, |id| Target::Savepoint(id.get()));
             (now, Call::Restore { target, shape: shape.map(<[u64]>::to_vec) })
@@ -115,7 +117,11 @@ fn changing(said: relkvanu::Call<'_>) -> Option<(u64, Call)> {
 
 fn ack(term: u64, id: u64, subtask: (u16, u16), fresh: &[u64], reused: &[u64]) -> Call {
     let (fresh, reused) = (fresh.to_vec(), reused.to_vec());
-    Call::Ack { term, id, subtask: subtask.into(), fresh, reused, bytes: vec![] }
+    Call::Ack { term, id, subtask: subtask.into(), fresh, reused, bytes: vec![], given: None }
+}
+
+fn decline(term: u64, id: u64, subtask: (u16, u16)) -> Call {
+    Call::Decline { term, id, subtask: subtask.into(), reason: None }
 }
 
 #[cfg(test)]
@@ -140,14 +146,23 @@ mod tests {
                     fresh: vec![31, u64::MAX],
                     reused: vec![11],
                     bytes: vec![],
+                    given: None,
                 },
                 "ack 1234 12 1.7 +31 +18446744073709551615 =11",
             ),
             (
-                Call::Ack { term: 0, id: 12, subtask: SUBTASK, fresh: vec![], reused: vec![], bytes: vec![] },
+                Call::Ack {
+                    term: 0,
+                    id: 12,
+                    subtask: SUBTASK,
+                    fresh: vec![],
+                    reused: vec![],
+                    bytes: vec![],
+                    given: None,
+                },
                 "ack 1234 12 1.7",
             ),
-            (Call::Decline { term: 0, id: 3, subtask: SUBTASK }, "decline 1234 3 1.7"),
+            (Call::Decline { term: 0, id: 3, subtask: SUBTASK, reason: None }, "decline 1234 3 1.7"),
             (Call::Restore { target: Target::Latest, shape: None }, "restore 1234 latest"),
             (Call::Restore { target: Target::Savepoint(4), shape: Some(vec![2, 1]) }, "restore 1234 4 2 1"),
             (Call::Cancel, "cancel 1234"),
@@ -166,10 +181,18 @@ mod tests {
             (Call::Forfeit { term: 3, names: vec![24, 26] }, "forfeit 3 24 26"),
             (Call::Forfeit { term: 3, names: vec![] }, "forfeit 3"),
             (
-                Call::Ack { term: 3, id: 12, subtask: SUBTASK, fresh: vec![31], reused: vec![11], bytes: vec![] },
+                Call::Ack {
+                    term: 3,
+                    id: 12,
+                    subtask: SUBTASK,
+                    fresh: vec![31],
+                    reused: vec![11],
+                    bytes: vec![],
+                    given: None,
+                },
                 "in 3 ack 1234 12 1.7 +31 =11",
             ),
-            (Call::Decline { term: 3, id: 12, subtask: SUBTASK }, "in 3 decline 1234 12 1.7"),
+            (Call::Decline { term: 3, id: 12, subtask: SUBTASK, reason: None }, "in 3 decline 1234 12 1.7"),
         ]
     }
 
@@ -182,8 +205,15 @@ mod tests {
 
     #[test]
     fn files_ascend_in_a_line() {
-        let call =
-            Call::Ack { term: 0, id: 1, subtask: SUBTASK, fresh: vec![31, 11], reused: vec![9, 8], bytes: vec![] };
+        let call = Call::Ack {
+            term: 0,
+            id: 1,
+            subtask: SUBTASK,
+            fresh: vec![31, 11],
+            reused: vec![9, 8],
+            bytes: vec![],
+            given: None,
+        };
         assert_eq!(call.line(5).as_deref(), Ok("ack 5 1 1.7 +11 +31 =8 =9"));
     }
 

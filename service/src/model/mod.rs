@@ -17,6 +17,7 @@ mod settings;
 mod shards;
 mod sizes;
 mod starts;
+mod states;
 mod stop;
 mod summary;
 mod told;
@@ -41,6 +42,7 @@ pub use settings::{check_shape, config_line, parse_config, settings_json, settin
 pub use shards::{shard_of, Held, Shards, SHARDS};
 pub use sizes::{parse_sizes, sizes_text, AckBytes, Bytes, FileBytes};
 pub use starts::{length_in, lengths_text};
+pub use states::{files_text, parse_files, Figure, Given, StateChange, SubtaskState, MOST_PAYLOAD, MOST_REASON};
 pub use summary::{KeptSummary, PastRecord, SummaryPart};
 pub use told::Told;
 pub use trail::Trail;

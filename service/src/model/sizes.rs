@@ -192,7 +192,15 @@ mod tests {
 
     fn ack(fresh: &[u64], reused: &[u64], bytes: &[u64]) -> Call {
         let subtask = Subtask { vertex: 0, index: 0 };
-        Call::Ack { term: 0, id: 1, subtask, fresh: fresh.to_vec(), reused: reused.to_vec(), bytes: bytes.to_vec() }
+        Call::Ack {
+            term: 0,
+            id: 1,
+            subtask,
+            fresh: fresh.to_vec(),
+            reused: reused.to_vec(),
+            bytes: bytes.to_vec(),
+            given: None,
+        }
     }
 
     fn answered(answer: Answer) -> Reply {

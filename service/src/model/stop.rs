@@ -63,7 +63,7 @@ impl Job {
         let restore = Call::Restore { target: Target::Savepoint(stop.savepoint), shape: None };
         let outcome = self.step(&restore, now, made);
         match outcome {
-            Outcome::Made { .. } => self.phase = Phase::Stopped(stop, self.running_term()),
+            Outcome::Made { .. } | Outcome::Told { .. } => self.phase = Phase::Stopped(stop, self.running_term()),
             Outcome::NoMemory | Outcome::NotMade => {}
             Outcome::Refused(_) | Outcome::Unable(_) => self.phase = Phase::NotStopped(stop, StopFailed::Failed),
         }
@@ -188,7 +188,15 @@ mod tests {
 
     fn ack(id: u64, index: u16) -> Call {
         let subtask = Subtask { vertex: 0, index };
-        Call::Ack { term: 1, id, subtask, fresh: vec![id * 2 + u64::from(index)], reused: vec![], bytes: vec![] }
+        Call::Ack {
+            term: 1,
+            id,
+            subtask,
+            fresh: vec![id * 2 + u64::from(index)],
+            reused: vec![],
+            bytes: vec![],
+            given: None,
+        }
     }
 
     fn is_made(outcome: &Outcome) -> bool {
@@ -270,7 +278,7 @@ mod tests {
 
     #[test]
     fn a_stop_fails_with_its_savepoint() -> Result<(), Box<dyn Error>> {
-        let decline = |id| Call::Decline { term: 1, id, subtask: Subtask { vertex: 0, index: 0 } };
+        let decline = |id| Call::Decline { term: 1, id, subtask: Subtask { vertex: 0, index: 0 }, reason: None };
         let latest = Call::Restore { target: Target::Latest, shape: None };
         for (call, now, why) in [
             (Call::Tick, 5150, StopFailed::Expired),

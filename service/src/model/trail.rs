@@ -176,7 +176,15 @@ mod tests {
     }
 
     fn ack(term: u64, id: u64) -> Call {
-        Call::Ack { term, id, subtask: Subtask { vertex: 0, index: 0 }, fresh: vec![id], reused: vec![], bytes: vec![] }
+        Call::Ack {
+            term,
+            id,
+            subtask: Subtask { vertex: 0, index: 0 },
+            fresh: vec![id],
+            reused: vec![],
+            bytes: vec![],
+            given: None,
+        }
     }
 
     fn stop(savepoint: u64) -> Stop {
@@ -261,6 +269,7 @@ mod tests {
             fresh: vec![11],
             reused: vec![],
             bytes: vec![],
+            given: None,
         };
         tried.makes(&[Call::Reserve { term: 2, count: 1 }, Call::Savepoint, last]);
         tried.makes(&[Call::Restore { target: Target::Savepoint(4), shape: None }]);

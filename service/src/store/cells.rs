@@ -2,8 +2,8 @@
 use super::error::DbError;
 use super::rows::{Keyed, SavedImage};
 use crate::model::{
-    parse_config, parse_sizes, AckBytes, Entry, FileBytes, Image, KeptImage, KeptSummary, Opening, PastRecord, Phase,
-    Told,
+    parse_config, parse_files, parse_sizes, AckBytes, Entry, Figure, FileBytes, Given, Image, KeptImage, KeptSummary,
+    Opening, PastRecord, Phase, Subtask, SubtaskState, Told,
 };
 use rusqlite::types::{Type, ValueRef};
 
@@ -197,6 +197,26 @@ impl FromRow for AckBytes {
 
     fn read(row: &mut Row) -> Option<AckBytes> {
         Some(AckBytes { job: row.number()?, seq: row.number()?, fresh: row.parsed(parse_sizes)?, full: row.number()? })
+    }
+}
+
+impl FromRow for SubtaskState {
+    const TABLE: &'static str = "subtask_state";
+
+    fn read(row: &mut Row) -> Option<SubtaskState> {
+        let (job, record, vertex, index) = (row.number()?, row.number()?, row.number()?, row.number()?);
+        let (files, payload) = (row.parsed(parse_files)?, row.text()?);
+        let given = Given { payload, bytes: row.number()?, millis: row.number()? };
+        Some(SubtaskState { job, record, subtask: Subtask { vertex, index }, files, given })
+    }
+}
+
+impl FromRow for Figure {
+    const TABLE: &'static str = "figure";
+
+    fn read(row: &mut Row) -> Option<Figure> {
+        let (job, seq, bytes, millis) = (row.number()?, row.number()?, row.number()?, row.number()?);
+        Some(Figure { job, seq, bytes, millis, reason: row.text_or_null()? })
     }
 }
 

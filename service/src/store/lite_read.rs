@@ -5,8 +5,10 @@ use super::lite::{signed, BUSY};
 use super::moved;
 use super::reader::Reader;
 use super::room::room_of;
-use super::rows::{image_columns, whole, LogPage, Room, SavedImage, COLUMNS, IS_EVENT, PAGE_BYTES};
-use crate::model::{AckBytes, Entry, FileBytes, KeptImage, KeptSummary, Opening, PastRecord, Phase, Shards};
+use super::rows::{image_columns, whole, LogPage, Room, SavedImage, COLUMNS, IS_EVENT, PAGE_BYTES, STATE};
+use crate::model::{
+    AckBytes, Entry, Figure, FileBytes, KeptImage, KeptSummary, Opening, PastRecord, Phase, Shards, SubtaskState,
+};
 use rusqlite::{params, Connection, OpenFlags, OptionalExtension, Params};
 use std::path::Path;
 
@@ -125,6 +127,21 @@ impl Reader for LiteReader {
     fn sizes(&mut self, _: Shards, after: (i64, i64), most: u32) -> Result<Vec<(i64, FileBytes)>, DbError> {
         let sql = "select job, file, bytes from size where (job, file) > (?, ?) order by job, file limit ?";
         self.all(sql, params![after.0, after.1, most])
+    }
+
+    fn states(&mut self, job: i64, record: u64) -> Result<Vec<SubtaskState>, DbError> {
+        let sql = format!("select {STATE} from subtask_state where job = ? and record = ? order by vertex, place");
+        self.all(&sql, params![job, signed(record)])
+    }
+
+    fn figures(&mut self, job: i64, after: u64, upto: u64) -> Result<Vec<Figure>, DbError> {
+        let sql =
+            "select job, seq, bytes, millis, reason from figure where job = ? and seq > ? and seq <= ? order by seq";
+        self.all(sql, params![job, signed(after), signed(upto)])
+    }
+
+    fn with_states(&mut self, _: Shards) -> Result<Vec<(i64, u64)>, DbError> {
+        self.all("select distinct job, record from subtask_state", [])
     }
 
     fn gone(&mut self) -> Result<Vec<(i64, u64)>, DbError> {

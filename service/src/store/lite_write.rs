@@ -3,10 +3,11 @@ use super::lite::signed;
 use super::many::{insert, maybe, number, text};
 use super::rows::{GoneJob, Group, Keyed, SavedImage};
 use crate::model::{
-    config_line, shape_words, sizes_text, AckBytes, Cut, Entry, ImagePart, Opening, PastRecord, Phase, SummaryPart,
+    config_line, files_text, shape_words, sizes_text, AckBytes, Cut, Entry, Figure, ImagePart, Opening, PastRecord,
+    Phase, SubtaskState, SummaryPart,
 };
 use rusqlite::{params, Connection};
-use std::collections::BTreeMap;
+use std::collections::{BTreeMap, BTreeSet};
 
 /// One transaction. It is rolled back if this returns an error.
 pub fn write(connection: &mut Connection, group: &Group) -> rusqlite::Result<()> {
@@ -23,6 +24,10 @@ pub fn write(connection: &mut Connection, group: &Group) -> rusqlite::Result<()>
     drop_summaries(&transaction, &group.dropped_summaries)?;
     write_sizes(&transaction, &group.sizes)?;
     write_said(&transaction, &group.said)?;
+    copy_states(&transaction, &group.copied_states)?;
+    write_states(&transaction, &group.states)?;
+    drop_states(&transaction, &group.gone_states)?;
+    write_figures(&transaction, &group.figures)?;
     write_phases(&transaction, &group.phases)?;
     drop_jobs(&transaction, &group.gone)?;
     transaction.commit()
@@ -82,9 +87,11 @@ fn drop_images(within: &Connection, places: &[(i64, u64)]) -> rusqlite::Result<(
 fn cut(within: &Connection, cuts: &[Cut]) -> rusqlite::Result<()> {
     let mut delete = within.prepare_cached("delete from call where job = ? and seq > ? and seq <= ?")?;
     let mut forget = within.prepare_cached("delete from ack_size where job = ? and seq <= ?")?;
+    let mut forget_figures = within.prepare_cached("delete from figure where job = ? and seq <= ?")?;
     cuts.iter().try_for_each(|cut| {
         delete.execute(params![cut.job, signed(cut.after), signed(cut.upto)])?;
-        forget.execute(params![cut.job, signed(cut.upto)]).map(|_| ())
+        forget.execute(params![cut.job, signed(cut.upto)])?;
+        forget_figures.execute(params![cut.job, signed(cut.upto)]).map(|_| ())
     })
 }
 
@@ -119,6 +126,37 @@ fn write_said(within: &Connection, said: &[AckBytes]) -> rusqlite::Result<()> {
     let mut insert = within.prepare_cached("insert or replace into ack_size values(?, ?, ?, ?)")?;
     said.iter().try_for_each(|it| {
         insert.execute(params![it.job, signed(it.seq), sizes_text(&it.fresh), signed(it.full)]).map(|_| ())
+    })
+}
+
+fn copy_states(within: &Connection, copies: &[(i64, u64, u64)]) -> rusqlite::Result<()> {
+    let mut copy = within.prepare_cached(
+        "insert into subtask_state select job, ?3, vertex, place, files, payload, bytes, millis from subtask_state
+        where job = ?1 and record = ?2",
+    )?;
+    copies.iter().try_for_each(|(job, from, to)| copy.execute(params![job, signed(*from), signed(*to)]).map(|_| ()))
+}
+
+fn write_states(within: &Connection, states: &[SubtaskState]) -> rusqlite::Result<()> {
+    let mut insert = within.prepare_cached("insert into subtask_state values(?, ?, ?, ?, ?, ?, ?, ?)")?;
+    states.iter().try_for_each(|it| {
+        let (record, files, given) = (signed(it.record), files_text(&it.files), &it.given);
+        let (bytes, millis) = (signed(given.bytes), signed(given.millis));
+        let (vertex, place) = (it.subtask.vertex, it.subtask.index);
+        insert.execute(params![it.job, record, vertex, place, files, given.payload, bytes, millis]).map(|_| ())
+    })
+}
+
+fn drop_states(within: &Connection, records: &BTreeSet<(i64, u64)>) -> rusqlite::Result<()> {
+    let mut delete = within.prepare_cached("delete from subtask_state where job = ? and record = ?")?;
+    records.iter().try_for_each(|(job, record)| delete.execute(params![job, signed(*record)]).map(|_| ()))
+}
+
+fn write_figures(within: &Connection, figures: &[Figure]) -> rusqlite::Result<()> {
+    let mut insert = within.prepare_cached("insert into figure values(?, ?, ?, ?, ?)")?;
+    figures.iter().try_for_each(|it| {
+        let [seq, bytes, millis] = [it.seq, it.bytes, it.millis].map(signed);
+        insert.execute(params![it.job, seq, bytes, millis, it.reason]).map(|_| ())
     })
 }
 

@@ -2,9 +2,10 @@
 use super::parameter::Parameter;
 use super::rows::{GoneJob, Group, Keyed, SavedImage};
 use crate::model::{
-    config_line, shape_words, sizes_text, AckBytes, Cut, Entry, ImagePart, Opening, PastRecord, Phase, SummaryPart,
+    config_line, files_text, shape_words, sizes_text, AckBytes, Cut, Entry, Figure, ImagePart, Opening, PastRecord,
+    Phase, SubtaskState, SummaryPart,
 };
-use std::collections::BTreeMap;
+use std::collections::{BTreeMap, BTreeSet};
 
 /// What a statement has of a group: its parts by their places in `sql/pg_commit.sql`, and the columns of all of them.
 pub struct Columns {
@@ -31,6 +32,10 @@ impl Columns {
         columns.add(11, group.said.len(), || said_columns(&group.said));
         columns.add(12, group.gone.len(), || gone_columns(&group.gone));
         columns.add(13, group.phases.len(), || phase_columns(&group.phases));
+        columns.add(14, group.states.len(), || state_columns(&group.states));
+        columns.add(15, group.copied_states.len(), || copied_columns(&group.copied_states));
+        columns.add(16, group.gone_states.len(), || gone_state_columns(&group.gone_states));
+        columns.add(17, group.figures.len(), || figure_columns(&group.figures));
         columns
     }
 
@@ -165,6 +170,44 @@ fn said_columns(said: &[AckBytes]) -> [Parameter; 4] {
         Parameter::numbers(said.iter().map(|it| Some(number(it.seq)))),
         Parameter::texts(said.iter().map(|it| Some(sizes_text(&it.fresh)))),
         Parameter::numbers(said.iter().map(|it| Some(number(it.full)))),
+    ]
+}
+
+fn state_columns(states: &[SubtaskState]) -> [Parameter; 8] {
+    [
+        Parameter::numbers(states.iter().map(|it| Some(it.job))),
+        Parameter::numbers(states.iter().map(|it| Some(number(it.record)))),
+        Parameter::numbers(states.iter().map(|it| Some(i64::from(it.subtask.vertex)))),
+        Parameter::numbers(states.iter().map(|it| Some(i64::from(it.subtask.index)))),
+        Parameter::texts(states.iter().map(|it| Some(files_text(&it.files)))),
+        Parameter::texts(states.iter().map(|it| Some(it.given.payload.as_str()))),
+        Parameter::numbers(states.iter().map(|it| Some(number(it.given.bytes)))),
+        Parameter::numbers(states.iter().map(|it| Some(number(it.given.millis)))),
+    ]
+}
+
+fn figure_columns(figures: &[Figure]) -> [Parameter; 5] {
+    [
+        Parameter::numbers(figures.iter().map(|it| Some(it.job))),
+        Parameter::numbers(figures.iter().map(|it| Some(number(it.seq)))),
+        Parameter::numbers(figures.iter().map(|it| Some(number(it.bytes)))),
+        Parameter::numbers(figures.iter().map(|it| Some(number(it.millis)))),
+        Parameter::texts(figures.iter().map(|it| it.reason.as_deref())),
+    ]
+}
+
+fn copied_columns(copies: &[(i64, u64, u64)]) -> [Parameter; 3] {
+    [
+        Parameter::numbers(copies.iter().map(|(job, _, _)| Some(*job))),
+        Parameter::numbers(copies.iter().map(|(_, from, _)| Some(number(*from)))),
+        Parameter::numbers(copies.iter().map(|(_, _, to)| Some(number(*to)))),
+    ]
+}
+
+fn gone_state_columns(records: &BTreeSet<(i64, u64)>) -> [Parameter; 2] {
+    [
+        Parameter::numbers(records.iter().map(|(job, _)| Some(*job))),
+        Parameter::numbers(records.iter().map(|(_, record)| Some(number(*record)))),
     ]
 }
 

@@ -117,11 +117,14 @@ mod tests {
             (10, "sizes"),
             (12, "jobs that go"),
             (13, "phases"),
+            (14, "states of subtasks"),
+            (16, "states that go"),
+            (17, "figures"),
         ];
-        assert_eq!(titles.len(), 14);
+        assert_eq!(titles.len(), 18);
         assert!(places.iter().all(|(place, title)| titles[*place].starts_with(title)), "{titles:?}");
         // in all the parameters of a row of each table
-        let parameters = (0..14).map(|part| numbered(body(PARTS.split(PART).nth(part + 1).unwrap_or("")), 0).1);
-        assert_eq!(parameters.collect::<Vec<_>>(), [6, 11, 5, 9, 4, 2, 3, 5, 3, 2, 5, 4, 3, 6]);
+        let parameters = (0..18).map(|part| numbered(body(PARTS.split(PART).nth(part + 1).unwrap_or("")), 0).1);
+        assert_eq!(parameters.collect::<Vec<_>>(), [6, 11, 5, 9, 4, 2, 3, 5, 3, 2, 5, 4, 3, 6, 8, 3, 2, 5]);
     }
 }

@@ -3,8 +3,11 @@ use super::cells::{FromRow, Row};
 use super::error::DbError;
 use super::pq::{Connection, Failed, Rows};
 use super::reader::Reader;
-use super::rows::{image_columns, whole, LogPage, Room, SavedImage, COLUMNS, IS_EVENT, PAGE_BYTES};
-use crate::model::{shard_of, AckBytes, Entry, FileBytes, KeptImage, KeptSummary, Opening, PastRecord, Phase, Shards};
+use super::rows::{image_columns, whole, LogPage, Room, SavedImage, COLUMNS, IS_EVENT, PAGE_BYTES, STATE};
+use crate::model::{
+    shard_of, AckBytes, Entry, Figure, FileBytes, KeptImage, KeptSummary, Opening, PastRecord, Phase, Shards,
+    SubtaskState,
+};
 use std::time::Duration;
 
 /// A statement of a reader may take this long.
@@ -148,6 +151,24 @@ impl Reader for PgReader {
             order by job, file limit $4::bigint"
         );
         self.all(&sql, &[&shards.bits().to_string(), &after.0.to_string(), &after.1.to_string(), &most.to_string()])
+    }
+
+    fn states(&mut self, job: i64, record: u64) -> Result<Vec<SubtaskState>, DbError> {
+        let sql = format!(
+            "select {STATE} from subtask_state where job = $1::bigint and record = $2::bigint order by vertex, place"
+        );
+        self.all(&sql, &[&job.to_string(), &signed(record)])
+    }
+
+    fn figures(&mut self, job: i64, after: u64, upto: u64) -> Result<Vec<Figure>, DbError> {
+        let sql = "select job, seq, bytes, millis, reason from figure
+            where job = $1::bigint and seq > $2::bigint and seq <= $3::bigint order by seq";
+        self.all(sql, &[&job.to_string(), &signed(after), &signed(upto)])
+    }
+
+    fn with_states(&mut self, shards: Shards) -> Result<Vec<(i64, u64)>, DbError> {
+        let sql = format!("select distinct job, record from subtask_state where {OF_SHARDS}");
+        self.all(&sql, &[&shards.bits().to_string()])
     }
 
     fn gone(&mut self) -> Result<Vec<(i64, u64)>, DbError> {

@@ -1,7 +1,9 @@
 //! What a reader of the database does.
 use super::error::DbError;
 use super::rows::{LogPage, Room, SavedImage, PAGE_BYTES, VERSION};
-use crate::model::{AckBytes, Entry, FileBytes, KeptImage, KeptSummary, Opening, PastRecord, Phase, Shards};
+use crate::model::{
+    AckBytes, Entry, Figure, FileBytes, KeptImage, KeptSummary, Opening, PastRecord, Phase, Shards, SubtaskState,
+};
 
 /// A connection that only reads. A part of a log that it returns has one call at least, if there is one, and [`PAGE_BYTES`] or one call
 /// more at most. So it is no sign of the end that there are fewer calls than were asked for.
@@ -51,6 +53,15 @@ pub trait Reader: Send {
     /// The bytes of files of the jobs of shards, after a job and the number of its file, which a database keeps with a sign; at most `most`, in
     /// order. A database whose only process has all shards gives those of all jobs.
     fn sizes(&mut self, shards: Shards, after: (i64, i64), most: u32) -> Result<Vec<(i64, FileBytes)>, DbError>;
+
+    /// What the subtasks of a record have beside their files, in their order.
+    fn states(&mut self, job: i64, record: u64) -> Result<Vec<SubtaskState>, DbError>;
+
+    /// What calls told for the history, of those after `after` up to `upto`, in order.
+    fn figures(&mut self, job: i64, after: u64, upto: u64) -> Result<Vec<Figure>, DbError>;
+
+    /// The records of the jobs of shards of which it has such rows.
+    fn with_states(&mut self, shards: Shards) -> Result<Vec<(i64, u64)>, DbError>;
 
     /// The numbers of jobs that were deleted, and 1 if nothing is left of it.
     fn gone(&mut self) -> Result<Vec<(i64, u64)>, DbError>;

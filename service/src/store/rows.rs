@@ -1,9 +1,10 @@
 //! What a database of the service does: commits groups, and reads the log.
 use super::error::{DbError, Failure};
 use crate::model::{
-    AckBytes, Cut, Entry, Held, Image, ImagePart, Logged, Opening, PastRecord, Phase, Shards, SummaryPart,
+    AckBytes, Cut, Entry, Figure, Held, Image, ImagePart, Logged, Opening, PastRecord, Phase, Shards, StateChange,
+    SubtaskState, SummaryPart,
 };
-use std::collections::BTreeMap;
+use std::collections::{BTreeMap, BTreeSet};
 use std::time::Duration;
 
 /// What one transaction commits, in this order.
@@ -26,6 +27,14 @@ pub struct Group {
     pub sizes: BTreeMap<(i64, u64), Option<u64>>,
     /// What acknowledgements said of sizes.
     pub said: Vec<AckBytes>,
+    /// What subtasks have in records. Rows of the database that are copied come before them, and those that go after them.
+    pub states: Vec<SubtaskState>,
+    /// Jobs, records whose rows another record gets too, and that one.
+    pub copied_states: Vec<(i64, u64, u64)>,
+    /// Records whose rows go.
+    pub gone_states: BTreeSet<(i64, u64)>,
+    /// What calls told for the history.
+    pub figures: Vec<Figure>,
     /// The phases of jobs as they are after all calls.
     pub phases: BTreeMap<i64, Phase>,
     /// Jobs to delete.
@@ -42,7 +51,7 @@ pub struct GoneJob {
 }
 
 /// The tables with rows of jobs, by which columns, and how many rows of it one piece of a deletion has at most: some are large.
-pub const OF_JOBS: [(&str, &str, u64); 9] = [
+pub const OF_JOBS: [(&str, &str, u64); 11] = [
     ("call", "job, seq", 1000),
     ("ack_size", "job, seq", 1000),
     ("request", "job, key", 1000),
@@ -52,15 +61,37 @@ pub const OF_JOBS: [(&str, &str, u64); 9] = [
     ("image", "job, seq", 1),
     ("image_part", "job, seq, part", 8),
     ("phase", "job", 1000),
+    ("subtask_state", "job, record, vertex, place", 1000),
+    ("figure", "job, seq", 1000),
 ];
 
 impl Group {
     /// Adds a call.
     pub fn log(&mut self, logged: Logged) {
-        let Logged { entry, sizes } = logged;
+        let Logged { entry, sizes, states } = logged;
+        if let Some(change) = states {
+            self.change_states(entry.job, *change);
+        }
         self.sizes.extend(sizes.files.into_iter().map(|(file, bytes)| ((entry.job, file), bytes)));
         self.said.extend(sizes.said);
         self.entries.push(entry);
+    }
+
+    /// Takes in what a call changed of the rows of subtasks. The statement that copies rows does not see those of this group.
+    fn change_states(&mut self, job: i64, change: StateChange) {
+        self.states.extend(change.new);
+        self.figures.extend(change.figure);
+        if let Some((from, to)) = change.copy {
+            let own = self.states.iter().filter(|it| (it.job, it.record) == (job, from));
+            let copies: Vec<SubtaskState> = own.map(|it| SubtaskState { record: to, ..it.clone() }).collect();
+            self.states.extend(copies);
+            self.copied_states.push((job, from, to));
+        }
+        for record in change.gone {
+            self.states.retain(|it| (it.job, it.record) != (job, record));
+            self.copied_states.retain(|(of, _, to)| (*of, *to) != (job, record));
+            self.gone_states.insert((job, record));
+        }
     }
 
     /// The shards of all jobs of which it writes something.
@@ -83,6 +114,10 @@ impl Group {
         self.requests.retain(|it| stays(it.job));
         self.sizes.retain(|(job, _), _| stays(*job));
         self.said.retain(|it| stays(it.job));
+        self.states.retain(|it| stays(it.job));
+        self.figures.retain(|it| stays(it.job));
+        self.copied_states.retain(|(job, _, _)| stays(*job));
+        self.gone_states.retain(|(job, _)| stays(*job));
         self.phases.retain(|job, _| stays(*job));
         new
     }
@@ -204,6 +239,9 @@ pub const IS_EVENT: &str = "(what in (1, 5, 6, 8, 10, 11, 13, 14, 15, 16, 17) or
 
 /// The columns of an [`Entry`].
 pub const COLUMNS: &str = "job, seq, at, record, line, what, a, b, files, ended, waiting";
+
+/// The columns of a [`SubtaskState`].
+pub const STATE: &str = "job, record, vertex, place, files, payload, bytes, millis";
 
 /// The columns of a [`SavedImage`]. `joined` selects the parts of a long image's text, put together. One statement reads them, so an image
 /// that is deleted meanwhile is there whole or not at all.

@@ -25,7 +25,7 @@ pub type Cells = Vec<Value>;
 use Kind::{Number, One, Text};
 
 /// All that a move copies. The members, the shards and their leases are of processes, so PostgreSQL begins with none.
-pub const TABLES: [Table; 13] = [
+pub const TABLES: [Table; 15] = [
     Table {
         name: "job",
         columns: &[
@@ -129,6 +129,27 @@ pub const TABLES: [Table; 13] = [
             ("failed", Text),
         ],
         key: "job",
+        most: 1000,
+    },
+    Table {
+        name: "subtask_state",
+        columns: &[
+            ("job", Number),
+            ("record", Number),
+            ("vertex", Number),
+            ("place", Number),
+            ("files", Text),
+            ("payload", Text),
+            ("bytes", Number),
+            ("millis", Number),
+        ],
+        key: "job, record, vertex, place",
+        most: 100,
+    },
+    Table {
+        name: "figure",
+        columns: &[("job", Number), ("seq", Number), ("bytes", Number), ("millis", Number), ("reason", Text)],
+        key: "job, seq",
         most: 1000,
     },
 ];

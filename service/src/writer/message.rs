@@ -20,6 +20,8 @@ pub enum Message {
     Calls {
         job: String,
         calls: Vec<Call>,
+        /// Whether the answers tell which records the calls have ended.
+        tells: bool,
         key: Option<Key>,
         reply: oneshot::Sender<CallsDone>,
     },

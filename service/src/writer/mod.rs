@@ -33,7 +33,7 @@ pub use state::{JobState, RecordState};
 
 use crate::log;
 use crate::metrics::Metrics;
-use crate::model::{millis, nearer, Call, Change, Clock, Keeping, Moment, Outcome};
+use crate::model::{kind, millis, nearer, Call, Change, Clock, Entry, Keeping, Moment, Outcome};
 use crate::store::{Failure, Store};
 use batch::{calls_of, Answered};
 use commit::lose;
@@ -260,11 +260,11 @@ impl Writer {
                 let (number, done) = (self.jobs.number(&job), self.configure(round, &job, change));
                 round.done.push(Done { done, job: number, reply });
             }
-            Message::Calls { job, calls, key, reply } => {
+            Message::Calls { job, calls, tells, key, reply } => {
                 let number = self.jobs.number(&job);
                 let done = match self.jobs.place(&job) {
                     None => CallsDone::NoJob,
-                    Some(place) => self.keyed_calls(round, answered, place, &calls, key),
+                    Some(place) => self.keyed_calls(round, answered, place, (&calls, tells), key),
                 };
                 round.done.push(Done { done, job: number, reply });
             }
@@ -277,22 +277,22 @@ impl Writer {
         round: &mut Round,
         answered: &Answered,
         place: usize,
-        calls: &[Call],
+        (calls, tells): (&[Call], bool),
         key: Option<Key>,
     ) -> CallsDone {
         let Some(key) = key else {
             let epoch = self.board.epoch_of(self.jobs.at(place).opening.number);
-            return CallsDone::Made(epoch, self.calls(round, place, calls));
+            return CallsDone::Made(epoch, self.calls(round, place, calls, tells));
         };
         let job = self.jobs.at(place).opening.number;
         match round.keyed(job, &key.name).or_else(|| answered.get(job, &key.name)) {
             Some(known) if known.digest == key.digest => CallsDone::Known(known.answers),
             Some(_) => CallsDone::KeyUsed,
             None => {
-                let outcomes = self.calls(round, place, calls);
+                let outcomes = self.calls(round, place, calls, tells);
                 let answers = self.board.answers(self.board.epoch_of(job), &outcomes);
                 // if nothing was made, a repeat makes nothing twice
-                if outcomes.iter().any(|outcome| matches!(outcome, Outcome::Made { seq: Some(_), .. })) {
+                if outcomes.iter().any(Outcome::has_row) {
                     round.keep(job, key, self.clock.now(), answers.clone());
                 }
                 CallsDone::Known(answers)
@@ -312,16 +312,32 @@ impl Writer {
     }
 
     /// Makes calls in order. After one that found no memory, the others are not made.
-    fn calls(&mut self, round: &mut Round, place: usize, calls: &[Call]) -> Vec<Outcome> {
+    fn calls(&mut self, round: &mut Round, place: usize, calls: &[Call], tells: bool) -> Vec<Outcome> {
         let mut outcomes = Vec::with_capacity(calls.len());
         for call in calls {
             let outcome = match outcomes.last() {
                 Some(Outcome::NoMemory | Outcome::NotMade) => Outcome::NotMade,
+                _ if tells => self.telling_call(round, place, call),
                 _ => self.call(round, place, call),
             };
             outcomes.push(outcome);
         }
         outcomes
+    }
+
+    /// Makes a call, and tells the kind of its record and which ones it has ended.
+    fn telling_call(&mut self, round: &mut Round, place: usize, call: &Call) -> Outcome {
+        let live = self.jobs.at(place).live();
+        let named = call.record().and_then(|id| live.get(&id)).map(|live| live.kind.to_string());
+        let first = round.group.entries.len();
+        let made = self.call(round, place, call);
+        let Outcome::Made { reply, .. } = &made else {
+            return made;
+        };
+        let kind = kind(reply).filter(|word| *word != "fresh").map(str::to_string).or(named);
+        let mut ended: Vec<u64> = round.group.entries[first..].iter().flat_map(Entry::ended).collect();
+        ended.sort_unstable();
+        Outcome::Told { made: Box::new(made), kind, ended }
     }
 
     fn call(&mut self, round: &mut Round, place: usize, call: &Call) -> Outcome {

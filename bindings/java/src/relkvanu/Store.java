@@ -12,8 +12,10 @@ import java.util.Arrays;
 import java.util.List;
 import java.util.Objects;
 import java.util.Optional;
+import java.util.Set;
 import java.util.function.Function;
 import java.util.function.IntSupplier;
+import java.util.function.ToIntFunction;
 
 /**
  * A coordinator whose calls are durable: one SQLite file for each job, so that an engine writes no log, lock, sync or recovery. The native
@@ -39,6 +41,8 @@ public final class Store implements AutoCloseable {
     static final int NOT_MADE = StoreHeader.NOT_MADE;
     private static final long FOREVER = -1;
     private static final long[] NONE = new long[7];
+    private static final Set<StoreFault> SAID =
+        Set.of(StoreFault.BAD_ARGUMENT, StoreFault.ABSENT, StoreFault.DAMAGED, StoreFault.NOT_DONE, StoreFault.FILE_LOST);
     private static final Charset NAMES = Charset.forName(System.getProperty("sun.jnu.encoding", "UTF-8"));
 
     private final long address;
@@ -214,6 +218,9 @@ public final class Store implements AutoCloseable {
      */
     public List<StoreOutcome> calls(List<StoreCall> calls) {
         List<StoreCall> own = List.copyOf(calls);
+        if (own.stream().anyMatch(StoreCall::hasMore)) {
+            return callsWith(own).stream().map(StoreTold::outcome).toList();
+        }
         long[] numbers = StoreCall.numbers(own);
         long[] words = StoreCall.words(own);
         byte[] why = new byte[StoreNative.MESSAGE];
@@ -226,6 +233,130 @@ public final class Store implements AutoCloseable {
         }
         outcomes.stream().filter(StoreOutcome.NotMade.class::isInstance).findFirst().ifPresent(it -> ((StoreOutcome.NotMade) it).why().about(text(why)));
         return outcomes;
+    }
+
+    /** The status of a function, of which this thread knows why it was not done. */
+    private void said(ToIntFunction<byte[]> call) {
+        byte[] why = new byte[StoreNative.MESSAGE];
+        outsideRead();
+        enter();
+        try {
+            int status = call.applyAsInt(why);
+            if (SAID.stream().anyMatch(it -> it.status == status)) {
+                throw fault(status, text(why));
+            }
+            check(status);
+        } finally {
+            leave();
+        }
+    }
+
+    /**
+     * As {@link #calls}, and tells more of each. Throws {@code NotStored} with {@code BAD_ARGUMENT} if what a call has is too long, or for another
+     * kind of call.
+     *
+     * @param calls the calls
+     * @return what became of each
+     */
+    public List<StoreTold> callsWith(List<StoreCall> calls) {
+        List<StoreCall> own = List.copyOf(calls);
+        long[] numbers = StoreCall.numbersWithMore(own);
+        long[] words = StoreCall.wordsWithMore(own);
+        byte[] bytes = StoreCall.bytesOf(own);
+        said(why -> KitNative.calls(address, numbers, words, bytes, why));
+        List<StoreTold> told = new ArrayList<>();
+        int at = 0;
+        for (StoreCall it : own) {
+            int place = told.size() * KitNative.CALL;
+            StoreOutcome outcome = outcome(numbers, place, words, it.buffer(at));
+            at = it.after(at);
+            told.add(told(outcome, numbers, place, words, at));
+            at += it.endsAtMost();
+        }
+        return told;
+    }
+
+    private static StoreTold told(StoreOutcome outcome, long[] numbers, int place, long[] words, int at) {
+        if (outcome instanceof StoreOutcome.NotMade) {
+            return new StoreTold(outcome, Optional.empty(), List.of());
+        }
+        int kind = place + StoreNative.OUTCOME;
+        return new StoreTold(outcome, WholeRecord.kind(numbers[kind]), WholeRecord.list(words, at, (int) numbers[kind + 1]));
+    }
+
+    /**
+     * Makes one call, and tells what it has ended.
+     *
+     * @param call the call
+     * @return the call as it was made
+     */
+    public StoreTold callWith(StoreCall call) {
+        StoreTold told = callsWith(List.of(call)).get(0);
+        told.made();
+        return told;
+    }
+
+    /**
+     * As {@link #awaitTick}, and tells what a tick has ended. What is handed over tells nothing there: who made the call was told.
+     *
+     * @param longest the longest sleep
+     * @return the tick as it was made; empty if none was due
+     */
+    public Optional<StoreTold> awaitTickWith(Duration longest) {
+        long[] outcome = new long[KitNative.OUTCOME];
+        long[] ended = new long[StoreHeader.MOST_ENDED];
+        long millis = Math.max(longest.toMillis(), 0);
+        outsideRead();
+        enter();
+        try {
+            int status = KitNative.awaitTick(address, millis, outcome, ended);
+            if (status == StoreFault.TIMED_OUT || status == StoreFault.NOT_RUNNING) {
+                return Optional.empty();
+            }
+            check(status);
+        } finally {
+            leave();
+        }
+        StoreTold told = told(outcome(outcome, 0, outcome, 0), outcome, 0, ended, 0);
+        told.made();
+        return Optional.of(told);
+    }
+
+    /**
+     * A complete record, once it has looked that all its files are in the storage folder. After a restore, with its number, it has all that the
+     * tasks begin with: call it before the sweep.
+     *
+     * <p>Throws {@code NotStored} with {@code FILE_LOST} if a file is not there: end the process, and sweep nothing; with {@code ABSENT} if no complete
+     * record has this number, or it has ended meanwhile; with {@code DAMAGED} if what it has beside its files is damaged.
+     *
+     * @param id the record; 0: the one that a restart begins from
+     * @return the record; empty: the job begins fresh
+     */
+    public Optional<WholeRecord> load(long id) {
+        long[] head = new long[KitNative.HEAD + StoreHeader.MOST_VERTICES];
+        long[][] parts = new long[1][];
+        byte[][] payloads = new byte[1][];
+        said(why -> KitNative.load(address, id, head, parts, payloads, why));
+        return WholeRecord.of(head, parts[0], payloads[0]);
+    }
+
+    /**
+     * {@return the last records that are complete or have failed, the last one first}
+     *
+     * @param most at most so many; there are at most 1000
+     */
+    public List<PastRecord> history(int most) {
+        int room = (int) Math.min(Checks.natural(most, "a number of records"), StoreHeader.MOST_HISTORY);
+        long[] numbers = new long[room * KitNative.PAST];
+        byte[] reasons = new byte[room * KitNative.REASON];
+        long[] length = new long[1];
+        said(why -> KitNative.history(address, numbers, reasons, length, why));
+        List<PastRecord> past = new ArrayList<>();
+        for (int place = 0; place < length[0]; place++) {
+            byte[] reason = Arrays.copyOfRange(reasons, place * KitNative.REASON, (place + 1) * KitNative.REASON);
+            past.add(PastRecord.of(numbers, place * KitNative.PAST, text(reason)));
+        }
+        return past;
     }
 
     /**

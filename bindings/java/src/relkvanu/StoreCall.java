@@ -1,5 +1,6 @@
 package relkvanu;
 
+import java.nio.charset.StandardCharsets;
 import java.util.List;
 import java.util.Objects;
 
@@ -8,6 +9,7 @@ public final class StoreCall {
     private static final long NOW = -1;
     private static final long NO_TERM = 0;
     private static final long[] NONE = {};
+    private static final byte[] NO_BYTES = {};
     private final int kind;
     private final int vertex;
     private final int index;
@@ -16,6 +18,10 @@ public final class StoreCall {
     private final long[] first;
     private final long[] second;
     private long moment = NOW;
+    private byte[] payload = NO_BYTES;
+    private byte[] reason = NO_BYTES;
+    private long bytes;
+    private long millis;
 
     private StoreCall(int kind, long number, long term, int vertex, int index, long[] first, long[] second) {
         this.kind = kind;
@@ -37,8 +43,56 @@ public final class StoreCall {
      * @param now the moment
      */
     public StoreCall at(long now) {
-        StoreCall it = new StoreCall(kind, number, term, vertex, index, first, second);
+        StoreCall it = copy();
         it.moment = Checks.natural(now, "a moment");
+        return it;
+    }
+
+    private StoreCall copy() {
+        StoreCall it = new StoreCall(kind, number, term, vertex, index, first, second);
+        it.moment = moment;
+        it.payload = payload;
+        it.reason = reason;
+        it.bytes = bytes;
+        it.millis = millis;
+        return it;
+    }
+
+    /**
+     * {@return the same acknowledgement with a payload: the state of the subtask, if it is small} It is committed with the acknowledgement, and is there as
+     * long as its record is. With a payload or figures the record keeps the files in the order in which they are given, the fresh ones first. Another
+     * call that has one is refused with {@code BAD_ARGUMENT}, and so are more than 4096 bytes.
+     *
+     * @param payload its bytes
+     */
+    public StoreCall payload(byte[] payload) {
+        StoreCall it = copy();
+        it.payload = payload.clone();
+        return it;
+    }
+
+    /**
+     * {@return the same acknowledgement with figures for {@link Store#history}}
+     *
+     * @param bytes of the subtask's snapshot, as its task counts them
+     * @param millis how long the snapshot took
+     */
+    public StoreCall figures(long bytes, long millis) {
+        StoreCall it = copy();
+        it.bytes = Checks.natural(bytes, "bytes");
+        it.millis = Checks.natural(millis, "millis");
+        return it;
+    }
+
+    /**
+     * {@return the same decline with a reason for {@link Store#history}} Another call that has one is refused with {@code BAD_ARGUMENT}, and so are more
+     * than 200 bytes of UTF-8, and a zero in it.
+     *
+     * @param reason the reason
+     */
+    public StoreCall reason(String reason) {
+        StoreCall it = copy();
+        it.reason = reason.getBytes(StandardCharsets.UTF_8);
         return it;
     }
 
@@ -229,5 +283,56 @@ public final class StoreCall {
     /** Where its buffer begins. */
     int buffer(int at) {
         return at + first.length + second.length;
+    }
+
+    /** Whether it has more than numbers and lists. */
+    boolean hasMore() {
+        return payload.length != 0 || reason.length != 0 || bytes != 0 || millis != 0;
+    }
+
+    /** How many records it ends at most. */
+    int endsAtMost() {
+        return switch (kind) {
+            case Header.CALL_ACK -> 80;
+            case Header.CALL_TICK, Header.CALL_TRIGGER, Header.CALL_DECLINE, Header.CALL_DISPOSE, Header.CALL_RESTORE, Header.CALL_CANCEL -> StoreHeader.MOST_ENDED;
+            default -> 0;
+        };
+    }
+
+    /** The numbers of calls that have more, in the order of kit_jni.c. */
+    static long[] numbersWithMore(List<StoreCall> calls) {
+        long[] numbers = new long[calls.size() * KitNative.CALL];
+        int at = 0;
+        for (StoreCall it : calls) {
+            long[] own = {it.kind, it.vertex, it.index, it.moment, it.number, it.term, it.first.length, it.second.length, it.room(),
+                it.payload.length, it.reason.length, it.bytes, it.millis, it.endsAtMost()};
+            System.arraycopy(own, 0, numbers, at, own.length);
+            at += own.length;
+        }
+        return numbers;
+    }
+
+    /** As {@link #words}, with places for the records that each ends. */
+    static long[] wordsWithMore(List<StoreCall> calls) {
+        long[] words = new long[Checks.length(calls.stream().mapToLong(it -> it.words() + it.endsAtMost()).sum())];
+        int at = 0;
+        for (StoreCall it : calls) {
+            System.arraycopy(it.first, 0, words, at, it.first.length);
+            System.arraycopy(it.second, 0, words, at + it.first.length, it.second.length);
+            at = it.after(at) + it.endsAtMost();
+        }
+        return words;
+    }
+
+    /** Payloads and reasons, one after the other. */
+    static byte[] bytesOf(List<StoreCall> calls) {
+        byte[] all = new byte[Checks.length(calls.stream().mapToLong(it -> (long) it.payload.length + it.reason.length).sum())];
+        int at = 0;
+        for (StoreCall it : calls) {
+            System.arraycopy(it.payload, 0, all, at, it.payload.length);
+            System.arraycopy(it.reason, 0, all, at + it.payload.length, it.reason.length);
+            at += it.payload.length + it.reason.length;
+        }
+        return all;
     }
 }

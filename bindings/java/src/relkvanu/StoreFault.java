@@ -44,7 +44,7 @@ public enum StoreFault {
     JOB_STOPPED(StoreHeader.JOB_STOPPED),
     /** A timer: a stop of the job has failed, and {@link Store#phase} says why. */
     NOT_STOPPED(StoreHeader.NOT_STOPPED),
-    /** A load of a record: a state file of it is not in the storage. No call of this package makes one. */
+    /** A load: a state file of the record is not in the storage. */
     FILE_LOST(StoreHeader.FILE_LOST);
 
     static final int OK = StoreHeader.OK;

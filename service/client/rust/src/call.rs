@@ -1,8 +1,20 @@
 //! Calls and their answers.
 use crate::Error;
+use openssl::base64::encode_block;
 use serde_json::{json, Value};
 
 const NO_MEMORY: u16 = 507;
+
+/// What an acknowledgement has beside its files.
+#[derive(Clone, Debug, Default, PartialEq, Eq)]
+pub struct Beside {
+    /// The state of the task, if it is small: at most 4096 bytes. It is committed with the acknowledgement, and [`Job::load`](crate::Job::load) gives
+    /// it back as long as the record is there.
+    pub payload: Vec<u8>,
+    /// The bytes of the task's snapshot, and how many milliseconds it took, for [`Job::history`](crate::Job::history).
+    pub bytes: u64,
+    pub millis: u64,
+}
 
 /// A call. A subtask is a vertex and an index.
 #[derive(Clone, Debug, PartialEq, Eq)]
@@ -35,9 +47,23 @@ pub enum Call {
         fresh: Vec<(u64, u64)>,
         reused: Vec<u64>,
     },
+    /// An acknowledgement with more than files. The record keeps these in the order given here, the fresh ones first.
+    AckWith {
+        id: u64,
+        subtask: (u16, u16),
+        fresh: Vec<u64>,
+        reused: Vec<u64>,
+        beside: Beside,
+    },
     Decline {
         id: u64,
         subtask: (u16, u16),
+    },
+    /// A decline with a reason of at most 200 bytes, for [`Job::history`](crate::Job::history).
+    DeclineWith {
+        id: u64,
+        subtask: (u16, u16),
+        reason: String,
     },
     /// From a savepoint, or the latest; in a new shape if one is given.
     Restore {
@@ -96,6 +122,14 @@ impl Call {
                 let (fresh, bytes): (Vec<u64>, Vec<u64>) = fresh.iter().copied().unzip();
                 let (fresh, reused) = (texts(&fresh), texts(reused));
                 json!({"call": "ack", "id": id, "subtask": subtask(of), "fresh": fresh, "reused": reused, "bytes": bytes})
+            }
+            Call::AckWith { id, subtask: of, fresh, reused, beside: Beside { payload, bytes, millis } } => {
+                let (fresh, reused, payload) = (texts(fresh), texts(reused), encode_block(payload));
+                json!({"call": "ack", "id": id, "subtask": subtask(of), "fresh": fresh, "reused": reused, "payload": payload,
+                    "bytes": bytes, "millis": millis})
+            }
+            Call::DeclineWith { id, subtask: of, reason } => {
+                json!({"call": "decline", "id": id, "subtask": subtask(of), "reason": reason})
             }
             Call::Decline { id, subtask: of } => json!({"call": "decline", "id": id, "subtask": subtask(of)}),
             Call::GoBack { checkpoint, shape } => {
@@ -192,6 +226,17 @@ mod tests {
         let wanted = json!({"call": "ack", "id": 7, "subtask": "1.0", "fresh": ["31", "18446744073709551615"],
             "reused": ["11"], "bytes": [5, 0]});
         assert_eq!(call.json(), wanted);
+    }
+
+    #[test]
+    fn calls_may_have_more() {
+        let beside = Beside { payload: b"x".to_vec(), bytes: 7, millis: 8 };
+        let call = Call::AckWith { id: 7, subtask: (1, 0), fresh: vec![31, 30], reused: vec![], beside };
+        let wanted = json!({"call": "ack", "id": 7, "subtask": "1.0", "fresh": ["31", "30"], "reused": [], "payload": "eA==",
+            "bytes": 7, "millis": 8});
+        assert_eq!(call.json(), wanted);
+        let call = Call::DeclineWith { id: 7, subtask: (1, 0), reason: "no disk".to_string() };
+        assert_eq!(call.json(), json!({"call": "decline", "id": 7, "subtask": "1.0", "reason": "no disk"}));
     }
 
     #[test]

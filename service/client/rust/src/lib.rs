@@ -22,12 +22,14 @@ mod follow;
 mod http;
 mod session;
 mod start;
+mod whole;
 
-pub use call::{Answer, Call};
+pub use call::{Answer, Beside, Call};
 pub use follow::Follower;
 pub use http::{new_key, Error};
 pub use session::Session;
 pub use start::{file_numbers, Start};
+pub use whole::{Part, Whole};
 
 use call::texts;
 use follow::events_of;
@@ -261,6 +263,18 @@ impl Job {
     /// A record: its metadata, its missing subtasks, and its history.
     pub async fn record(&self, id: u64) -> Result<Value, Error> {
         self.get(&format!("/records/{id}")).await
+    }
+
+    /// A complete record as a whole, which has all that the tasks begin with after a restore. Whether its files are there the caller looks. Fails
+    /// with status 404 if no such record is complete, or it has ended.
+    pub async fn load(&self, id: u64) -> Result<Whole, Error> {
+        Whole::of(&self.get(&format!("/records/{id}/states")).await?)
+    }
+
+    /// The last records that are complete or have failed, the greatest number first, under `records`: how each ended, the milliseconds from its
+    /// trigger to its acknowledgements, what its tasks told of their snapshots, and the reason of a decline.
+    pub async fn history(&self, last: u64) -> Result<Value, Error> {
+        self.get(&format!("/history?last={last}")).await
     }
 
     /// A file: the records that use it, and its history.

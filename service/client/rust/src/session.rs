@@ -1,5 +1,5 @@
 //! A task of one start of a job that gives out names.
-use crate::{Answer, Call, Error, Job};
+use crate::{Answer, Beside, Call, Error, Job};
 use serde_json::Value;
 use std::ops::Range;
 use std::sync::atomic::{AtomicBool, Ordering};
@@ -64,6 +64,24 @@ impl Session {
     ) -> Result<Value, Error> {
         let ack = Call::SizedAck { id, subtask, fresh: fresh.to_vec(), reused: reused.to_vec() };
         self.call(ack.in_term(self.term)).await
+    }
+
+    /// The same with a payload and figures.
+    pub async fn ack_with(
+        &self,
+        id: u64,
+        subtask: (u16, u16),
+        fresh: &[u64],
+        reused: &[u64],
+        beside: Beside,
+    ) -> Result<Value, Error> {
+        let ack = Call::AckWith { id, subtask, fresh: fresh.to_vec(), reused: reused.to_vec(), beside };
+        self.call(ack.in_term(self.term)).await
+    }
+
+    /// Declines a record for a reason of at most 200 bytes.
+    pub async fn decline_with(&self, id: u64, subtask: (u16, u16), reason: &str) -> Result<Value, Error> {
+        self.call(Call::DeclineWith { id, subtask, reason: reason.to_string() }.in_term(self.term)).await
     }
 
     pub async fn decline(&self, id: u64, subtask: (u16, u16)) -> Result<Value, Error> {

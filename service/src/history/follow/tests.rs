@@ -1,7 +1,7 @@
 //! A history that goes on from a summary, and tables of other versions.
 use super::super::version::{upgrade, STEPS};
 use super::*;
-use crate::model::{parse_config, FileBytes, PastRecord, Phase, Shards, Told};
+use crate::model::{parse_config, Figure, FileBytes, PastRecord, Phase, Shards, SubtaskState, Told};
 use crate::store::{Room, SavedImage};
 use std::path::PathBuf;
 
@@ -59,6 +59,15 @@ impl Reader for Memory {
         Ok(self.said.iter().filter(|one| one.seq > after && one.seq <= upto).cloned().collect())
     }
     fn sizes(&mut self, _: Shards, _: (i64, i64), _: u32) -> Result<Vec<(i64, FileBytes)>, DbError> {
+        Ok(vec![])
+    }
+    fn states(&mut self, _: i64, _: u64) -> Result<Vec<SubtaskState>, DbError> {
+        Ok(vec![])
+    }
+    fn figures(&mut self, _: i64, _: u64, _: u64) -> Result<Vec<Figure>, DbError> {
+        Ok(vec![])
+    }
+    fn with_states(&mut self, _: Shards) -> Result<Vec<(i64, u64)>, DbError> {
         Ok(vec![])
     }
     fn gone(&mut self) -> Result<Vec<(i64, u64)>, DbError> {
@@ -178,7 +187,7 @@ fn a_summary_and_the_rest_of_the_log_give_the_same_history() -> Result<(), Error
     let tables = Tables::open(&file.0)?;
     let mut memory = Memory { log: whole.clone(), ..Memory::default() };
     let said = said(&whole);
-    Follower::open(&tables, &mut memory, &opening())?.follow(&tables, &whole, &said)?;
+    Follower::open(&tables, &mut memory, &opening())?.follow(&tables, &whole, &said, &[])?;
     let wanted = dump(&tables);
     // record 1 has the files 100 and 101, and record 6 the file 600 so far
     let bytes: Vec<(i64, i64)> =
@@ -192,7 +201,7 @@ fn a_summary_and_the_rest_of_the_log_give_the_same_history() -> Result<(), Error
         let old = Tables::open(&files[0].0)?;
         let mut memory = Memory { log: whole.clone(), ..Memory::default() };
         let mut follower = Follower::open(&old, &mut memory, &opening())?;
-        follower.follow(&old, before, &said)?;
+        follower.follow(&old, before, &said, &[])?;
         memory.past = old.unsaved(1, 100)?;
         old.set_saved(&memory.past)?;
         assert!(old.unsaved(1, 100)?.is_empty());
@@ -204,7 +213,7 @@ fn a_summary_and_the_rest_of_the_log_give_the_same_history() -> Result<(), Error
         let mut follower = Follower::open(&new, &mut memory, &opening())?;
         assert!(follower.load(&new, &mut memory)? && follower.upto == place as u64);
         assert!(!follower.load(&new, &mut memory)?, "it would load it for ever");
-        follower.follow(&new, after, &said)?;
+        follower.follow(&new, after, &said, &[])?;
         let told = dump(&new);
         let differ: Vec<_> = told.iter().filter(|row| !wanted.contains(row)).collect();
         let missing: Vec<_> = wanted.iter().filter(|row| !told.contains(row)).collect();
@@ -228,7 +237,7 @@ fn a_summary_and_the_rest_of_the_log_give_the_same_history() -> Result<(), Error
             ..whole[0].clone()
         };
         let more = AckBytes { seq: last.seq, full: 30, ..AckBytes::default() };
-        follower.follow(&new, &[last], &[more])?;
+        follower.follow(&new, &[last], &[more], &[])?;
         let acks = new.all("select acks, how, full_bytes from record where id = 6", [], |row| {
             Ok((row.get::<_, i64>(0)?, row.get::<_, String>(1)?, row.get::<_, i64>(2)?))
         })?;

@@ -197,6 +197,11 @@ impl Jobs {
             job.retention = Retention::of(images, &summaries, firsts.get(&number).copied(), keeping);
         }
         self.take_phases(reader)?;
+        for (job, record) in reader.with_states(self.shards)? {
+            if let Some(place) = self.place_of(job) {
+                self.jobs[place].states.note(record);
+            }
+        }
         if keeping.keep_bytes > 0 {
             beat()?;
             self.take_means(reader.call_bytes(&numbers)?);

@@ -1,0 +1,185 @@
+//! What a subtask has in a record beside its files: a payload, if its state is small, the order of its files, and figures. The coordinator knows none of it,
+//! so it is kept beside the log, in the commit of the acknowledgement, until its record ends.
+use super::call::{Call, Subtask};
+use super::job::Entry;
+use super::outcome::Reply;
+use relkvanu::Answer;
+use std::collections::BTreeSet;
+
+/// The most bytes of a payload.
+pub const MOST_PAYLOAD: usize = 4096;
+/// The most bytes of the reason of a decline.
+pub const MOST_REASON: usize = 200;
+
+/// What an acknowledgement gives beside its files.
+#[derive(Clone, Debug, Default, PartialEq, Eq)]
+pub struct Given {
+    /// In base64; empty: none.
+    pub payload: String,
+    /// The bytes of the subtask's snapshot, as its task counts them.
+    pub bytes: u64,
+    /// How long the snapshot took.
+    pub millis: u64,
+}
+
+/// What a subtask has in a record: a row of the database.
+#[derive(Clone, Debug, PartialEq, Eq)]
+pub struct SubtaskState {
+    pub job: i64,
+    pub record: u64,
+    pub subtask: Subtask,
+    /// In the order in which the acknowledgement gave them, the fresh ones first.
+    pub files: Vec<u64>,
+    pub given: Given,
+}
+
+/// What an acknowledgement or a decline told for the history: a row beside the log, which goes as its call is cut.
+#[derive(Clone, Debug, Default, PartialEq, Eq)]
+pub struct Figure {
+    pub job: i64,
+    pub seq: u64,
+    pub bytes: u64,
+    pub millis: u64,
+    /// Of a decline.
+    pub reason: Option<String>,
+}
+
+/// The numbers of files, with a space between.
+pub fn files_text(files: &[u64]) -> String {
+    files.iter().map(u64::to_string).collect::<Vec<_>>().join(" ")
+}
+
+/// Reads what [`files_text`] writes.
+pub fn parse_files(text: &str) -> Option<Vec<u64>> {
+    text.split(' ').filter(|word| !word.is_empty()).map(|word| word.parse().ok()).collect()
+}
+
+/// What a call changed of the rows.
+#[derive(Debug, Default, PartialEq, Eq)]
+pub struct StateChange {
+    pub new: Option<SubtaskState>,
+    pub figure: Option<Figure>,
+    /// The record whose rows another one gets too, and that one.
+    pub copy: Option<(u64, u64)>,
+    /// Records whose rows go.
+    pub gone: Vec<u64>,
+}
+
+/// The records of a job that have rows.
+#[derive(Default)]
+pub struct States(BTreeSet<u64>);
+
+impl States {
+    /// The database has rows of this record.
+    pub fn note(&mut self, record: u64) {
+        self.0.insert(record);
+    }
+
+    pub fn has(&self, record: u64) -> bool {
+        self.0.contains(&record)
+    }
+
+    /// Takes in a call that was made; `None` if it changes no row, as most calls don't.
+    pub fn follow(&mut self, call: &Call, reply: &Reply, entry: &Entry) -> Option<Box<StateChange>> {
+        let gives = matches!(call, Call::Ack { given: Some(_), .. } | Call::Decline { reason: Some(_), .. });
+        if !gives && (entry.ended.is_none() || self.0.is_empty()) {
+            return None;
+        }
+        let (new, figure) = (given(call, reply, entry.job), figure(call, reply, entry));
+        if let Some(new) = &new {
+            self.0.insert(new.record);
+        }
+        let gone = entry.ended().into_iter().filter(|record| self.0.remove(record)).collect();
+        Some(Box::new(StateChange { new, figure, gone, copy: None }))
+    }
+
+    /// A savepoint that is made of a checkpoint has what this one has.
+    pub fn copy(&mut self, checkpoint: u64, savepoint: u64) -> Option<(u64, u64)> {
+        self.has(checkpoint).then(|| {
+            self.note(savepoint);
+            (checkpoint, savepoint)
+        })
+    }
+}
+
+/// What a call tells for the history.
+fn figure(call: &Call, reply: &Reply, entry: &Entry) -> Option<Figure> {
+    if matches!(reply, Reply::Answered(Answer::AckLate { .. } | Answer::DeclineLate)) {
+        return None;
+    }
+    let it = Figure { job: entry.job, seq: entry.seq, ..Figure::default() };
+    match call {
+        Call::Ack { given: Some(given), .. } if given.bytes > 0 || given.millis > 0 => {
+            Some(Figure { bytes: given.bytes, millis: given.millis, ..it })
+        }
+        Call::Decline { reason: Some(reason), .. } => Some(Figure { reason: Some(reason.clone()), ..it }),
+        _ => None,
+    }
+}
+
+/// The row of an acknowledgement that gives something. What comes late is not kept.
+fn given(call: &Call, reply: &Reply, job: i64) -> Option<SubtaskState> {
+    let Call::Ack { id, subtask, fresh, reused, given: Some(given), .. } = call else {
+        return None;
+    };
+    if matches!(reply, Reply::Answered(Answer::AckLate { .. })) {
+        return None;
+    }
+    let files = [fresh.as_slice(), reused].concat();
+    Some(SubtaskState { job, record: *id, subtask: *subtask, files, given: (**given).clone() })
+}
+
+#[cfg(test)]
+mod tests {
+    use super::super::told::Told;
+    use super::*;
+
+    fn followed(states: &mut States, call: &Call, answer: Answer, ended: Option<&str>) -> StateChange {
+        let reply = Reply::Answered(answer);
+        let (told, ended) = (Told::of(&reply), ended.map(str::to_string));
+        let entry = Entry { job: 7, seq: 1, at: 1, record: None, line: String::new(), told, ended, waiting: 0 };
+        states.follow(call, &reply, &entry).map_or_else(StateChange::default, |change| *change)
+    }
+
+    fn ack(id: u64, given: Option<Given>) -> Call {
+        let subtask = Subtask { vertex: 1, index: 2 };
+        let (fresh, reused, given) = (vec![9, 8], vec![3], given.map(Box::new));
+        Call::Ack { term: 0, id, subtask, fresh, reused, bytes: vec![], given }
+    }
+
+    #[test]
+    fn rows_come_with_acknowledgements_and_go_with_records() {
+        let (mut states, pending) = (States::default(), Answer::AckPending { missing: 1 });
+        assert_eq!(followed(&mut states, &ack(4, None), pending, None), StateChange::default());
+        let given = Given { payload: "eA==".to_string(), bytes: 5, millis: 6 };
+        let change = followed(&mut states, &ack(4, Some(given.clone())), pending, None);
+        assert_eq!(change.figure, Some(Figure { job: 7, seq: 1, bytes: 5, millis: 6, reason: None }));
+        let (subtask, files) = (Subtask { vertex: 1, index: 2 }, vec![9, 8, 3]);
+        assert_eq!(change.new, Some(SubtaskState { job: 7, record: 4, subtask, files, given: given.clone() }));
+        let completes = Answer::AckCompleted { dropped: 1, released: 0 };
+        let change = followed(&mut states, &ack(5, Some(given.clone())), completes, Some("3 4"));
+        assert_eq!((change.gone, states.has(4), states.has(5)), (vec![4], false, true));
+        let late = followed(&mut states, &ack(4, Some(given)), Answer::AckLate { handed_out: 1 }, None);
+        assert_eq!((late, states.copy(4, 6), states.copy(5, 6)), (StateChange::default(), None, Some((5, 6))));
+        let cancelled = Answer::Cancelled { dropped: 2, released: 0 };
+        assert_eq!(followed(&mut states, &Call::Cancel, cancelled, Some("5 6")).gone, [5, 6]);
+    }
+
+    #[test]
+    fn a_decline_tells_its_reason() {
+        let reason = |answer| {
+            let (subtask, reason) = (Subtask { vertex: 0, index: 0 }, Some("no disk".to_string()));
+            let decline = Call::Decline { term: 0, id: 4, subtask, reason };
+            followed(&mut States::default(), &decline, answer, None).figure.and_then(|it| it.reason)
+        };
+        assert_eq!(reason(Answer::DeclineAborted { released: 0 }).as_deref(), Some("no disk"));
+        assert_eq!(reason(Answer::DeclineLate), None);
+    }
+
+    #[test]
+    fn files_keep_their_order_in_texts() {
+        assert_eq!(files_text(&[u64::MAX, 3, 7]), "18446744073709551615 3 7");
+        assert_eq!(parse_files("18446744073709551615 3 7"), Some(vec![u64::MAX, 3, 7]));
+        assert_eq!((parse_files(""), parse_files("3 x")), (Some(vec![]), None));
+    }
+}

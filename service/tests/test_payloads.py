@@ -1,0 +1,256 @@
+"""What records have beside their files: payloads, figures and reasons, over starts, take-overs, the ends of records and a lost history."""
+import base64
+import contextlib
+import os
+import sqlite3
+import time
+
+from harness import Server, caught_up, configured, folder, lose_history, served, until
+from postgres import postgres
+from relkvanu_service import Failed, Service, ack, cancel, decline, dispose, restore, savepoint, trigger
+
+SETTINGS = {"interval": 1 << 40, "timeout": 1 << 39, "retained": 3}
+PAYLOAD = bytes(range(256)) * 16  # 4096 bytes
+
+
+def rows(server, table="subtask_state"):
+    """The records that have rows, each as often as it has some."""
+    with contextlib.closing(sqlite3.connect(server.database)) as base:
+        return [row[0] for row in base.execute(f"select {'record' if table == 'subtask_state' else 'seq'} from {table} order by 1")]
+
+
+def whole(job, id):
+    """The files, the payload and the figures of each subtask."""
+    told = job.load(id)
+    return {name: (it["files"], it["payload"], it["bytes"], it["millis"]) for name, it in told["subtasks"].items()}
+
+
+def both(id, payload, first=0):
+    """Both subtasks acknowledge, with a file each if there is a first one."""
+    files = [[first], [first + 1]] if first else [[], []]
+    return [ack(id, f"0.{index}", files[index], payload=payload + b"%d" % index) for index in range(2)]
+
+
+def gone(job, id):
+    try:
+        job.load(id)
+    except Failed as failed:
+        return failed.status == 404
+    return False
+
+
+def test_a_payload_is_there_as_long_as_its_record():
+    with served() as server:
+        job = Service(server.url).open("orders", SETTINGS, [2])
+        job.calls([savepoint(), ack(1, "0.0", [12, 11], payload=PAYLOAD, size=5, millis=7)])
+        assert gone(job, 1), "it is not complete"
+        job.calls([ack(1, "0.1", [14, 13], [11])])
+        wanted = {"0.0": ([12, 11], PAYLOAD, 5, 7), "0.1": ([11, 13, 14], b"", 0, 0)}
+        assert whole(job, 1) == wanted, whole(job, 1)
+        told = job.load(1)
+        assert (told["id"], told["kind"], told["shape"]) == (1, "savepoint", [2]), told
+        job.call(ack(1, "0.0", [99], payload=b"late"))
+        server.kill()
+        server.start()
+        assert whole(job, 1) == wanted and rows(server) == [1]
+        # a savepoint whose files are all in memory: the order without a payload too
+        job.calls([savepoint(), ack(2, "0.0", [22, 21], payload=b""), ack(2, "0.1", payload=b"x")])
+        assert whole(job, 2) == {"0.0": ([22, 21], b"", 0, 0), "0.1": ([], b"x", 0, 0)}, whole(job, 2)
+        job.call(dispose(1))
+        assert gone(job, 1) and rows(server) == [2, 2]
+        start = job.begin(2)
+        assert start.load()["subtasks"]["0.1"]["payload"] == b"x"
+        return "after a kill, and gone with it"
+
+
+def test_a_load_looks_at_the_files():
+    with served(names=True) as server, folder() as at:
+        start = Service(server.url).open("orders", SETTINGS, [1]).begin()
+        task = start.session()
+        name = task.name()
+        start_of = start._job.call(trigger())["id"]
+        with open(f"{at}/{name}", "xb"):
+            pass
+        task.ack(start_of, "0.0", [name], payload=b"a state", size=3, millis=4)
+        begun = start._job.begin()
+        assert begun.load(at)["subtasks"]["0.0"] == {"files": [name], "payload": b"a state", "bytes": 3, "millis": 4}
+        os.remove(f"{at}/{name}")
+        try:
+            begun.load(at)
+            raise AssertionError("it did not look")
+        except FileNotFoundError:
+            return "and a lost file is told"
+
+
+def test_what_is_too_long_is_refused():
+    with served() as server:
+        job = Service(server.url).open("orders", SETTINGS, [2])
+        job.call(savepoint())
+        before = job.state()["seq"]
+        good = ack(1, "0.0", payload=PAYLOAD)
+        for call, field in [
+            (ack(1, "0.1", payload=PAYLOAD + b"x"), "payload"), ({**good, "payload": "x"}, "payload"), ({**good, "payload": 7}, "payload"),
+            ({**good, "payload": base64.b64encode(b"x").decode() + "\n"}, "payload"), ({**good, "millis": -1}, "millis"), ({**good, "bytes": "7"}, "bytes"),
+            ({**good, "reason": "x"}, "reason"), (decline(1, "0.0", reason="x" * 201), "reason"), (decline(1, "0.0", reason="a\0b"), "reason"),
+            ({**decline(1, "0.0"), "payload": ""}, "payload"),
+        ]:
+            try:
+                job.calls([good, call])
+                raise AssertionError(f"it was not refused: {call}")
+            except Failed as refused:
+                assert (refused.status, refused.field) == (400, f"calls[1].{field}"), refused
+        assert job.state()["seq"] == before and rows(server) == [], "a request with a bad call makes none"
+        assert job.calls([{"call": "ack", "id": 1, "subtask": "0.7", "payload": "eA=="}]) == [{"refused": "UnknownSubtask"}]
+        assert rows(server) == []
+        job.call(good)
+        assert rows(server) == [1]
+        try:
+            ack(1, "0.1", sizes=[1], size=1)
+            raise AssertionError("both were taken")
+        except ValueError:
+            return "4,097 bytes, and 201 of a reason"
+
+
+def test_rows_go_however_a_record_ends():
+    with served() as server:
+        service = Service(server.url)
+        job = service.open("orders", {**SETTINGS, "retained": 1, "at_once": 2, "tolerable": 9}, [2])
+        job.calls([trigger(), *both(1, b"a")])
+        assert rows(server) == [1, 1]
+        # a later checkpoint completes while an earlier one is pending
+        job.calls([trigger(), trigger(), both(2, b"b")[0], *both(3, b"c")])
+        assert rows(server) == [3, 3], rows(server)
+        job.calls([trigger(), both(4, b"d")[0]])
+        assert rows(server) == [3, 3, 4]
+        job.call(decline(4, "0.1", reason="no disk"))
+        assert rows(server) == [3, 3]
+        job.calls([savepoint(), both(5, b"e")[0], restore()])
+        assert rows(server) == [3, 3]
+        # what comes and goes in one request
+        job.calls([savepoint(), *both(6, b"f"), dispose(6), savepoint(), *both(7, b"g")])
+        assert rows(server) == [3, 3, 7, 7]
+        job.call(cancel())
+        assert rows(server) == [7, 7], "savepoints stay"
+        job.call(dispose(7))
+        assert rows(server) == []
+        other = service.open("other", {**SETTINGS, "timeout": 300}, [2])
+        other.calls([savepoint(), both(1, b"a")[0]])
+        assert rows(server) == [1]
+        until(lambda: not rows(server))  # it expires
+        return "declined, subsumed, restored, disposed of, cancelled, expired"
+
+
+def test_a_savepoint_of_an_older_checkpoint_has_its_payloads():
+    back = {**restore({"checkpoint": 1}), "accept_published": True}
+    with served() as server:
+        service = Service(server.url)
+        checkpoints = [trigger(), *both(1, b"a", 10), trigger(), *both(2, b"b", 20)]
+        for name, requests in ("apart", [checkpoints, [back]]), ("at-once", [[*checkpoints, back]]):
+            job = service.open(name, SETTINGS, [2])
+            answers = [answer for request in requests for answer in job.calls(request)]
+            assert (answers[-1]["restore"], answers[-1]["id"]) == ("savepoint", 3), (name, answers)
+            wanted = {"0.0": ([10], b"a0", 0, 0), "0.1": ([11], b"a1", 0, 0)}
+            assert whole(job, 3) == wanted and gone(job, 1), (name, whole(job, 3))
+            server.kill()
+            server.start()
+            assert whole(job, 3) == wanted, name
+            job.call(cancel())
+            job.call(dispose(3))
+            assert gone(job, 3)
+        assert rows(server) == []
+        return "also in one commit with them"
+
+
+def test_a_deleted_job_leaves_no_rows():
+    with served() as server:
+        service = Service(server.url)
+        job = service.open("orders", SETTINGS, [2])
+        job.calls([savepoint(), *both(1, b"a"), savepoint(), decline(2, "0.0", reason="no disk"), ack(1, "0.0", size=5), cancel()])
+        assert rows(server) == [1, 1] and rows(server, "figure") == [5], rows(server, "figure")
+        assert service.delete("orders")
+        until(lambda: not rows(server) and not rows(server, "figure"))
+        return "with a savepoint of payloads"
+
+
+def figures(job):
+    caught_up(job)
+    return job.history(10)
+
+
+def figured(job):
+    """A checkpoint of four subtasks with pauses, a declined savepoint, and what the history has to say of both: by the log's moments."""
+    job.call(trigger())
+    for index, (size, millis) in enumerate([(100, 9), (20, 30), (3, 1)]):
+        time.sleep(0.02 * (index + 1))
+        job.call(ack(1, f"0.{index}", size=size, millis=millis))
+    job.calls([savepoint(), ack(2, "0.3", payload=b"x"), decline(2, "0.1", reason="the disk of host 7 is full: ä"), decline(2, "0.0", reason="late")])
+    time.sleep(0.02)
+    job.calls([ack(1, "0.3", [31, 30], sizes=[5, 6]), trigger()])
+    at = [entry["at"] for entry in job.log()]
+    first = {
+        "id": 1, "kind": "checkpoint", "how": "completed", "triggered": at[0], "ended": at[8], "acks": 4, "first": at[1] - at[0], "median": at[2] - at[0],
+        "p99": at[8] - at[0], "slowest": at[8] - at[0], "bytes": 123, "millis": 30, "reason": None,
+    }
+    second = {
+        "id": 2, "kind": "savepoint", "how": "declined", "triggered": at[4], "ended": at[6], "acks": 1, "first": at[5] - at[4], "median": at[5] - at[4],
+        "p99": at[5] - at[4], "slowest": at[5] - at[4], "bytes": None, "millis": None, "reason": "the disk of host 7 is full: ä",
+    }
+    assert first["first"] < first["median"] < first["slowest"], first
+    return [second, first]
+
+
+def test_the_history_has_figures_and_reasons():
+    with served() as server:
+        job = Service(server.url).open("orders", SETTINGS, [4])
+        wanted = figured(job)
+        assert figures(job) == wanted, (figures(job), wanted)
+        for lost in (False, True):
+            server.kill()
+            if lost:
+                lose_history(server)
+            server.start()
+            assert figures(job) == wanted, (lost, figures(job))
+        assert job.history(1) == wanted[:1] and job.history(0) == []
+        try:
+            job.history(1001)
+            raise AssertionError("it was not refused")
+        except Failed as refused:
+            assert (refused.status, refused.field) == (400, "last"), refused
+        job.call(ack(3, "0.0", size=7, millis=8))
+        server.kill()  # while a record is pending
+        server.start()
+        job.calls([ack(3, f"0.{index}", size=7, millis=index) for index in range(1, 4)])
+        told = figures(job)[0]
+        assert (told["id"], told["acks"], told["bytes"], told["millis"]) == (3, 4, 28, 8), told
+        at = [entry["at"] for entry in job.log() if entry["record"] == 3]
+        assert (told["first"], told["median"]) == (at[1] - at[0], at[2] - at[0]), (told, at)
+        return "2 records, after a kill and without the history"
+
+
+def test_payloads_and_figures_outlive_a_take_over():
+    with postgres() as database, folder() as at:
+        servers = [Server(at, database.url, configured(at, "lease_seconds = 3\n")) for _ in range(2)]
+        leader, standby = servers[0].start(), servers[1].stand_by()
+        job = Service(leader.url).open("orders", SETTINGS, [2])
+        job.calls([trigger(), *both(1, b"a", 10), trigger(), ack(2, "0.0", [21, 20], payload=PAYLOAD, size=1, millis=2), ack(2, "0.1")])
+        job.calls([savepoint(), *both(3, b"c"), savepoint(), both(4, b"d")[0], decline(4, "0.1", reason="no disk")])
+        wanted = {"0.0": ([21, 20], PAYLOAD, 1, 2), "0.1": ([], b"", 0, 0)}
+        counted = "select string_agg(record::text, ' ' order by record) from subtask_state"
+        assert whole(job, 2) == wanted and database.sql(counted) == "1 1 2 3 3", database.sql(counted)
+        before = figures(job)
+        leader.kill()
+        standby.wait_ready()
+        job = Service(standby.url).job("orders")
+        assert whole(job, 2) == wanted and figures(job) == before and before[0]["reason"] == "no disk", (figures(job), before)
+        answer = job.call({**restore({"checkpoint": 1}), "accept_published": True})
+        assert whole(job, answer["id"]) == {"0.0": ([10], b"a0", 0, 0), "0.1": ([11], b"a1", 0, 0)}
+        assert database.sql(counted) == f"3 3 {answer['id']} {answer['id']}", database.sql(counted)
+        # all of it in one commit
+        more = [trigger(), *both(6, b"f"), trigger(), *both(7, b"g"), {**restore({"checkpoint": 6}), "accept_published": True}]
+        answer = job.calls(more)[-1]
+        assert whole(job, answer["id"]) == {"0.0": ([], b"f0", 0, 0), "0.1": ([], b"f1", 0, 0)}, answer
+        for id in (3, 5, answer["id"]):
+            job.calls([cancel(), dispose(id)])
+        assert database.sql("select count(*) from subtask_state") == "0"
+        standby.stop()
+        return "by the standby of a leader that was killed"
