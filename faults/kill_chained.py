@@ -105,7 +105,7 @@ def is_right(samples, sample, texts, kills, dice):
 
 
 def is_found(samples, why, texts, dice):
-    """Whether a wrong engine publishes something wrong within 60 kills."""
+    """Whether a wrong engine publishes something wrong within 300 kills. Mostly a few are enough."""
     name, *swaps = WRONG[why]
     sample = next((it for it, beside in BESIDE.items() if beside == name), name)
     wrong = dict(texts[sample])
@@ -113,7 +113,7 @@ def is_found(samples, why, texts, dice):
         assert wrong[name].count(old) == 1, old
         wrong[name] = wrong[name].replace(old, new)
     job = Job(samples / f"wrong {why}", sample, samples, wrong)
-    for kills in range(1, 61):
+    for kills in range(1, 301):
         job.kill_one(dice)
         fault = job.fault()
         if fault is not None:

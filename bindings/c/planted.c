@@ -33,7 +33,7 @@ static void *ticks(void *after_ms) {
 }
 
 static void race(void) {
-    static useconds_t at_once = 0, later = 500;
+    static useconds_t at_once = 0, later = 3000;
     pthread_t threads[2];
     pthread_create(&threads[0], NULL, ticks, &at_once);
     pthread_create(&threads[1], NULL, ticks, &later);

@@ -68,7 +68,7 @@ def impure():
 
 
 def wait_until(condition):
-    end = time.monotonic() + 60
+    end = time.monotonic() + 600
     while not condition():
         assert time.monotonic() < end
         time.sleep(0.01)

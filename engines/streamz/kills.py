@@ -21,7 +21,7 @@ import sample
 
 LINES = 200
 MOST = 44  # calls at which a process ends
-LONGEST = 120  # seconds, on a busy machine
+LONGEST = 600  # seconds, on a busy machine
 # What a checkpoint calls: an object, and the name of its function.
 CALLS = ((os, "open"), (os, "fsync"), (os, "unlink"), (relkvanu.store.Store, "calls"), (relkvanu.store.Store, "sweep"))
 

@@ -49,7 +49,7 @@ class Base(unittest.TestCase):
             time.sleep(0.002)
 
     def wait(self, until):
-        end = time.monotonic() + 120
+        end = time.monotonic() + 600
         while not until() and time.monotonic() < end:
             time.sleep(0.005)
         self.assertTrue(until())

@@ -125,16 +125,18 @@ def worked(at, network, database, seconds, spreads, chance):
     servers = served(at, network, database, spreads, clocks)
     archive = PgArchive(database)
     if spreads:
-        even([servers[0], servers[1].start()])
+        servers[1].start(ready=False)
     else:
         servers[1].stand_by()
     addresses, floor = [server.url for server in servers], Floor()
     service = Service(*addresses, token=TOKEN)
-    for place, (job, names) in enumerate(zip(JOBS, (False, True))):
-        Service(addresses[place if spreads else 0], token=TOKEN).open(job, SETTINGS, SHAPE, names=names)
     clients = [(MachineClient, NamedMachineClient)[number % 2](addresses, JOBS[number % 2], number, floor) for number in range(CLIENTS)]
     faults = FaultsOfMachines(network, chance, database, servers, None, clocks)
     with kept(*servers) as ended:
+        if spreads:
+            even(servers)
+        for place, (job, names) in enumerate(zip(JOBS, (False, True))):
+            Service(*(addresses[place:] + addresses[:place] if spreads else addresses), token=TOKEN).open(job, SETTINGS, SHAPE, names=names)
         faults.go_on(clients, seconds)
         found = [check(clients, service, job, SHAPE, archive) for job in JOBS]
     for server in servers:

@@ -6,7 +6,7 @@ import sys
 import threading
 import time
 
-from harness import PgArchive, Server, configured, folder, kept, until
+from harness import PgArchive, Server, configured, folder, kept, lease_of, until
 from partition import Client, Faults, Floor, Line, NamedClient, told
 from postgres import postgres
 from preloaded import Clocks
@@ -18,7 +18,7 @@ SETTINGS = {**SETTINGS, "interval": 25, "timeout": 3000}
 SHAPE = [2, 4]
 KEEPING = "image_calls = 200\nkeep_calls = 400\n"
 # a process of a busy machine that shall serve on keeps this one; one that meets faults may lose its lease
-LEASE = 4
+LEASE = lease_of(4)
 CONFIG = f"lease_seconds = {LEASE}\n{KEEPING}"
 SHORT = 2
 OF_FAULTS = f"lease_seconds = {SHORT}\n{KEEPING}"
@@ -139,19 +139,19 @@ def run(seconds, count=3, seed=1):
         servers[0].start()
         archive = PgArchive(database)
         for server in servers[1:]:
-            server.start()
-        even(servers)
+            server.start(ready=False)
         addresses, floor, answers = [server.url for server in servers], Floor(), Answers()
         service = Service(*addresses)
-        for number, job in enumerate(JOBS):
-            # a job begins at the process that opens it
-            Service(addresses[number % count]).open(job, SETTINGS, SHAPE, names=number % 2 == 1)
         clients = [(Client, NamedClient)[number % 2](addresses[number % count:] + addresses[:number % count], JOBS[number % len(JOBS)], number, floor)
                    for number in range(2 * len(JOBS))]
         for client in clients:
             answers.listen(client, client.name_of_job)
         faults = FaultsOfMany(chance, database, servers, lines, clocks)
         with kept(*servers) as ended:
+            even(servers)
+            for number, job in enumerate(JOBS):
+                # a job begins at the process that opens it
+                Service(addresses[number % count]).open(job, SETTINGS, SHAPE, names=number % 2 == 1)
             faults.go_on(clients, seconds)
             found = [check(clients, service, job, SHAPE, archive) for job in JOBS]
             epochs = answers.check(database)

@@ -4,7 +4,7 @@ import random
 import socket
 import time
 
-from harness import BUSY, COMMAND, check_log, served, until
+from harness import BUSY, COMMAND, check_log, lease_of, served, until
 
 JOB = {"name": "orders", "settings": {"interval": 1000000}, "shape": [2, 1]}
 ACK = {"call": "ack", "id": 1, "subtask": "0.0"}
@@ -248,8 +248,9 @@ def test_the_timer_triggers_and_expires():
 
 def test_a_slow_client_and_many_connections():
     slow = ["--config"]
-    with served_with("[limits]\nconnections = 20\nidle_seconds = 1\nbody_seconds = 2\n", slow) as server:
-        server.request("POST", "/v1/jobs", JOB)
+    idle_seconds = lease_of(1)
+    with served_with(f"[limits]\nconnections = 20\nidle_seconds = {idle_seconds}\nbody_seconds = 2\n", slow) as server:
+        until(lambda: server.request("POST", "/v1/jobs", JOB)[0] in (200, 201))
         head = b"POST /v1/jobs/orders/calls HTTP/1.1\r\nHost: localhost\r\nContent-Type: application/json\r\nContent-Length: 100\r\n\r\n"
         started = time.monotonic()
         with socket.create_connection(("127.0.0.1", server.port), timeout=COMMAND) as it:
@@ -266,7 +267,7 @@ def test_a_slow_client_and_many_connections():
             started = time.monotonic()
             it.sendall(b"GET /healthz HT")
             assert it.recv(100) == b""
-            assert 0.5 < time.monotonic() - started < BUSY * 3
+            assert 0.5 < time.monotonic() - started < BUSY * 3 * idle_seconds
         idle = [socket.create_connection(("127.0.0.1", server.port), timeout=COMMAND) for _ in range(60)]
         # idle connections are closed, so others come in
         until(lambda: server.get("/healthz")[0] == 200, 20)

@@ -8,6 +8,7 @@ from harness import COMMAND, LOCKED, Server, configured, folder, served, until
 from relkvanu_service import Service
 from test_bytes import filled
 from test_failover import waiting
+from test_limits import takes_all_room
 
 SETTINGS = {"interval": 1 << 40}
 PATH = "/v1/jobs/a/calls"
@@ -44,18 +45,13 @@ def test_bodies_in_chunks_take_room():
     with folder() as at:
         server = limited(at, body_bytes=MEGABYTE, all_bodies_bytes=MEGABYTE)
         part = b" " * 700_000
-        first = connected(server)
-        first.putrequest("POST", PATH)
-        for name, value in {**JSON, "Transfer-Encoding": "chunked"}.items():
-            first.putheader(name, value)
-        first.endheaders()
-        first.send(b"%x\r\n%s\r\n" % (len(part), part))
-        said = until(lambda: busy(server, part))
+        first = takes_all_room(server)
+        said = busy(server, part)
         first.close()
         until(lambda: busy(server, part) is None)
         server.stop()
         assert "the bodies of other requests take all room" in said, said
-        return "two of 700 kB in a room of 1 MiB"
+        return "700 kB beside a body that takes most of 1 MiB"
 
 
 def test_an_answer_larger_than_all_room():

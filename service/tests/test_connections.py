@@ -6,11 +6,11 @@ import resource
 import socket
 import time
 
-from harness import COMMAND, Server, folder, until
+from harness import COMMAND, Server, folder, lease_of, until
 from test_api import JOB, served_with
 
 POLLS = 1500
-SOON = 20  # seconds: much less than a poll waits
+SOON = 40  # seconds: much less than a poll waits
 
 
 def memory(server, name="VmRSS"):
@@ -140,7 +140,8 @@ def test_connections_without_a_token_keep_nobody_out():
 
 
 def test_a_slow_reader_gets_its_whole_answer():
-    idle, slowly = 2, 5
+    idle = lease_of(2)
+    slowly = idle + 3
     with served_with(f"[limits]\nidle_seconds = {idle}\n", ["--config"]) as server:
         server.request("POST", "/v1/jobs", {**JOB, "shape": [64]})
         fresh = [str((1 << 63) + place) for place in range(3000)]
@@ -158,7 +159,7 @@ def test_a_slow_reader_gets_its_whole_answer():
         while part := it.recv(1 << 16):
             got += part
             # slowly at first: the answer takes longer than a connection may be idle
-            time.sleep(0.05 if time.monotonic() - started < slowly else 0)
+            time.sleep(0.025 * idle if time.monotonic() - started < slowly else 0)
         took = time.monotonic() - started
         head, body = got.split(b"\r\n\r\n", 1)
         length = int(head.lower().split(b"content-length: ")[1].split(b"\r\n")[0])

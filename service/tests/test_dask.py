@@ -17,7 +17,7 @@ from writers import check_made
 
 FAULT_TEST = f"{TOP}/engines/dask/run"
 SHAPE = [2, 6, 3]
-LONGEST = 900  # seconds, on a busy machine
+LONGEST = 1800  # seconds, on a busy machine
 MOST = 20  # kills; on a busy machine the engine may not get on between two of them
 
 

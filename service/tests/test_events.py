@@ -211,6 +211,9 @@ def test_the_dask_fault_test_over_a_cut():
             until(lambda: (server.get("/v1/jobs/dask")[2] or {}).get("seq", 0) > 40, 90)
             os.kill(engine.pid, signal.SIGSTOP)
             until(lambda: job.state()["mode"] == "failed")
+            # a poll that it had begun may tell it of that. It hears nothing of what comes now: somebody restores the job, which fails again
+            job.call(restore())
+            until(lambda: job.state()["mode"] == "failed")
             term = job.term()["term"]
             state = cut_behind(job, lambda: job.calls([reserve(term, 1)] * 20))
             before = state["choice"].get("id", 0)

@@ -152,10 +152,13 @@ def test_the_leader_that_a_standby_names():
         return f"{took:.2f} s, past a mute address between them"
 
 
+def number_of(server, metric):
+    return float(re.search(rf"^{metric} (\S+)$", server.get("/metrics")[2], re.M)[1])
+
+
 def waiting(server):
     """How many requests wait for the writer."""
-    found = re.search(r"^relkvanu_queue_requests (\d+)$", server.get("/metrics")[2], re.M)
-    return int(found[1])
+    return number_of(server, "relkvanu_queue_requests")
 
 
 def test_keys_are_looked_up_for_a_group():
@@ -176,10 +179,12 @@ def test_keys_are_looked_up_for_a_group():
         for _ in range(rounds):
             database.sql("insert into held default values")
             threads = [threading.Thread(target=lambda number: job.calls([ack(1, "0.0", [1000 + number])]), args=(number,)) for number in range(clients)]
-            for thread in threads:
+            threads[0].start()
+            until(lambda: number_of(server, "relkvanu_commit_under_way_seconds") > 0)
+            for thread in threads[1:]:
                 thread.start()
-            # all but those of the commit that is under way; a request for the metrics waits too
-            until(lambda: waiting(server) > clients / 2)
+            # all but that of the commit that is under way
+            until(lambda: waiting(server) >= clients - 1)
             database.sql("delete from held")
             for thread in threads:
                 thread.join()

@@ -8,7 +8,7 @@ import subprocess
 import threading
 import time
 
-from harness import ACK_PENDING, COMMAND, PROGRAM, TOP, Archive, PgArchive, Server, caught_up, check_log, configured, folder, lose_history, over_copy, served, until
+from harness import ACK_PENDING, COMMAND, PROGRAM, TOP, Archive, PgArchive, Server, caught_up, check_log, configured, folder, lease_of, lose_history, over_copy, served, until
 from load import processor_times
 from postgres import postgres
 from relkvanu_service import Gone, Service, ack, decline, deleted, dispose, savepoint
@@ -234,7 +234,7 @@ def test_a_backup_while_images_are_made():
 
 def test_a_standby_that_is_slower_than_the_cuts():
     with postgres() as database, folder() as at:
-        servers = [Server(at, database.url, configured(at, "lease_seconds = 3\nimage_calls = 20\nkeep_calls = 0\n")) for _ in range(2)]
+        servers = [Server(at, database.url, configured(at, f"lease_seconds = {lease_of(3)}\nimage_calls = 20\nkeep_calls = 0\n")) for _ in range(2)]
         leader, standby = servers[0].start(), servers[1].start(ready=False)
         archive, job = PgArchive(database), Service(leader.url).open("orders", SETTINGS, [2])
         worked(job, 2)

@@ -6,7 +6,7 @@ import sqlite3
 import subprocess
 import threading
 
-from harness import LOCKED, PROGRAM, Server, caught_up, configured, folder, served, until
+from harness import LOCKED, PROGRAM, Server, caught_up, configured, folder, lease_of, served, until
 from postgres import postgres
 from relkvanu_service import Failed, Service, ack, cancel, deleted, dispose, savepoint
 from run import Skipped
@@ -139,7 +139,7 @@ def test_a_kill_leaves_nothing_behind():
 
 def test_a_standby_forgets_a_job_that_it_has():
     with postgres() as database, folder() as at:
-        args = configured(at, "lease_seconds = 3\nimage_calls = 20\nkeep_calls = 0\n")
+        args = configured(at, f"lease_seconds = {lease_of(3)}\nimage_calls = 20\nkeep_calls = 0\n")
         leader, standby = Server(at, database.url, args).start(), Server(at, database.url, args)
         service = Service(leader.url)
         users, jobs = service.open("users", SETTINGS, [2]), [service.open(f"orders{number}", SETTINGS, [2]) for number in range(3)]

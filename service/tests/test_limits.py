@@ -2,6 +2,7 @@
 import http.client
 import os
 import re
+import select
 import socket
 import sqlite3
 import threading
@@ -93,29 +94,113 @@ def told_by(connections, statuses):
     return statuses
 
 
+def chunked(part):
+    return b"%x\r\n%s\r\n" % (len(part), part)
+
+
+def begun_without_a_length(server, part, path="/v1/jobs/a/calls", kind="application/json"):
+    """A request of which the first part of the body was sent."""
+    it = socket.create_connection(("127.0.0.1", server.port), timeout=COMMAND)
+    head = f"POST {path} HTTP/1.1\r\nHost: localhost\r\nContent-Type: {kind}\r\nTransfer-Encoding: chunked\r\n\r\n"
+    it.sendall(head.encode() + chunked(part))
+    return it
+
+
+def ends_after(connection):
+    """Waits until the service has said all on a connection, and has told that it sends nothing more."""
+    wait = select.poll()
+    wait.register(connection, select.POLLRDHUP)
+    assert wait.poll(COMMAND * 1000), "the service does not end the connection"
+
+
+def takes_all_room(server):
+    """A request whose body has come to the last bytes of a room of 1 MiB, and was read: a small one finds no room beside it."""
+    held = []
+
+    def is_read():
+        # the first one too is refused, if it comes beside a small one
+        if not held or told_by(held, []):
+            held[:] = [begun_without_a_length(server, b" " * (MIB - 10))]
+        return server.request("POST", "/v1/jobs/a/calls", TICK)[0] == 503
+
+    until(is_read)
+    [connection] = held
+    return connection
+
+
 def test_bodies_without_a_length_take_room_too():
     with folder() as at:
         server = Server(at, args=configured(at, f"[limits]\nbody_bytes = {MIB}\nall_bodies_bytes = {MIB}\n")).start()
         Service(server.url).open("a", SETTINGS, [1])
-        part = b" " * 700_000
-
-        def statuses():
-            """Of a body beside one that has come in part, if that was read by then."""
-            first, second = (http.client.HTTPConnection("127.0.0.1", server.port, timeout=COMMAND) for _ in range(2))
-            first.putrequest("POST", "/v1/jobs/a/calls")
-            first.putheader("Content-Type", "application/json")
-            first.putheader("Transfer-Encoding", "chunked")
-            first.endheaders()
-            first.send(b"%x\r\n%s\r\n" % (len(part), part))
-            time.sleep(0.2)
-            second.request("POST", "/v1/jobs/a/calls", iter([part]), {"Content-Type": "application/json"}, encode_chunked=True)
-            status = second.getresponse().status
-            first.close()
-            return status
-
-        until(lambda: statuses() == 503)
+        first = takes_all_room(server)
+        second = begun_without_a_length(server, b" " * 700_000)
+        refused = status_of(second)
+        first.close()
+        until(lambda: server.request("POST", "/v1/jobs/a/calls", TICK)[0] == 200)
+        second.close()
         server.kill()
+        assert refused[0] == 503 and b"the bodies of other requests" in refused[1], refused
         return "503 beside a body that takes most of the room"
+
+
+def test_a_refusal_reaches_a_client_that_still_sends():
+    """Its body is read on after the answer, so its system does not drop that: whoever sends the whole body first reads then why it was refused."""
+    with folder() as at:
+        server = Server(at, args=configured(at, f"[limits]\nbody_bytes = {MIB}\nall_bodies_bytes = {MIB}\nidle_seconds = 600\n")).start()
+        Service(server.url).open("a", SETTINGS, [1])
+        part, slowly = b" " * 300_000, b" " * 3000
+        first = takes_all_room(server)
+        late = {503: begun_without_a_length(server, part)}
+        ends_after(late[503])
+        first.close()
+        until(lambda: server.request("POST", "/v1/jobs/a/calls", TICK)[0] == 200)
+        late |= {
+            413: begun_without_a_length(server, b" " * (MIB + 1)), 404: begun_without_a_length(server, part, "/v1/jobs/b/calls"),
+            415: begun_without_a_length(server, part, kind="text/plain"),
+        }
+        for it in late.values():
+            ends_after(it)
+        # each part comes when the service has long ended an answer that nobody waits for
+        for _ in range(5):
+            for it in late.values():
+                it.sendall(chunked(part) + chunked(slowly))
+            server.get("/healthz")
+        told = {}
+        for status, it in late.items():
+            it.sendall(b"0\r\n\r\n")
+            told[status] = status_of(it)[0]
+            assert it.recv(1) == b""
+        assert told == {status: status for status in late}, told
+        for it in late.values():
+            it.close()
+        until(lambda: "relkvanu_http_connections 1\n" in server.get("/metrics")[2])
+        assert server.stop() == 0
+        return f"{sorted(told)} are read by clients that first send 1.5 MB more"
+
+
+def test_a_client_that_sends_on_is_left():
+    """After its last answer, once it has sent four of the greatest bodies or nothing was said for so long; and at once when the service stops."""
+    with folder() as at:
+        server = Server(at, args=configured(at, f"[limits]\nbody_bytes = {MIB}\nall_bodies_bytes = {MIB}\nidle_seconds = 2\n")).start()
+        silent, loud = (begun_without_a_length(server, b" ", kind="text/plain") for _ in range(2))
+        ends_after(silent)
+        ends_after(loud)
+        sent = 0
+        try:
+            while sent < 64 * MIB:
+                loud.sendall(chunked(b" " * 65536))
+                sent += 65536
+        except OSError:
+            pass
+        assert 3 * MIB < sent < 64 * MIB, sent
+        until(lambda: "relkvanu_http_connections 1\n" in server.get("/metrics")[2])
+        waits = [begun_without_a_length(server, b" ", kind="text/plain") for _ in range(3)]
+        for it in waits:
+            ends_after(it)
+        assert server.stop() == 0, server.log()[-600:]
+        for it in [silent, loud, *waits]:
+            it.close()
+        return f"after {sent / MIB:.0f} MiB, after 2 s, and at a stop"
 
 
 def test_a_body_that_is_too_long():
@@ -297,8 +382,8 @@ def test_the_age_of_the_oldest_file():
         job = Service(server.url).open("a", SETTINGS, [1])
         until(lambda: ages["taken"] in server.get("/metrics")[2])
         assert metric(server, ages["waiting"]) == metric(server, ages["taken"]) == 0
-        job.calls([savepoint(), ack(1, "0.0", [1, 2, 3]), dispose(1)])
         released = time.time()
+        job.calls([savepoint(), ack(1, "0.0", [1, 2, 3]), dispose(1)])
         until(lambda: metric(server, ages["waiting"]) >= 2)
         assert metric(server, ages["waiting"]) <= time.time() - released + 2 and metric(server, ages["taken"]) == 0
         files = job.take(1)

@@ -3,7 +3,7 @@ import subprocess
 import threading
 import time
 
-from harness import Server, configured, folder, leader_and_standby, until
+from harness import Server, configured, folder, leader_and_standby, lease_of, until
 from postgres import postgres
 from relkvanu_service import Service
 
@@ -111,12 +111,14 @@ def test_commits_beside_a_long_read():
 def test_a_commit_that_lasts_keeps_its_leader():
     """A commit that takes longer than the lease: the leader's row is locked meanwhile, so a standby does not take over."""
     with postgres() as database, folder() as at:
-        leader, standby = leader_and_standby(at, database.url, "lease_seconds = 2\n")
+        lease = min(lease_of(2), 5)
+        lasts = lease + 3  # a statement may take 10 s
+        leader, standby = leader_and_standby(at, database.url, f"lease_seconds = {lease}\n")
         job = Service(leader.url).open("a", SETTINGS, [1])
         job.call(TICK)
         epoch = "select max(epoch) from shard"
         before = database.sql(epoch)
-        database.sql("""create function slow() returns trigger language plpgsql as 'begin perform pg_sleep(5); return null; end';
+        database.sql(f"""create function slow() returns trigger language plpgsql as 'begin perform pg_sleep({lasts}); return null; end';
             create trigger slow after insert on call for each statement execute function slow()""")
         began, told = time.monotonic(), []
         thread = threading.Thread(target=lambda: told.append(job.call(TICK)))
@@ -128,5 +130,5 @@ def test_a_commit_that_lasts_keeps_its_leader():
         after = database.sql(epoch), leader.process.poll(), standby.process.poll()
         leader.kill()
         standby.kill()
-        assert told and took >= 5 and after == (before, None, None), (told, took, before, after)
-        return f"a commit of {took:.1f} s with a lease of 2 s"
+        assert told and took >= lasts and after == (before, None, None), (told, took, before, after)
+        return f"a commit of {took:.1f} s with a lease of {lease} s"

@@ -5,7 +5,7 @@ import subprocess
 import threading
 from contextlib import contextmanager
 
-from harness import COMMAND, PROGRAM, TOP, Server, folder, served, until
+from harness import COMMAND, PROGRAM, TOP, Server, folder, lease_of, served, until
 from relkvanu_service import Failed, OldTerm, Service, cancel, dispose, file_numbers, restore, savepoint
 from test_events import Copy
 
@@ -124,7 +124,7 @@ def known(job):
 def test_the_loop_of_the_page():
     with folder() as at, served(names=True) as server:
         # no record expires whose tasks acknowledge, also on a busy machine
-        settings = {"interval": 40, "timeout": 8000, "tolerable": 0, "keep_on_cancel": True}
+        settings = {"interval": 40, "timeout": 1000 * lease_of(8), "tolerable": 0, "keep_on_cancel": True}
         files = f"{at}/files"
         os.mkdir(files)
         job = Service(server.url).open("orders", settings, SHAPE)

@@ -10,7 +10,7 @@ import threading
 import time
 
 import kills
-from harness import COMMAND, PROGRAM, WHOLE, Archive, Server, caught_up, check_log, configured, entry_of, folder, leader_and_standby, served, until
+from harness import COMMAND, PROGRAM, WHOLE, Archive, Server, caught_up, check_log, configured, entry_of, folder, leader_and_standby, lease_of, served, until
 from postgres import postgres
 from relkvanu_service import Failed, Fenced, OldTerm, Refused, Service, ack, cancel, decline, deleted, dispose, reserve, restore, savepoint
 
@@ -418,7 +418,7 @@ def test_a_leader_that_is_over_answers_no_garbage():
     """Requests reach a leader that is suspended, and another takes over. The old one answers none of them when it goes on."""
     rounds = 3
     with postgres() as database, folder() as at:
-        first, second = leader_and_standby(at, database.url, "lease_seconds = 3\n")
+        first, second = leader_and_standby(at, database.url, f"lease_seconds = {lease_of(3)}\n")
         Service(first.url).open("orders", SETTINGS, [1], names=True)
         old, new, later = first, second, []
         for _ in range(rounds):

@@ -250,8 +250,8 @@ def looked_at(page, server, engine):
     # by the end of its record, as the API says
     why = job.file(files[0])["history"]["why"]
     assert "0 uses" in text and "Written" in text and why and f"Why: {why}" in text and "Deleted" in text, (text, why)
-    assert texts(page, "#taken button") == [str(files[2])], texts(page, "#taken")
-    assert set(texts(page, "#deleted button")) == {str(file) for file in files[:2]}
+    until(lambda: texts(page, "#taken button") == [str(files[2])], told=lambda: texts(page, "#taken"))
+    until(lambda: set(texts(page, "#deleted button")) == {str(file) for file in files[:2]}, told=lambda: texts(page, "#deleted"))
     used = until(lambda: chosen(job), 20)
     file = used["live"]["acks"][0]["files"][0]
     until(lambda: job.file(file)["history"])

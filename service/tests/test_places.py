@@ -281,7 +281,7 @@ def test_metrics(server, job, place):
         place.put(f"s-{names[0]}", b"1234567")
         until(lambda: metrics(ports[1]).get("relkvanu_sweep_deleted_bytes_total") == 7, told=lambda: metrics(ports[1]))
         place.put("s-99", b"")
-        until(lambda: metrics(ports[1])["relkvanu_sweep_unissued_files"] == 1)
+        until(lambda: metrics(ports[1]).get("relkvanu_sweep_unissued_files") == 1)
         server.kill()
         for port, name in zip(ports, ("discard", "sweep")):
             until(lambda port=port, name=name: metrics(port).get(f"relkvanu_{name}_lost_requests_total"))

@@ -5,11 +5,12 @@ import signal
 import time
 
 import kills
-from harness import BUSY, PgArchive, Server, check_log, configured, folder, kept, leader_and_standby, until
+from harness import BUSY, PgArchive, Server, check_log, configured, folder, kept, leader_and_standby, lease_of, slowed, until
 from postgres import postgres
 from relkvanu_service import Service
 
-LEASE = 4
+# a standby is beside its leader: as long as a busy machine needs to keep it
+LEASE = lease_of(4)
 
 
 def test_kills():
@@ -93,7 +94,6 @@ def test_take_over():
         assert told[0] == 503 and told[1]["retry-after"] == "1" and told[1]["relkvanu-leader"] == servers[0].url, told
         assert "relkvanu_leader 0" in servers[1].get("/metrics")[2] and "relkvanu_leader 1" in servers[0].get("/metrics")[2]
         found, times, epochs = [], [], []
-        due = LEASE + 3 * BUSY
         with kills.writers_at([server.url for server in servers], found, PgArchive(database)):
             for way in ("stop", "kill", "stop", "cut"):
                 leader = leader_of(servers)
@@ -116,7 +116,7 @@ def test_take_over():
         assert epochs == sorted(set(epochs)), epochs
         for server in servers:
             server.stop()
-        assert max(times[:3]) < due, times
+        assert max(times[:3]) < LEASE + 3 * max(BUSY, slowed()), times
         return f"leads again after {', '.join(f'{it:.2f}' for it in times)} s with a lease of {LEASE} s; {found[0]}"
 
 

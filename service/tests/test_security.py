@@ -1,4 +1,5 @@
 """Tokens for some jobs, tokens and a certificate that are read again, who called in the log, and lists in parts."""
+import http.client
 import os
 import re
 import signal
@@ -162,6 +163,26 @@ def test_tls_of_its_own():
         written(f"{at}/service.toml", f"tls_key = '{at}/key.pem'")
         refused(words, 78, "there is only one of them")
         return "two certificates"
+
+
+def test_a_refusal_over_tls_reaches_a_client_that_still_sends():
+    with folder() as at:
+        certificate(at, "first")
+        written(f"{at}/service.toml", f"tls_certificate = '{at}/certificate.pem'\ntls_key = '{at}/key.pem'\n", "[limits]\nidle_seconds = 600")
+        server = TlsServer(at, args=["--config", f"{at}/service.toml"]).start()
+        context = ssl.create_default_context(cafile=f"{at}/certificate.pem")
+        with context.wrap_socket(socket.create_connection(("127.0.0.1", server.port), timeout=COMMAND), server_hostname="127.0.0.1") as it:
+            it.sendall(b"POST /v1/jobs HTTP/1.1\r\nHost: localhost\r\nContent-Type: text/plain\r\nTransfer-Encoding: chunked\r\n\r\n")
+            for _ in range(10):
+                it.sendall(b"%x\r\n%s\r\n" % (100_000, b" " * 100_000))
+                server.get("/healthz")
+            it.sendall(b"0\r\n\r\n")
+            answer = http.client.HTTPResponse(it)
+            answer.begin()
+            assert answer.status == 415 and "Content-Type" in answer.read().decode()
+            assert it.recv(1) == b""
+        assert server.stop() == 0
+        return "415 after 1 MB"
 
 
 def test_lists_come_in_parts():

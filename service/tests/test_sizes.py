@@ -1,7 +1,7 @@
 """Sizes that acknowledgements say: each file's through its life, a record's, over starts, take-overs, cuts and a lost history."""
 import sqlite3
 
-from harness import CALL, Server, caught_up, configured, folder, lose_history, served, until
+from harness import CALL, Server, caught_up, configured, folder, lease_of, lose_history, served, until
 from postgres import postgres
 from relkvanu_service import Failed, Service, ack, deleted, dispose, savepoint, undeleted
 from test_images import KEEPING, SETTINGS, read_and_cut
@@ -86,7 +86,7 @@ def test_sizes_outlive_cuts():
 
 def test_sizes_outlive_a_take_over():
     with postgres() as database, folder() as at:
-        servers = [Server(at, database.url, configured(at, "lease_seconds = 3\n")) for _ in range(2)]
+        servers = [Server(at, database.url, configured(at, f"lease_seconds = {lease_of(3)}\n")) for _ in range(2)]
         leader, standby = servers[0].start(), servers[1].stand_by()
         wanted = worked(Service(leader.url).open("orders", SETTINGS, [2]))
         # the size of a file that is not there

@@ -8,7 +8,7 @@ import threading
 import time
 from contextlib import contextmanager
 
-from harness import BUSY, COMMAND, PROGRAM, SAVEPOINT_TRIGGERED, PgArchive, Server, configured, folder, free_port, until
+from harness import BUSY, COMMAND, PROGRAM, SAVEPOINT_TRIGGERED, PgArchive, Server, configured, folder, free_port, slowed, until
 from partition import Line
 from postgres import postgres
 from preloaded import Clocks
@@ -390,7 +390,7 @@ def test_processes_come_and_go():
         epochs = answers.check(database)
         for server in all_of[1:]:
             assert server.stop() == 0
-        assert max(times.values()) < LEASE + 8 * BUSY, times
+        assert max(times.values()) < LEASE + 8 * max(BUSY, slowed()), times
         said = ", ".join(f"{what} {took:.1f} s" for what, took in times.items())
         return f"{said}; {sum(one[0] for one in found)} calls answered in {epochs} epochs of jobs"
 

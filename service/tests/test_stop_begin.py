@@ -80,7 +80,11 @@ def test_who_waits_for_a_begin_hears_of_a_backup():
                 told.append(why)
 
         waits = threading.Thread(target=wait, daemon=True)
+        follows, follower = threading.Event(), tasks.job.follower
+        tasks.job.follower = lambda *given: follows.set() or follower(*given)
         waits.start()
+        # it has seen that the job has stopped, and polls
+        assert follows.wait(COMMAND)
         time.sleep(0.5)
         server.stop()
         os.remove(f"{server.database}-shm")
@@ -467,7 +471,7 @@ def ends(error):
 def cycle(job, term):
     """An operator and an engine: a stop, in which all take part, and the beginning after it. The service is killed meanwhile."""
     try:
-        for _ in range(100):
+        while True:
             savepoint, task = job.stop_job()["id"], job.session(term, block=2)
             for subtask in ("0.0", "0.1"):
                 task.ack(savepoint, subtask, [task.name()])

@@ -7,7 +7,7 @@ import subprocess
 import threading
 import time
 
-from harness import COMMAND, LOCKED, PROGRAM, SERVICE, Server, folder, free_port, served, slowed, until
+from harness import BUSY, COMMAND, LOCKED, PROGRAM, SERVICE, Server, folder, free_port, served, slowed, until
 from postgres import postgres
 from test_api import JOB
 from test_connections import within
@@ -21,22 +21,35 @@ def value(text, name):
     return float(lines[0].split()[1])
 
 
+def looked(server):
+    """What the health checks, the metrics and the call say while no commit is possible, and how long that lasted."""
+    told, base = [], sqlite3.connect(server.database, isolation_level=None, timeout=LOCKED)
+    base.execute("begin immediate")
+    calling = threading.Thread(target=lambda: told.append(server.request("POST", "/v1/jobs/orders/calls", CALLS)[0]))
+    started = time.monotonic()
+    calling.start()
+    refused = until(lambda: (it := within(9 * slowed(), lambda: server.get("/readyz")))[0] in (0, 503) and it, 8)
+    after = time.monotonic() - started
+    health, text = server.get("/healthz")[0], server.get("/metrics")
+    base.execute("rollback")
+    lasted = time.monotonic() - started
+    base.close()
+    calling.join()
+    return lasted, (refused, after, health, text, told)
+
+
 def test_health_and_metrics_answer_while_a_commit_is_stuck():
     with served() as server:
         server.request("POST", "/v1/jobs", JOB)
         assert "relkvanu_commit_under_way_seconds 0\n" in server.get("/metrics")[2]
-        base = sqlite3.connect(server.database, isolation_level=None, timeout=LOCKED)
-        base.execute("begin immediate")
-        told = []
-        calling = threading.Thread(target=lambda: told.append(server.request("POST", "/v1/jobs/orders/calls", CALLS)[0]))
-        calling.start()
-        started = time.monotonic()
-        # before the commit is given up, which takes 10 s: then the process ends, and the call is not answered
-        refused = until(lambda: (it := within(9 * slowed(), lambda: server.get("/readyz")))[0] == 503 and it, 8)
-        after = time.monotonic() - started
-        health, text = server.get("/healthz")[0], server.get("/metrics")
-        base.execute("rollback")
-        calling.join()
+        # a commit is given up after 10 s: then the process ends, and the call is not answered. A busy machine may look too late
+        for _ in range(BUSY):
+            lasted, found = looked(server)
+            if lasted < 9:
+                break
+            server.kill()
+            server.start()
+        refused, after, health, text, told = found
         assert "no commit is possible" in refused[2]["error"] and refused[1]["retry-after"] == "1", refused
         assert 2 < after and health == 200, (after, health)
         assert text[0] == 200 and 'relkvanu_files{job_name="orders"' in text[2], text

@@ -4,7 +4,7 @@ import glob
 import os
 import sqlite3
 
-from harness import Server, caught_up, configured, folder, lose_history, served, small_disk, until
+from harness import Server, caught_up, configured, folder, lease_of, lose_history, served, small_disk, until
 from postgres import postgres
 from relkvanu_service import Service, ack, deleted, dispose, savepoint
 from test_images import KEEPING, SETTINGS, read_and_cut, seen, worked
@@ -58,7 +58,7 @@ def test_a_lost_history_is_made_again_with_what_was_cut():
 
 def test_a_new_leader_knows_what_was_cut():
     with postgres() as database, folder() as at:
-        servers = [Server(at, database.url, configured(at, "lease_seconds = 3\nimage_calls = 20\nkeep_calls = 30\n")) for _ in range(3)]
+        servers = [Server(at, database.url, configured(at, f"lease_seconds = {lease_of(3)}\nimage_calls = 20\nkeep_calls = 30\n")) for _ in range(3)]
         leader, standby = servers[0].start(), servers[1].start(ready=False)
         job = Service(leader.url).open("orders", SETTINGS, [2])
         before = prepared(job)
@@ -166,8 +166,7 @@ def test_a_broken_history_is_seen():
         assert told() == (True, 1), told()
         os.remove(f"{small}/fill")
         caught_up(job)
-        values = scraped(server)[1]
-        assert values["relkvanu_history_up"] == 1 and values['relkvanu_history_lag_seconds{job_name="orders"}'] == 0
+        until(lambda: (it := scraped(server)[1])["relkvanu_history_up"] == 1 and it['relkvanu_history_lag_seconds{job_name="orders"}'] == 0)
         until(lambda: told()[0] and told()[1] > 800, 20)
         assert server.get("/healthz")[2] == "ok\n"
         until(lambda: scraped(server)[1].get('relkvanu_disk_free_bytes{of="history"}', 0) > 0)

@@ -68,7 +68,7 @@ def test_under_systemd():
             raise Skipped("a booting systemd", f"it does not boot here: {boot.stdout[-300:]!r}")
         with open(f"{at}/errors", encoding="utf-8") as it:
             errors = it.read()
-        assert not errors, errors[-3000:]
+        assert not errors, errors[-10_000:]
         with open(f"{at}/told", encoding="utf-8") as it:
             told = json.loads(it.read())
         assert told["exposure"] < 3 and told["discard_exposure"] < 3, told

@@ -3,7 +3,7 @@ import sqlite3
 import threading
 import time
 
-from harness import BUSY, LOCKED, Server, folder, served, until
+from harness import BUSY, LOCKED, Server, folder, served, slowed, until
 from postgres import postgres
 from relkvanu_service import Service, savepoint
 from test_metrics import scraped
@@ -108,7 +108,7 @@ def test_samples_do_not_stop_the_history():
         left = base.execute("select count(*) from sample").fetchone()[0]
         base.close()
         # on a busy machine the history is behind without old samples too
-        most = 2 + 4 * usual
+        most = 2 * slowed() + 4 * usual
         assert left >= jobs * (each - 20) and longest < most, (left, longest, usual)
         until(lambda: scraped(server)[1]["relkvanu_samples_behind_seconds"] == 0)
         until(lambda: scraped(server)[1]['relkvanu_history_lag_seconds{job_name="job0"}'] < 2)

@@ -16,12 +16,17 @@ JOB = {"name": "orders", "settings": {"interval": 60000}, "shape": [1], "names":
 
 def run(*words, check=True):
     told = subprocess.run(words, stdout=subprocess.PIPE, stderr=subprocess.STDOUT, text=True, check=False)
-    assert told.returncode == 0 or not check, (words, told.stdout, journal()[-2000:])
+    assert told.returncode == 0 or not check, (words, told.stdout, whole_journal())
     return told.stdout.strip()
 
 
 def journal(unit="relkvanu"):
     return run("journalctl", f"--unit={unit}", "--no-pager", check=False)
+
+
+def whole_journal():
+    """The end of what all units and systemd itself have said."""
+    return run("journalctl", "--no-pager", "--lines=40", "--output=short-precise", check=False)[-6000:]
 
 
 def property_of(name, unit="relkvanu"):
@@ -62,7 +67,7 @@ def as_the_page_says(*names, status=0):
         blocks = json.load(it)
     lines = [line for name in names for line in blocks[name].splitlines() if not line.startswith("apt-get ")]
     told = subprocess.run(["bash", "-euc", "\n".join(lines)], stdout=subprocess.PIPE, stderr=subprocess.STDOUT, text=True, check=False)
-    assert told.returncode == status, (names, told.stdout, journal()[-1000:])
+    assert told.returncode == status, (names, told.stdout, whole_journal())
     return told.stdout
 
 
@@ -79,6 +84,10 @@ def install():
     for name, text in (("tokens", f"read {'r' * 20}\nwrite {WRITE}\n"), ("write-token", f"{WRITE}\n")):
         with open(name, "w", encoding="utf-8") as it:
             it.write(text)
+    # no backup begins by itself meanwhile: the hour of the night may be now
+    os.makedirs("/etc/systemd/system/relkvanu-backup.timer.d")
+    with open("/etc/systemd/system/relkvanu-backup.timer.d/later.conf", "w", encoding="utf-8") as it:
+        it.write("[Timer]\nOnCalendar=\nOnCalendar=2090-01-01\n")
     as_the_page_says("install")
     # the pages that the units name
     for unit in ("relkvanu.service", "relkvanu-discard@.service", "relkvanu-sweep@.service", "relkvanu-backup.service", "relkvanu-savepoint@.service"):
@@ -111,7 +120,14 @@ def after(number):
 
 
 def calls(key, *made):
-    told = request("POST", "/v1/jobs/orders/calls", {"calls": list(made)}, key)
+    told = []
+
+    # it has a key: where it was not answered it may be asked again
+    def is_answered():
+        told[:] = request("POST", "/v1/jobs/orders/calls", {"calls": list(made)}, key)
+        return told[0] not in (0, 503)
+
+    until(is_answered)
     assert told[0] == 200 and not any("refused" in answer for answer in told[1]["answers"]), told
     return told[1]["answers"]
 

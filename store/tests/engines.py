@@ -21,6 +21,15 @@ SEED = os.environ.get("SEED", str(time.time()))
 LONGEST = 600  # seconds of a process, on a busy machine
 
 
+def slowed():
+    """How many times as long things may take as on an idle machine: twice as many as there are processes for each processor, in the last minute
+    or now."""
+    with open("/proc/loadavg", encoding="ascii") as it:
+        load, _, _, tasks, _ = it.read().split()
+    wanted = max(float(load), int(tasks.partition("/")[0]))
+    return max(1.0, 2 * wanted / len(os.sched_getaffinity(0)))
+
+
 def known(folder):
     """The files in use, those that wait, those that are taken, and the number of the last record."""
     storage = None if "MARKER" in os.environ else folder / "state"

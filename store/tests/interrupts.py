@@ -1,5 +1,5 @@
 """interrupts.py [MANY]: the main thread of an engine in Python is interrupted at random moments, by a handler that raises, while it calls, reads, waits,
-puts, discards and closes, and other threads call. Nothing hangs, no read or use is left, and a handler runs within 0.3 s."""
+puts, discards and closes, and other threads call. Nothing hangs, no read or use is left, and a handler runs within 0.3 s where the machine is idle."""
 import faulthandler
 import os
 import queue
@@ -10,12 +10,13 @@ import tempfile
 import threading
 import time
 
+from engines import slowed
 from relkvanu import Settings
 from relkvanu.store import Call, Store, StoreError
 
 SETTINGS = Settings(interval=10**9)
 LONGEST = 600  # seconds without an end of a test: it hangs
-SOON, BUSY = 0.3, 10  # seconds
+SOON, BUSY = 0.3, 10  # seconds, on an idle machine
 
 
 class Interrupt(Exception):
@@ -112,10 +113,10 @@ def test_calls(folder, many, choice):
 
 def check_late(alarm, many):
     assert len(alarm.late) == many, (len(alarm.late), many)
-    late = sorted(alarm.late)
-    soon = sum(it < SOON for it in late)
-    print(f"{many} interrupts: {soon} handlers ran within {SOON} s, the latest after {late[-1]:.3f} s")
-    assert soon >= many * 0.9 and late[-1] < BUSY, late[-10:]  # a busy machine may be late now and then
+    late, times = sorted(alarm.late), slowed()
+    soon = sum(it < SOON * times for it in late)
+    print(f"{many} interrupts: {soon} handlers ran within {SOON * times:.1f} s, the latest after {late[-1]:.3f} s")
+    assert soon >= many * 0.9 and late[-1] < BUSY * times, late[-10:]  # a busy machine may be late now and then
 
 
 def test_closes(folder, many, choice):

@@ -19,7 +19,7 @@ import sys
 import tempfile
 import time
 
-from engines import LONGEST, SEED, await_opening, known, recovers
+from engines import LONGEST, SEED, await_opening, known, recovers, slowed
 from relkvanu import Settings
 from relkvanu.store import Store
 
@@ -200,7 +200,7 @@ def a_forgotten_engine(it):
         later = folder / "later"
         later.write_text(f"{job} {int(epoch) + 1}\n")
         later.rename(marker)
-        time.sleep(0.2)  # a put or a deletion that was under way
+        time.sleep(0.2 * slowed())  # a put or a deletion that was under way
         before = files(folder)
         _, told = process.communicate(timeout=LONGEST)
     assert process.returncode not in (0, None) and "Storage" in told, (process.returncode, told)

@@ -607,7 +607,7 @@ class Threads(Folder):
                     done.set()
             loop.add_reader(job.fileno(), take)
             tokens = [job.submit([Call.savepoint(), Call.dispose(9)]) for _ in range(100)]
-            await asyncio.wait_for(done.wait(), 60)
+            await asyncio.wait_for(done.wait(), 600)
             loop.remove_reader(job.fileno())
             return tokens, results
         with self.open() as job:

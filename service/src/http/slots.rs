@@ -151,11 +151,18 @@ impl Slot {
         self.leave();
         let number = self.requests.fetch_add(1, Ordering::SeqCst);
         let mut pool = self.slots.pool(kind);
-        pool.make_room().then(|| {
-            pool.busy += 1;
-            *self.state() = State::Busy(kind, number);
-            Turn { slot: Arc::clone(self), number }
-        })
+        if !pool.make_room() {
+            self.goes.notify_one();
+            return None;
+        }
+        pool.busy += 1;
+        *self.state() = State::Busy(kind, number);
+        Some(Turn { slot: Arc::clone(self), number })
+    }
+
+    /// Whether there was no slot for its last request.
+    pub fn is_refused(&self) -> bool {
+        matches!(*self.state(), State::None)
     }
 
     /// The request is answered. The slot is kept for the next one, until another connection needs it.
@@ -171,7 +178,7 @@ impl Slot {
         self.slots.freed(kind);
     }
 
-    /// Ends once another connection has got the slot.
+    /// Ends once another connection has got the slot, or there was none for a request.
     pub async fn lost(&self) {
         self.goes.notified().await;
     }
@@ -268,10 +275,11 @@ mod tests {
         let waits = slot(&slots);
         let poll = waits.begin(Kind::Poll);
         let other = slot(&slots);
-        assert!(poll.is_some() && other.begin(Kind::Poll).is_none());
+        assert!(poll.is_some() && other.begin(Kind::Poll).is_none() && other.is_refused() && is_lost(&other));
         let (one, two) = (slot(&slots), slot(&slots));
         let (first, second) = (other.begin(Kind::Client), one.begin(Kind::Client));
         assert!(first.is_some() && second.is_some() && two.begin(Kind::Client).is_none());
+        assert!(two.is_refused() && !other.is_refused());
         assert!(two.begin(Kind::Health).is_some());
         drop(poll);
         let new = slot(&slots);

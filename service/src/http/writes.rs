@@ -162,8 +162,6 @@ pub(super) async fn read_body(app: &App, caller: &Caller, body: Body) -> Result<
     let length = body.size_hint().upper().and_then(|length| usize::try_from(length).ok());
     let time = Duration::from_secs(app.limits.body_seconds);
     if length.is_some_and(|length| length > most) {
-        // a client that still sends would not read the answer, so its body is read to the end; after too long it gets no answer
-        let _ = tokio::time::timeout(time, pass_over(body, 4 * most)).await;
         return Err(too_long(most).into());
     }
     let mut reading = Reading { most, bytes: Vec::new(), room: Room::new(&app.bodies, app.keys.token_of(caller)) };
@@ -207,17 +205,6 @@ impl Reading {
 async fn stops(app: &App) {
     app.board.stopping().await;
     tokio::time::sleep(STOP_BODIES).await;
-}
-
-/// Reads a body up to a length, and keeps nothing of it.
-async fn pass_over(mut body: Body, most: usize) {
-    let mut length = 0;
-    while let Some(Ok(part)) = body.data().await {
-        length += part.len();
-        if length > most {
-            return;
-        }
-    }
 }
 
 fn too_long(most: usize) -> Reply {
