@@ -82,7 +82,8 @@ async fn metrics(app: &App, query: &str) -> Result<Reply, Box<Reply>> {
     app.metrics.commit_takes(app.board.commit_takes());
     app.metrics.upkeep.history_up(app.history_file.works());
     // those of many jobs take long, and the other requests go on by another thread
-    let text = tokio::task::block_in_place(|| app.metrics.text(&jobs, || app.board.served()));
+    let served = |job: &str| app.board.served(job);
+    let text = tokio::task::block_in_place(|| app.metrics.text(&jobs, &app.board.names(), served));
     let text = text.map_err(|why| error(500, &why.to_string()))?;
     Ok(with_type(200, "text/plain; version=0.0.4", text))
 }
