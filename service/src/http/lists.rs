@@ -72,8 +72,9 @@ pub fn joined(mut parts: Vec<Value>, after: u64, most: usize) -> Value {
 }
 
 /// The answer to a request for a list: the whole of its parts, or the part of this process.
-pub fn reply(request: &Request<Body>, shards: Shards, told: &Value) -> Reply {
-    let reply = json_reply(200, told);
+pub fn reply(request: &Request<Body>, shards: Shards, told: Value) -> Reply {
+    // the text of many jobs takes long, and the other requests go on by another thread
+    let reply = tokio::task::block_in_place(move || json_reply(200, &told));
     if was_passed(request.headers()) {
         forward::with_shards(reply, shards)
     } else {

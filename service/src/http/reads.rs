@@ -84,7 +84,8 @@ async fn metrics(app: &App, query: &str) -> Result<Reply, Box<Reply>> {
     app.metrics.commit_takes(app.board.commit_takes());
     app.metrics.upkeep.history_up(app.history_file.works());
     // those of many jobs take long, and the other requests go on by another thread
-    let text = tokio::task::block_in_place(|| app.metrics.text(&jobs, || app.board.served()));
+    let served = |job: &str| app.board.served(job);
+    let text = tokio::task::block_in_place(|| app.metrics.text(&jobs, &app.board.names(), served));
     let text = text.map_err(|why| error(500, &why.to_string()))?;
     Ok(with_type(200, "text/plain; version=0.0.4", text))
 }
@@ -96,9 +97,11 @@ pub async fn jobs(app: &App, caller: &Caller, request: &Request<Body>) -> Result
     let [after, most] = numbers(query, [AFTER, limit(u64::MAX, u64::MAX)])?;
     let most = usize::try_from(most).unwrap_or(usize::MAX);
     let place = format!("/v1/jobs?{query}");
-    let (shards, mut parts) = lists::parts(app, request, &place, || own_jobs(app, caller, after, most)).await?;
-    let told = if was_passed(request.headers()) { parts.swap_remove(0) } else { lists::joined(parts, after, most) };
-    Ok(lists::reply(request, shards, &told))
+    let (shards, parts) = lists::parts(app, request, &place, || own_jobs(app, caller, after, most)).await?;
+    let is_part = was_passed(request.headers());
+    let joined = |mut parts: Vec<Value>| if is_part { parts.swap_remove(0) } else { lists::joined(parts, after, most) };
+    let told = tokio::task::block_in_place(|| joined(parts));
+    Ok(lists::reply(request, shards, told))
 }
 
 /// The jobs of this process, with their numbers.
@@ -112,7 +115,9 @@ async fn own_jobs(app: &App, caller: &Caller, after: u64, most: usize) -> Result
     let numbers: Vec<u64> = jobs[..most].iter().map(number).collect();
     let jobs: Vec<Value> =
         tokio::task::block_in_place(|| jobs[..most].iter().map(|job| render::job(job, log)).collect());
-    Ok((shards, json!({"epoch": epoch, "log": log, "numbers": numbers, "jobs": jobs, "next": next})))
+    let mut told = json!({"epoch": epoch, "log": log, "numbers": numbers, "next": next});
+    told["jobs"] = jobs.into(); // `json!` would copy them
+    Ok((shards, told))
 }
 
 async fn one_job(app: &App, job: String, query: &str) -> Result<Reply, Box<Reply>> {

@@ -51,7 +51,7 @@ pub async fn answer(
     };
     let (shards, mut parts) = lists::parts(app, &request, NAMES, || own(app, name.as_ref(), caller, wanted)).await?;
     if was_passed(request.headers()) || app.others.is_none() {
-        return Ok(lists::reply(&request, shards, &parts.swap_remove(0)));
+        return Ok(lists::reply(&request, shards, parts.swap_remove(0)));
     }
     let mut names: Vec<Value> =
         parts.iter_mut().filter_map(|part| part["jobs"].as_array_mut().map(std::mem::take)).flatten().collect();
@@ -89,22 +89,34 @@ async fn own(
     caller: &Caller,
     [records, samples, files]: [u64; 3],
 ) -> Result<(Shards, Value), Box<Reply>> {
-    let (shards, mut jobs) = app.jobs().await?;
-    jobs.retain(|job| caller.may_see(&job.opening.name));
-    let told_of = |job: &JobState| {
-        let (mode, phase) = (render::mode(job.mode), job.phase.word());
-        json!({"name": job.opening.name, "mode": mode, "phase": phase})
-    };
-    let names: Vec<Value> = jobs.iter().map(told_of).collect();
-    let mut told = json!({"epoch": app.board.epoch(), "jobs": names, "job": null});
-    let shown = jobs.iter().find(|job| Some(&job.opening.name) == name).or(jobs.first());
+    let (shards, jobs) = app.jobs().await?;
+    // the names of many jobs take long, and the other requests go on by another thread
+    let (names, shown) = tokio::task::block_in_place(|| names_of(jobs, name, caller));
+    let mut told = json!({"epoch": app.board.epoch(), "job": null});
+    told["jobs"] = names; // `json!` would copy them
     if let (Some(job), Some(object)) = (shown, told.as_object_mut()) {
         let wanted = Wanted { records, samples, files };
-        object.insert("job".to_string(), render::job(job, app.board.log()));
-        object.insert("pending".to_string(), Value::Array(pending(app, job).await?));
-        object.append(&mut history(app, job, wanted).await?);
+        object.insert("job".to_string(), render::job(&job, app.board.log()));
+        object.insert("pending".to_string(), Value::Array(pending(app, &job).await?));
+        object.append(&mut history(app, &job, wanted).await?);
     }
     Ok((shards, told))
+}
+
+/// The jobs that the caller may see, by name and mode, and the one that is shown.
+fn names_of(jobs: Vec<JobState>, name: Option<&String>, caller: &Caller) -> (Value, Option<JobState>) {
+    let mut names = Vec::with_capacity(jobs.len());
+    let (mut first, mut shown) = (None, None);
+    for job in jobs.into_iter().filter(|job| caller.may_see(&job.opening.name)) {
+        let (mode, phase) = (render::mode(job.mode), job.phase.word());
+        names.push(json!({"name": job.opening.name, "mode": mode, "phase": phase}));
+        if Some(&job.opening.name) == name {
+            shown = Some(job);
+        } else if first.is_none() {
+            first = Some(job);
+        }
+    }
+    (Value::Array(names), shown.or(first))
 }
 
 /// The pending records of a job, each with the subtasks that are missing. One that has ended meanwhile is left out.

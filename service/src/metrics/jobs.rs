@@ -1,36 +1,36 @@
 //! The gauges of jobs, which each scrape sets anew.
-use super::{forget, gauge, seconds, set, set_seconds, Families, KINDS, STATES};
+use super::{of_jobs, seconds, set, set_seconds, Families, Parted, KINDS, STATES};
 use crate::model::{Mode, Phase};
 use crate::writer::JobState;
 use prometheus::{GaugeVec, IntGaugeVec};
 
 pub struct Gauges {
-    mode: IntGaugeVec,
-    phase: IntGaugeVec,
-    interval: GaugeVec,
-    timeout: GaugeVec,
-    completed: GaugeVec,
-    restored: GaugeVec,
-    served: GaugeVec,
-    opened: GaugeVec,
-    files: IntGaugeVec,
-    pending: IntGaugeVec,
-    savepoints: IntGaugeVec,
-    log_calls: IntGaugeVec,
-    kept_calls: IntGaugeVec,
-    image_at: GaugeVec,
-    image_bytes: IntGaugeVec,
-    since_image: IntGaugeVec,
-    history: IntGaugeVec,
-    term: IntGaugeVec,
-    next_name: IntGaugeVec,
+    mode: Parted<IntGaugeVec>,
+    phase: Parted<IntGaugeVec>,
+    interval: Parted<GaugeVec>,
+    timeout: Parted<GaugeVec>,
+    completed: Parted<GaugeVec>,
+    restored: Parted<GaugeVec>,
+    served: Parted<GaugeVec>,
+    opened: Parted<GaugeVec>,
+    files: Parted<IntGaugeVec>,
+    pending: Parted<IntGaugeVec>,
+    savepoints: Parted<IntGaugeVec>,
+    log_calls: Parted<IntGaugeVec>,
+    kept_calls: Parted<IntGaugeVec>,
+    image_at: Parted<GaugeVec>,
+    image_bytes: Parted<IntGaugeVec>,
+    since_image: Parted<IntGaugeVec>,
+    history: Parted<IntGaugeVec>,
+    term: Parted<IntGaugeVec>,
+    next_name: Parted<IntGaugeVec>,
 }
 
 impl Gauges {
     pub fn new() -> Result<Gauges, prometheus::Error> {
         Ok(Gauges {
-            mode: gauge("relkvanu_mode", "What the job is doing: 1 running, 2 failed, 3 cancelled.", &["job_name"])?,
-            phase: gauge(
+            mode: of_jobs("relkvanu_mode", "What the job is doing: 1 running, 2 failed, 3 cancelled.", &["job_name"])?,
+            phase: of_jobs(
                 "relkvanu_phase",
                 "Whether somebody stops the job: 1 it runs, 2 it stops, 3 it has stopped.",
                 &["job_name"],
@@ -50,48 +50,48 @@ impl Gauges {
                 "Since when this process serves the job, in Unix time: its start, a take-over, or the opening of the job.",
             )?,
             opened: seconds("relkvanu_job_opened_timestamp_seconds", "When the job was opened, in Unix time.")?,
-            files: gauge(
+            files: of_jobs(
                 "relkvanu_files",
                 "State files that are in use, wait for deletion, or were taken for it.",
                 &["job_name", "state"],
             )?,
-            pending: gauge(
+            pending: of_jobs(
                 "relkvanu_pending_records",
                 "Records that wait for acknowledgements.",
                 &["job_name", "kind"],
             )?,
-            savepoints: gauge(
+            savepoints: of_jobs(
                 "relkvanu_savepoints",
                 "Complete savepoints that nobody has disposed of. A job has at most 1000.",
                 &["job_name"],
             )?,
-            log_calls: gauge(
+            log_calls: of_jobs(
                 "relkvanu_log_calls",
                 "Calls that the job's log has had: the place of the last.",
                 &["job_name"],
             )?,
-            kept_calls: gauge("relkvanu_log_kept_calls", "Calls that the job's log still has.", &["job_name"])?,
+            kept_calls: of_jobs("relkvanu_log_kept_calls", "Calls that the job's log still has.", &["job_name"])?,
             image_at: seconds(
                 "relkvanu_image_timestamp_seconds",
                 "The moment of the job's last image, in Unix time; before the first, when the job was opened.",
             )?,
-            image_bytes: gauge("relkvanu_image_bytes", "How long the job's last image is.", &["job_name"])?,
-            since_image: gauge(
+            image_bytes: of_jobs("relkvanu_image_bytes", "How long the job's last image is.", &["job_name"])?,
+            since_image: of_jobs(
                 "relkvanu_calls_since_image",
                 "Calls after the job's last image, which a start makes again.",
                 &["job_name"],
             )?,
-            history: gauge(
+            history: of_jobs(
                 "relkvanu_history_calls",
                 "The place in the job's log up to which the history has read.",
                 &["job_name"],
             )?,
-            term: gauge(
+            term: of_jobs(
                 "relkvanu_term",
                 "The term of the job's tasks, which each restore and cancel ends; none if it gives out no names.",
                 &["job_name"],
             )?,
-            next_name: gauge(
+            next_name: of_jobs(
                 "relkvanu_next_name",
                 "The next name that the job gives out; none if it gives out no names.",
                 &["job_name"],
@@ -100,13 +100,13 @@ impl Gauges {
     }
 
     /// Those of seconds.
-    fn moments(&self) -> [&GaugeVec; 7] {
+    fn moments(&self) -> [&Parted<GaugeVec>; 7] {
         let Gauges { interval, timeout, completed, restored, served, opened, image_at, .. } = self;
         [interval, timeout, completed, restored, served, opened, image_at]
     }
 
     /// Those of whole numbers.
-    fn whole(&self) -> [&IntGaugeVec; 12] {
+    fn whole(&self) -> [&Parted<IntGaugeVec>; 12] {
         let Gauges {
             mode,
             phase,
@@ -190,11 +190,11 @@ impl Gauges {
     /// A job was deleted, or given up.
     pub fn forget(&self, job: &str) {
         for gauge in self.whole() {
-            forget(gauge, job, &[]);
+            gauge.forget(job, &[]);
         }
-        forget(&self.files, job, &[&STATES]);
-        forget(&self.pending, job, &[&KINDS]);
-        self.moments().into_iter().for_each(|gauge| forget(gauge, job, &[]));
+        self.files.forget(job, &[&STATES]);
+        self.pending.forget(job, &[&KINDS]);
+        self.moments().into_iter().for_each(|gauge| gauge.forget(job, &[]));
     }
 
     fn set_log(&self, job: &JobState, name: &str) {

@@ -1,5 +1,6 @@
 //! The metrics for Prometheus: the writer sets counters and times, and reads set gauges.
 mod jobs;
+mod parted;
 mod process;
 mod queue;
 mod sizes;
@@ -9,15 +10,15 @@ use crate::history::Search;
 use crate::model::Outcome;
 use crate::writer::{JobState, Served};
 use jobs::Gauges;
+use parted::{part_of, Parted, PARTS};
 use process::Process;
-use prometheus::core::{Collector, MetricVec, MetricVecBuilder};
+use prometheus::core::Collector;
 use prometheus::{
     Encoder, Gauge, GaugeVec, Histogram, HistogramOpts, HistogramVec, IntCounterVec, IntGauge, IntGaugeVec, Opts,
     Registry, TextEncoder,
 };
 use queue::Queue;
 use sizes::SizeMetrics;
-use std::collections::HashSet;
 use std::sync::{Mutex, MutexGuard, PoisonError};
 use std::time::Duration;
 use upkeep::Upkeep;
@@ -53,22 +54,22 @@ const STATES: [&str; 3] = ["in_use", "waiting", "taken"];
 
 pub struct Metrics {
     families: Families,
-    calls: IntCounterVec,
+    calls: Parted<IntCounterVec>,
     requests: IntCounterVec,
     commit_seconds: Histogram,
     commit_rows: Histogram,
     image_seconds: Histogram,
-    images_fail: IntGaugeVec,
+    images_fail: Parted<IntGaugeVec>,
     clock_ahead: Gauge,
     leader: IntGauge,
     shards: IntGauge,
     connections: IntGauge,
     commit_takes: Gauge,
-    records: IntCounterVec,
-    durations: HistogramVec,
+    records: Parted<IntCounterVec>,
+    durations: Parted<HistogramVec>,
     gauges: Gauges,
-    /// Held while a read sets the values of jobs, and while they are forgotten.
-    values: Mutex<()>,
+    /// One of each part, which is held while a read sets the values of one of its jobs, and while they are forgotten.
+    values: [Mutex<()>; PARTS],
     pub upkeep: Upkeep,
     pub sizes: SizeMetrics,
     pub queue: Queue,
@@ -79,7 +80,9 @@ impl Metrics {
     pub fn new() -> Result<Metrics, prometheus::Error> {
         let mut metrics = Metrics {
             families: Families::default(),
-            calls: counter("relkvanu_calls_total", "Calls, by what became of them.", &["job_name", "call", "outcome"])?,
+            calls: Parted::of(|| {
+                counter("relkvanu_calls_total", "Calls, by what became of them.", &["job_name", "call", "outcome"])
+            })?,
             requests: counter(
                 "relkvanu_http_requests_total",
                 "HTTP requests, by route and status.",
@@ -92,7 +95,7 @@ impl Metrics {
                 "How long an image of a job is made, while calls of that job wait.",
                 &SECONDS,
             )?,
-            images_fail: gauge(
+            images_fail: of_jobs(
                 "relkvanu_image_failing",
                 "1 where the last image of the job, or the last cut of its log, could not be written.",
                 &["job_name"],
@@ -108,18 +111,22 @@ impl Metrics {
                 "relkvanu_commit_under_way_seconds",
                 "For how long the commit that is under way has taken; 0 if none is.",
             )?,
-            records: counter(
-                "relkvanu_records_total",
-                "Records that ended being pending, by how.",
-                &["job_name", "kind", "how"],
-            )?,
-            durations: HistogramVec::new(
-                HistogramOpts::new("relkvanu_completion_seconds", "From a record's trigger to its completion.")
-                    .buckets(DURATIONS.to_vec()),
-                &["job_name", "kind"],
-            )?,
+            records: Parted::of(|| {
+                counter(
+                    "relkvanu_records_total",
+                    "Records that ended being pending, by how.",
+                    &["job_name", "kind", "how"],
+                )
+            })?,
+            durations: Parted::of(|| {
+                HistogramVec::new(
+                    HistogramOpts::new("relkvanu_completion_seconds", "From a record's trigger to its completion.")
+                        .buckets(DURATIONS.to_vec()),
+                    &["job_name", "kind"],
+                )
+            })?,
             gauges: Gauges::new()?,
-            values: Mutex::new(()),
+            values: [const { Mutex::new(()) }; PARTS],
             upkeep: Upkeep::new()?,
             sizes: SizeMetrics::new()?,
             queue: Queue::new()?,
@@ -131,9 +138,9 @@ impl Metrics {
 
     fn register(&mut self) -> Result<(), prometheus::Error> {
         let all = &mut self.families;
-        for counter in [&self.calls, &self.requests, &self.records] {
-            all.add(counter)?;
-        }
+        all.add(&self.calls)?;
+        all.add(&self.requests)?;
+        all.add(&self.records)?;
         for times in [&self.commit_seconds, &self.commit_rows, &self.image_seconds] {
             all.add(times)?;
         }
@@ -204,11 +211,11 @@ impl Metrics {
 
     /// A job was deleted, or is another process's: its values go.
     pub fn forget(&self, job: &str) {
-        let _held = self.values();
-        forget(&self.calls, job, &[&CALLS, &OUTCOMES]);
-        forget(&self.records, job, &[&KINDS, &Search::HOWS]);
-        forget(&self.images_fail, job, &[]);
-        forget(&self.durations, job, &[&KINDS]);
+        let _held = self.values(job);
+        self.calls.forget(job, &[&CALLS, &OUTCOMES]);
+        self.records.forget(job, &[&KINDS, &Search::HOWS]);
+        self.images_fail.forget(job, &[]);
+        self.durations.forget(job, &[&KINDS]);
         self.gauges.forget(job);
         self.upkeep.forget(job);
         self.sizes.forget(job);
@@ -228,31 +235,41 @@ impl Metrics {
         self.leader.set(i64::from(leads));
     }
 
-    /// All metrics as text, with the gauges of these jobs. `served` tells which jobs this process has now.
-    pub fn text(&self, jobs: &[JobState], served: impl FnOnce() -> Vec<Served>) -> Result<Vec<u8>, prometheus::Error> {
-        self.set(jobs, served);
+    /// All metrics as text, with the gauges of these jobs. `names` has the jobs of this process, and `served` tells of each whether it still has it.
+    pub fn text(
+        &self,
+        jobs: &[JobState],
+        names: &[String],
+        served: impl Fn(&str) -> Option<Served>,
+    ) -> Result<Vec<u8>, prometheus::Error> {
+        self.set(jobs, names, served);
         self.families.text()
     }
 
-    /// A job that has gone since it was read has been forgotten, or will be: it gets no values, which would stay.
-    fn set(&self, jobs: &[JobState], served: impl FnOnce() -> Vec<Served>) {
-        let _held = self.values();
-        let served = served();
-        let there: HashSet<&str> = served.iter().map(|it| it.job.as_str()).collect();
-        for job in jobs.iter().filter(|job| there.contains(job.opening.name.as_str())) {
-            self.gauges.set(job);
-            self.sizes.job(&job.opening.name, &job.bytes);
-            // it is there, and 0 at first
-            self.images_fail.with_label_values(&[job.opening.name.as_str()]);
+    /// A job that has gone since it was read has been forgotten, or will be: it gets no values, which would stay. Nothing is held from one job to
+    /// the next, so that the writer can forget one meanwhile.
+    fn set(&self, jobs: &[JobState], names: &[String], served: impl Fn(&str) -> Option<Served>) {
+        for job in jobs {
+            let name = job.opening.name.as_str();
+            let _held = self.values(name);
+            if served(name).is_some() {
+                self.gauges.set(job);
+                self.sizes.job(name, &job.bytes);
+                // it is there, and 0 at first
+                self.images_fail.with_label_values(&[name]);
+            }
         }
-        for Served { job, since, lag } in &served {
-            self.upkeep.history_lag(job, *lag);
-            self.gauges.served(job, *since);
+        for job in names {
+            let _held = self.values(job);
+            if let Some(Served { since, lag }) = served(job) {
+                self.upkeep.history_lag(job, lag);
+                self.gauges.served(job, since);
+            }
         }
     }
 
-    fn values(&self) -> MutexGuard<'_, ()> {
-        self.values.lock().unwrap_or_else(PoisonError::into_inner)
+    fn values(&self, job: &str) -> MutexGuard<'_, ()> {
+        self.values[part_of(job)].lock().unwrap_or_else(PoisonError::into_inner)
     }
 }
 
@@ -282,36 +299,25 @@ impl Families {
     }
 }
 
-/// Removes the values of a job, with each of these words in the labels that follow its name.
-fn forget<T: MetricVecBuilder>(values: &MetricVec<T>, job: &str, words: &[&[&str]]) {
-    let mut labels = vec![vec![job]];
-    for more in words {
-        labels = labels.iter().flat_map(|some| more.iter().map(|word| [&some[..], &[*word]].concat())).collect();
-    }
-    for some in labels {
-        // most have no value
-        let _ = values.remove_label_values(&some);
-    }
-}
-
-fn set(gauge: &IntGaugeVec, labels: &[&str], value: u64) {
+fn set(gauge: &Parted<IntGaugeVec>, labels: &[&str], value: u64) {
     gauge.with_label_values(labels).set(i64::try_from(value).unwrap_or(i64::MAX));
 }
 
-fn set_seconds(gauge: &GaugeVec, job: &str, milliseconds: u64) {
+fn set_seconds(gauge: &Parted<GaugeVec>, job: &str, milliseconds: u64) {
     gauge.with_label_values(&[job]).set(milliseconds as f64 / 1000.0);
 }
 
-fn seconds(name: &str, help: &str) -> Result<GaugeVec, prometheus::Error> {
-    GaugeVec::new(Opts::new(name, help), &["job_name"])
+fn seconds(name: &str, help: &str) -> Result<Parted<GaugeVec>, prometheus::Error> {
+    Parted::of(|| GaugeVec::new(Opts::new(name, help), &["job_name"]))
 }
 
 fn counter(name: &str, help: &str, labels: &[&str]) -> Result<IntCounterVec, prometheus::Error> {
     IntCounterVec::new(Opts::new(name, help), labels)
 }
 
-fn gauge(name: &str, help: &str, labels: &[&str]) -> Result<IntGaugeVec, prometheus::Error> {
-    IntGaugeVec::new(Opts::new(name, help), labels)
+/// A gauge of jobs, with whole numbers.
+fn of_jobs(name: &str, help: &str, labels: &[&str]) -> Result<Parted<IntGaugeVec>, prometheus::Error> {
+    Parted::of(|| IntGaugeVec::new(Opts::new(name, help), labels))
 }
 
 fn histogram(name: &str, help: &str, buckets: &[f64]) -> Result<Histogram, prometheus::Error> {
@@ -324,6 +330,7 @@ mod tests {
     use crate::model::Fault;
     use serde_json::Value;
     use std::collections::BTreeSet;
+    use std::sync::mpsc::channel;
 
     /// A word that is missing there would leave values of deleted jobs.
     #[test]
@@ -361,6 +368,26 @@ mod tests {
         metrics.forget("gone");
         let text = String::from_utf8_lossy(&metrics.families.text()?).into_owned();
         assert!(!text.contains("gone") && text.contains("stays"));
+        Ok(())
+    }
+
+    /// The writer forgets the values of a job while a scrape sets those of another one.
+    #[test]
+    fn a_deletion_does_not_wait_for_a_scrape() -> Result<(), prometheus::Error> {
+        let metrics = Metrics::new()?;
+        let names = ["one".to_string()];
+        let other = (0..1000).map(|it| it.to_string()).find(|it| part_of(it) != part_of("one")).unwrap_or_default();
+        let (told, is_forgotten) = channel();
+        std::thread::scope(|scope| {
+            metrics.set(&[], &names, |_| {
+                scope.spawn(|| {
+                    metrics.forget(&other);
+                    told.send(())
+                });
+                assert!(is_forgotten.recv_timeout(Duration::from_secs(60)).is_ok());
+                None
+            });
+        });
         Ok(())
     }
 }

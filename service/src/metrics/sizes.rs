@@ -1,28 +1,27 @@
 //! Metrics of sizes: the bytes of a job's files, and of its last records.
-use super::{forget, Families, KINDS, STATES};
+use super::{of_jobs, set, Families, Parted, KINDS, STATES};
 use crate::model::Bytes;
-use prometheus::{IntGaugeVec, Opts};
+use prometheus::IntGaugeVec;
 
 /// Of which files of a record the bytes are.
 const OF: [&str; 2] = ["new", "all"];
 
 pub struct SizeMetrics {
-    files: IntGaugeVec,
-    sized: IntGaugeVec,
-    records: IntGaugeVec,
+    files: Parted<IntGaugeVec>,
+    sized: Parted<IntGaugeVec>,
+    records: Parted<IntGaugeVec>,
 }
 
 impl SizeMetrics {
     pub fn new() -> Result<SizeMetrics, prometheus::Error> {
-        let gauge = |name: &str, help: &str, labels: &[&str]| IntGaugeVec::new(Opts::new(name, help), labels);
         Ok(SizeMetrics {
-            files: gauge(
+            files: of_jobs(
                 "relkvanu_file_bytes",
                 "Bytes of state files that are in use, wait for deletion, or were taken for it, as acknowledgements said them.",
                 &["job_name", "state"],
             )?,
-            sized: gauge("relkvanu_sized_files", "State files whose bytes are known.", &["job_name"])?,
-            records: gauge(
+            sized: of_jobs("relkvanu_sized_files", "State files whose bytes are known.", &["job_name"])?,
+            records: of_jobs(
                 "relkvanu_record_bytes",
                 "Bytes of the last record that completed: of all files that it names, and of its new files.",
                 &["job_name", "kind", "of"],
@@ -43,9 +42,9 @@ impl SizeMetrics {
 
     /// A job was deleted, or given up.
     pub fn forget(&self, job: &str) {
-        forget(&self.files, job, &[&STATES]);
-        forget(&self.sized, job, &[]);
-        forget(&self.records, job, &[&KINDS, &OF]);
+        self.files.forget(job, &[&STATES]);
+        self.sized.forget(job, &[]);
+        self.records.forget(job, &[&KINDS, &OF]);
     }
 
     /// A record completed, with these bytes of its new files and of all.
@@ -54,8 +53,4 @@ impl SizeMetrics {
             set(&self.records, &[job, kind, of], number);
         }
     }
-}
-
-fn set(gauge: &IntGaugeVec, labels: &[&str], value: u64) {
-    gauge.with_label_values(labels).set(i64::try_from(value).unwrap_or(i64::MAX));
 }

@@ -1,5 +1,5 @@
 //! Metrics of what the service does beside its calls: the history, deletions, and the room that it takes.
-use super::{forget, Families, STATES};
+use super::{seconds, Families, Parted, STATES};
 use crate::auth::{Access, Tokens};
 use crate::store::Disk;
 use prometheus::{Gauge, GaugeVec, IntGauge, IntGaugeVec, Opts};
@@ -7,7 +7,7 @@ use std::time::{Duration, SystemTime, UNIX_EPOCH};
 
 pub struct Upkeep {
     history_up: IntGauge,
-    history_lag: GaugeVec,
+    history_lag: Parted<GaugeVec>,
     keys_behind: Gauge,
     samples_behind: Gauge,
     bytes: IntGaugeVec,
@@ -15,16 +15,20 @@ pub struct Upkeep {
     disk: IntGaugeVec,
     token_until: GaugeVec,
     certificate_until: Gauge,
-    oldest_file: GaugeVec,
+    oldest_file: Parted<GaugeVec>,
 }
 
 impl Upkeep {
     pub fn new() -> Result<Upkeep, prometheus::Error> {
         let sized = |name: &str, help: &str| IntGaugeVec::new(Opts::new(name, help), &["of"]);
         let lag = "How long the history has not read calls that were committed, 0 if it has read all.";
+        let oldest_file = Opts::new(
+            "relkvanu_oldest_file_age_seconds",
+            "For how long the oldest state file that waits for deletion, or was taken for it, has done so; 0 if there is none.",
+        );
         Ok(Upkeep {
             history_up: IntGauge::new("relkvanu_history_up", "1 while the history can be read and written.")?,
-            history_lag: GaugeVec::new(Opts::new("relkvanu_history_lag_seconds", lag), &["job_name"])?,
+            history_lag: seconds("relkvanu_history_lag_seconds", lag)?,
             keys_behind: Gauge::new(
                 "relkvanu_keys_behind_seconds",
                 "For how long keys that are older than a day have been left.",
@@ -40,13 +44,7 @@ impl Upkeep {
                 "relkvanu_certificate_until_timestamp_seconds",
                 "When the certificate ends, or the first one of its chain, in Unix time; +Inf without TLS.",
             )?,
-            oldest_file: GaugeVec::new(
-                Opts::new(
-                    "relkvanu_oldest_file_age_seconds",
-                    "For how long the oldest state file that waits for deletion, or was taken for it, has done so; 0 if there is none.",
-                ),
-                &["job_name", "state"],
-            )?,
+            oldest_file: Parted::of(|| GaugeVec::new(oldest_file.clone(), &["job_name", "state"]))?,
             token_until: GaugeVec::new(
                 Opts::new(
                     "relkvanu_token_until_timestamp_seconds",
@@ -59,7 +57,8 @@ impl Upkeep {
 
     pub fn register(&self, all: &mut Families) -> Result<(), prometheus::Error> {
         all.add(&self.history_up)?;
-        [&self.history_lag, &self.token_until, &self.oldest_file].into_iter().try_for_each(|it| all.add(it))?;
+        all.add(&self.token_until)?;
+        [&self.history_lag, &self.oldest_file].into_iter().try_for_each(|it| all.add(it))?;
         all.add(&self.certificate_until)?;
         [&self.keys_behind, &self.samples_behind].into_iter().try_for_each(|it| all.add(it))?;
         [&self.bytes, &self.free, &self.disk].into_iter().try_for_each(|it| all.add(it))
@@ -75,8 +74,8 @@ impl Upkeep {
 
     /// A job was deleted, or given up.
     pub fn forget(&self, job: &str) {
-        forget(&self.history_lag, job, &[]);
-        forget(&self.oldest_file, job, &[&STATES]);
+        self.history_lag.forget(job, &[]);
+        self.oldest_file.forget(job, &[&STATES]);
     }
 
     /// When the last token for each access ends, if it does.

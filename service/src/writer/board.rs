@@ -29,9 +29,9 @@ pub struct Board {
     jobs: RwLock<HashMap<String, Watched>>,
 }
 
-/// A job that this process serves.
+/// That this process serves a job.
+#[derive(Clone, Copy)]
 pub struct Served {
-    pub job: String,
     /// The moment since which it does, by this machine's clock.
     pub since: u64,
     /// For how long the history has not read what was committed.
@@ -261,13 +261,13 @@ impl Board {
     }
 
     /// The jobs that this process serves.
-    pub fn served(&self) -> Vec<Served> {
-        let served = |(job, watched): (&String, &Watched)| Served {
-            job: job.clone(),
-            since: watched.since,
-            lag: watched.lag.time(),
-        };
-        self.read().iter().map(served).collect()
+    pub fn names(&self) -> Vec<String> {
+        self.read().keys().cloned().collect()
+    }
+
+    /// Whether this process serves a job, and how.
+    pub fn served(&self, job: &str) -> Option<Served> {
+        self.read().get(job).map(|watched| Served { since: watched.since, lag: watched.lag.time() })
     }
 
     /// How far the history has read a job's log.

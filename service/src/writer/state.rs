@@ -133,10 +133,11 @@ mod tests {
         let mut job = Job::open(opening).map_err(|_| "a job")?;
         let (read, metrics) = ([state(&mut job, 5)], Metrics::new()?);
         let has_it = |text: Vec<u8>| String::from_utf8_lossy(&text).contains("orders");
-        let served = Served { job: "orders".to_string(), since: 7, lag: Duration::ZERO };
-        assert!(has_it(metrics.text(&read, || vec![served])?));
+        let (names, served) = (["orders".to_string()], Served { since: 7, lag: Duration::ZERO });
+        assert!(has_it(metrics.text(&read, &names, |_| Some(served))?));
         metrics.forget("orders");
-        assert!(!has_it(metrics.text(&read, Vec::new)?));
+        // also one that goes between the list of names and its turn
+        assert!(!has_it(metrics.text(&read, &names, |_| None)?));
         Ok(())
     }
 }
