@@ -58,6 +58,9 @@ int rks_enter(relkvanu_store *s, struct rks_waiter *w) {
     while (!leads && sem_wait(&w->turn) != 0) {}
     wake(w->wakes, w->wakes_len);
     sem_destroy(&w->turn);
+    if (!w->is_answered && w->calls == NULL) {
+        rks_await_keeper(s); /* a read sees no record whose manifest is not there yet */
+    }
     return RELKVANU_STORE_OK;
 }
 
@@ -84,7 +87,6 @@ struct rks_waiter *rks_take_group(relkvanu_store *s) {
     return group;
 }
 
-/* Afterwards a waiter that was submitted is not the store's any more. */
 static void answer(relkvanu_store *s, struct rks_waiter *w, int status) {
     w->status = status == RELKVANU_STORE_OK && w->is_not_now ? RELKVANU_STORE_NOT_NOW : status;
     w->is_answered = true;
@@ -93,9 +95,6 @@ static void answer(relkvanu_store *s, struct rks_waiter *w, int status) {
     }
     for (size_t i = 0; i < w->calls_len && w->status == RELKVANU_STORE_OK; i++) {
         w->calls[i].answer = rks_told(s, w->first + i);
-    }
-    if (w->is_submitted) {
-        rks_complete(s, w);
     }
 }
 
@@ -117,19 +116,35 @@ static void wake_all(struct rks_waiter *sleepers) {
     }
 }
 
-/* Afterwards a waiter belongs to who waits for it. */
-static void answer_all(relkvanu_store *s, struct rks_waiter *group, int status, const struct rks_waiter *own) {
+/* Afterwards a waiter belongs to who waits for it, and one that was submitted is not the store's any more. */
+void rks_tell_all(relkvanu_store *s, struct rks_waiter *answered) {
     struct rks_waiter *sleepers = NULL, **end = &sleepers;
-    for (struct rks_waiter *next; group != NULL; group = next) {
-        next = group->next;
-        if (!group->is_submitted && group != own) {
-            *end = group;
-            end = &group->next;
+    for (struct rks_waiter *w = answered, *next; w != NULL; w = next) {
+        next = w->next;
+        if (w->is_submitted) {
+            rks_complete(s, w);
+        } else {
+            *end = w;
+            end = &w->next;
         }
-        answer(s, group, status);
     }
     *end = NULL;
     wake_all(sleepers);
+}
+
+/* Answers a group, but for those who have to wait for the keeper. Who leads sees its own answer. */
+static void answer_all(relkvanu_store *s, struct rks_waiter *group, int status, const struct rks_waiter *own) {
+    struct rks_waiter *answered = NULL, **end = &answered;
+    for (struct rks_waiter *w = group, *next; w != NULL; w = next) {
+        next = w->next;
+        answer(s, w, status);
+        if (!rks_is_held(s, w, own) && w != own) {
+            *end = w;
+            end = &w->next;
+        }
+    }
+    *end = NULL;
+    rks_tell_all(s, answered);
 }
 
 /* Closes the store for good. Nobody may be told of a failure before. */
@@ -166,12 +181,12 @@ void rks_hand_on(relkvanu_store *s, int dead) {
     answer_all(s, failed, RELKVANU_STORE_CLOSED, NULL);
 }
 
-/* Commits the calls that were made. */
-static int commit(relkvanu_store *s) {
+/* Commits the calls that were made. others_go_on: a manifest may be written while other groups are committed. */
+static int commit(relkvanu_store *s, bool others_go_on) {
     int status = rks_commit(s, false);
     rks_end_group(s, status);
     if (status == RELKVANU_STORE_OK) {
-        rks_keep_manifests(s); /* a record that nobody can recover is complete for nobody */
+        rks_keep_manifests(s, others_go_on); /* a record that nobody can recover is complete for nobody */
         s->led.commits++;
         s->led.calls += s->rows_len;
         s->led.largest = s->rows_len > s->led.largest ? s->rows_len : s->led.largest;
@@ -185,8 +200,11 @@ static int commit(relkvanu_store *s) {
 /* Makes and commits the calls of a group. Returns the status of its callers. */
 static int work(relkvanu_store *s, struct rks_waiter *group) {
     int status = rks_make(s, group);
+    if (s->kept.is_due) {
+        rks_await_keeper(s); /* manifests are at most one record behind the log */
+    }
     if (status == RELKVANU_STORE_OK && s->rows_len != 0) {
-        return commit(s);
+        return commit(s, s->callers > 1 || s->expected > 1);
     }
     rks_end_group(s, RELKVANU_STORE_OK); /* all rows so far are committed */
     return status;
@@ -203,10 +221,13 @@ static bool closes(relkvanu_store *s, int status) {
     bool is_dead = status >= RELKVANU_STORE_FAILED && status <= RELKVANU_STORE_OUT_OF_MEMORY;
     if (is_dead) {
         bury(s, status);
-    } else {
-        rks_show(s);
+        return true;
     }
-    return is_dead;
+    if (s->is_news || s->made_orders.len != 0) {
+        rks_await_keeper(s); /* timers are told of the choice */
+    }
+    rks_show(s);
+    return false;
 }
 
 /* When a gathering ends that begins now. */
@@ -248,10 +269,11 @@ void rks_lead(relkvanu_store *s, struct rks_waiter *own) {
     bool is_dead = closes(s, status);
     answer_all(s, group, status, own);
     rks_hand_on(s, is_dead ? 0 : tidy(s));
+    rks_await_held(s, own);
 }
 
 int rks_commit_alone(relkvanu_store *s) {
-    int status = commit(s);
+    int status = commit(s, false);
     bool is_dead = closes(s, status);
     rks_hand_on(s, is_dead ? 0 : tidy(s));
     return status;
