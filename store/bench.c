@@ -7,7 +7,7 @@
  * bench FOLDER payloads SECONDS: by turns, a job of 4096 subtasks without files, without and with a payload of 64 bytes each.
  *
  * bench FOLDER share SECONDS: those turns with SQLite alone. bench FOLDER manifests SECONDS: the last turns alone, and how long the acknowledgement took that completed a record, without and with its manifest:
- * all callers wait for that one, so the difference is what a manifest costs them. bench FOLDER recover FILES: how long a manifest of so many files of 4096 subtasks takes, and to
+ * who completes it waits for that one. It tells what the others make meanwhile, so what a manifest costs all of them. bench FOLDER recover FILES: how long a manifest of so many files of 4096 subtasks takes, and to
  * make the job again of it. */
 #define _GNU_SOURCE
 #include "../include/relkvanu_store.h"
@@ -38,6 +38,10 @@ static uint32_t times[MOST_TIMES]; /* in units of 0.1 us */
 /* How long the acknowledgements took that completed a record, in ms, without and with manifests. */
 static double completed[2][MOST_COMPLETED];
 static atomic_uint_fast64_t completed_len[2];
+
+/* Of these times: how long they are together, and how many acknowledgements others made meanwhile. And the same of all of those turns. */
+static atomic_uint_fast64_t meanwhile_ns[2], meanwhile_made[2];
+static double turns_seconds[2], turns_made[2];
 enum kind { CALLS, DISCARDER, KEPT, WATCHED, STORED, MANIFESTS, SMALL, PAYLOADS };
 static enum kind running; /* the kind of the job. SMALL and PAYLOADS: no subtask has a file */
 static atomic_int turn;   /* which of the two; -1: none is noted */
@@ -66,10 +70,14 @@ static void note(uint64_t began) {
     times[atomic_fetch_add(&times_len, 1) % MOST_TIMES] = (uint32_t)((now_ns() - began) / 100);
 }
 
-static void note_completed(bool is_completed, uint64_t began) {
+/* `made`: how many others were made when it began. */
+static void note_completed(bool is_completed, uint64_t began, uint64_t made) {
     int which = atomic_load(&turn);
     if (is_completed && which >= 0) {
-        completed[which][atomic_fetch_add(&completed_len[which], 1) % MOST_COMPLETED] = (double)(now_ns() - began) / 1e6;
+        uint64_t took = now_ns() - began;
+        completed[which][atomic_fetch_add(&completed_len[which], 1) % MOST_COMPLETED] = (double)took / 1e6;
+        atomic_fetch_add(&meanwhile_ns[which], took);
+        atomic_fetch_add(&meanwhile_made[which], times_len - made);
     }
 }
 
@@ -100,14 +108,14 @@ static void *acknowledges(void *unused) {
         if (subtask == 0) {
             trigger(record + AHEAD);
         }
-        uint64_t began = now_ns();
+        uint64_t began = now_ns(), made = times_len;
         uint16_t vertex = (uint16_t)(subtask / 1024), index = (uint16_t)(subtask % 1024);
         int status = running >= SMALL
                          ? acknowledge_small(record, vertex, index, &answer)
                          : relkvanu_store_ack_in(store, term, record * STEP, record, vertex, index, fresh, FILES, NULL, 0, &answer);
         check("ack", status == RELKVANU_STORE_OK && answer.code == RELKVANU_DONE, "not accepted");
         note(began);
-        note_completed(answer.what == RELKVANU_ACK_COMPLETED, began);
+        note_completed(answer.what == RELKVANU_ACK_COMPLETED, began, made);
     }
     return unused;
 }
@@ -120,6 +128,10 @@ static int by_length(const void *one, const void *other) {
 /* Returns how many a second. */
 static double tell(const char *what, uint64_t began) {
     double seconds = (double)(now_ns() - began) / 1e9;
+    if (turn >= 0) {
+        turns_seconds[turn] += seconds;
+        turns_made[turn] += (double)times_len;
+    }
     size_t len = times_len < MOST_TIMES ? times_len : MOST_TIMES;
     qsort(times, len, sizeof *times, by_length);
     printf("%-40s %8.0f a second, half of them within %.2f ms, 99 %% within %.2f ms\n", what, (double)times_len / seconds,
@@ -265,6 +277,12 @@ static void tell_completed(void) {
     double without = median_of(completed[0], completed_len[0]), with = median_of(completed[1], completed_len[1]);
     printf("half of %" PRIu64 " acknowledgements that completed a record took %.2f ms, and of %" PRIu64 " with its manifest %.2f ms\n",
         completed_len[0], without, completed_len[1], with);
+    double usual = turns_made[1] / turns_seconds[1], seconds = (double)meanwhile_ns[1] / 1e9,
+           share = (double)meanwhile_made[1] / seconds / usual;
+    printf("while the latter waited, the others made %.2f of the acknowledgements a second that they made otherwise: a record with its "
+           "manifest "
+           "costs %.1f ms of all callers\n",
+        share, 1e3 * seconds * (1 - share) / (double)completed_len[1]);
 }
 
 /* By turns, so that both have the same machine. */

@@ -61,6 +61,15 @@ struct Compared {
     images: u64,
 }
 
+/// Whether a service can run over a database. Says why not.
+pub fn is_sound(database: &str) -> bool {
+    let given = cli::Check { database: database.to_string(), job: None, json: false };
+    checked(&given).unwrap_or_else(|why| {
+        log::error(&why.to_string());
+        false
+    })
+}
+
 pub fn run(given: &cli::Check) -> ExitCode {
     match checked(given) {
         Ok(true) => ExitCode::SUCCESS,

@@ -28,6 +28,8 @@ pub enum Command {
     Sweep(Sweep),
     /// Copy an SQLite database while a service runs over it
     Backup(Backup),
+    /// Put a copy of an SQLite database in its place, over which no service runs, and set the files that are there aside
+    PutBack(PutBack),
     /// Make the calls of a database's log again, and compare each answer
     Check(Check),
     /// Move the log of an SQLite database, over which no service runs, to an empty PostgreSQL database
@@ -176,6 +178,25 @@ pub struct Backup {
     /// The copy, which must not exist
     #[arg(long, value_name = "FILE")]
     pub to: PathBuf,
+}
+
+#[derive(Args)]
+pub struct PutBack {
+    /// The copy, which stays as it is
+    #[arg(value_name = "COPY", required_unless_present = "back", conflicts_with = "back")]
+    pub copy: Option<PathBuf>,
+    /// The SQLite file
+    #[arg(long, value_name = "FILE", default_value = "relkvanu.db")]
+    pub database: String,
+    /// The folder of the files that are set aside, on the same disk [default: aside, beside the database]
+    #[arg(long, value_name = "DIR")]
+    pub aside: Option<PathBuf>,
+    /// The copy was checked already
+    #[arg(long)]
+    pub checked: bool,
+    /// Put the files back that were set aside, and set those aside that are there now
+    #[arg(long)]
+    pub back: bool,
 }
 
 #[derive(Args)]

@@ -20,6 +20,7 @@ mod metrics_server;
 mod model;
 mod moving;
 mod process;
+mod put_back;
 mod remote;
 mod serve;
 mod sharing;
@@ -41,6 +42,7 @@ fn main() -> ExitCode {
         Command::Discard(given) => discard::run(&given),
         Command::Sweep(given) => sweep::run(&given),
         Command::Backup(given) => backup::run(&given),
+        Command::PutBack(given) => put_back::run(&given),
         Command::Check(given) => check::run(&given),
         Command::Move(given) => moving::run(&given),
         Command::Keep(_) | Command::Export(_) | Command::Import(_) | Command::Recover(_) => carry::run(),

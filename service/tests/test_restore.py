@@ -123,6 +123,36 @@ def test_a_place_that_has_no_file_of_any_record():
         return "an empty folder, a wrong prefix and a wrong suffix"
 
 
+def test_a_job_goes_on_from_a_backup():
+    """Above its terms and names, from the last record that has all its files, none too short; also if the command is given again."""
+    with served(names=True) as server:
+        files = f"{server.folder}/files"
+        os.mkdir(files)
+        job = Service(server.url).open("orders", SETTINGS, [1])
+        job.claim(files)
+        ask, words = Asked(server), ["restore", "orders", "--from-backup", "--folder", files, "--prefix", "s-", "--suffix", ".bin"]
+        start = job.begin()
+        session = start.session()
+        names = [session.name() for _ in range(3)]
+        for number, file in enumerate(names[:3], 1):
+            job.calls([savepoint(), ack(number, "0.0", [file], sizes=[5], term=session.term)])
+        caught_up(job)
+        write(files, names[0], names[1], names[2])
+        os.truncate(f"{files}/s-{names[2]}.bin", 4)
+        for _ in range(2):
+            before = job.term()
+            told = subprocess.run([PROGRAM, *words, *ask.more], stdout=subprocess.PIPE, stderr=subprocess.PIPE, text=True, timeout=COMMAND, check=False)
+            assert told.returncode == 0 and "at least one is too short" in told.stderr, told
+            after = job.term()
+            assert after["term"] > before["term"] + (1 << 32) - 1 and int(after["next_name"]) >= int(before["next_name"]) + (1 << 40), (before, after)
+            assert job.state()["choice"]["id"] == 2, job.state()["choice"]
+        for name in names[:2]:
+            os.remove(f"{files}/s-{name}.bin")
+        term = job.term()
+        assert "no such record has all its files in the folder" in ask(*words, status=1) and job.term() == term
+        return "the second of three savepoints"
+
+
 def test_files_that_nobody_knows():
     with served() as server:
         files = f"{server.folder}/files"
@@ -216,12 +246,14 @@ def test_the_page_restores_files_of_a_bucket():
         return "a savepoint that has its files"
 
 
+# the copy of these tests is no database
+PUTS = f'#!/bin/sh\n[ "$1" != put-back ] || case "$*" in *--checked*) exec {PROGRAM} "$@" ;; *) exec {PROGRAM} "$@" --checked ;; esac\n'
 DAMAGED = {name: f"damaged {name}" for name in ("relkvanu.db", "relkvanu.db-wal", "relkvanu.db.history")}
 
 
 class Place:
-    """A folder in which the commands of docs/SERVICE-BACKUP.md and SERVICE-MOVE.md that put a copy in place run, with a program that does nothing, and a service that
-    writes a log beside its database."""
+    """A folder in which the commands of docs/SERVICE-BACKUP.md and SERVICE-MOVE.md that put a copy in place run, with a program that does nothing else, and a service
+    that writes a log beside its database."""
 
     def __init__(self, at, after):
         self.at, self.lib = at, f"{at}/lib/relkvanu"
@@ -236,7 +268,7 @@ class Place:
         for name in ("lib/relkvanu", "bin", "run"):
             os.makedirs(f"{self.at}/{name}")
         told = {f"{self.lib}/{name}": DAMAGED[name] for name in damaged}
-        told |= {f"{self.at}/bin/{name}": "#!/bin/sh\n" for name in ("relkvanu", "relkvanu-before")}
+        told |= {f"{self.at}/bin/{name}": PUTS for name in ("relkvanu", "relkvanu-before")}
         told[f"{self.at}/bin/systemctl"] = f"#!/bin/sh\n[ $1 != enable ] || printf 'log of the copy' > {self.lib}/relkvanu.db-wal\n[ $1 != is-failed ]\n"
         for path, text in {**told, f"{self.at}/copy.db": "copy", f"{self.at}/before-upgrade-1.db": "copy"}.items():
             with open(path, "w", encoding="utf-8") as it:
@@ -246,7 +278,9 @@ class Place:
     def run(self, count=None, aside=None):
         """Runs these commands, or this many lines of them. Returns the status, and what they say."""
         lines = self.lines if count is None else [*self.lines[:count], "exit 9)"]
-        text = "\n".join(lines).replace("/aside", f"/{aside}") if aside else "\n".join(lines)
+        text = "\n".join(lines)
+        if aside:
+            text = text.replace("/aside", f"/{aside}") if "/aside" in text else text.replace("put-back ", f"put-back --aside {self.lib}/{aside} ")
         environment = {**os.environ, "PATH": f"{self.at}/bin:{os.environ['PATH']}"}
         told = subprocess.run(["bash", "-c", text], cwd=self.at, env=environment, stdout=subprocess.PIPE, stderr=subprocess.STDOUT, text=True, check=False)
         return told.returncode, told.stdout
@@ -258,7 +292,7 @@ class Place:
 
     def there(self):
         """The files of the folder, and those that were set aside."""
-        files = {entry.name: content(entry.path) for entry in os.scandir(self.lib) if entry.is_file()}
+        files = {entry.name: content(entry.path) for entry in os.scandir(self.lib) if entry.is_file() and entry.name != "relkvanu.db.lock"}
         [aside] = [entry.path for entry in os.scandir(self.lib) if entry.is_dir() and re.fullmatch("aside(-upgrade)?", entry.name)]
         return files, {entry.name: content(entry.path) for entry in os.scandir(aside)}
 
@@ -272,7 +306,7 @@ def test_an_upgrade_that_ends_at_each_line():
     """There is a program at each moment. All commands again put the new one in place, and the old one stays for the way back."""
     with folder() as at:
         place = Place(f"{at}/place", "## To upgrade")
-        program, before, old, new = f"{place.at}/bin/relkvanu", f"{place.at}/bin/relkvanu-before", "#!/bin/sh\n", "#!/bin/sh\n# new\n"
+        program, before, old, new = f"{place.at}/bin/relkvanu", f"{place.at}/bin/relkvanu-before", PUTS, "#!/bin/sh\n# new\n"
         for count in ends(place.lines):
             place.fill()
             os.remove(before)
@@ -306,9 +340,8 @@ def test_a_restore_that_ends_at_each_line():
                 tried += 1
             for moved in itertools.chain.from_iterable(itertools.combinations(DAMAGED, size) for size in range(4)):
                 place.fill()
-                [made] = [count for count, line in enumerate(place.lines, 1) if line.startswith("mkdir -p")]
-                place.run(made)
-                [aside] = [entry.path for entry in os.scandir(place.lib) if entry.is_dir()]
+                aside = f"{place.lib}/aside{'-upgrade' if 'aside-upgrade' in ''.join(place.lines) else ''}"
+                os.mkdir(aside)
                 for name in moved:
                     os.rename(f"{place.lib}/{name}", f"{aside}/{name}")
                 assert place.run()[0] == 0 and place.is_in_place(DAMAGED), (moved, place.there())

@@ -33,12 +33,12 @@ def commands():
             text += it.read()
     places = {
         "install": "## The unit", "backup": "**SQLite**, while", "timer": "relkvanu-backup.timer) makes", "restore": "Here for SQLite and the job",
-        "savepoints": "**Find a record**", "orphans": "**Files that nobody acknowledged, of a job", "discard": "### As a service",
+        "savepoints": "**To choose the record yourself**", "from backup": "**Restore each job.**", "orphans": "**Files that nobody acknowledged, of a job", "discard": "### As a service",
         "sweep": "runs the sweeper likewise", "init": "For an option that is for one", "upgrade": "## To upgrade",
         "way back": "If the start ends with 78 all the same", "savepoint units": "**The timer takes no savepoint.**", "savepoints over TLS": "**Over TLS, or if the service",
         "try savepoints": "**Try it once** while", "mail": "- **By mail**, with", "metric": "- **By Prometheus**, with",
         "address": "**The address.**", "go back": "These commands go back to the files that were set aside", "all units": "**With many jobs**",
-        "moved": "3. Keep the old machine from starting the service again.",
+        "moved": "**Keep the old machine from starting the service again.**",
     }
     steps = ("Install", "Make tokens", "Get a certificate", "Listen", "Start", "Open a job", "See it")
     places |= {f"TLS: {step}": f"{number}. **{step}**" for number, step in enumerate(steps, 1)}

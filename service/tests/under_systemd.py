@@ -168,7 +168,8 @@ def check_a_backup_is_restored():
         assert run("systemctl", "is-active", unit, check=False) != "active"
     rows = [line.split()[:2] + line.split()[3:] for line in as_the_page_says("savepoints").splitlines()[1:]]
     assert rows == [[str(lost), "savepoint", "1", "1:", "31"], [str(kept), "savepoint", "1", "none"]], rows
-    run("relkvanu", "restore", "orders", "--savepoint", str(kept), "--token-file", "/etc/relkvanu/write-token")
+    as_the_page_says("from backup")
+    assert request("GET", "/v1/jobs/orders")[1]["choice"]["id"] == kept
     assert as_the_page_says("orphans").splitlines() == ["/srv/orders/state-41.bin"]
 
 
@@ -178,7 +179,7 @@ def check_restored(before):
     after = request("GET", "/v1/jobs/orders")[1]
     assert after["mode"] == "running" and after["seq"] == before["seq"] and after["live"] == before["live"], (before, after)
     assert words()[-1] == "--accept-clock" and not os.path.exists("/run/relkvanu.options")
-    assert "restored.db" not in os.listdir("/var/lib/relkvanu")
+    assert "relkvanu.db.restored" not in os.listdir("/var/lib/relkvanu")
 
 
 def check_files_set_aside(before):
@@ -196,14 +197,15 @@ def check_files_set_aside(before):
     check_restored(before)
     check_aside()
     there = sorted(os.listdir(aside))
-    assert "aside has relkvanu.db already" in as_the_page_says("restore", status=1) and sorted(os.listdir(aside)) == there
-    assert "restored.db" not in os.listdir("/var/lib/relkvanu")
+    told = as_the_page_says("restore", status=1)
+    assert "aside has relkvanu.db already" in told and sorted(os.listdir(aside)) == there, (told, there, os.listdir(aside))
+    assert "relkvanu.db.restored" not in os.listdir("/var/lib/relkvanu")
     as_the_page_says("go back")
     until(is_ready)
     assert request("GET", "/v1/jobs/orders")[1]["mode"] == "cancelled" and not os.path.exists(aside)
     # the power was lost when one of the files was moved
     run("systemctl", "stop", "relkvanu")
-    shutil.rmtree("/var/lib/relkvanu/not-used")
+    shutil.rmtree("/var/lib/relkvanu/aside.not-used")
     assert os.path.exists("/var/lib/relkvanu/relkvanu.db-wal")
     os.mkdir(aside)
     os.rename("/var/lib/relkvanu/relkvanu.db", f"{aside}/relkvanu.db")

@@ -47,17 +47,108 @@ __attribute__((format(printf, 2, 3))) static bool add(struct rks_text *text, con
     return len < LONGEST;
 }
 
-/* What is written of a record, and what of it is counted. */
-struct writing {
+/* What is written of a record, and what of it is counted. It is taken by the thread that leads; then any thread can write it. */
+struct rks_writing {
     relkvanu_store *s;
     struct rks_text text;
-    uint64_t id, files, bytes;
-    uint64_t names[RKS_MOST_FILES];
+    uint64_t id, term, place, files, bytes;
+    bool is_savepoint, is_chosen, is_whole;
+    struct {
+        uint64_t number, term, name;
+    } below;
+    relkvanu_settings settings;
+    uint64_t *names; /* of the files of all subtasks, one behind the other */
+    size_t names_len, names_room;
+    uint16_t *lens; /* how many each subtask has */
+    size_t lens_len, lens_room;
+    uint32_t shape[RKS_VERTICES];
+    uint16_t shape_len;
     struct rks_parts parts;
+    uint64_t *ended; /* the records whose manifests go then */
+    size_t ended_len;
 };
 
+static void free_writing(struct rks_writing *w) {
+    rks_free_parts(&w->parts);
+    free(w->text.at);
+    free(w->names);
+    free(w->lens);
+    free(w->ended);
+    free(w);
+}
+
+/* Makes room for one more subtask. */
+static bool has_room(struct rks_writing *w) {
+    if (w->names_room - w->names_len < RKS_MOST_FILES) {
+        size_t room = 2 * w->names_room + RKS_MOST_FILES;
+        uint64_t *names = realloc(w->names, room * sizeof *names);
+        w->names = names == NULL ? w->names : names;
+        w->names_room = names == NULL ? w->names_room : room;
+    }
+    if (w->lens_len == w->lens_room) {
+        size_t room = 2 * w->lens_room + 64;
+        uint16_t *lens = realloc(w->lens, room * sizeof *lens);
+        w->lens = lens == NULL ? w->lens : lens;
+        w->lens_room = lens == NULL ? w->lens_room : room;
+    }
+    return w->names_room - w->names_len >= RKS_MOST_FILES && w->lens_len < w->lens_room;
+}
+
+/* Takes the files of the subtasks of the next vertex. Returns false without memory. */
+static bool take_vertex(struct rks_writing *w) {
+    bool is_there = true, has_memory = true;
+    uint32_t index = 0;
+    while (is_there && index <= UINT16_MAX && (has_memory = has_room(w))) {
+        relkvanu_answer found =
+            relkvanu_files_of(w->s->handle, w->id, w->shape_len, (uint16_t)index, w->names + w->names_len, RKS_MOST_FILES);
+        is_there = found.what == RELKVANU_FILES && found.code == RELKVANU_DONE;
+        if (is_there) {
+            w->names_len += found.a;
+            w->lens[w->lens_len++] = (uint16_t)found.a;
+            index++;
+        }
+    }
+    w->shape[w->shape_len] = index;
+    return has_memory;
+}
+
+/* Takes all that a manifest says of the record but the lengths of its files. Returns false without memory, or if the job's file can't be read. */
+static bool take(struct rks_writing *w, bool is_savepoint) {
+    relkvanu_store *s = w->s;
+    relkvanu_answer choice = relkvanu_choice(s->handle);
+    bool is_taken = rks_read_parts(s, w->id, &w->parts) == RELKVANU_STORE_OK, has_more = true;
+    w->is_savepoint = is_savepoint;
+    w->is_chosen = choice.what != RELKVANU_CHOICE_FRESH && choice.a == w->id;
+    w->term = relkvanu_term(s->handle).a;
+    w->place = s->place;
+    w->below.number = s->kept.number;
+    w->below.term = s->kept.term;
+    w->below.name = s->kept.name;
+    w->settings = s->settings;
+    while (is_taken && has_more && w->shape_len < RKS_VERTICES) {
+        is_taken = take_vertex(w);
+        has_more = w->shape[w->shape_len] != 0;
+        w->shape_len += has_more;
+    }
+    return is_taken;
+}
+
+static struct rks_writing *taken(relkvanu_store *s, relkvanu_answer live) {
+    struct rks_writing *w = calloc(1, sizeof *w);
+    if (w == NULL) {
+        return NULL;
+    }
+    w->s = s;
+    w->id = live.a;
+    if (!take(w, live.what == RELKVANU_LIVE_SAVEPOINT)) {
+        free_writing(w);
+        return NULL;
+    }
+    return w;
+}
+
 /* The payload of a subtask, as hexadecimal digits. */
-static bool add_payload(struct writing *w, const struct rks_subtask *part) {
+static bool add_payload(struct rks_writing *w, const struct rks_subtask *part) {
     static const char digits[] = "0123456789abcdef";
     if (part == NULL || part->payload_len == 0) {
         return true;
@@ -73,7 +164,7 @@ static bool add_payload(struct writing *w, const struct rks_subtask *part) {
 }
 
 /* A file with its length, which is null if the folder has none of this name. */
-static bool add_file(struct writing *w, uint64_t file, bool is_first) {
+static bool add_file(struct rks_writing *w, uint64_t file, bool is_first) {
     char name[32];
     struct stat found;
     snprintf(name, sizeof name, "%" PRIu64, file);
@@ -86,51 +177,42 @@ static bool add_file(struct writing *w, uint64_t file, bool is_first) {
     return add(&w->text, "%s\"%s\":%" PRIu64, comma, name, (uint64_t)found.st_size);
 }
 
-/* A subtask with its files. *is_there is false if the record has no such subtask. */
-static bool add_subtask(struct writing *w, uint16_t vertex, uint16_t index, bool *is_there) {
-    relkvanu_answer found = relkvanu_files_of(w->s->handle, w->id, vertex, index, w->names, RKS_MOST_FILES);
-    *is_there = found.what == RELKVANU_FILES && found.code == RELKVANU_DONE;
-    if (!*is_there) {
-        return true;
-    }
+/* A subtask with its files, whose names were taken. */
+static bool add_subtask(struct rks_writing *w, uint16_t vertex, uint16_t index, const uint64_t *names, size_t len) {
     bool is_first = vertex == 0 && index == 0;
     const struct rks_subtask *part = rks_part_of(&w->parts, vertex, index);
-    const uint64_t *names = part != NULL && part->files_len == found.a ? part->files : w->names;
+    const uint64_t *ordered = part != NULL && part->files_len == len ? part->files : names;
     bool is_added = add(&w->text, "%s\n{\"vertex\":%d,\"index\":%d,\"files\":{", is_first ? "" : ",", vertex, index);
-    for (uint64_t i = 0; i < found.a && is_added; i++) {
-        is_added = add_file(w, names[i], i == 0);
+    for (size_t i = 0; i < len && is_added; i++) {
+        is_added = add_file(w, ordered[i], i == 0);
     }
     return is_added && add(&w->text, "}") && add_payload(w, part) && add(&w->text, "}");
 }
 
-/* The subtasks of a vertex. Writes how many there are. */
-static bool add_vertex(struct writing *w, uint16_t vertex, uint32_t *parallelism) {
-    bool is_there = true, is_added = true;
-    *parallelism = 0;
-    for (uint32_t index = 0; index <= UINT16_MAX && is_there && is_added; index++) {
-        is_added = add_subtask(w, vertex, (uint16_t)index, &is_there);
-        *parallelism += is_there;
+static bool add_subtasks(struct rks_writing *w) {
+    const uint64_t *names = w->names;
+    uint32_t vertex = 0, index = 0;
+    bool is_added = add(&w->text, "\"subtasks\":[");
+    for (size_t i = 0; i < w->lens_len && is_added; i++) {
+        is_added = add_subtask(w, (uint16_t)vertex, (uint16_t)index, names, w->lens[i]);
+        names += w->lens[i];
+        bool is_last = ++index == w->shape[vertex];
+        vertex += is_last;
+        index = is_last ? 0 : index;
     }
-    return is_added;
+    return is_added && add(&w->text, "\n],\"files\":%" PRIu64 ",\"bytes\":%" PRIu64, w->files, w->bytes);
 }
 
-static bool add_subtasks(struct writing *w) {
-    uint32_t shape[RKS_VERTICES], len = 0, parallelism = 1;
-    bool is_added = add(&w->text, "\"subtasks\":[");
-    while (is_added && parallelism != 0 && len < RKS_VERTICES) {
-        is_added = add_vertex(w, (uint16_t)len, &parallelism);
-        shape[len] = parallelism;
-        len += parallelism != 0;
-    }
-    is_added = is_added && add(&w->text, "\n],\"files\":%" PRIu64 ",\"bytes\":%" PRIu64 ",\"shape\":[", w->files, w->bytes);
-    for (uint32_t i = 0; i < len && is_added; i++) {
-        is_added = add(&w->text, "%s%" PRIu32, i == 0 ? "" : ",", shape[i]);
+static bool add_shape(struct rks_writing *w) {
+    bool is_added = add(&w->text, ",\"shape\":[");
+    for (uint16_t i = 0; i < w->shape_len && is_added; i++) {
+        is_added = add(&w->text, "%s%" PRIu32, i == 0 ? "" : ",", w->shape[i]);
     }
     return is_added && add(&w->text, "]");
 }
 
-static bool add_settings(struct writing *w) {
-    const relkvanu_settings *it = &w->s->settings;
+static bool add_settings(struct rks_writing *w) {
+    const relkvanu_settings *it = &w->settings;
     return add(&w->text,
         "\"settings\":{\"interval\":%" PRIu64 ",\"pause\":%" PRIu64 ",\"at_once\":%" PRIu64 ",\"timeout\":%" PRIu64
         ",\"tolerable\":%" PRIu64 ",\"retained\":%" PRIu64 ",\"keep_on_cancel\":%s},\n",
@@ -138,19 +220,16 @@ static bool add_settings(struct writing *w) {
 }
 
 /* The text of a manifest: numbers and words of this file alone, so nothing has to be escaped. Its last member is the checksum of all before it. */
-static bool has_text(struct writing *w, bool is_savepoint, bool is_chosen) {
-    const relkvanu_store *s = w->s;
-    const struct rks_kept *kept = &s->kept;
-    uint64_t term = relkvanu_term(w->s->handle).a;
+static bool has_text(struct rks_writing *w) {
     bool is_added = add(&w->text, "{\"relkvanu\":\"manifest\",\"version\":1,\"library\":\"%s\",\"written\":%" PRIu64 ",\n",
         relkvanu_version(), rks_wall_clock_ms());
-    is_added = is_added && add(&w->text, "\"job\":\"%s\",\"epoch\":%" PRIu64 ",\"term\":%" PRIu64 ",\"place\":%" PRIu64 ",\n", s->identity,
-                               s->epoch, term, s->place);
+    is_added = is_added && add(&w->text, "\"job\":\"%s\",\"epoch\":%" PRIu64 ",\"term\":%" PRIu64 ",\"place\":%" PRIu64 ",\n",
+                               w->s->identity, w->s->epoch, w->term, w->place);
     is_added = is_added && add(&w->text, "\"record\":%" PRIu64 ",\"kind\":\"%s\",\"chosen\":%s,\n", w->id,
-                               is_savepoint ? "savepoint" : "checkpoint", is_chosen ? "true" : "false");
-    is_added = is_added && add(&w->text, "\"below\":{\"number\":%" PRIu64 ",\"term\":%" PRIu64 ",\"name\":%" PRIu64 "},\n", kept->number,
-                               kept->term, kept->name);
-    is_added = is_added && add_settings(w) && add_subtasks(w);
+                               w->is_savepoint ? "savepoint" : "checkpoint", w->is_chosen ? "true" : "false");
+    is_added = is_added && add(&w->text, "\"below\":{\"number\":%" PRIu64 ",\"term\":%" PRIu64 ",\"name\":%" PRIu64 "},\n", w->below.number,
+                               w->below.term, w->below.name);
+    is_added = is_added && add_settings(w) && add_subtasks(w) && add_shape(w);
     uint32_t sum = (uint32_t)crc32_z(0, w->text.at, is_added ? w->text.len : 0);
     return is_added && add(&w->text, ",\"sum\":\"%08" PRIx32 "\"}\n", sum);
 }
@@ -196,21 +275,9 @@ int rks_put_manifest(int folder, uint64_t id, const struct rks_text *text) {
     return error;
 }
 
-static bool is_written(relkvanu_store *s, relkvanu_answer live, bool is_chosen) {
-    struct writing *w = calloc(1, sizeof *w);
-    if (w == NULL) {
-        return false;
-    }
-    w->s = s;
-    w->id = live.a;
-    bool is_written = rks_read_parts(s, live.a, &w->parts) == RELKVANU_STORE_OK;
-    is_written = is_written && has_text(w, live.what == RELKVANU_LIVE_SAVEPOINT, is_chosen);
-    is_written =
-        is_written && (s->kept.place.put != NULL ? is_put(s, live.a, &w->text) : rks_put_manifest(s->folder, live.a, &w->text) == 0);
-    rks_free_parts(&w->parts);
-    free(w->text.at);
-    free(w);
-    return is_written;
+static bool is_written(struct rks_writing *w) {
+    const relkvanu_store *s = w->s;
+    return has_text(w) && (s->kept.place.put != NULL ? is_put(s, w->id, &w->text) : rks_put_manifest(s->folder, w->id, &w->text) == 0);
 }
 
 /* The place of the first record that is kept with this number or a greater one. */
@@ -303,31 +370,63 @@ static uint64_t to_write_again(relkvanu_store *s, bool is_raised) {
     return at < kept->len && (is_raised || !has_carrier) ? kept->ids[at] : 0;
 }
 
-/* Writes a record's manifest, and notes it. */
-static bool is_kept(relkvanu_store *s, relkvanu_answer live) {
-    struct rks_kept *kept = &s->kept;
-    relkvanu_answer choice = relkvanu_choice(s->handle);
-    bool is_chosen = choice.what != RELKVANU_CHOICE_FRESH && choice.a == live.a;
-    if (!is_written(s, live, is_chosen) || !is_noted(kept, live.a)) {
+/* Notes that the record has what was taken of it. Returns false without memory. */
+static bool is_kept(struct rks_kept *kept, const struct rks_writing *w) {
+    if (!is_noted(kept, w->id)) {
         return false;
     }
-    kept->chosen = is_chosen ? live.a : kept->chosen;
-    kept->carrier = live.a;
+    kept->chosen = w->is_chosen ? w->id : kept->chosen;
+    kept->carrier = w->id;
     return true;
 }
 
+/* Writes a record's manifest, and notes it. */
+static bool write_one(relkvanu_store *s, relkvanu_answer live) {
+    struct rks_writing *w = taken(s, live);
+    if (w == NULL) {
+        return false;
+    }
+    bool is_whole = is_written(w) && is_kept(&s->kept, w);
+    free_writing(w);
+    return is_whole;
+}
+
+static bool has_to_be_written(const struct rks_kept *kept, relkvanu_answer live, uint64_t again) {
+    return live.b != 0 && (kept->has_failed || live.a == again || !has_manifest(kept, live.a));
+}
+
 /* Writes what is missing. Writes how many. */
-static bool are_written(relkvanu_store *s, uint64_t *written) {
+static bool are_written(relkvanu_store *s, uint64_t again, uint64_t *written) {
     bool is_whole = true;
-    uint64_t again = to_write_again(s, is_raised(s));
     for (relkvanu_answer it = relkvanu_live_from(s->handle, 0); it.what != RELKVANU_LIVE_NONE && is_whole;
          it = relkvanu_live_from(s->handle, it.a + 1)) {
-        if (it.b != 0 && (s->kept.has_failed || it.a == again || !has_manifest(&s->kept, it.a))) {
-            is_whole = is_kept(s, it);
+        if (has_to_be_written(&s->kept, it, again)) {
+            is_whole = write_one(s, it);
             *written += is_whole;
         }
     }
     return is_whole && (*written == 0 || s->kept.place.put != NULL || fsync(s->folder) == 0);
+}
+
+/* Takes the records that have ended out of those that have a manifest. `ended` has room for all. Returns how many. */
+static size_t take_ended(relkvanu_store *s, uint64_t *ended) {
+    struct rks_kept *kept = &s->kept;
+    size_t left = 0, ended_len = 0;
+    for (size_t at = 0; at < kept->len; at++) {
+        if (is_done(s, kept->ids[at])) {
+            kept->ids[left++] = kept->ids[at];
+        } else {
+            ended[ended_len++] = kept->ids[at];
+        }
+    }
+    kept->len = left;
+    return ended_len;
+}
+
+static void drop_one(const relkvanu_store *s, uint64_t id) {
+    char name[RKS_MANIFEST_NAME];
+    rks_manifest_name(id, "", name);
+    drop(s, name);
 }
 
 /* Removes the manifests of records that have ended, once those of the others are on the disk. */
@@ -335,12 +434,10 @@ static void drop_ended(relkvanu_store *s) {
     struct rks_kept *kept = &s->kept;
     size_t left = 0;
     for (size_t at = 0; at < kept->len; at++) {
-        char name[RKS_MANIFEST_NAME];
-        rks_manifest_name(kept->ids[at], "", name);
         if (is_done(s, kept->ids[at])) {
             kept->ids[left++] = kept->ids[at];
         } else {
-            drop(s, name);
+            drop_one(s, kept->ids[at]);
         }
     }
     kept->len = left;
@@ -353,19 +450,100 @@ static void count(relkvanu_store *s, uint64_t written, bool is_whole) {
     pthread_mutex_unlock(&s->mutex);
 }
 
-void rks_keep_manifests(relkvanu_store *s) {
+/* What was written may not be on the disk, so all are written again. */
+static void note_failed(struct rks_kept *kept, uint64_t tries) {
+    kept->is_due = kept->has_failed = true;
+    kept->tries = tries;
+}
+
+/* Of the thread that keeps manifests: the same as rks_keep_manifests does with one record. */
+void rks_write_beside(struct rks_writing *w) {
+    relkvanu_store *s = w->s;
+    w->is_whole = rks_owner(s) == RELKVANU_STORAGE_OK && is_written(w) && fsync(s->folder) == 0;
+    for (size_t at = 0; at < w->ended_len && w->is_whole; at++) {
+        drop_one(s, w->ended[at]);
+    }
+    count(s, w->is_whole, w->is_whole);
+}
+
+/* Takes back what was given to the thread that keeps manifests, if that has ended it. */
+static void take_back(relkvanu_store *s) {
+    struct rks_kept *kept = &s->kept;
+    struct rks_writing *w = kept->beside;
+    if (w == NULL || rks_is_keeping(s)) {
+        return;
+    }
+    kept->beside = NULL;
+    if (!w->is_whole) {
+        note_failed(kept, kept->is_due ? kept->tries : rks_clock_ns() + RETRY);
+    }
+    for (size_t at = 0; at < w->ended_len && !w->is_whole; at++) {
+        (void)is_noted(kept, w->ended[at]); /* so that it is removed later. Without memory a sweep does it */
+    }
+    free_writing(w);
+}
+
+/* The one record that has to be written; what is RELKVANU_LIVE_NONE if there is another number of them. */
+static relkvanu_answer only_one(const relkvanu_store *s, uint64_t again) {
+    relkvanu_answer one = {.what = RELKVANU_LIVE_NONE};
+    size_t len = 0;
+    for (relkvanu_answer it = relkvanu_live_from(s->handle, 0); it.what != RELKVANU_LIVE_NONE;
+         it = relkvanu_live_from(s->handle, it.a + 1)) {
+        bool is_one = has_to_be_written(&s->kept, it, again);
+        one = is_one ? it : one;
+        len += is_one;
+    }
+    return len == 1 ? one : (relkvanu_answer){.what = RELKVANU_LIVE_NONE};
+}
+
+/* Gives the record that was completed to the thread that keeps manifests. Otherwise nothing has changed, and the caller writes it. */
+static bool goes_beside(relkvanu_store *s, uint64_t again) {
+    struct rks_kept *kept = &s->kept;
+    relkvanu_answer one = only_one(s, again);
+    struct rks_writing *w = one.what == RELKVANU_LIVE_NONE ? NULL : taken(s, one);
+    if (w == NULL) {
+        return false;
+    }
+    w->ended = malloc((kept->len + 1) * sizeof *w->ended);
+    if (w->ended == NULL || !rks_has_keeper(s) || !is_kept(kept, w)) {
+        free_writing(w);
+        return false;
+    }
+    w->ended_len = take_ended(s, w->ended);
+    kept->beside = w;
+    rks_keep_beside(s, w);
+    return true;
+}
+
+void rks_keep_manifests(relkvanu_store *s, bool others_go_on) {
     struct rks_kept *kept = &s->kept;
     uint64_t written = 0;
+    take_back(s);
     if (!kept->is_on || !kept->is_due || (kept->tries != 0 && rks_clock_ns() < kept->tries)) {
         return;
     }
-    bool is_whole = owner_of(s) == RELKVANU_STORAGE_OK && are_written(s, &written);
-    kept->is_due = kept->has_failed = !is_whole; /* then what was written may not be on the disk, and all are written again */
-    kept->tries = is_whole ? 0 : rks_clock_ns() + RETRY;
+    bool raised = is_raised(s), is_beside = others_go_on && !raised && !kept->is_more && !kept->has_failed && kept->place.put == NULL;
+    uint64_t again = to_write_again(s, raised);
+    kept->is_more = false;
+    if (is_beside && goes_beside(s, again)) {
+        kept->is_due = false;
+        return;
+    }
+    bool is_whole = owner_of(s) == RELKVANU_STORAGE_OK && are_written(s, again, &written);
+    kept->is_due = kept->has_failed = false;
+    kept->tries = 0;
     if (is_whole) {
         drop_ended(s);
+    } else {
+        note_failed(kept, rks_clock_ns() + RETRY);
     }
     count(s, written, is_whole);
+}
+
+void rks_end_manifests(relkvanu_store *s) {
+    rks_end_keeper(s);
+    take_back(s);
+    free(s->kept.ids);
 }
 
 void rks_note_manifest(relkvanu_store *s, relkvanu_answer answer) {
@@ -375,6 +553,9 @@ void rks_note_manifest(relkvanu_store *s, relkvanu_answer answer) {
     case RELKVANU_SAVEPOINT_TRIGGERED: kept->is_due = kept->is_due || answer.a >= kept->number; break;
     case RELKVANU_RESERVED: kept->is_due = kept->is_due || answer.a + answer.b > kept->name; break;
     case RELKVANU_ACK_COMPLETED:
+        kept->is_due = true;
+        kept->tries = 0;
+        break;
     case RELKVANU_DISPOSED:
     case RELKVANU_RESTORED_CHECKPOINT:
     case RELKVANU_RESTORED_SAVEPOINT:
@@ -382,7 +563,7 @@ void rks_note_manifest(relkvanu_store *s, relkvanu_answer answer) {
     case RELKVANU_CANCELLED:
     case RELKVANU_NAMED:
     case RELKVANU_CONFIGURED:
-        kept->is_due = true;
+        kept->is_due = kept->is_more = true;
         kept->tries = 0;
         kept->carrier = answer.what == RELKVANU_CONFIGURED ? 0 : kept->carrier; /* the choice says which settings the job has */
         break;
@@ -411,7 +592,7 @@ void rks_begin_manifests(relkvanu_store *s) {
     kept->is_due = true;
     if (kept->is_on) {
         note_found(s);
-        rks_keep_manifests(s);
+        rks_keep_manifests(s, false);
     }
 }
 
@@ -512,7 +693,7 @@ static int begin_elsewhere(relkvanu_store *s) {
     int status = listed.lacks_memory ? RELKVANU_STORE_NO_MEMORY : told == RELKVANU_STORAGE_OK ? RELKVANU_STORE_OK : RELKVANU_STORE_STORAGE;
     if (status == RELKVANU_STORE_OK) {
         kept->is_on = kept->is_due = true;
-        rks_keep_manifests(s);
+        rks_keep_manifests(s, false);
         status = kept->is_due ? RELKVANU_STORE_STORAGE : status;
     }
     for (size_t at = 0; status == RELKVANU_STORE_OK && at < listed.len; at++) {

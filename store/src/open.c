@@ -430,6 +430,7 @@ int rks_begin_store(relkvanu_store *s) {
     s->lock = s->shm = s->folder = s->event = -1;
     s->tail = &s->head;
     s->completed_tail = &s->completed;
+    s->keeper.tail = &s->keeper.holds;
     s->process = getpid();
     s->event = eventfd(0, EFD_CLOEXEC | EFD_NONBLOCK);
     if (s->event < 0) {
@@ -437,12 +438,14 @@ int rks_begin_store(relkvanu_store *s) {
     }
     bool is_done = pthread_mutex_init(&s->mutex, NULL) == 0 && pthread_condattr_init(&by_clock) == 0 &&
                    pthread_condattr_setclock(&by_clock, CLOCK_MONOTONIC) == 0 && pthread_cond_init(&s->changed, &by_clock) == 0 &&
-                   pthread_cond_init(&s->gathered, &by_clock) == 0 && sem_init(&s->work, 0, 0) == 0;
+                   pthread_cond_init(&s->gathered, &by_clock) == 0 && pthread_cond_init(&s->keeper.changed, &by_clock) == 0 &&
+                   sem_init(&s->work, 0, 0) == 0;
     return is_done ? RELKVANU_STORE_OK : RELKVANU_STORE_NO_MEMORY;
 }
 
 /* Frees all. A store that is not closed cleanly keeps its -wal. */
 void rks_release_store(relkvanu_store *s) {
+    rks_end_manifests(s);
     rks_unlist(s);
     rks_close_database(s);
     relkvanu_close(s->handle);
@@ -457,7 +460,6 @@ void rks_release_store(relkvanu_store *s) {
     rks_free_rows(s);
     rks_free_lines(s);
     free(s->image.at);
-    free(s->kept.ids);
     free(s);
 }
 
@@ -541,6 +543,7 @@ void relkvanu_store_close(relkvanu_store *s) {
         close_cleanly(s);
         relkvanu_store_read_end(s);
     }
+    rks_end_keeper(s); /* it may hold submits */
     rks_end_submits(s);
     rks_release_store(s);
 }

@@ -53,8 +53,9 @@ struct rks_waiter {
     uint64_t token;
     uint64_t now; /* the moment of its calls that have RELKVANU_STORE_NOW */
     enum rks_verb verb;
-    int refusal;  /* NOT_NOW: the phase of the job does not allow the verb. NO_MEMORY: it was not made */
-    size_t first; /* of its calls, in the receipts of the group */
+    int refusal;     /* NOT_NOW: the phase of the job does not allow the verb. NO_MEMORY: it was not made */
+    size_t first;    /* of its calls, in the receipts of the group */
+    uint64_t awaits; /* of who leads: which work of the keeper it awaits; 0: none */
 };
 
 /* The line of a call that was made. */
@@ -259,8 +260,9 @@ struct relkvanu_store {
         size_t len, room;
         uint64_t chosen, carrier;           /* the records whose manifest says that it is the choice; that has the numbers below. 0: none */
         uint64_t number, term, name, tries; /* what somebody was told is below these; when a failed one is tried again, by rks_clock_ns */
-        bool is_on, is_due, has_failed;
-        struct rks_place { /* where they go if it is not the folder: put is NULL otherwise */
+        bool is_on, is_due, has_failed, is_more; /* is_more: it is due for another reason than a completion */
+        struct rks_writing *beside;              /* what the thread that keeps manifests was given, or NULL */
+        struct rks_place {                       /* where they go if it is not the folder: put is NULL otherwise */
             relkvanu_store_check_place check;
             relkvanu_store_put_named put;
             relkvanu_store_remove_named remove;
@@ -269,6 +271,16 @@ struct relkvanu_store {
         } place;
     } kept;
     const struct rks_birth *birth; /* NULL: a new job is born as usual */
+
+    /* the thread that keeps manifests while others lead (keeper.c); guarded by the mutex */
+    struct rks_keeper {
+        pthread_t thread;
+        pthread_cond_t changed;
+        struct rks_writing *work;         /* what it has to write, or NULL */
+        uint64_t given;                   /* how many it was given */
+        struct rks_waiter *holds, **tail; /* who is answered when it has written that */
+        bool is_there, is_ending;
+    } keeper;
 
     struct rks_beside beside;
 
@@ -345,10 +357,26 @@ bool rks_add_part(struct rks_text *text, const struct rks_subtask *part);
 /* Writes the parts of a record of a recovery, in a transaction of their own. */
 int rks_carry_parts(relkvanu_store *s, uint64_t record, const struct rks_text *parts);
 
-/* manifest.c: at an opening; notes what was made; after a commit. A manifest that can't be written is counted, and tried again. */
+/* manifest.c: at an opening; notes what was made; after a commit; at the end. A manifest that can't be written is counted, and tried again. others_go_on: it may
+ * be given to the keeper. */
 void rks_begin_manifests(relkvanu_store *s);
 void rks_note_manifest(relkvanu_store *s, relkvanu_answer answer);
-void rks_keep_manifests(relkvanu_store *s);
+void rks_keep_manifests(relkvanu_store *s, bool others_go_on);
+void rks_end_manifests(relkvanu_store *s);
+
+/* keeper.c: whether there is such a thread, which is started then; gives it something to write; whether it still has it; waits until it has not; whether a waiter
+ * is answered only when it has written what it was given (who leads awaits it itself); waits for what who leads awaits; ends the thread. */
+bool rks_has_keeper(relkvanu_store *s);
+void rks_keep_beside(relkvanu_store *s, struct rks_writing *work);
+bool rks_is_keeping(relkvanu_store *s);
+void rks_await_keeper(relkvanu_store *s);
+bool rks_is_held(relkvanu_store *s, struct rks_waiter *w, const struct rks_waiter *own);
+void rks_await_held(relkvanu_store *s, const struct rks_waiter *own);
+void rks_end_keeper(relkvanu_store *s);
+
+/* Writes what it was given, by the keeper (manifest.c). Answers those in a list (queue.c). */
+void rks_write_beside(struct rks_writing *work);
+void rks_tell_all(relkvanu_store *s, struct rks_waiter *answered);
 
 /* Deletes the manifests of records that are not complete and live. Adds to *left how many it could not delete. */
 int rks_sweep_manifests(relkvanu_store *s, size_t *left);

@@ -68,6 +68,9 @@ int rks_enter(relkvanu_store *s, struct rks_waiter *w) {
     while (!leads && sem_wait(&w->turn) != 0) {}
     wake(w->wakes, w->wakes_len);
     sem_destroy(&w->turn);
+    if (!w->is_answered && w->calls == NULL) {
+        rks_await_keeper(s); /* a read sees no record whose manifest is not there yet */
+    }
     return RELKVANU_STORE_OK;
 }
 
@@ -106,7 +109,6 @@ static struct rks_waiter *take_calls(relkvanu_store *s, struct rks_waiter ***end
     return *first;
 }
 
-/* Afterwards a waiter that was submitted is not the store's any more. */
 static void answer(relkvanu_store *s, struct rks_waiter *w, int status) {
     w->status = status == RELKVANU_STORE_OK ? w->refusal : status;
     w->is_answered = true;
@@ -115,9 +117,6 @@ static void answer(relkvanu_store *s, struct rks_waiter *w, int status) {
     }
     for (size_t i = 0; i < w->calls_len && w->status == RELKVANU_STORE_OK; i++) {
         w->calls[i].answer = rks_told(s, w->first + i);
-    }
-    if (w->is_submitted) {
-        rks_complete(s, w);
     }
 }
 
@@ -139,19 +138,40 @@ static void wake_all(struct rks_waiter *sleepers) {
     }
 }
 
-/* Returns those of the group who sleep, and have to be woken: not who leads, and no submits. */
-static struct rks_waiter *answer_all(relkvanu_store *s, struct rks_waiter *group, int status, const struct rks_waiter *own) {
+/* Completes the submits of these. Returns the others, who sleep. Afterwards a waiter belongs to who waits for it, and one that was submitted is not the
+ * store's any more. */
+static struct rks_waiter *tell_submits(relkvanu_store *s, struct rks_waiter *answered) {
     struct rks_waiter *sleepers = NULL, **end = &sleepers;
-    for (struct rks_waiter *next; group != NULL; group = next) {
-        next = group->next;
-        if (!group->is_submitted && group != own) {
-            *end = group;
-            end = &group->next;
+    for (struct rks_waiter *w = answered, *next; w != NULL; w = next) {
+        next = w->next;
+        if (w->is_submitted) {
+            rks_complete(s, w);
+        } else {
+            *end = w;
+            end = &w->next;
         }
-        answer(s, group, status);
     }
     *end = NULL;
     return sleepers;
+}
+
+void rks_tell_all(relkvanu_store *s, struct rks_waiter *answered) {
+    wake_all(tell_submits(s, answered));
+}
+
+/* Answers a group, but for those who have to wait for the keeper. Returns those who sleep, and have to be woken. Who leads sees its own answer. */
+static struct rks_waiter *answer_all(relkvanu_store *s, struct rks_waiter *group, int status, const struct rks_waiter *own) {
+    struct rks_waiter *answered = NULL, **end = &answered;
+    for (struct rks_waiter *w = group, *next; w != NULL; w = next) {
+        next = w->next;
+        answer(s, w, status);
+        if (!rks_is_held(s, w, own) && w != own) {
+            *end = w;
+            end = &w->next;
+        }
+    }
+    *end = NULL;
+    return tell_submits(s, answered);
 }
 
 /* Closes the store for good. Nobody may be told of a failure before. */
@@ -188,12 +208,12 @@ void rks_hand_on(relkvanu_store *s, int dead) {
     wake_all(answer_all(s, failed, RELKVANU_STORE_CLOSED, NULL));
 }
 
-/* Commits the calls that were made. */
-static int commit(relkvanu_store *s) {
+/* Commits the calls that were made. others_go_on: a manifest may be written while other groups are committed. */
+static int commit(relkvanu_store *s, bool others_go_on) {
     int status = rks_commit(s, false);
     rks_end_group(s, status);
     if (status == RELKVANU_STORE_OK) {
-        rks_keep_manifests(s); /* a record that nobody can recover is complete for nobody */
+        rks_keep_manifests(s, others_go_on); /* a record that nobody can recover is complete for nobody */
         s->led.commits++;
         s->led.calls += s->rows_len;
         s->led.largest = s->rows_len > s->led.largest ? s->rows_len : s->led.largest;
@@ -219,10 +239,13 @@ static bool closes(relkvanu_store *s, int status) {
     bool is_dead = status >= RELKVANU_STORE_FAILED && status <= RELKVANU_STORE_OUT_OF_MEMORY;
     if (is_dead) {
         bury(s, status);
-    } else {
-        rks_show(s);
+        return true;
     }
-    return is_dead;
+    if (s->is_news || s->made_orders.len != 0) {
+        rks_await_keeper(s); /* timers are told of the choice */
+    }
+    rks_show(s);
+    return false;
 }
 
 /* How a leader waits for more callers. */
@@ -291,8 +314,11 @@ static struct rks_waiter *make_group(relkvanu_store *s) {
 
 /* Commits the calls that were made, if there are some. Without any all rows so far are committed. */
 static int commit_group(relkvanu_store *s) {
+    if (s->kept.is_due) {
+        rks_await_keeper(s); /* manifests are at most one record behind the log */
+    }
     if (s->rows_len != 0) {
-        return commit(s);
+        return commit(s, s->callers > 1 || s->expected > 1);
     }
     rks_end_group(s, RELKVANU_STORE_OK);
     return RELKVANU_STORE_OK;
@@ -312,10 +338,11 @@ void rks_lead(relkvanu_store *s, struct rks_waiter *own) {
     }
     rks_hand_on(s, is_dead ? 0 : tidy(s));
     wake_all(sleepers);
+    rks_await_held(s, own);
 }
 
 int rks_commit_alone(relkvanu_store *s, relkvanu_answer *answer) {
-    int status = commit(s);
+    int status = commit(s, false);
     bool is_dead = closes(s, status);
     *answer = rks_told(s, 0);
     rks_hand_on(s, is_dead ? 0 : tidy(s));

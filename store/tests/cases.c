@@ -4,6 +4,7 @@
 #include <errno.h>
 #include <fcntl.h>
 #include <signal.h>
+#include <stdatomic.h>
 #include <sys/resource.h>
 #include <sys/stat.h>
 #include <sys/syscall.h>
@@ -106,13 +107,39 @@ void fail_syncs(const char *end, int error) {
     sync_error = error;
 }
 
+static const char *_Atomic held = NULL;
+static atomic_int held_now;
+
+void hold_syncs(const char *end) {
+    held = end;
+}
+
+bool awaits_a_held_sync(void) {
+    for (int i = 0; i < 3000 && held_now == 0; i++) {
+        usleep(10000);
+    }
+    return held_now != 0;
+}
+
+/* Whether the path of an open file or folder ends so. */
+static bool ends_with(int fd, const char *end) {
+    char link[64], path[PATHS] = "";
+    size_t len = strlen(end);
+    snprintf(link, sizeof link, "/proc/self/fd/%d", fd);
+    ssize_t found = readlink(link, path, sizeof path - 1);
+    return found >= (ssize_t)len && strcmp(path + found - (ssize_t)len, end) == 0;
+}
+
 /* In place of that of the C library. */
 int fsync(int fd) {
-    char link[64], path[PATHS] = "";
-    size_t len = strlen(unsynced);
-    snprintf(link, sizeof link, "/proc/self/fd/%d", fd);
-    ssize_t found = sync_error == 0 ? -1 : readlink(link, path, sizeof path - 1);
-    if (found >= (ssize_t)len && strcmp(path + found - (ssize_t)len, unsynced) == 0) {
+    const char *end = held;
+    bool is_held = end != NULL && ends_with(fd, end);
+    held_now += is_held;
+    while (is_held && held == end) {
+        usleep(1000);
+    }
+    held_now -= is_held;
+    if (sync_error != 0 && ends_with(fd, unsynced)) {
         errno = sync_error;
         return -1;
     }
@@ -139,7 +166,8 @@ static bool passes(const char *within, const struct test *test) {
 
 int main(int argc, char **argv) {
     const struct test *all[] = {open_cases, damage_cases, storage_cases, call_cases, queue_cases, discard_cases, file_cases, folder_cases,
-        name_cases, object_cases, backup_cases, log_cases, told_cases, look_cases, alone_cases, manifest_cases, verb_cases, beside_cases};
+        name_cases, object_cases, backup_cases, log_cases, told_cases, look_cases, alone_cases, manifest_cases, keeper_cases, verb_cases,
+        beside_cases};
     unsigned passed = 0, failed = 0;
     CHECK(argc >= 2, "cases FOLDER [NAME]");
     for (size_t i = 0; i < sizeof all / sizeof *all; i++) {

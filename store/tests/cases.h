@@ -31,12 +31,16 @@ bool says(const char *words); /* whether the report's message has the words */
 /* From now on the sync of a file or folder whose path ends so fails with this errno; 0: none fails. */
 void fail_syncs(const char *end, int error);
 
+/* From now on the sync of a file whose path ends so waits until this is called again; NULL: none waits. And whether one waits, or does soon. */
+void hold_syncs(const char *end);
+bool awaits_a_held_sync(void);
+
 struct test {
     const char *name;
     void (*run)(void);
 };
 extern const struct test open_cases[], damage_cases[], storage_cases[], call_cases[], queue_cases[], discard_cases[], file_cases[],
     folder_cases[], name_cases[], object_cases[], backup_cases[], log_cases[], told_cases[], look_cases[], alone_cases[], manifest_cases[],
-    verb_cases[], beside_cases[];
+    keeper_cases[], verb_cases[], beside_cases[];
 
 #endif

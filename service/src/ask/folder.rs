@@ -1,12 +1,12 @@
 //! What a job knows of the files in a folder or a bucket: which records have all theirs there, and which files no record needs.
 use super::ended::Ended;
-use super::words::{Orphans, Savepoints};
+use super::words::{Orphans, Restore, Savepoints};
 use super::{said, tables};
-use crate::files::{no_marker, Folder, Marked, Names, Owner, Place, Stop};
+use crate::files::{no_marker, Folder, Marked, Names, Owner, Place, Stop, Where};
 use crate::log;
 use relkvanu_client::Job;
 use serde_json::{json, Value};
-use std::collections::BTreeSet;
+use std::collections::{BTreeMap, BTreeSet};
 use std::time::{Duration, Instant};
 
 /// Between two looks at how far the history is.
@@ -23,10 +23,36 @@ struct Looked {
 /// Lists the record that a restore begins from, and the done savepoints. If a place is given, one of them has all its files there, or the
 /// answer is no.
 pub async fn savepoints(job: &Job, given: &Savepoints) -> Result<(), Ended> {
-    let looked = if given.place.is_said() { Some(looked(job, given).await?) } else { None };
+    let said_place = Some(&given.place).filter(|place| place.is_said());
+    let looked = match said_place {
+        Some(place) => Some(looked(job, &given.job, place, &given.names).await?),
+        None => None,
+    };
+    let (rows, warnings) = rows(job, looked.as_ref()).await?;
+    said(given.at.json, &json!(rows), tables::savepoints)?;
+    for text in warnings.values() {
+        log::warn(text);
+    }
+    looked.map_or(Ok(()), |looked| looked.verdict(&rows))
+}
+
+/// The last of these records that has all its files, none of which is too short.
+pub async fn last_whole(job: &Job, given: &Restore) -> Result<u64, Ended> {
+    let looked = looked(job, &given.job, &given.place, &given.names).await?;
+    let (rows, warnings) = rows(job, Some(&looked)).await?;
+    for text in warnings.values() {
+        log::warn(text);
+    }
+    looked.verdict(&rows)?;
+    let whole = rows.iter().filter(|row| is_whole(row)).filter_map(|row| row["id"].as_u64());
+    whole.filter(|id| !warnings.contains_key(id)).max().ok_or(Ended::NoneWhole(looked.kind()))
+}
+
+/// The records that a restore may begin from, and what is wrong with their files.
+async fn rows(job: &Job, looked: Option<&Looked>) -> Result<(Vec<Value>, BTreeMap<u64, String>), Ended> {
     let state = job.state().await?;
     let latest = state["choice"]["id"].as_u64();
-    let (mut rows, mut warnings) = (Vec::new(), Vec::new());
+    let (mut rows, mut warnings) = (Vec::new(), BTreeMap::new());
     for record in done(&state).filter(|record| record["kind"] == "savepoint" || record["id"].as_u64() == latest) {
         let id = record["id"].as_u64().unwrap_or_default();
         let told = job.record(id).await?;
@@ -35,32 +61,32 @@ pub async fn savepoints(job: &Job, given: &Savepoints) -> Result<(), Ended> {
             continue;
         }
         let files = files_of(&told);
-        let absent = looked.as_ref().map(|it| files.difference(&it.there).map(u64::to_string).collect::<Vec<_>>());
-        if let Some(looked) = looked.as_ref().filter(|_| absent.as_ref().is_some_and(Vec::is_empty)) {
-            warnings.extend(looked.shorter(&told));
+        let absent = looked.map(|it| files.difference(&it.there).map(u64::to_string).collect::<Vec<_>>());
+        if let Some(looked) = looked.filter(|_| absent.as_ref().is_some_and(Vec::is_empty)) {
+            warnings.extend(looked.shorter(&told).map(|text| (id, text)));
         }
         rows.push(json!({
             "id": id, "kind": record["kind"], "latest": Some(id) == latest, "triggered": told["live"]["started"],
             "files": files.len(), "absent": absent,
         }));
     }
-    said(given.at.json, &json!(rows), tables::savepoints)?;
-    for text in &warnings {
-        log::warn(text);
-    }
-    looked.map_or(Ok(()), |looked| looked.verdict(&rows))
+    Ok((rows, warnings))
+}
+
+fn is_whole(row: &Value) -> bool {
+    row["absent"].as_array().is_some_and(Vec::is_empty)
 }
 
 /// Opens the place and lists it. A folder that has lost its marker is looked at all the same.
-async fn looked(job: &Job, given: &Savepoints) -> Result<Looked, Ended> {
-    let names = given.place.names(&given.names).map_err(Ended::Place)?;
-    let is_bucket = given.place.bucket.is_some();
+async fn looked(job: &Job, name: &str, at: &Where, given: &Names) -> Result<Looked, Ended> {
+    let names = at.names(given).map_err(Ended::Place)?;
+    let is_bucket = at.bucket.is_some();
     let ended = |stop| match stop {
         Stop::Again(why) if is_bucket => Ended::Away(why),
         Stop::Again(why) | Stop::Never(why) => Ended::Place(why),
     };
-    let owner = owner(&given.job, &job.state().await?);
-    let mut place = given.place.open(&given.names, &owner).map_err(ended)?;
+    let owner = owner(name, &job.state().await?);
+    let mut place = at.open(given, &owner).map_err(ended)?;
     if place.hold(&owner.marker()).map_err(ended)? != Some(owner.text()) {
         if is_bucket {
             return Err(Ended::Place(no_marker(&*place, &owner.marker())));
@@ -86,9 +112,17 @@ impl Looked {
         })
     }
 
+    fn kind(&self) -> &'static str {
+        if self.place.is_bucket() {
+            "bucket"
+        } else {
+            "folder"
+        }
+    }
+
     /// Whether a record has all its files.
     fn verdict(&self, rows: &[Value]) -> Result<(), Ended> {
-        let kind = if self.place.is_bucket() { "bucket" } else { "folder" };
+        let kind = self.kind();
         if let Some(file) = none_there(rows) {
             log::warn(&format!(
                 "no file of these records is in {}, as {}: most likely --{kind}, --prefix or --suffix is wrong, or the disk of the \
@@ -97,7 +131,6 @@ impl Looked {
                 self.names.of(file)
             ));
         }
-        let is_whole = |row: &Value| row["absent"].as_array().is_some_and(Vec::is_empty);
         if rows.iter().any(is_whole) {
             return Ok(());
         }

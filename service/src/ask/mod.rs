@@ -64,17 +64,12 @@ async fn asked(given: &Ask) -> Result<(), Ended> {
         Ask::Dispose(given) => {
             call(&service.job(&given.job), at.json, Call::Dispose { id: given.id }).await.map(|_| ())
         }
-        Ask::Restore(given) => {
-            let shape = given.shape.clone();
-            let restore = match given.checkpoint {
-                Some(checkpoint) => Call::GoBack { checkpoint, shape },
-                None => Call::Restore { savepoint: given.savepoint, shape },
-            };
-            call(&service.job(&given.job), at.json, restore).await.map(|_| ())
-        }
+        Ask::Restore(given) => restore(&service.job(&given.job), given).await,
         Ask::Term(given) => said(at.json, &service.job(&given.job).term().await?, tables::term),
         Ask::Fence(given) => fence(&service.job(&given.job), given).await,
-        Ask::Advance(given) => advance(&service.job(&given.job), given).await,
+        Ask::Advance(given) => {
+            said(at.json, &above(&service.job(&given.job), given.term, given.name).await?, tables::made)
+        }
         Ask::Cancel(given) => call(&service.job(&given.job), at.json, Call::Cancel).await.map(|_| ()),
         Ask::Delete(given) => delete(&service, given).await,
         Ask::End(given) => end::end(&service, given).await,
@@ -139,13 +134,33 @@ async fn call(job: &Job, json: bool, call: Call) -> Result<Value, Ended> {
     }
 }
 
+async fn restore(job: &Job, given: &words::Restore) -> Result<(), Ended> {
+    let shape = given.shape.clone();
+    let restore = match given.checkpoint {
+        Some(checkpoint) => Call::GoBack { checkpoint, shape },
+        None if given.from_backup => Call::Restore { savepoint: go_on(job, given).await?, shape },
+        None => Call::Restore { savepoint: given.savepoint, shape },
+    };
+    call(job, given.at.json, restore).await.map(|_| ())
+}
+
+/// Lets a job go on that a backup has brought back. Returns the savepoint to restore it to; `None` is the latest record. Each call may be made again.
+async fn go_on(job: &Job, given: &words::Restore) -> Result<Option<u64>, Ended> {
+    let state = job.state().await?;
+    let record = folder::last_whole(job, given).await?;
+    if state["names"] == true {
+        above(job, None, None).await?;
+    }
+    Ok(Some(record).filter(|id| state["choice"]["id"] != *id))
+}
+
 /// Lets a job go on above what it lost. By default this is further than any job gets: each costs a number and no memory.
-async fn advance(job: &Job, given: &words::Advance) -> Result<(), Ended> {
+async fn above(job: &Job, term: Option<u64>, name: Option<u64>) -> Result<Value, Ended> {
     let now = job.term().await?;
     let next_name = now["next_name"].as_str().and_then(|name| name.parse().ok()).unwrap_or(u64::MAX);
-    let term = given.term.unwrap_or(now["term"].as_u64().unwrap_or_default().saturating_add(LOST_TERMS));
-    let first_name = given.name.unwrap_or(u64::saturating_add(next_name, LOST_NAMES));
-    said(given.at.json, &job.advance(term, first_name).await?, tables::made)
+    let term = term.unwrap_or(now["term"].as_u64().unwrap_or_default().saturating_add(LOST_TERMS));
+    let first_name = name.unwrap_or(u64::saturating_add(next_name, LOST_NAMES));
+    Ok(job.advance(term, first_name).await?)
 }
 
 /// Makes the job give out names from a first one on. One that gives out names already goes on there.

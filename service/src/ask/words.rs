@@ -1,7 +1,7 @@
 //! The command line of the commands that ask a service.
 use crate::cli::job_name;
 use crate::files::{Names, Where};
-use clap::{Args, Subcommand};
+use clap::{ArgGroup, Args, Subcommand};
 use serde_json::Value;
 use std::path::PathBuf;
 
@@ -218,6 +218,7 @@ pub struct Dispose {
 }
 
 #[derive(Args)]
+#[command(group(ArgGroup::new("where").args(["folder", "bucket"]).requires("from_backup")))]
 pub struct Restore {
     /// The job
     #[arg(value_parser = job_name)]
@@ -231,9 +232,16 @@ pub struct Restore {
     /// Accept that what sinks published for records after the checkpoint is not taken back
     #[arg(long, requires = "checkpoint")]
     pub accept_published: bool,
+    /// A backup was put back: go on above all that the job lost, from its last record that has all its files in the folder or the bucket
+    #[arg(long, conflicts_with_all = ["savepoint", "checkpoint"], requires = "where")]
+    pub from_backup: bool,
     /// A new shape: the parallelism of each vertex
     #[arg(long, value_name = "N,N..", value_delimiter = ',')]
     pub shape: Option<Vec<u64>>,
+    #[command(flatten)]
+    pub place: Where,
+    #[command(flatten)]
+    pub names: Names,
     #[command(flatten)]
     pub at: At,
 }

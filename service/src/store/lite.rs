@@ -146,7 +146,7 @@ pub(super) fn settle(connection: &Connection) -> rusqlite::Result<()> {
 }
 
 /// Takes the lock file beside the database. The system releases it when the process ends.
-pub(super) fn locked(path: &Path) -> Result<File, DbError> {
+pub fn locked(path: &Path) -> Result<File, DbError> {
     let name = files::beside(path, ".lock");
     let file = File::create(&name).map_err(DbError::file(&name))?;
     match file.try_lock() {

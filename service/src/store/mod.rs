@@ -23,9 +23,10 @@ mod tables;
 
 pub use cells::entry_of;
 pub use error::{is_damage, DbError, Failure, Unusable};
+pub use files::{beside, sync_folder};
 #[cfg(test)]
 pub use lite::TABLES as LITE;
-pub use lite::{count_no_memory, Lite, ERASE};
+pub use lite::{count_no_memory, locked, Lite, ERASE};
 pub use lite_read::LiteReader;
 pub use lite_source::Source;
 pub use moved::{refusal, Mark};

@@ -1,0 +1,226 @@
+//! `relkvanu put-back`: puts a copy of an SQLite database in its place, and sets the files that are there aside. An end at any moment loses none of
+//! them: the same command goes on.
+use crate::check;
+use crate::cli;
+use crate::database::{Database, NoDatabase};
+use crate::log;
+use crate::store::{beside, locked, sync_folder, DbError};
+use std::ffi::{OsStr, OsString};
+use std::fs::{self, DirBuilder, File, OpenOptions};
+use std::io::{self, ErrorKind, Read, Write};
+use std::os::unix::ffi::OsStrExt;
+use std::os::unix::fs::{chown, DirBuilderExt, MetadataExt, OpenOptionsExt};
+use std::path::{Path, PathBuf};
+use std::process::ExitCode;
+use thiserror::Error;
+
+const LOG: &str = "-wal";
+const LOCK: &str = ".lock";
+/// The copy, until it has its name.
+const NEW: &str = ".restored";
+/// Of the folder of what was set aside: while its files go back; and of the one for the files that were there meanwhile.
+const GOES_BACK: &str = ".back";
+const UNUSED: &str = ".not-used";
+const PIECE: usize = 1 << 20;
+
+/// Why a copy is not in its place.
+#[derive(Debug, Error)]
+enum NotPut {
+    #[error(transparent)]
+    Database(#[from] NoDatabase),
+    #[error("a PostgreSQL database is restored by pg_restore")]
+    Postgres,
+    #[error("{}: the name is no UTF-8", .0.display())]
+    Name(PathBuf),
+    #[error("{}: no service can run over this copy", .0.display())]
+    Unsound(PathBuf),
+    #[error("{} has {} already: name another folder", .0.display(), .1.display())]
+    Taken(PathBuf, PathBuf),
+    #[error("nothing is set aside in {}", .0.display())]
+    Nothing(PathBuf),
+    #[error(transparent)]
+    Locked(#[from] DbError),
+    /// What the system says of a file.
+    #[error("{}: {why}", .path.display())]
+    File { path: PathBuf, why: io::Error },
+}
+
+/// What the system says of this file.
+fn of(path: &Path) -> impl Fn(io::Error) -> NotPut + '_ {
+    |why| NotPut::File { path: path.to_path_buf(), why }
+}
+
+pub fn run(given: &cli::PutBack) -> ExitCode {
+    match given.copy.as_deref().map_or_else(|| put_aside_back(given), |copy| put(given, copy)) {
+        Ok(text) => {
+            log::info(&text);
+            ExitCode::SUCCESS
+        }
+        Err(why) => {
+            log::error(&why.to_string());
+            ExitCode::FAILURE
+        }
+    }
+}
+
+/// Where the database is, and where its files are set aside.
+struct Place {
+    database: PathBuf,
+    folder: PathBuf,
+    aside: PathBuf,
+    /// No service, and no other command, has the database.
+    _lock: File,
+}
+
+impl Place {
+    fn open(given: &cli::PutBack) -> Result<Place, NotPut> {
+        let Database::Sqlite(named) = Database::of(&given.database)? else {
+            return Err(NotPut::Postgres);
+        };
+        let parent = named.parent().filter(|it| !it.as_os_str().is_empty()).unwrap_or(Path::new("."));
+        let folder = fs::canonicalize(parent).map_err(of(parent))?;
+        let database = folder.join(named.file_name().unwrap_or(OsStr::new("relkvanu.db")));
+        let lock = locked(&database)?;
+        let place =
+            Place { aside: given.aside.clone().unwrap_or_else(|| folder.join("aside")), database, folder, _lock: lock };
+        place.own(&beside(&place.database, LOCK))?;
+        Ok(place)
+    }
+
+    /// Gives a file to the user of the folder, who runs the service.
+    fn own(&self, path: &Path) -> Result<(), NotPut> {
+        let owner = fs::metadata(&self.folder).map_err(of(&self.folder))?;
+        let is = fs::metadata(path).map_err(of(path))?;
+        if (is.uid(), is.gid()) == (owner.uid(), owner.gid()) {
+            return Ok(());
+        }
+        chown(path, Some(owner.uid()), Some(owner.gid())).map_err(of(path))
+    }
+
+    /// The names of the database's files in a folder: all that begin with its own, which is the last: as long as it is there, it is not known that its log is gone.
+    fn names(&self, folder: &Path) -> io::Result<Vec<OsString>> {
+        let own = self.database.file_name().unwrap_or_default();
+        let is_kept = |name: &OsString| [LOCK, NEW].iter().all(|end| beside(Path::new(own), end).as_os_str() != name);
+        let entries = fs::read_dir(folder)?.map(|it| it.map(|it| it.file_name())).collect::<io::Result<Vec<_>>>()?;
+        let mut names: Vec<OsString> = entries.into_iter().filter(|name| begins(name, own) && is_kept(name)).collect();
+        names.sort_unstable_by_key(|name| std::cmp::Reverse(name.len()));
+        Ok(names)
+    }
+
+    /// Moves the files of the database from one folder to another, and replaces none there.
+    fn move_all(&self, from: &Path, to: &Path) -> Result<(), NotPut> {
+        let names = self.names(from).map_err(of(from))?;
+        if let Some(name) = names.iter().rev().find(|name| to.join(name).symlink_metadata().is_ok()) {
+            return Err(NotPut::Taken(to.to_path_buf(), PathBuf::from(name)));
+        }
+        for name in names {
+            fs::rename(from.join(&name), to.join(&name)).map_err(of(&from.join(&name)))?;
+        }
+        synced(to)?;
+        synced(from)
+    }
+}
+
+fn begins(name: &OsStr, with: &OsStr) -> bool {
+    name.as_bytes().starts_with(with.as_bytes())
+}
+
+fn synced(folder: &Path) -> Result<(), NotPut> {
+    File::open(folder).and_then(|it| it.sync_all()).map_err(of(folder))
+}
+
+/// Makes a folder, which may be there.
+fn make_folder(path: &Path) -> Result<(), NotPut> {
+    match DirBuilder::new().mode(0o700).create(path) {
+        Err(why) if why.kind() != ErrorKind::AlreadyExists => Err(of(path)(why)),
+        _ => sync_folder(path).map_err(of(path)),
+    }
+}
+
+/// Reads a file in pieces, which the function gets.
+fn read(path: &Path, mut each: impl FnMut(&[u8]) -> io::Result<bool>) -> io::Result<bool> {
+    let (mut file, mut piece) = (File::open(path)?, vec![0; PIECE]);
+    loop {
+        let len = file.read(&mut piece)?;
+        if len == 0 || !each(&piece[..len])? {
+            return Ok(len == 0);
+        }
+    }
+}
+
+/// Whether the database has the bytes of the copy, and no log: then it was put there, and no service has run over it.
+fn is_in_place(place: &Place, copy: &Path) -> Result<bool, NotPut> {
+    let lengths = |path: &Path| fs::metadata(path).map(|it| it.len());
+    let Ok(there) = lengths(&place.database) else {
+        return Ok(false);
+    };
+    if there != lengths(copy).map_err(of(copy))? || beside(&place.database, LOG).exists() {
+        return Ok(false);
+    }
+    let mut file = File::open(&place.database).map_err(of(&place.database))?;
+    let mut own = vec![0; PIECE];
+    let same = |piece: &[u8]| file.read_exact(&mut own[..piece.len()]).map(|()| own[..piece.len()] == *piece);
+    read(copy, same).map_err(of(copy))
+}
+
+/// Writes the copy beside the database, under another name.
+fn write_new(place: &Place, copy: &Path) -> Result<PathBuf, NotPut> {
+    let new = beside(&place.database, NEW);
+    let mut file =
+        OpenOptions::new().write(true).create(true).truncate(true).mode(0o600).open(&new).map_err(of(&new))?;
+    read(copy, |piece| file.write_all(piece).map(|()| true)).map_err(of(&new))?;
+    place.own(&new)?;
+    file.sync_all().map_err(of(&new))?;
+    Ok(new)
+}
+
+/// Puts the copy in the place of the database. Returns what was done.
+fn put(given: &cli::PutBack, copy: &Path) -> Result<String, NotPut> {
+    let place = Place::open(given)?;
+    let name = copy.to_str().ok_or_else(|| NotPut::Name(copy.to_path_buf()))?;
+    if !given.checked && !check::is_sound(name) {
+        return Err(NotPut::Unsound(copy.to_path_buf()));
+    }
+    if is_in_place(&place, copy)? {
+        synced(&place.folder)?;
+        return Ok(format!("{} is the copy already", place.database.display()));
+    }
+    make_folder(&place.aside)?;
+    let new = write_new(&place, copy)?;
+    place.move_all(&place.folder, &place.aside).inspect_err(|_| {
+        // the next one writes it again
+        let _ = fs::remove_file(&new);
+    })?;
+    fs::rename(&new, &place.database).map_err(of(&new))?;
+    synced(&place.folder)?;
+    Ok(format!("{} is the copy, and what was there is in {}", place.database.display(), place.aside.display()))
+}
+
+/// Puts the files back that were set aside. Those that are there go into another folder, and then the name of the first folder says that all that is in the place
+/// was set aside before.
+fn put_aside_back(given: &cli::PutBack) -> Result<String, NotPut> {
+    let place = Place::open(given)?;
+    let (back, unused) = (beside(&place.aside, GOES_BACK), beside(&place.aside, UNUSED));
+    if !back.exists() {
+        if !place.aside.exists() {
+            return if unused.exists() { Ok(told_back(&unused)) } else { Err(NotPut::Nothing(place.aside.clone())) };
+        }
+        make_folder(&unused)?;
+        place.move_all(&place.folder, &unused)?;
+        fs::rename(&place.aside, &back).map_err(of(&place.aside))?;
+        sync_folder(&back).map_err(of(&back))?;
+    }
+    let new = beside(&place.database, NEW);
+    match fs::remove_file(&new) {
+        Err(why) if why.kind() != ErrorKind::NotFound => return Err(of(&new)(why)),
+        _ => {}
+    }
+    place.move_all(&back, &place.folder)?;
+    fs::remove_dir(&back).map_err(of(&back))?;
+    sync_folder(&back).map_err(of(&back))?;
+    Ok(told_back(&unused))
+}
+
+fn told_back(unused: &Path) -> String {
+    format!("what was set aside is in its place, and what was there is in {}", unused.display())
+}

@@ -1,0 +1,210 @@
+/* The thread that writes a manifest while others call: who goes on meanwhile, who waits, and what becomes of a manifest that can't be written. */
+#include "cases.h"
+
+#include <errno.h>
+#include <pthread.h>
+#include <stdatomic.h>
+#include <unistd.h>
+
+/* A caller with a thread of its own. Without calls it reads. */
+struct caller {
+    pthread_t thread;
+    relkvanu_store *store;
+    relkvanu_store_call call;
+    bool reads;
+    char must_be_there[PATHS]; /* when it is answered; "": nothing */
+    atomic_bool is_answered;
+};
+
+static void *calls(void *with) {
+    struct caller *it = with;
+    relkvanu *handle;
+    int status = it->reads ? relkvanu_store_read(it->store, &handle) : relkvanu_store_calls(it->store, &it->call, 1);
+    CHECK(status == RELKVANU_STORE_OK, "status %d", status);
+    CHECK(it->must_be_there[0] == 0 || access(it->must_be_there, F_OK) == 0, "%s is not there", it->must_be_there);
+    if (it->reads) {
+        relkvanu_store_read_end(it->store);
+    }
+    it->is_answered = true;
+    return NULL;
+}
+
+static void start(struct caller *it) {
+    CHECK(pthread_create(&it->thread, NULL, calls, it) == 0, "a thread");
+}
+
+/* The manifest of this record has to be there when it is answered. */
+static void needs(struct caller *it, uint64_t id) {
+    char name[64];
+    snprintf(name, sizeof name, "storage/record-%" PRIu64 ".manifest", id);
+    snprintf(it->must_be_there, sizeof it->must_be_there, "%s", in(name));
+}
+
+static void ends(struct caller *it) {
+    CHECK(pthread_join(it->thread, NULL) == 0 && it->is_answered, "a thread");
+}
+
+/* The acknowledgement of a subtask without files. */
+static relkvanu_store_call ack(uint64_t id, uint16_t index) {
+    return (relkvanu_store_call){
+        .call = {.kind = RELKVANU_CALL_ACK, .index = index, .now = RELKVANU_STORE_NOW, .number = id, .term = report.term}};
+}
+
+static relkvanu_answer makes(relkvanu_store *store, relkvanu_store_call call) {
+    CHECK(relkvanu_store_calls(store, &call, 1) == RELKVANU_STORE_OK && call.answer.code == RELKVANU_DONE, "%" PRIu32, call.answer.what);
+    return call.answer;
+}
+
+/* All acknowledgements of a record but the last one. */
+static uint64_t nearly_all(relkvanu_store *store, uint64_t id) {
+    for (uint16_t i = 0; i + 1 < SUBTASKS; i++) {
+        makes(store, ack(id, i));
+    }
+    return id;
+}
+
+static uint64_t savepoint(relkvanu_store *store) {
+    return makes(store, (relkvanu_store_call){.call = {.kind = RELKVANU_CALL_SAVEPOINT, .now = RELKVANU_STORE_NOW}}).a;
+}
+
+static uint64_t trigger(relkvanu_store *store) {
+    return makes(store, (relkvanu_store_call){.call = {.kind = RELKVANU_CALL_TRIGGER, .now = RELKVANU_STORE_NOW}}).b;
+}
+
+/* Calls behind a read, as somebody does who is not alone: then the manifest of a record that it completes is written beside others. */
+static void begins_behind_a_read(relkvanu_store *store, struct caller *it) {
+    relkvanu *handle;
+    CHECK(relkvanu_store_read(store, &handle) == RELKVANU_STORE_OK, "a read");
+    start(it);
+    usleep(100000);
+    relkvanu_store_read_end(store);
+}
+
+static relkvanu_store *opens_with_manifests(void) {
+    relkvanu_store_options options = storage_options(RELKVANU_STORE_CREATE | RELKVANU_STORE_MANIFESTS, 0);
+    return opens(&options, RELKVANU_STORE_OK);
+}
+
+/* Acknowledgements of other records and reservations are answered. Who completed the record, who reads and who begins a record is answered behind the manifest. */
+static void others_go_on(void) {
+    relkvanu_store *store = opens_with_manifests();
+    uint64_t id = nearly_all(store, trigger(store)), other = savepoint(store);
+    struct caller completes = {.store = store, .call = ack(id, SUBTASKS - 1)}, reads = {.store = store, .reads = true},
+                  begins = {.store = store, .call = {.call = {.kind = RELKVANU_CALL_TICK, .now = RELKVANU_STORE_NOW}}};
+    needs(&completes, id);
+    needs(&begins, id);
+    needs(&reads, id);
+    hold_syncs("/record-1.manifest.part");
+    begins_behind_a_read(store, &completes);
+    CHECK(awaits_a_held_sync(), "the manifest");
+    CHECK(makes(store, ack(other, 0)).what == RELKVANU_ACK_PENDING, "an acknowledgement");
+    CHECK(makes(store, (relkvanu_store_call){.call = {.kind = RELKVANU_CALL_RESERVE, .number = 3, .term = 1}}).what == RELKVANU_RESERVED,
+        "a reservation");
+    start(&begins);
+    usleep(100000);
+    start(&reads);
+    usleep(200000);
+    CHECK(!completes.is_answered && !begins.is_answered && !reads.is_answered, "somebody was told before the manifest was there");
+    hold_syncs(NULL);
+    ends(&completes);
+    ends(&begins);
+    ends(&reads);
+    CHECK(completes.call.answer.what == RELKVANU_ACK_COMPLETED && begins.call.answer.what == RELKVANU_TICK_TRIGGERED, "the answers");
+    CHECK(begins.call.choice.what == RELKVANU_CHOICE_CHECKPOINT && begins.call.choice.a == id, "the choice");
+    relkvanu_store_close(store);
+}
+
+/* Submits are answered in their order. A close waits for the manifest. */
+static void submits_keep_their_order(void) {
+    relkvanu_store *store = opens_with_manifests();
+    uint64_t id = nearly_all(store, savepoint(store)), other = savepoint(store);
+    relkvanu_store_call last = ack(id, SUBTASKS - 1), more = ack(other, 0), again = ack(other, 1);
+    relkvanu_store_completion some[3];
+    relkvanu *handle;
+    hold_syncs("/record-1.manifest.part");
+    CHECK(relkvanu_store_read(store, &handle) == RELKVANU_STORE_OK, "a read");
+    CHECK(relkvanu_store_submit(store, &last, 1, 1) == RELKVANU_STORE_OK && relkvanu_store_submit(store, &more, 1, 2) == RELKVANU_STORE_OK,
+        "submits");
+    relkvanu_store_read_end(store);
+    CHECK(awaits_a_held_sync() && relkvanu_store_submit(store, &again, 1, 3) == RELKVANU_STORE_OK, "a submit");
+    usleep(200000);
+    CHECK(relkvanu_store_completed(store, some, 3) == 0, "a completion before the manifest");
+    hold_syncs(NULL);
+    for (uint64_t found = 0; found < 3;) {
+        size_t len = relkvanu_store_completed(store, some, 1);
+        CHECK(len == 0 || (some[0].token == found + 1 && some[0].status == RELKVANU_STORE_OK), "token %" PRIu64, some[0].token);
+        found += len;
+        usleep(1000);
+    }
+    CHECK(last.answer.what == RELKVANU_ACK_COMPLETED && again.answer.what == RELKVANU_ACK_PENDING, "the answers");
+    CHECK(access(in("storage/record-1.manifest"), F_OK) == 0, "the manifest");
+    relkvanu_store_close(store);
+}
+
+static uint64_t committed(relkvanu_store *store) {
+    relkvanu_store_counts counts;
+    relkvanu_store_count(store, &counts);
+    return counts.calls;
+}
+
+/* The next completion is committed only behind the manifest of the one before: manifests are at most one record behind the log. */
+static void one_record_behind(void) {
+    relkvanu_store *store = opens_with_manifests();
+    uint64_t id = nearly_all(store, savepoint(store)), other = nearly_all(store, savepoint(store));
+    struct caller one = {.store = store, .call = ack(id, SUBTASKS - 1)}, two = {.store = store, .call = ack(other, SUBTASKS - 1)};
+    needs(&one, id);
+    needs(&two, other);
+    hold_syncs("/record-1.manifest.part");
+    begins_behind_a_read(store, &one);
+    CHECK(awaits_a_held_sync(), "the manifest");
+    uint64_t before = committed(store);
+    start(&two);
+    usleep(200000);
+    CHECK(committed(store) == before && !one.is_answered && !two.is_answered, "%" PRIu64 " calls", committed(store));
+    hold_syncs(NULL);
+    ends(&one);
+    ends(&two);
+    CHECK(committed(store) == before + 1, "%" PRIu64 " calls", committed(store));
+    relkvanu_store_close(store);
+}
+
+/* A manifest that can't be written beside others is counted, and written later; one of a record that ended goes then. */
+static void manifests_that_fail_beside(void) {
+    relkvanu_store *store = opens_with_manifests();
+    relkvanu_store_measures measures;
+    makes(store, ack(nearly_all(store, savepoint(store)), SUBTASKS - 1));
+    uint64_t next = nearly_all(store, trigger(store));
+    struct caller last = {.store = store, .call = ack(next, SUBTASKS - 1)};
+    fail_syncs("/storage", EIO); /* the folder's */
+    begins_behind_a_read(store, &last);
+    ends(&last);
+    relkvanu_store_measure(store, &measures, sizeof measures);
+    CHECK(last.call.answer.what == RELKVANU_ACK_COMPLETED && measures.manifests == 1 && measures.failed_manifests == 1,
+        "%" PRIu64 " manifests, %" PRIu64 " failed", measures.manifests, measures.failed_manifests);
+    fail_syncs("", 0);
+    for (int i = 0; i < 3000 && measures.manifests < 3; i++) { /* both are written again, once a commit comes a second later */
+        makes(store, (relkvanu_store_call){.call = {.kind = RELKVANU_CALL_RESERVE, .number = 1, .term = 1}});
+        relkvanu_store_measure(store, &measures, sizeof measures);
+        usleep(10000);
+    }
+    CHECK(measures.manifests == 3, "%" PRIu64 " manifests", measures.manifests);
+    relkvanu_store_close(store);
+}
+
+/* The manifest of a checkpoint goes when the next one has its own, which is written beside others. */
+static void ended_manifests_go_beside(void) {
+    relkvanu_store *store = opens_with_manifests();
+    for (uint64_t id = 1; id <= 3; id++) {
+        CHECK(nearly_all(store, trigger(store)) == id, "the number");
+        struct caller last = {.store = store, .call = ack(id, SUBTASKS - 1)};
+        begins_behind_a_read(store, &last);
+        ends(&last);
+    }
+    CHECK(access(in("storage/record-1.manifest"), F_OK) != 0 && access(in("storage/record-2.manifest"), F_OK) != 0, "one that ended");
+    CHECK(access(in("storage/record-3.manifest"), F_OK) == 0, "the manifest");
+    relkvanu_store_close(store);
+}
+
+const struct test keeper_cases[] = {{"others_go_on", others_go_on}, {"submits_keep_their_order", submits_keep_their_order},
+    {"one_record_behind", one_record_behind}, {"manifests_that_fail_beside", manifests_that_fail_beside},
+    {"ended_manifests_go_beside", ended_manifests_go_beside}, {NULL, NULL}};
