@@ -4,6 +4,7 @@ import os
 import pwd
 import shutil
 import subprocess
+import time
 from contextlib import contextmanager
 
 from harness import folder, free_port, until
@@ -34,12 +35,23 @@ class Postgres:
         if os.geteuid() == 0:
             shutil.chown(self.data, "postgres", "postgres")
             self.user += ["setpriv", f"--reuid={pwd.getpwnam('postgres').pw_uid}", f"--regid={pwd.getpwnam('postgres').pw_gid}", "--clear-groups"]
-        self.run("initdb", "-D", self.data, "-U", "postgres", "-A", "trust", "--no-sync", *options)
+        self.initialize(options)
         with open(f"{self.data}/postgresql.conf", "a", encoding="utf-8") as it:
             it.write(f"port = {self.port}\nlisten_addresses = '{host}'\nunix_socket_directories = ''\nshared_buffers = 32MB\nlog_min_messages = fatal\n")
         with open(f"{self.data}/pg_hba.conf", "a", encoding="utf-8") as it:
             it.write("host all all 10.9.0.0/16 trust\n")
         self.start()
+
+    def initialize(self, options):
+        """Again if it fails: others on the machine may change what its programs need, for a moment. It leaves its folder empty then."""
+        for tries in range(3):
+            try:
+                return self.run("initdb", "-D", self.data, "-U", "postgres", "-A", "trust", "--no-sync", *options)
+            except AssertionError as why:
+                if tries == 2:
+                    raise
+                print(f"initdb is tried again: {why}")
+                time.sleep(10)
 
     def run(self, program, *words, environment=None):
         told = subprocess.run(
