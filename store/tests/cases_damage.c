@@ -7,7 +7,7 @@
 #include <sys/stat.h>
 #include <unistd.h>
 
-enum { CALLS = 2 * CHECKPOINT_CALLS, LAST = CALLS - 1 };
+enum { CALLS = 2 * CHECKPOINT_CALLS, LAST = CALLS - 1, LEFT = 45, IMAGE_CALLS = 10 };
 
 /* A job whose log has 20 calls, two checkpoints; closed. */
 static void make_job(uint64_t image_calls) {
@@ -164,6 +164,30 @@ static void an_earlier_image(void) {
     relkvanu_store_close(store);
 }
 
+/* Reserves names one by one, with an image after each tenth call or so, and ends without a close. */
+static int leave_open(void *with) {
+    relkvanu_store_options options = job_options(RELKVANU_STORE_CREATE, IMAGE_CALLS);
+    relkvanu_store *store = opens(&options, RELKVANU_STORE_OK);
+    relkvanu_answer answer;
+    (void)with;
+    for (uint64_t name = 1; name <= LEFT; name++) {
+        CHECK(relkvanu_store_reserve(store, 1, 1, &answer) == RELKVANU_STORE_OK && answer.a == name, "name %" PRIu64, answer.a);
+    }
+    return 0;
+}
+
+/* The log is cut behind images, and stays whole behind the earlier one of the last two. */
+static void log_behind_both_images(void) {
+    relkvanu_store_options options = job_options(RELKVANU_STORE_EARLIER_IMAGE, IMAGE_CALLS);
+    CHECK(in_child(leave_open, NULL) == 0, "the job");
+    run_sql(in("x.db"), "UPDATE image SET sum = sum + 1 WHERE place = (SELECT max(place) FROM image)");
+    relkvanu_store *store = opens(&options, RELKVANU_STORE_OK);
+    CHECK(report.image_place != 0 && report.image_place + report.replayed == LEFT, "%" PRIu64 ", %" PRIu64, report.image_place,
+        report.replayed);
+    CHECK(report.replayed > IMAGE_CALLS && report.next_name == LEFT + 1, "%" PRIu64 ", %" PRIu64, report.replayed, report.next_name);
+    relkvanu_store_close(store);
+}
+
 static void copy_file(const char *from, const char *to, long flip) {
     static char bytes[1 << 20];
     FILE *it = fopen(from, "rb");
@@ -234,5 +258,5 @@ static void replaced_files(void) {
 }
 
 const struct test damage_cases[] = {{"other_files", other_files}, {"other_answers", other_answers}, {"other_names", other_names},
-    {"damaged_rows", damaged_rows}, {"an_earlier_image", an_earlier_image}, {"any_damaged_byte", any_damaged_byte},
-    {"replaced_files", replaced_files}, {NULL, NULL}};
+    {"damaged_rows", damaged_rows}, {"an_earlier_image", an_earlier_image}, {"log_behind_both_images", log_behind_both_images},
+    {"any_damaged_byte", any_damaged_byte}, {"replaced_files", replaced_files}, {NULL, NULL}};

@@ -1,4 +1,5 @@
 -- The lemmas that the proofs use.
+pub mod Restores
 pub mod Seaming
 pub mod Snapping
 pub mod Turning

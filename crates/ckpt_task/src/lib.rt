@@ -9,6 +9,7 @@
 
 pub mod laws;
 pub mod program;
+pub mod restarts;
 pub mod sink_task;
 pub mod snapshots;
 pub mod task;

@@ -1,0 +1,73 @@
+-- The newest snapshot of a record that a task saved is that of its cut.
+use Rattle.std.proofs.Common.{◌≡◌, ℕ, eqb, List, [], ◌∷◌, ◌++◌, refl, sym, ap, ◌∙◌, subst, inl, inr}
+use Rattle.std.specs.Prelude.{Option, Some, None, if◌then◌else◌}
+use Rattle.std.proofs.lemmas.Bool.{cond_both, eqb-true}
+use Rattle.ckpt_ids.specs.Ordered.{IsIn}
+use Rattle.ckpt_ids.specs.declared.subtask.SubtaskId.{SubtaskId}
+use Rattle.ckpt_align.specs.Alignment.{Alignment, opened}
+use Rattle.ckpt_once.specs.Jobs.{History, Job, States, of, snapshots}
+use Rattle.ckpt_once.specs.Programs.{Program, Turn, aligned, moves_in, state}
+use Rattle.ckpt_task.proofs.Snapping.{snaps_at_cut}
+use Rattle.ckpt_task.specs.Engines.{Snapped, snapped_at, snapped_by}
+use Rattle.ckpt_task.specs.Restores.{AreSaved, RestoresSnapshot, Saves}
+use Rattle.ckpt_task.specs.Saving.{Saved, state_of, under}
+use Rattle.ckpt_task.specs.Turns.{At, IsSaved, cut_in, cut_of}
+use Rattle.ckpt_task.specs.declared.turn.Outcome.{Outcome}
+use Rattle.ckpt_task.specs.declared.turn.Outcome.TheVariants.{Moved, Held, Nothing, Cut, Unsaved, Abandoned}
+
+abbrev snap : ℕ → ℕ → Snapped
+snap n s = record { id = n; state = s }
+
+later : (xs ys : List Snapped) (one : Snapped) → IsIn one ys → IsIn one (xs ++ ys)
+later [] ys one has = has
+later (x ∷ xs) ys one has = inr (later xs ys one has)
+
+-- each snapshot of the record that is here is one of those that the task took
+abbrev Comes : ℕ → List Saved → List Snapped → Type 0
+Comes n ones taken = (s : ℕ) → state_of (under n ones) ≡ Some s → IsIn (snap n s) taken
+
+stays : (n : ℕ) (before now : List Saved) (new taken : List Snapped) → now ≡ before → Comes n before taken → Comes n now (new ++ taken)
+stays n before now new taken same comes s is = later new taken (snap n s) (comes s (sym (ap (λ (ones : List Saved). state_of (under n ones)) same) ∙ is))
+
+some_same : (s x : ℕ) → Some s ≡ Some x → s ≡ x
+some_same s x e = cc
+
+-- one more, that of this cut
+adds : (n m x : ℕ) (one : Saved) (before now : List Saved) (cut : Option ℕ) (taken : List Snapped) → one.id ≡ m → one.state ≡ x → Some m ≡ cut → now ≡ one ∷ before
+    → Comes n before taken → Comes n now (snapped_at cut x ++ taken)
+adds n m x one before now cut taken id state is_cut is comes s has =
+    let At : Option ℕ → Type 0 = λ c. IsIn (snap n s) (snapped_at c x ++ taken) in
+    let found : state_of (if eqb one.id n then Some one else under n before) ≡ Some s = sym (ap (λ (ones : List Saved). state_of (under n ones)) is) ∙ has in
+    subst At is_cut
+    (cond_both (eqb one.id n) (Some one) (under n before) (λ (o : Option Saved). state_of o ≡ Some s → IsIn (snap n s) (snap m x ∷ taken))
+    (λ same its. inl (ap (λ (k : ℕ). snap k s) (sym (eqb-true one.id n same) ∙ id) ∙ ap (λ (k : ℕ). snap m k) (some_same s x (sym its ∙ ap Some state))))
+    (λ _ its. inr (comes s its))
+    found)
+
+goes : (n x : ℕ) (o : Outcome) (before now : List Saved) (cut : Option ℕ) (taken : List Snapped) (waiting : _) → cut_in o ≡ cut → IsSaved o x waiting before now
+    → Comes n before taken → Comes n now (snapped_at cut x ++ taken)
+goes n x (Cut m) before now cut taken waiting is_cut saved comes =
+    adds n m x (record { id = m; state = x; waiting = waiting }) before now cut taken refl refl is_cut saved comes
+goes n x (Unsaved m) before now cut taken waiting is_cut (inl same) comes = stays n before now (snapped_at cut x) taken same comes
+goes n x (Unsaved m) before now cut taken waiting is_cut (inr saved) comes =
+    adds n m x (record { id = m; state = x; waiting = waiting }) before now cut taken refl refl is_cut saved comes
+goes n x (Moved ones) before now cut taken waiting is_cut same comes = stays n before now (snapped_at cut x) taken same comes
+goes n x Held before now cut taken waiting is_cut same comes = stays n before now (snapped_at cut x) taken same comes
+goes n x Nothing before now cut taken waiting is_cut same comes = stays n before now (snapped_at cut x) taken same comes
+goes n x (Abandoned id) before now cut taken waiting is_cut same comes = stays n before now (snapped_at cut x) taken same comes
+
+are_taken : (n : ℕ) (p : Program) (s : ℕ) (a : Alignment) (turns : List Turn) (before now : List Saved) → under n before ≡ None → AreSaved p s a turns before now
+    → Comes n now (snapped_by p s a turns)
+are_taken n p s a [] before now none same x is = absurd cc
+are_taken n p s a (turn ∷ turns) before now none saved x is =
+    let its : Saves (cut_of (aligned a turns) turn) (state p s (moves_in a turns)) saved.0 now = saved.2 in
+    goes n (state p s (moves_in a turns)) its.outcome saved.0 now (cut_of (aligned a turns) turn) (snapped_by p s a turns) its.waiting its.is_cut its.is_saved
+    (are_taken n p s a turns before saved.0 none saved.1) x is
+
+pub restores_snapshot : (job : Job) (from : States) (h : History) (t : SubtaskId) (n : ℕ) (before now : List Saved) (task : At) → RestoresSnapshot job from h t n before now task
+restores_snapshot job from h t n before now task works saved none restored =
+    let one : Snapped = snap n task.state in
+    let has : IsIn one (snapped_by (job.program t) (from t) (opened (job.inputs t)) (of t h)) =
+    are_taken n (job.program t) (from t) (opened (job.inputs t)) (of t h) before now none saved task.state restored.state in
+    let is = snaps_at_cut job from h t one works has in
+    (is.0, ap (λ (s : ℕ). record { state = s; alignment = task.alignment }) is.1 ∙ ap (λ (a : Alignment). record { state = snapshots n job from h t; alignment = a }) restored.opened)
