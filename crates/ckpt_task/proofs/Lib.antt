@@ -1,5 +1,7 @@
 -- The lemmas that the proofs use.
+pub mod Doing
 pub mod Seaming
+pub mod Sinking
 pub mod Snapping
 pub mod Turning
 pub mod Working

@@ -1,6 +1,8 @@
 -- The definitions that contracts cite.
+pub mod Deeds
 pub mod Engines
 pub mod Laws
+pub mod Runs
 pub mod Saving
 pub mod SinkTurns
 pub mod Turns
