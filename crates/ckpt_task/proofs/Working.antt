@@ -21,10 +21,10 @@ use Rattle.ckpt_task.specs.Turns.{At, puts, takes, turned}
 
 -- a task after turns
 
-abbrev at_as : ℕ → Alignment → At
+abbrev pub at_as : ℕ → Alignment → At
 at_as s a = record { state = s; alignment = a }
 
-abbrev at_of : Program → ℕ → Alignment → List Turn → At
+abbrev pub at_of : Program → ℕ → Alignment → List Turn → At
 at_of p s a turns = at_as (state p s (moves_in a turns)) (aligned a turns)
 
 abbrev at : Job → States → History → SubtaskId → At
@@ -34,7 +34,7 @@ state_one : (p : Program) (s : ℕ) (o : Option Move) (moves : List Move) → st
 state_one p s None moves = refl
 state_one p s (Some move) moves = refl
 
-turned_is : (p : Program) (s : ℕ) (a : Alignment) (turns : List Turn) (turn : Turn) → turned p (at_of p s a turns) turn ≡ at_of p s a (turn ∷ turns)
+pub turned_is : (p : Program) (s : ℕ) (a : Alignment) (turns : List Turn) (turn : Turn) → turned p (at_of p s a turns) turn ≡ at_of p s a (turn ∷ turns)
 turned_is p s a turns turn = ap (λ (k : ℕ). at_as k (aligned a (turn ∷ turns))) (sym (state_one p s (move_in (aligned a turns) turn) (moves_in a turns)))
 
 task_by : (job : Job) (from : States) (e : By Turn) (h : History) (t : SubtaskId) (b : Bool) → same_subtask e.task t ≡ b → (engine job from h).task t ≡ at job from h t → (engine job from (e ∷ h)).task t ≡ at job from (e ∷ h) t
@@ -58,13 +58,13 @@ task_is job from (e ∷ h) t = task_by job from e h t (same_subtask e.task t) re
 
 -- what a turn puts on a channel, and takes from it
 
-puts_is : (c : ℕ) (p : Program) (s : ℕ) (a : Alignment) (turns : List Turn) (turn : Turn) → sent c a (actions p s a (turn ∷ turns)) ≡ sent c a (actions p s a turns) ++ puts p (at_of p s a turns) turn c
+pub puts_is : (c : ℕ) (p : Program) (s : ℕ) (a : Alignment) (turns : List Turn) (turn : Turn) → sent c a (actions p s a (turn ∷ turns)) ≡ sent c a (actions p s a turns) ++ puts p (at_of p s a turns) turn c
 puts_is c p s a turns turn =
     let xs : List Action = actions p s a turns in
     let zs : List Action = acts p (state p s (moves_in a turns)) (aligned a turns) turn in
     sent-append c a xs zs ∙ ap (λ (k : Alignment). sent c a xs ++ sent c k zs) (aligned_is p s a turns)
 
-takes_is : (j : ℕ) (p : Program) (s : ℕ) (a : Alignment) (turns : List Turn) (turn : Turn) → taken j a (actions p s a (turn ∷ turns)) ≡ taken j a (actions p s a turns) ++ takes p (at_of p s a turns) turn j
+pub takes_is : (j : ℕ) (p : Program) (s : ℕ) (a : Alignment) (turns : List Turn) (turn : Turn) → taken j a (actions p s a (turn ∷ turns)) ≡ taken j a (actions p s a turns) ++ takes p (at_of p s a turns) turn j
 takes_is j p s a turns turn =
     let xs : List Action = actions p s a turns in
     let zs : List Action = acts p (state p s (moves_in a turns)) (aligned a turns) turn in

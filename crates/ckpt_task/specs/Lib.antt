@@ -1,7 +1,9 @@
 -- The definitions that contracts cite.
+pub mod Deeds
 pub mod Engines
 pub mod Laws
 pub mod Restores
+pub mod Runs
 pub mod Saving
 pub mod SinkTurns
 pub mod Turns

@@ -108,6 +108,11 @@ abbrev pub is_unsaved : Outcome → Bool
 is_unsaved (Unsaved id) = true
 is_unsaved other = false
 
+-- the record whose snapshot was refused
+abbrev pub refusals_of : Outcome → List ℕ
+refusals_of (Unsaved id) = id ∷ []
+refusals_of other = []
+
 -- the outcome of a turn, once the snapshot of its cut was saved, or was not
 abbrev pub IsToldAs : Outcome → Outcome → Type 0
 IsToldAs (Cut n) now = (now ≡ Cut n) ⊎ (now ≡ Unsaved n)

@@ -1,6 +1,6 @@
 //! A task whose elements on one output are published once their record is completed.
 
-ghost use Rattle.std.specs.Prelude.{◌≡◌, ◌↔◌, ◌≢◌, ℕ, Some, Err, IfErr, IfOk, OnErr, OnOk, map, true, false};
+ghost use Rattle.std.specs.Prelude.{◌≡◌, ◌↔◌, ◌≢◌, ◌++◌, ℕ, None, Some, Err, IfErr, IfOk, OnErr, OnOk, map, true, false};
 ghost use Rattle.ckpt_align.specs.Alignment.{is_a_task, opened};
 ghost use Rattle.ckpt_align.specs.declared.aligner.OpenFault.TheVariants as open_fault;
 ghost use Rattle.ckpt_align.specs.declared.event.Refusal.{Refusal};
@@ -9,14 +9,14 @@ ghost use Rattle.ckpt_once.specs.Programs.{on_output};
 ghost use Rattle.ckpt_once.specs.Sinks.{up_to};
 ghost use Rattle.ckpt_task.specs.Saving.{state_under, waiting_under};
 ghost use Rattle.ckpt_task.specs.SinkTurns.{after_outcome, after_turn};
-ghost use Rattle.ckpt_task.specs.Turns.{IsSaved, abandoned_as, abandoned_in, answer_in, as_turn, cut_in, cut_of, is_held, is_left, put_on, puts, refusal_as, turned};
+ghost use Rattle.ckpt_task.specs.Turns.{IsSaved, abandoned_as, abandoned_in, answer_in, as_turn, cut_in, cut_of, is_held, is_left, put_on, puts, refusal_as, refusals_of, turned};
 ghost use Rattle.ckpt_task.specs.declared.sink_task.SinkFault.TheVariants as sink_fault;
 
 use crate::program::{Emitted, Program};
 use crate::snapshots::Snapshots;
 use crate::task::{StartFault, Task};
 use crate::turn::{Next, Outcome, TurnFault};
-use ckpt_align::{OpenFault, Refusal};
+use ckpt_align::{Aligner, OpenFault, Refusal};
 use ckpt_ids::CheckpointId;
 use ckpt_ledger::{Ledger, Transaction};
 use std::alloc::{AllocError, Global};
@@ -147,6 +147,10 @@ impl<P: Program> SinkTask<P> {
         ensures cut { IfOk result (λ o. cut_in o ≡ cut_of self.old.task.alignment (as_turn next)) }
         ensures abandoned { IfOk result (λ o. abandoned_in o ≡ abandoned_as (answer_in self.old.task.alignment (as_turn next))) }
         ensures snapshot { IfOk result (λ o. IsSaved o self.old.task.state self.new.held.waiting (S.saved snapshots.old) (S.saved snapshots.new)) }
+        ensures refusal { IfOk result (λ o. S.refused snapshots.new ≡ refusals_of o ++ S.refused snapshots.old) }
+        ensures refuses_none { OnErr result (S.refused snapshots.new ≡ S.refused snapshots.old) }
+        ensures unsaved { OnErr result (S.saved snapshots.new ≡ S.saved snapshots.old) }
+        ensures answered { OnOk result (refusal_as (answer_in self.old.task.alignment (as_turn next)) ≡ None) }
         ensures refused { IfErr result (λ why. (r : Refusal) → why ≡ sink_fault.Refused r → refusal_as (answer_in self.old.task.alignment (as_turn next)) ≡ Some r) }
         ensures output { self.new.output ≡ self.old.output }
         ensures going { OnOk result (self.new.has_failed ≡ false) }
@@ -169,6 +173,13 @@ impl<P: Program> SinkTask<P> {
                 Err(SinkFault::Failed)
             }
         }
+    }
+
+    /// The aligner of its task.
+    pub fn aligner(&self) -> &Aligner
+        ensures { result.now ≡ self.now.task.alignment }
+    {
+        self.task.aligner()
     }
 
     /// A record was completed: the sink publishes these transactions, in this order.

@@ -1,6 +1,6 @@
 //! Where the snapshots of a task are kept.
 
-ghost use Rattle.std.specs.Prelude.{◌≡◌, ◌⊎◌, List, ◌∷◌, Some, IfOk, OnErr, OnOk};
+ghost use Rattle.std.specs.Prelude.{◌≡◌, ◌⊎◌, ℕ, List, ◌∷◌, Some, IfOk, OnErr, OnOk};
 ghost use Rattle.ckpt_task.specs.Saving.{Saved, state_under, waiting_under};
 
 use crate::program::Program;
@@ -27,6 +27,9 @@ pub trait Snapshots<P: Program> {
     /// The snapshots that were saved, the newest first.
     ghost saved: { Self → List Saved };
 
+    /// The records whose snapshots were not saved, the newest first. A [`Log`](crate::Log) keeps them.
+    ghost refused: { Self → List ℕ };
+
     /// Saves the snapshot of the task for this record, durably. After a fault it may be there or not.
     fn save(
         &mut self,
@@ -35,11 +38,14 @@ pub trait Snapshots<P: Program> {
         waiting: &[Transaction],
     ) -> Result<(), SnapshotFault>
         ensures saved { OnOk result (saved self.new ≡ record { id = id; state = P.number state.now; waiting = waiting.now } ∷ saved self.old) }
+        ensures refuses_none { OnOk result (refused self.new ≡ refused self.old) }
+        ensures refuses { OnErr result (refused self.new ≡ id ∷ refused self.old) }
         ensures failed { OnErr result ((saved self.new ≡ saved self.old) ⊎ (saved self.new ≡ record { id = id; state = P.number state.now; waiting = waiting.now } ∷ saved self.old)) };
 
     /// Loads the snapshot of this record, as it was saved last.
     fn load(&mut self, id: CheckpointId) -> Result<Loaded<P>, SnapshotFault>
         ensures state { IfOk result (λ loaded. state_under id (saved self.old) ≡ Some (P.number loaded.state)) }
         ensures waiting { IfOk result (λ loaded. waiting_under id (saved self.old) ≡ Some loaded.waiting.items) }
-        ensures kept { saved self.new ≡ saved self.old };
+        ensures kept { saved self.new ≡ saved self.old }
+        ensures refuses_none { refused self.new ≡ refused self.old };
 }

@@ -1,6 +1,6 @@
 //! A task that takes one turn after the other.
 
-ghost use Rattle.std.specs.Prelude.{◌≡◌, ◌↔◌, ℕ, [], ◌∷◌, None, Some, Err, IfOk, OnErr, OnOk, false, map};
+ghost use Rattle.std.specs.Prelude.{◌≡◌, ◌↔◌, ◌++◌, ℕ, [], ◌∷◌, None, Some, Err, IfOk, OnErr, OnOk, false, map};
 ghost use Rattle.ckpt_align.specs.Alignment.{is_a_task, opened};
 ghost use Rattle.ckpt_align.specs.declared.aligner.OpenFault.TheVariants as open_fault;
 ghost use Rattle.ckpt_align.specs.declared.event.Refusal.{Refusal};
@@ -9,7 +9,7 @@ ghost use Rattle.ckpt_align.specs.Histories.{answer_to};
 ghost use Rattle.ckpt_align.specs.Steps.{step};
 ghost use Rattle.ckpt_once.specs.Programs.{Offered, aligned, emitted_by, move_in, moves_in, on_output, state};
 ghost use Rattle.ckpt_task.specs.Saving.{state_under, waiting_under};
-ghost use Rattle.ckpt_task.specs.Turns.{IsSaved, IsToldAs, abandoned_as, abandoned_in, answer_in, as_turn, cut_in, cut_of, emitted_in, is_held, is_left, is_unsaved, put_on, puts, refusal_as, refusal_in, told_as};
+ghost use Rattle.ckpt_task.specs.Turns.{IsSaved, IsToldAs, abandoned_as, abandoned_in, answer_in, as_turn, cut_in, cut_of, emitted_in, is_held, is_left, is_unsaved, put_on, puts, refusal_as, refusal_in, refusals_of, told_as};
 
 use crate::program::Program;
 use crate::snapshots::{Loaded, SnapshotFault, Snapshots};
@@ -107,14 +107,23 @@ impl<P: Program> Task<P> {
         ensures cut { IfOk result (λ o. cut_in o ≡ cut_of self.old.alignment (as_turn next)) }
         ensures abandoned { IfOk result (λ o. abandoned_in o ≡ abandoned_as (answer_in self.old.alignment (as_turn next))) }
         ensures snapshot { IfOk result (λ o. IsSaved o self.old.state [] (S.saved snapshots.old) (S.saved snapshots.new)) }
+        ensures refusal { IfOk result (λ o. S.refused snapshots.new ≡ refusals_of o ++ S.refused snapshots.old) }
         ensures refused { refusal_in result ≡ refusal_as (answer_in self.old.alignment (as_turn next)) }
         ensures unchanged { OnErr result (self.new ≡ self.old) }
         ensures unsaved { OnErr result (S.saved snapshots.new ≡ S.saved snapshots.old) }
+        ensures refuses_none { OnErr result (S.refused snapshots.new ≡ S.refused snapshots.old) }
     {
         match self.step(next) {
             Ok(outcome) => Ok(self.saved(outcome, &[], snapshots)),
             Err(fault) => Err(fault),
         }
+    }
+
+    /// Its aligner.
+    pub fn aligner(&self) -> &Aligner
+        ensures { result.now ≡ self.now.alignment }
+    {
+        &self.aligner
     }
 
     /// Ends the task, after a turn: the engine puts the end on each output. What is left is its state.
@@ -195,6 +204,7 @@ impl<P: Program> Task<P> {
     ) -> Outcome
         ensures same { IsToldAs outcome result }
         ensures snapshot { IsSaved result self.now.state waiting.now (S.saved snapshots.old) (S.saved snapshots.new) }
+        ensures refusal { is_unsaved outcome ≡ false → S.refused snapshots.new ≡ refusals_of result ++ S.refused snapshots.old }
     {
         match outcome {
             Outcome::Cut(cut) => match snapshots.save(cut.id(), &self.state, waiting) {

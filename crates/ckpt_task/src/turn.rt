@@ -36,7 +36,7 @@ pub enum Outcome {
     /// It takes what was next from its channel, and puts the barrier of this record on each output, before
     /// anything else. The snapshot is saved: it acknowledges the record by [`Cut::into_ack`].
     Cut(Cut),
-    /// The same, but the snapshot was not saved: it declines this record.
+    /// The same, but the snapshots refused to save: it declines this record.
     Unsaved(CheckpointId),
     /// It takes the barrier from its channel, if it was one, and declines this record.
     Abandoned(CheckpointId),

@@ -1,0 +1,34 @@
+-- A run of a sink is that of its task, with its ledger.
+use Rattle.std.proofs.Common.{◌≡◌, ℕ, ◌+◌, List, ◌∷◌, ◌∙◌, refl, sym, ap}
+use Rattle.std.specs.Prelude.{map}
+use Rattle.ckpt_ledger.specs.Ledgers.{Acts, Held, after_entries, entries}
+use Rattle.ckpt_once.specs.Programs.{Program, Turn, acts}
+use Rattle.ckpt_task.proofs.Doing.{not_run_as, run_as}
+use Rattle.ckpt_task.specs.Runs.{Around, HasSunk, HasSunkOnce, after_turns, held_after, sink_waits}
+use Rattle.ckpt_task.specs.SinkTurns.{SinkAt, after_turn}
+use Rattle.ckpt_task.specs.Turns.{At}
+
+abbrev enters : Program → Turn → Held → ℕ → At → Held
+enters p turn h o m = after_entries h (entries o m.alignment (map Acts (acts p m.state m.alignment turn)))
+
+same_ledger : (p : Program) (m l : SinkAt) (turns : List Turn) (turn : Turn) → l.task ≡ after_turns p m.task turns → l.held ≡ held_after p m turns → l.output ≡ m.output → after_turn p l turn ≡ held_after p m (turn ∷ turns)
+same_ledger p m l turns turn task held output =
+    ap (λ (h : Held). enters p turn h l.output l.task) held ∙ ap (λ o. enters p turn (held_after p m turns) o l.task) output ∙ ap (λ (t : At). enters p turn (held_after p m turns) m.output t) task
+
+pub has_not_sunk : (p : Program) (m : SinkAt) (x : Around) → HasSunk p 0 m m x x
+has_not_sunk p m x =
+    let k = not_run_as p (sink_waits p m) x in
+    record { run = k.0; held = ap (held_after p m) (sym k.1); output = refl }
+
+pub sinks_more : (p : Program) (n : ℕ) (m l k : SinkAt) (x y z : Around) → x.task ≡ m.task → y.task ≡ l.task → HasSunk p n m l x y → HasSunkOnce p l k y z → HasSunk p (n + 1) m k x z
+sinks_more p n m l k x y z start at sunk one =
+    let turns : List Turn = sunk.run.turns in
+    let turn : Turn = one.one.turn in
+    let task : l.task ≡ after_turns p m.task turns = sym at ∙ sunk.run.task ∙ ap (λ (t : At). after_turns p t turns) start in
+    let same : after_turn p l turn ≡ held_after p m (turn ∷ turns) = same_ledger p m l turns turn task sunk.held sunk.output in
+    let k = run_as p (sink_waits p m) (λ t. (after_turn p l t).waiting) n x y z sunk.run one.one (ap (λ (h : Held). h.waiting) same) in
+    record {
+      run = k.0;
+      held = one.held ∙ same ∙ ap (held_after p m) (sym k.1);
+      output = one.output ∙ sunk.output;
+    }

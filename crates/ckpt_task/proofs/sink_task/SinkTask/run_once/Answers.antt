@@ -1,0 +1,37 @@
+-- Answers the goals of `run_once`.
+use Rattle.std.proofs.Common.{◌∙◌, ap, subst, sym}
+use Rattle.ckpt_ledger.specs.Ledgers.{Held}
+use Rattle.ckpt_once.specs.Programs.{Program, Turn}
+use Rattle.ckpt_task.proofs.Doing.{came_next, turned_as}
+use Rattle.ckpt_task.proofs.sink_task.SinkTask.run_once.Goals as goal
+use Rattle.ckpt_task.specs.Deeds.{deeds_after}
+use Rattle.ckpt_task.specs.Runs.{Around, around}
+use Rattle.ckpt_task.specs.SinkTurns.{SinkAt, after_turn}
+use Rattle.ckpt_task.specs.Turns.{IsSaved}
+use Rattle.ckpt_task.specs.declared.turn.Next.{Next}
+use Rattle.ckpt_task.specs.declared.turn.Outcome.{Outcome}
+
+pub returns-clause-turn : goal.returns-clause-turn
+returns-clause-turn g c =
+    let p : Program = g.P.Program.program in
+    let m : SinkAt = c.args.self.now in
+    let next : Next = c.in-Some.next in
+    let outcome : Outcome = c.in_ok-outcome.outcome in
+    let x : Around = around m.task (g.C.Channels.deeds c.args.channels.now) (g.S.Snapshots.saved c.args.snapshots.now) (g.S.Snapshots.refused c.args.snapshots.now) in
+    let y : Around = around c.turn.new.self.task (g.C.Channels.deeds c.carry_out.new.channels) (g.S.Snapshots.saved c.turn.new.snapshots) (g.S.Snapshots.refused c.turn.new.snapshots) in
+    let k = turned_as p (λ (turn : Turn). (after_turn p m turn).waiting) x y next outcome (record {
+      deeds = c.in_ok-carry_out.ensures ∙ ap (deeds_after outcome) (came_next (g.C.Channels.deeds c.next.new.self) x.deeds c.in_ok-next.field-0 next c.in_ok-next.ensures.came c.in-Some.is);
+      task = c.in_ok-outcome.ensures.task;
+      put = c.in_ok-outcome.ensures.put;
+      held = c.in_ok-outcome.ensures.held;
+      cut = c.in_ok-outcome.ensures.cut;
+      abandoned = c.in_ok-outcome.ensures.abandoned;
+      answered = c.in_ok-outcome.ensures.answered;
+      saved = subst (λ (h : Held). IsSaved outcome m.task.state h.waiting x.saved y.saved) c.in_ok-outcome.ensures.ledger c.in_ok-outcome.ensures.snapshot;
+      refused = c.in_ok-outcome.ensures.refusal;
+    }) in
+    record {
+      one = k.0;
+      held = c.in_ok-outcome.ensures.ledger ∙ ap (after_turn p m) (sym k.1);
+      output = c.in_ok-outcome.ensures.output;
+    }

@@ -1,0 +1,112 @@
+-- What a run of a task does: turn by turn what came to it, as `ckpt_once` has it.
+use Rattle.std.specs.Prelude.{◌≡◌, ◌⊎◌, ℕ, List, [], ◌∷◌, ◌++◌, length, Option, Some, None}
+use Rattle.ckpt_align.specs.Histories.{sent, taken}
+use Rattle.ckpt_ledger.specs.Ledgers.{Held}
+use Rattle.ckpt_once.specs.Programs.{Program, Turn, actions, aligned, moves_in, state}
+use Rattle.ckpt_once.specs.Sinks.{Transaction}
+use Rattle.ckpt_task.specs.declared.deed.Deed.{Deed}
+use Rattle.ckpt_task.specs.Deeds.{Word, Acknowledges, Declines, came_in, sent_in, taken_in, told_in}
+use Rattle.ckpt_task.specs.Saving.{Saved}
+use Rattle.ckpt_task.specs.SinkTurns.{SinkAt, after_turn}
+use Rattle.ckpt_task.specs.Turns.{At, abandoned_as, answer_in, cut_of, puts, takes, turned}
+
+-- a task at some moment: what it did until then, and of its snapshots those that were saved, and the records of those that
+-- were refused
+pub record Around : Type 0 where
+  pub task : At
+  pub deeds : List Deed
+  pub saved : List Saved
+  pub refused : List ℕ
+
+abbrev pub around : At → List Deed → List Saved → List ℕ → Around
+around m deeds saved refused = record { task = m; deeds = deeds; saved = saved; refused = refused }
+
+-- the task after turns
+abbrev pub after_turns : Program → At → List Turn → At
+after_turns p m turns = record { state = state p m.state (moves_in m.alignment turns); alignment = aligned m.alignment turns }
+
+-- THE SNAPSHOTS, AND WHAT THE COORDINATOR IS TOLD
+
+pub record Kept : Type 0 where
+  pub saved : List Saved
+  pub refused : List ℕ
+  pub told : List Word
+
+abbrev pub kept_in : Around → Kept
+kept_in x = record { saved = x.saved; refused = x.refused; told = told_in x.deeds }
+
+-- The snapshot was saved, and the record is acknowledged.
+abbrev pub acknowledged : Saved → Kept → Kept
+acknowledged one k = record { saved = one ∷ k.saved; refused = k.refused; told = Acknowledges one.id ∷ k.told }
+
+-- The snapshot was refused, and the record is declined. The snapshot may be there or not.
+pub record IsDeclined (one : Saved) (k l : Kept) : Type 0 where
+  pub saved : (l.saved ≡ k.saved) ⊎ (l.saved ≡ one ∷ k.saved)
+  pub refused : l.refused ≡ one.id ∷ k.refused
+  pub told : l.told ≡ Declines one.id ∷ k.told
+
+-- after the cut of a record, at this state and with this held back; or after a record was given up
+abbrev pub IsKeptBy : Option ℕ → Option ℕ → ℕ → List Transaction → Kept → Kept → Type 0
+IsKeptBy (Some n) o s waiting k l =
+    (l ≡ acknowledged (record { id = n; state = s; waiting = waiting }) k) ⊎ IsDeclined (record { id = n; state = s; waiting = waiting }) k l
+IsKeptBy None (Some n) s waiting k l = l ≡ record { saved = k.saved; refused = k.refused; told = Declines n ∷ k.told }
+IsKeptBy None None s waiting k l = l ≡ k
+
+abbrev pub IsKept : At → List Transaction → Turn → Kept → Kept → Type 0
+IsKept m waiting turn k l = IsKeptBy (cut_of m.alignment turn) (abandoned_as (answer_in m.alignment turn)) m.state waiting k l
+
+-- what is held back after turns, which its snapshots have too
+abbrev pub Waits : Type 0
+Waits = List Turn → List Transaction
+
+abbrev pub AreKept : Program → At → Waits → List Turn → Kept → Kept → Type 0
+AreKept p m waits [] k l = k ≡ l
+AreKept p m waits (turn ∷ turns) k l = (now : Kept) × AreKept p m waits turns k now × IsKept (after_turns p m turns) (waits (turn ∷ turns)) turn now l
+
+-- a task that is no sink holds nothing back
+abbrev pub waits_none : Waits
+waits_none turns = []
+
+-- ONE TURN, AND A RUN
+
+pub record HasTurned (p : Program) (waits : Turn → List Transaction) (x y : Around) : Type 0 where
+  pub turn : Turn
+  pub came : came_in y.deeds ≡ turn ∷ came_in x.deeds
+  pub task : y.task ≡ turned p x.task turn
+  pub taken_on : (j : ℕ) → taken_in j y.deeds ≡ taken_in j x.deeds ++ takes p x.task turn j
+  pub sent_on : (c : ℕ) → sent_in c y.deeds ≡ sent_in c x.deeds ++ puts p x.task turn c
+  pub kept : IsKept x.task (waits turn) turn (kept_in x) (kept_in y)
+
+-- A run of n turns: those that came. The task is where they lead in `ckpt_once`. It took from each input, and put on each
+-- output, what they take and put there. Each record that it cut is acknowledged if its snapshot was saved, and declined
+-- otherwise; each that it gave up is declined.
+pub record HasRun (p : Program) (waits : Waits) (n : ℕ) (x y : Around) : Type 0 where
+  pub turns : List Turn
+  pub count : length turns ≡ n
+  pub came : came_in y.deeds ≡ turns ++ came_in x.deeds
+  pub task : y.task ≡ after_turns p x.task turns
+  pub taken_on : (j : ℕ) → taken_in j y.deeds ≡ taken_in j x.deeds ++ taken j x.task.alignment (actions p x.task.state x.task.alignment turns)
+  pub sent_on : (c : ℕ) → sent_in c y.deeds ≡ sent_in c x.deeds ++ sent c x.task.alignment (actions p x.task.state x.task.alignment turns)
+  pub kept : AreKept p x.task waits turns (kept_in x) (kept_in y)
+
+-- A SINK
+
+-- its ledger after turns
+abbrev pub held_after : Program → SinkAt → List Turn → Held
+held_after p m [] = m.held
+held_after p m (turn ∷ turns) = after_turn p (record { task = after_turns p m.task turns; held = held_after p m turns; output = m.output; has_failed = m.has_failed }) turn
+
+abbrev pub sink_waits : Program → SinkAt → Waits
+sink_waits p m turns = (held_after p m turns).waiting
+
+-- A run of a sink: that of its task, and its ledger is told each write and each cut. Its snapshots have what the ledger
+-- holds back.
+pub record HasSunk (p : Program) (n : ℕ) (m l : SinkAt) (x y : Around) : Type 0 where
+  pub run : HasRun p (sink_waits p m) n x y
+  pub held : l.held ≡ held_after p m run.turns
+  pub output : l.output ≡ m.output
+
+pub record HasSunkOnce (p : Program) (m l : SinkAt) (x y : Around) : Type 0 where
+  pub one : HasTurned p (λ turn. (after_turn p m turn).waiting) x y
+  pub held : l.held ≡ after_turn p m one.turn
+  pub output : l.output ≡ m.output

@@ -1,0 +1,148 @@
+//! The loop of a task: it takes turns until nothing comes.
+
+ghost use Rattle.std.specs.Prelude.{◌≡◌, ◌∷◌, ◌++◌, ℕ, [], IfOk, OnOk, MatchBool};
+ghost use Rattle.ckpt_once.specs.Programs.{Ended};
+ghost use Rattle.ckpt_task.specs.Deeds.{after_sends, deeds_after, sent_in};
+ghost use Rattle.ckpt_task.specs.Turns.{puts};
+ghost use Rattle.ckpt_task.specs.Runs.{HasRun, HasTurned, around, waits_none};
+
+use crate::channels::{ChannelFault, Channels};
+use crate::program::{Emitted, Program};
+use crate::sink_task::SinkFault;
+use crate::snapshots::Snapshots;
+use crate::task::Task;
+use crate::turn::{Outcome, TurnFault};
+use thiserror::Error;
+
+/// Why a run ended early. The job is restored.
+#[derive(Clone, Copy, Debug, PartialEq, Eq, Error)]
+pub enum RunFault {
+    /// There was no turn.
+    #[error("{0}")]
+    Turn(TurnFault),
+    /// There was no turn of a sink.
+    #[error("{0}")]
+    Sink(SinkFault),
+    /// A channel failed.
+    #[error("{0}")]
+    Channel(ChannelFault),
+}
+
+impl From<TurnFault> for RunFault {
+    ghost use Rattle.std.specs.Prelude.{◌≡◌};
+    ghost use Rattle.ckpt_task.specs.declared.runner.RunFault.TheVariants.{Turn};
+
+    ghost from_gives = { λ why fault. fault ≡ Turn why };
+
+    fn from(why: TurnFault) -> RunFault {
+        RunFault::Turn(why)
+    }
+}
+
+impl From<SinkFault> for RunFault {
+    ghost use Rattle.std.specs.Prelude.{◌≡◌};
+    ghost use Rattle.ckpt_task.specs.declared.runner.RunFault.TheVariants.{Sink};
+
+    ghost from_gives = { λ why fault. fault ≡ Sink why };
+
+    fn from(why: SinkFault) -> RunFault {
+        RunFault::Sink(why)
+    }
+}
+
+impl From<ChannelFault> for RunFault {
+    ghost use Rattle.std.specs.Prelude.{◌≡◌};
+    ghost use Rattle.ckpt_task.specs.declared.runner.RunFault.TheVariants.{Channel};
+
+    ghost from_gives = { λ why fault. fault ≡ Channel why };
+
+    fn from(why: ChannelFault) -> RunFault {
+        RunFault::Channel(why)
+    }
+}
+
+/// Puts these elements on their outputs.
+fn send_each<C: Channels>(channels: &mut C, ones: &[Emitted]) -> Result<(), ChannelFault>
+    ensures { OnOk result (C.deeds channels.new ≡ after_sends ones.now (C.deeds channels.old)) }
+{
+    for one in ones {
+        channels.send(one.output(), one.element())?;
+    }
+    Ok(())
+}
+
+/// Does what an outcome says.
+pub(crate) fn carry_out<C: Channels>(outcome: Outcome, channels: &mut C) -> Result<(), ChannelFault>
+    ensures { OnOk result (C.deeds channels.new ≡ deeds_after outcome (C.deeds channels.old)) }
+{
+    match outcome {
+        Outcome::Held => Ok(()),
+        Outcome::Moved(ones) => {
+            channels.take()?;
+            send_each(channels, &ones)
+        }
+        Outcome::Nothing => channels.take(),
+        Outcome::Cut(cut) => {
+            channels.take()?;
+            channels.send_barrier(cut.id())?;
+            channels.acknowledge(cut)
+        }
+        Outcome::Unsaved(id) => {
+            channels.take()?;
+            channels.send_barrier(id)?;
+            channels.decline(id)
+        }
+        Outcome::Abandoned(id) => {
+            channels.take()?;
+            channels.decline(id)
+        }
+    }
+}
+
+impl<P: Program> Task<P> {
+    /// Takes turns until nothing comes, and at most this many. Returns how many they were.
+    ///
+    /// In each turn the task is told what comes, and saves its snapshot if it cuts a record. Then what
+    /// came is taken from its channel, unless it is held; what the turn puts on the outputs is put there;
+    /// and the record is acknowledged or declined.
+    pub fn run<C: Channels, S: Snapshots<P>>(
+        &mut self,
+        channels: &mut C,
+        snapshots: &mut S,
+        turns: u64,
+    ) -> Result<u64, RunFault>
+        ensures { IfOk result (λ n. HasRun P.program waits_none n (around self.old (C.deeds channels.old) (S.saved snapshots.old) (S.refused snapshots.old)) (around self.new (C.deeds channels.new) (S.saved snapshots.new) (S.refused snapshots.new))) }
+    {
+        for done in 0..turns {
+            if !self.run_once(channels, snapshots)? {
+                return Ok(done);
+            }
+        }
+        Ok(turns)
+    }
+
+    /// Ends the task, after a run: puts the end on each output. What is left is its state.
+    pub fn finish<C: Channels>(self, channels: &mut C) -> Result<P, ChannelFault>
+        ensures state { IfOk result (λ state. P.number state ≡ self.state) }
+        ensures sent { OnOk result ((c : ℕ) → sent_in c (C.deeds channels.new) ≡ sent_in c (C.deeds channels.old) ++ puts P.program self Ended c) }
+    {
+        channels.send_end()?;
+        Ok(self.end())
+    }
+
+    /// Takes a turn, if anything comes.
+    fn run_once<C: Channels, S: Snapshots<P>>(
+        &mut self,
+        channels: &mut C,
+        snapshots: &mut S,
+    ) -> Result<bool, RunFault>
+        ensures { IfOk result (λ b. let before = around self.old (C.deeds channels.old) (S.saved snapshots.old) (S.refused snapshots.old) in let now = around self.new (C.deeds channels.new) (S.saved snapshots.new) (S.refused snapshots.new) in MatchBool b (HasTurned P.program (λ _. []) before now) (now ≡ before)) }
+    {
+        let Some(next) = channels.next(self.aligner())? else {
+            return Ok(false);
+        };
+        let outcome = self.turn(next, snapshots)?;
+        carry_out(outcome, channels)?;
+        Ok(true)
+    }
+}

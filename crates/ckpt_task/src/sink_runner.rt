@@ -1,0 +1,47 @@
+//! The loop of a sink: it takes turns until nothing comes.
+
+ghost use Rattle.std.specs.Prelude.{◌≡◌, IfOk, MatchBool, false};
+ghost use Rattle.ckpt_task.specs.Runs.{HasSunk, HasSunkOnce, around};
+
+use crate::channels::Channels;
+use crate::program::Program;
+use crate::runner::{RunFault, carry_out};
+use crate::sink_task::SinkTask;
+use crate::snapshots::Snapshots;
+
+impl<P: Program> SinkTask<P> {
+    /// Takes turns until nothing comes, and at most this many, as [`Task::run`] does. Returns how many
+    /// they were. The ledger is told each write and each cut, and each snapshot has what it holds back.
+    pub fn run<C: Channels, S: Snapshots<P>>(
+        &mut self,
+        channels: &mut C,
+        snapshots: &mut S,
+        turns: u64,
+    ) -> Result<u64, RunFault>
+        ensures { IfOk result (λ n. HasSunk P.program n self.old self.new (around self.old.task (C.deeds channels.old) (S.saved snapshots.old) (S.refused snapshots.old)) (around self.new.task (C.deeds channels.new) (S.saved snapshots.new) (S.refused snapshots.new))) }
+    {
+        for done in 0..turns {
+            if !self.run_once(channels, snapshots)? {
+                return Ok(done);
+            }
+        }
+        Ok(turns)
+    }
+
+    /// Takes a turn, if anything comes.
+    fn run_once<C: Channels, S: Snapshots<P>>(
+        &mut self,
+        channels: &mut C,
+        snapshots: &mut S,
+    ) -> Result<bool, RunFault>
+        ensures turn { IfOk result (λ b. let before = around self.old.task (C.deeds channels.old) (S.saved snapshots.old) (S.refused snapshots.old) in let now = around self.new.task (C.deeds channels.new) (S.saved snapshots.new) (S.refused snapshots.new) in MatchBool b (HasSunkOnce P.program self.old self.new before now) (now ≡ before)) }
+        ensures nothing { IfOk result (λ b. b ≡ false → self.new ≡ self.old) }
+    {
+        let Some(next) = channels.next(self.aligner())? else {
+            return Ok(false);
+        };
+        let outcome = self.turn(next, snapshots)?;
+        carry_out(outcome, channels)?;
+        Ok(true)
+    }
+}
