@@ -147,7 +147,8 @@ def waits(job):
 
 def test_waits(folder):
     """A handler runs soon in each long wait: for a tick, for files to discard, for a read of another thread, and in close()."""
-    job = Store(f"{folder}/job.db", SETTINGS, [1], create=True)
+    os.mkdir(f"{folder}/state")
+    job = Store(f"{folder}/job.db", SETTINGS, [1], storage=f"{folder}/state", create=True)
     alarm, holds, ends = Alarm(), threading.Event(), threading.Event()
     until_interrupted(alarm, 0.5, lambda: job.await_tick(60_000))
     until_interrupted(alarm, 0.5, job.discard)
