@@ -3,12 +3,12 @@ use Rattle.std.proofs.Common.{◌≡◌, ℕ, zero, suc, ◌+◌, ◌<◌, true,
 use Rattle.std.specs.Prelude.{Some, slice_get}
 use Rattle.std.proofs.lemmas.Bool.{lt-ltb}
 use Rattle.std.proofs.lemmas.List.{take_more_set}
-use Rattle.ckpt_durable.specs.Groups.{Life, Receipt, Made, Looked, Committed, Imaged, Crashed, Turn, World, goes_on, happens, lives, started, world}
+use Rattle.ckpt_durable.specs.Groups.{AreTurns, Life, Receipt, Made, Looked, Committed, Imaged, Crashed, Turn, World, goes_on, happens, lives, started, world}
 use Rattle.ckpt_terms.specs.declared.machine.Machine.{Machine}
 use Rattle.relkvanu.specs.declared.answer.Answer.{Answer}
 use Rattle.relkvanu.specs.declared.group.Group.{Group}
 use Rattle.relkvanu.specs.Groups.{IsRoom, all_told, fresh, one_more, told_by}
-use Rattle.relkvanu.specs.GroupPrograms.{Held, Notes, Operation, Asks, Looks, Syncs, Images, Ends, Performed, Performs, Program, TellsWhatIsSynced, noted, nothing, program, receipts}
+use Rattle.relkvanu.specs.GroupPrograms.{AreAsked, Held, Notes, Operation, Asks, Looks, Syncs, Images, Ends, Performed, Performs, Program, TellsWhatIsSynced, noted, nothing, program, receipts}
 
 abbrev answers : List Held → List Answer
 answers held = map (λ h. h.0) held
@@ -127,16 +127,19 @@ fits_on p q b w (Ends n) h f =
       number = ap (λ (g : Group). g.told) (sym group);
     }
 
--- a program from a world on
-abbrev Reaches : Program → Notes → World → Type 0
-Reaches p b w = (turns : List Turn) × Fits p b (goes_on w turns)
-
-reaches : (p q : Program) (b c : Notes) (w : World) (operations : List Operation) → Performed p b operations q c → Fits p b w → Reaches q c w
-reaches p q b c w [] h f = ([], subst (λ (k : Program). Fits k c w) h.0 (subst (λ (n : Notes). Fits p n w) h.1 f))
+reaches : (p q : Program) (b c : Notes) (w : World) (operations : List Operation) → Performed p b operations q c → Fits p b w
+    → Fits q c (goes_on w (map turn_of operations))
+reaches p q b c w [] h f = subst (λ (k : Program). Fits k c w) h.0 (subst (λ (n : Notes). Fits p n w) h.1 f)
 reaches p q b c w (operation ∷ operations) h f =
-    let rest : Reaches q c (happens w (turn_of operation)) =
-    reaches h.0 q (noted p.life b operation) c (happens w (turn_of operation)) operations h.2 (fits_on p h.0 b w operation h.1 f) in
-    (turn_of operation ∷ rest.0, rest.1)
+    reaches h.0 q (noted p.life b operation) c (happens w (turn_of operation)) operations h.2 (fits_on p h.0 b w operation h.1 f)
+
+are_turns : (operations : List Operation) → AreAsked operations → AreTurns (map turn_of operations)
+are_turns [] asked = asked
+are_turns (Asks event a ∷ operations) asked = (asked.0, are_turns operations asked.1)
+are_turns (Looks a ∷ operations) asked = are_turns operations asked
+are_turns (Syncs ∷ operations) asked = are_turns operations asked
+are_turns (Images n ∷ operations) asked = are_turns operations asked
+are_turns (Ends n ∷ operations) asked = are_turns operations asked
 
 begins : (m : Machine) (held : List Answer) → Fits (program m held) nothing (started m)
 begins m held = record {
@@ -173,9 +176,9 @@ told_here g held i a sound less at = rw (sound, less, at) refl
 
 pub tells_what_is_synced : (m : Machine) (held : List Answer) (operations : List Operation) (p : Program) (b : Notes) → TellsWhatIsSynced m held operations p b
 tells_what_is_synced m held operations p b done =
-    let all : Reaches p b (started m) = reaches (program m held) p nothing b (started m) operations done (begins m held) in
-    let f : Fits p b (world m all.0) = all.1 in (
-      (all.0, f.life, f.told),
+    let turns : List Turn = map turn_of operations in
+    let f : Fits p b (world m turns) = reaches (program m held) p nothing b (started m) operations done (begins m held) in (
+      (turns, f.life, f.told, are_turns operations),
       λ receipt sound less.
           let here : IsThere p.held f.ready receipt =
           is_there p.held f.ready receipt (ap (λ (n : ℕ). take n p.held) f.number ∙ f.there) (subst (λ (n : ℕ). receipt < n) (sym f.number) less) in

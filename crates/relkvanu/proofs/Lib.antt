@@ -2,6 +2,8 @@
 pub mod AsEvents
 pub mod BoxWords
 pub mod Given
+pub mod GivenEvents
+pub mod GroupCalls
 pub mod GroupPrograms
 pub mod InputBytes
 pub mod Openings

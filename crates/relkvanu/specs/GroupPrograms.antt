@@ -1,11 +1,16 @@
 -- What a program does with a handle, a group, and a log of its own, by the contracts of the functions that it calls.
-use Rattle.std.specs.Prelude.{◌≡◌, ◌<◌, ℕ, false, List, [], ◌∷◌, ◌++◌, length, map, set}
-use Rattle.ckpt_durable.specs.Groups.{Life, Receipt, Made, Looked, Committed, Imaged, Crashed, Turn, lives, started, world}
-use Rattle.ckpt_logged.specs.Events.{Event}
+use Rattle.std.specs.Prelude.{◌≡◌, ◌<◌, ℕ, false, List, [], ◌∷◌, ◌++◌, length, map, set, Some, Result, Ok, ⊤}
+use Rattle.ckpt_durable.specs.Groups.{AreTurns, Life, Receipt, Made, Looked, Committed, Imaged, Crashed, Turn, lives, started, world}
+use Rattle.ckpt_logged.specs.Events.{Event, IsEvent}
+use Rattle.ckpt_terms.specs.Machines.{core_in, names_in}
 use Rattle.ckpt_terms.specs.declared.machine.Machine.{Machine}
 use Rattle.relkvanu.specs.declared.answer.Answer.{Answer}
+use Rattle.relkvanu.specs.declared.asked.Asked.{Asked}
 use Rattle.relkvanu.specs.declared.group.Group.{Group}
-use Rattle.relkvanu.specs.Groups.{IsRoom, all_told, fresh, one_more, told_by}
+use Rattle.relkvanu.specs.declared.handle.Handle.{Handle}
+use Rattle.relkvanu.specs.Asking.{said}
+use Rattle.relkvanu.specs.Groups.{IsRoom, all_told, asked_event, fresh, one_more, told_by}
+use Rattle.relkvanu.specs.Lines.{asked_step, said_step}
 
 -- Asks: something was made, its entry is appended, and its answer was held: relkvanu_group_make has said so, or relkvanu_group_hold got the
 -- answer of another function.
@@ -34,6 +39,27 @@ Performs p (Looks a) q = IsRoom p.group (length p.held) × (q ≡ record { life 
 Performs p Syncs q = (p.group.has_failed ≡ false) × (q ≡ record { life = lives p.life Committed; group = all_told p.group; held = p.held })
 Performs p (Images n) q = q ≡ record { life = lives p.life (Imaged n); group = p.group; held = p.held }
 Performs p (Ends n) q = (held : List Answer) × (q ≡ record { life = lives p.life (Crashed n); group = fresh; held = held })
+
+-- the program has this handle open, this group and this buffer of answers
+pub record Has (p : Program) (handle : Handle) (group : Group) (held : List Answer) : Type 0 where
+  pub state : handle.value ≡ Some (core_in p.life.now)
+  pub names : handle.names ≡ names_in p.life.now
+  pub counts : p.group ≡ group
+  pub answers : p.held ≡ held
+
+-- the program performs this operation, and has these afterwards
+abbrev pub Does : Program → Operation → Handle → Group → List Answer → Type 0
+Does p operation handle group held = (q : Program) × Performs p operation q × Has q handle group held
+
+-- It asks for what this line says, which is a call that can be made. What is held is the answer of this call, in the state of before.
+abbrev pub AsksByLine : Program → Result Asked Answer → ℕ → List ℕ → Handle → Group → List Answer → Type 0
+AsksByLine p made places line handle group held =
+    (asked : Asked) × (made ≡ Ok asked) × (said line ≡ Ok asked) × IsEvent (asked_event asked)
+    × Does p (Asks (asked_event asked) (asked_step p.life.now places asked).1) handle group held
+
+-- It appends nothing. What is held is the answer that refuses the call, in this state.
+abbrev pub LooksAtCall : Program → Result Asked Answer → ℕ → Handle → Group → List Answer → Type 0
+LooksAtCall p made places = Does p (Looks (said_step p.life.now places made).1)
 
 -- an answer that was held, and its receipt
 abbrev pub Held : Type 0
@@ -65,11 +91,20 @@ nothing = record { waiting = []; synced = [] }
 abbrev pub receipts : List Held → List Receipt
 receipts held = map (λ h. h.1) held
 
+-- each entry is of a call that can be made, as AsksByLine says of those of relkvanu_group_make
+abbrev pub AreAsked : List Operation → Type 0
+AreAsked [] = ⊤
+AreAsked (Asks event a ∷ operations) = IsEvent event × AreAsked operations
+AreAsked (Looks a ∷ operations) = AreAsked operations
+AreAsked (Syncs ∷ operations) = AreAsked operations
+AreAsked (Images n ∷ operations) = AreAsked operations
+AreAsked (Ends n ∷ operations) = AreAsked operations
+
 -- So the program is a list of turns, of which all laws of groups hold. What callers were told there are the receipts that a sync has covered.
 -- And what relkvanu_group_answer tells is an answer that was held with one of these receipts.
 abbrev pub TellsWhatIsSynced : Machine → List Answer → List Operation → Program → Notes → Type 0
 TellsWhatIsSynced m held operations p b =
     Performed (program m held) nothing operations p b
-    → ((turns : List Turn) × ((world m turns).life ≡ p.life) × ((world m turns).told ≡ receipts b.synced))
+    → ((turns : List Turn) × ((world m turns).life ≡ p.life) × ((world m turns).told ≡ receipts b.synced) × (AreAsked operations → AreTurns turns))
     × ((receipt : ℕ) → p.group.has_failed ≡ false → receipt < p.group.told
     → (before : List Held) × (h : Held) × (after : List Held) × (b.synced ≡ before ++ h ∷ after) × (told_by p.group p.held receipt ≡ h.0))

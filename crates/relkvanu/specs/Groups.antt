@@ -1,6 +1,5 @@
 -- What a program with a log of its own keeps beside a handle: answers that may be told once what was made before them is synced.
 use Rattle.std.specs.Prelude.{◌≡◌, ◌<◌, ℕ, ◌+◌, nat_lt, Bool, true, false, ◌==◌, ◌||◌, if◌then◌else◌, List, set, slice_get, unwrap_or}
-use Rattle.ckpt_ids.specs.declared.call.Call.TheVariants as call
 use Rattle.ckpt_logged.specs.Events.{Event, Fence, Named, Plain}
 use Rattle.ckpt_terms.specs.declared.call.FencedCall.TheVariants.{Make}
 use Rattle.ckpt_terms.specs.Machines.{is_free}
@@ -71,8 +70,3 @@ abbrev pub asked_event : Asked → Event
 asked_event (ask.Fence first) = Fence first
 asked_event (ask.Call (Make term call)) = if term == 0 then Plain call else (if is_free call then Plain call else Named (Make term call))
 asked_event (ask.Call call) = Named call
-
--- a show changes nothing
-abbrev pub is_show : Asked → Bool
-is_show (ask.Call (Make term (call.Show id))) = true
-is_show asked = false

@@ -11,8 +11,9 @@ ghost use Rattle.relkvanu.specs.Buffers.{StandsInFront};
 ghost use Rattle.relkvanu.specs.Calls.{StaysClosed};
 ghost use Rattle.relkvanu.specs.Fenced.{IsHandled};
 ghost use Rattle.relkvanu.specs.declared.answer.Answer.{Answer};
-ghost use Rattle.relkvanu.specs.GroupPrograms.{Notes, Operation, Program, TellsWhatIsSynced};
-ghost use Rattle.relkvanu.specs.Groups.{IsRoom, all_lost, all_told, asked_event, group_with, held_answer, held_with, is_show, one_more, receipt_of, told_by, why_full};
+ghost use Rattle.relkvanu.specs.declared.handle.Handle.{Handle};
+ghost use Rattle.relkvanu.specs.GroupPrograms.{AsksByLine, Does, Has, Looks, LooksAtCall, Notes, Operation, Program, Syncs, TellsWhatIsSynced};
+ghost use Rattle.relkvanu.specs.Groups.{IsRoom, all_lost, all_told, asked_event, group_with, held_answer, held_with, one_more, receipt_of, told_by, why_full};
 ghost use Rattle.relkvanu.specs.Lines.{asked_step, said_step};
 ghost use Rattle.relkvanu.specs.Making.{BringsMade, HandleReports, making};
 ghost use Rattle.relkvanu.specs.Past.{GrowsBy, said_line};
@@ -84,6 +85,9 @@ pub extern "C" fn relkvanu_group_make(
     ensures made { HandleReports (length (call_line_text (given call.entry.now first.now second.now))) handle.old handle.new made.new (held_answer group.old held.new result) }
     ensures past { IsRoom group.old (length held.old) → GrowsBy (said_line (length files.old) (making call.entry.now first.now second.now line.old)) handle.old.past handle.new.past (held_answer group.old held.new result) }
     ensures kept { result.code ≢ 0 → (group.new ≡ group.old) × (held.new ≡ held.old) × (files.new ≡ files.old) × (line.new ≡ line.old) × (made.new ≡ made.old) }
+    ensures asks { (p : Program) → Has p handle.old group.old held.old → result.code ≡ 0 → result.what ≡ 62 → AsksByLine p (making call.entry.now first.now second.now line.old) (length files.old) (take made.new.written line.new) handle.new group.new held.new }
+    ensures looks { (p : Program) → Has p handle.old group.old held.old → result.code ≡ 0 → result.what ≢ 62 → LooksAtCall p (making call.entry.now first.now second.now line.old) (length files.old) handle.new group.new held.new }
+    ensures stays { (p : Program) → Has p handle.old group.old held.old → result.code ≢ 0 → Has p handle.new group.new held.new }
 {
     if let Some(why) = refused(group, held.len()) {
         return why;
@@ -106,6 +110,7 @@ pub extern "C" fn relkvanu_group_hold(
     ensures group { IsRoom group.old (length held.old) → group.new ≡ one_more group.old }
     ensures held { IsRoom group.old (length held.old) → held.new ≡ set held.old group.old.waiting answer.now }
     ensures told { IsRoom group.old (length held.old) → result ≡ done 63 group.old.waiting 0 }
+    ensures looks { (p : Program) (handle : Handle) → Has p handle group.old held.old → result.code ≡ 0 → Does p (Looks answer.now) handle group.new held.new }
 {
     if let Some(why) = refused(group, held.len()) {
         return why;
@@ -120,6 +125,7 @@ pub extern "C" fn relkvanu_group_hold(
 pub extern "C" fn relkvanu_group_synced(group: &mut Group) -> Answer
     ensures failed { group.old.has_failed ≡ true → (result ≡ why_full group.old) × (group.new ≡ group.old) }
     ensures synced { group.old.has_failed ≡ false → (result ≡ done 64 group.old.waiting 0) × (group.new ≡ all_told group.old) }
+    ensures syncs { (p : Program) (handle : Handle) (held : List Answer) → Has p handle group.old held → result.code ≡ 0 → Does p Syncs handle group.new held }
 {
     if group.has_failed {
         return Answer::bad_argument(BAD_GROUP);
@@ -215,9 +221,9 @@ fn push(group: &mut Group, held: &mut [Answer], answer: Answer) -> u64
     receipt
 }
 
-/// A call that was made is one event, that of its line; a show is none.
+/// A call that was made is one event, that of its line.
 pub fn made_is_an_event()
-    ensures { (k : Machine) (places : ℕ) (asked : Asked) → (asked_step k places asked).1.code ≡ 0 → is_show asked ≡ false → (asked_step k places asked).0 ≡ event_step k (asked_event asked) }
+    ensures { (k : Machine) (places : ℕ) (asked : Asked) → (asked_step k places asked).1.code ≡ 0 → (asked_step k places asked).0 ≡ event_step k (asked_event asked) }
 {}
 
 /// A call that was not made leaves the coordinator as it was.

@@ -1,0 +1,12 @@
+-- Answers the goals of `relkvanu_group_hold`.
+use Rattle.std.proofs.Common.{sym, ap, ◌∙◌}
+use Rattle.relkvanu.proofs.GroupCalls.{full_is_told, one_look}
+use Rattle.relkvanu.specs.declared.answer.Answer.{Answer}
+use Rattle.relkvanu.proofs.group.relkvanu_group_hold.Goals as goal
+
+pub returns-in-Some-clause-looks : goal.returns-in-Some-clause-looks
+returns-in-Some-clause-looks c p handle has code = absurd (full_is_told c.args.group.now (ap (λ (a : Answer). a.code) (sym c.in-Some.ensures.some.0) ∙ code))
+
+pub returns-clause-looks : goal.returns-clause-looks
+returns-clause-looks c p handle has code =
+    one_look p handle c.args.group.now c.push.new.group c.args.held.now c.push.new.held c.args.answer.now has (c.refused.ensures.none c.in_default.is) c.push.ensures.group c.push.ensures.held
