@@ -1,7 +1,7 @@
 """publishing_engine.py URL FOLDER INPUTS: an engine over the service with manifests, as docs/SERVICE-RECOVERY.md has it. Its job `orders` has two tasks, which
 read the numbers below INPUTS, the even and the odd ones. A sink prepares what each read for a record, and publishes it once the record has a manifest. So each
 number is published once, whenever the process is killed or the database of the service is lost. It prints each record that it has published, and ends when all
-numbers are. It begins from its files in FOLDER/state alone."""
+numbers are. It begins from its files in FOLDER/state and from payloads that say the same."""
 import contextlib
 import os
 import pathlib
@@ -71,8 +71,10 @@ class Engine:
         start = self.job.begin()
         self.task, self.read = start.session(block=10), list(range(TASKS))
         for task in range(TASKS) if start.id else ():
-            (file,) = start.files[f"0.{task}"]
+            state = start.load()["subtasks"][f"0.{task}"]
+            (file,) = state["files"]
             self.read[task] = int(self.path(file).read_text())
+            assert self.read[task] == int(state["payload"]), (file, state)
         self.manifests.keep()
         self.sink.publish(start.id or 0)
         self.sink.give_up(start.id or 0)
@@ -86,8 +88,9 @@ class Engine:
         self.sink.prepare(record, task, numbers)
         self.read[task] += TASKS * len(numbers)
         name = self.task.name()
-        write(self.path(name), str(self.read[task]))
-        return self.task.ack(record, f"0.{task}", [name])["ack"] == "completed"
+        state = str(self.read[task])
+        write(self.path(name), state)
+        return self.task.ack(record, f"0.{task}", [name], payload=state.encode())["ack"] == "completed"
 
     def run(self):
         while any(it < self.inputs for it in self.read):

@@ -16,7 +16,7 @@ import uuid
 
 from harness import COMMAND, HERE, PROGRAM, SERVICE, TOP, free_port, served
 from publishing_engine import PREFIX, SETTINGS, SUFFIX, TASKS, write
-from relkvanu_service import Failed, Service, cancel
+from relkvanu_service import Failed, Service, cancel, savepoint
 from run import Skipped
 
 LOSSES = int(os.environ.get("RELKVANU_LOST_LOGS", "6"))
@@ -217,8 +217,8 @@ class Base:
         assert now["term"] > self.term["term"] and now["next_name"] >= self.term["next_name"], (now, self.term)
         start = job.begin()
         assert start.term > now["term"] and sorted(start.files) == [f"0.{task}" for task in range(TASKS)], start.files
-        for (file,) in start.files.values():
-            assert state_in(folder)[file] == self.state[file], file
+        for name, (file,) in start.files.items():
+            assert state_in(folder)[file] == self.state[file] == start.load()["subtasks"][name]["payload"].decode(), file
         (listed,) = list((folder / ".relkvanu.records").iterdir())
         assert f"record-{start.id}.manifest" in os.listdir(listed), os.listdir(listed)
         assert not list(folder.parent.glob("*.part")), list(folder.parent.iterdir())
@@ -400,6 +400,104 @@ def test_savepoints_live_on():
         start = job.begin(living)
         assert start.kind == "savepoint" and start.id == living, start
         return f"savepoint {saved} is {living}"
+
+
+def whole(job, record):
+    """The files and the payload of each subtask."""
+    return {name: (it["files"], it["payload"]) for name, it in job.load(record)["subtasks"].items()}
+
+
+def with_payloads(server, at):
+    """A job with a savepoint of payloads alone, one whose files are in an order of their own, and a checkpoint that has some of these. Returns what their
+    subtasks have."""
+    at.mkdir()
+    job = Service(server.url).open("orders", SETTINGS, [2, 1])
+    job.claim(at)
+    task = job.begin().session(block=10)
+    names = [task.name() for _ in range(5)]
+    for name in names:
+        write(at / f"{PREFIX}{name}{SUFFIX}", f"of {name}")
+    one, two, three, four, five = names
+    wanted = {}
+
+    def completes(record, states):
+        for name, (fresh, reused, payload) in states.items():
+            task.ack(record, name, fresh, reused, payload=payload)
+        wanted[record] = {name: (fresh + reused, payload or b"") for name, (fresh, reused, payload) in states.items()}
+        return record
+
+    alone = completes(job.call(savepoint())["id"], {"0.0": ([], [], bytes(range(256)) * 16), "0.1": ([], [], b"\0"), "1.0": ([], [], b"alone")})
+    completes(job.checkpoint()["id"], {"0.0": ([two, one], [], b"first"), "0.1": ([], [], b"x"), "1.0": ([three], [], None)})
+    ordered = completes(job.call(savepoint())["id"], {"0.0": ([four], [two, one], b"second"), "0.1": ([], [three], b""), "1.0": ([], [three, two], b"y")})
+    last = completes(job.checkpoint()["id"], {"0.0": ([five], [four], bytes(4096)), "0.1": ([], [one], b"z"), "1.0": ([], [], None)})
+    assert all(whole(job, record) == wanted[record] for record in (alone, ordered, last)), wanted
+    return job, alone, ordered, last, wanted
+
+
+def test_payloads_go_with_their_records():
+    """A job that is recovered has the payloads of each record, and the order of its files, though a savepoint has files that the last checkpoint has too."""
+    from relkvanu.manifest import sealed
+
+    with served(names=True) as server:
+        at = pathlib.Path(server.folder) / "state"
+        job, alone, ordered, last, wanted = with_payloads(server, at)
+        did([PROGRAM, "keep", "orders", *place_of(server, at)], 0, f"record {last} has a manifest")
+        (kept,) = (at / ".relkvanu.records").iterdir()
+        for record, shown in (alone, bytes(range(256)) * 16), (last, bytes(4096)):
+            part = json.loads((kept / f"record-{record}.manifest").read_text())["subtasks"][0]
+            assert part["payload"] == shown.hex(), part
+        # a manifest of an earlier version, or of a history that was lost since, names the same files
+        old = kept / f"record-{alone}.manifest"
+        found = json.loads(old.read_text())
+        del found["sum"], found["subtasks"][2]["payload"]
+        old.write_bytes(sealed(found))
+        did([PROGRAM, "keep", "orders", *place_of(server, at)])
+        assert json.loads(old.read_text())["subtasks"][2]["payload"] == b"alone".hex(), old.read_text()
+        lose(server)
+        # a payload that can't be one, with a sum that is right: there is no job then
+        text = old.read_bytes()
+        for wrong in ("0", "zz", "0 ", "00" * 4097):
+            found["subtasks"][2]["payload"] = wrong
+            old.write_bytes(sealed(found))
+            did([PROGRAM, "recover", "orders", *place_of(server, at)], 1, f"record-{alone}.manifest has what can't be a payload")
+        assert not Service(server.url).jobs()
+        old.write_bytes(text)
+        told = did([PROGRAM, "recover", "orders", *place_of(server, at)])
+        assert record_of(told) == last and "2 other savepoints live on" in told, told
+        assert whole(job, last) == wanted[last], whole(job, last)
+        living = [it["id"] for it in job.state()["live"] if it["kind"] == "savepoint"]
+        assert [whole(job, it) for it in living] == [wanted[alone], wanted[ordered]], [whole(job, it) for it in living]
+        # and once more, from a savepoint of payloads alone
+        did([PROGRAM, "keep", "orders", *place_of(server, at)])
+        lose(server)
+        did([PROGRAM, "recover", "orders", "--record", str(living[0]), *place_of(server, at)])
+        assert job.state()["choice"] == {"kind": "savepoint", "id": living[0]} and whole(job, living[0]) == wanted[alone], job.state()
+        return f"records {alone}, {ordered} and {last}"
+
+
+def test_payloads_of_a_record_that_is_carried():
+    """To another job of the service, to the durable coordinator, and from there back. Each has the payloads and the order of the files."""
+    from relkvanu import Settings
+    from relkvanu.store import Store
+
+    with served(names=True) as server:
+        at = pathlib.Path(server.folder) / "state"
+        _, alone, ordered, last, wanted = with_payloads(server, at)
+        for record in (alone, ordered, last):
+            out, store, state = (at.parent / f"{record}-{it}" for it in ("out", "store.db", "store"))
+            did([PROGRAM, "export", "orders", record, out, *place_of(server, at)])
+            with open(f"{TOP}/docs/manifest.schema.json", encoding="utf-8") as it:
+                import jsonschema
+                jsonschema.validate(json.loads((out / f"record-{record}.manifest").read_text()), json.load(it))
+            did([STORE, "import", out, store, state])
+            with Store(store, Settings(interval=SETTINGS["interval"], timeout=SETTINGS["timeout"], tolerable=1000, retained=2), [2, 1], storage=state,
+                       manifests=True) as durable:
+                found = {f"{it.vertex}.{it.index}": (list(it.files), it.payload) for it in durable.load(record).parts}
+            assert found == wanted[record], (record, found)
+            for source, job in ((out, f"there-{record}"), (state, f"back-{record}")):
+                did([PROGRAM, "import", source, job, *place_of(server, at.parent / job)])
+                assert whole(Service(server.url).job(job), record) == wanted[record], (source, whole(Service(server.url).job(job), record))
+        return f"records {alone}, {ordered} and {last}"
 
 
 @contextlib.contextmanager

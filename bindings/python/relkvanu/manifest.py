@@ -3,7 +3,7 @@ no library. Those of a durable coordinator are written by the library, which als
 import contextlib
 import json
 import zlib
-from typing import Any, Dict, Optional
+from typing import Any, Dict, List, Optional, Tuple
 
 
 def name_of(record: int) -> str:
@@ -29,6 +29,14 @@ def members(text: bytes) -> Dict[str, Any]:
     with contextlib.suppress(ValueError):
         found = json.loads(text)
         return found if isinstance(found, dict) else {}
+    return {}
+
+
+def parts_in(manifest: bytes) -> Dict[str, Tuple[List[int], str]]:
+    """The files of each subtask in their order, and its payload as hexadecimal digits, or none if the text is damaged."""
+    with contextlib.suppress(ValueError, KeyError, TypeError, AttributeError):
+        found = json.loads(manifest)["subtasks"]
+        return {f"{it['vertex']}.{it['index']}": ([int(file) for file in it["files"]], it.get("payload", "")) for it in found}
     return {}
 
 

@@ -11,7 +11,7 @@ import time
 from typing import Any, Dict, Iterator, List, NamedTuple, Optional, Tuple
 
 from relkvanu.errors import Error
-from relkvanu.manifest import files_in, sealed
+from relkvanu.manifest import parts_in, sealed
 from relkvanu.places import Gone, InBucket, InFolder, Owner, Path
 from relkvanu.storage import Names, NotThere, OtherJob
 
@@ -141,30 +141,42 @@ class Manifests:
         return choice
 
     def _differs(self, record: int) -> bool:
-        """Whether a manifest that an earlier process has left is of a history that the service has lost since."""
-        acks = (self._job.record(record)["live"] or {"acks": []})["acks"]
-        return {int(file) for it in acks for file in it["files"]} != set(files_in(self._place.read(self._place.manifest(record)) or b""))
+        """Whether a manifest that an earlier process has left is of a history that the service has lost since, or lacks payloads."""
+        left = parts_in(self._place.read(self._place.manifest(record)) or b"")
+        return left != {name: (it["files"], it["payload"].hex()) for name, it in _whole(self._job, record)["subtasks"].items()}
+
+
+def _whole(job: Any, record: int) -> Dict[str, Any]:
+    """A complete record with its payloads and the order of its files. Raises Gone if it has ended, or is not complete."""
+    try:
+        found: Dict[str, Any] = job.load(record)
+        return found
+    except Exception as error:  # that of the client
+        if getattr(error, "status", None) != 404:
+            raise
+    job.record(record)  # raises it if there was no such record
+    raise Gone
 
 
 def manifest_of(job: Any, storage: Any, state: Dict[str, Any], record: int, **more: Any) -> bytes:
     """The text of the manifest of a complete record of a job, whose state was asked for before. `more` are members that differ. Raises Gone if the record or
     a file of it is not there any more."""
-    live = job.record(record)["live"]
-    if live is None or live["state"] != "done":
-        raise Gone
-    acks = {it["subtask"]: [int(file) for file in it["files"]] for it in live["acks"]}
-    subtasks: List[Dict[str, Any]] = [
-        {"vertex": vertex, "index": index, "files": {str(file): storage.size(file) for file in acks.get(f"{vertex}.{index}", ())}}
-        for vertex, index in _subtasks(live["shape"])]
+    whole = _whole(job, record)
+    subtasks = [_part(storage, vertex, index, whole["subtasks"][f"{vertex}.{index}"]) for vertex, index in _subtasks(whole["shape"])]
     sizes = [size for it in subtasks for size in it["files"].values()]
     term, below = told_by(job, state)
     found = {
         "relkvanu": "manifest", "version": 1, "library": "service", "written": time.time_ns() // 1_000_000,
-        "job": identity_of(job.marker()[1].encode()), "epoch": 1, "term": term, "place": state["seq"], "record": record, "kind": live["kind"],
+        "job": identity_of(job.marker()[1].encode()), "epoch": 1, "term": term, "place": state["seq"], "record": record, "kind": whole["kind"],
         "chosen": state["choice"].get("id") == record, "below": below._asdict(), "settings": state["settings"], "subtasks": subtasks,
-        "files": len(sizes), "bytes": sum(it or 0 for it in sizes), "shape": live["shape"], **more,
+        "files": len(sizes), "bytes": sum(it or 0 for it in sizes), "shape": whole["shape"], **more,
     }
     return sealed(found)
+
+
+def _part(storage: Any, vertex: int, index: int, state: Dict[str, Any]) -> Dict[str, Any]:
+    payload = {"payload": state["payload"].hex()} if state["payload"] else {}
+    return {"vertex": vertex, "index": index, "files": {str(file): storage.size(file) for file in state["files"]}, **payload}
 
 
 def _subtasks(shape: List[int]) -> Iterator[Tuple[int, int]]:

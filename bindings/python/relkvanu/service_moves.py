@@ -7,6 +7,7 @@ import fcntl
 import importlib
 import os
 import posixpath
+import re
 import shutil
 import sys
 from dataclasses import dataclass
@@ -26,6 +27,8 @@ FAILED, WRONG_WORD, LOOK_FIRST = 1, 2, 78  # exit statuses
 # Of a job that is not whole yet: nothing is due and nothing expires, and no engine has these settings.
 MAKING = {"interval": LONGEST - 77, "pause": LONGEST - 77, "at_once": 1, "timeout": LONGEST - 77, "tolerable": 1000, "retained": 1, "keep_on_cancel": True}
 MOST_CALLS, MOST_FILES = 1000, 100_000  # of a request
+PAYLOAD = re.compile("([0-9a-f]{2}){0,4096}")
+OF_FILE = 40  # so many letters of a payload take the room of a file in a request
 SOME_NUMBERS, MOST_PASSED = 1024, 1 << 20  # for a manifest that can't be read, as in relkvanu_store_recover
 USAGE = """exit status:
   0   it is done
@@ -90,6 +93,12 @@ def made(job: Any, calls: Sequence[Dict[str, Any]]) -> List[Dict[str, Any]]:
     return answers
 
 
+def has_order(part: Dict[str, Any]) -> bool:
+    """Whether the service was told the order of a subtask's files. A payload says so, though it is empty; otherwise they ascend."""
+    files = [int(file) for file in part["files"]]
+    return bool(part.get("payload")) or files != sorted(files)
+
+
 class Making:
     """Makes the calls of one job."""
 
@@ -109,17 +118,34 @@ class Making:
             reused = [file for file in files if file in self.known]
             sizes = [files[file] for file in fresh]
             self.known.update(fresh)
-            yield self.client.ack(record, f"{it['vertex']}.{it['index']}", fresh, reused, sizes=None if None in sizes else sizes)
+            payload = bytes.fromhex(it.get("payload", "")) if has_order(it) else None
+            yield self.client.ack(record, f"{it['vertex']}.{it['index']}", fresh, reused, sizes=None if None in sizes else sizes, payload=payload)
+
+    def is_mixed(self, manifest: Dict[str, Any]) -> bool:
+        """Whether a subtask with an order has files that no record has had behind others. The service keeps new files before others."""
+        known, found = set(self.known), False
+        for it in manifest["subtasks"]:
+            is_known = [int(file) in known for file in it["files"]]
+            known.update(map(int, it["files"]))
+            found = found or (has_order(it) and is_known != sorted(is_known))
+        return found
 
     def complete(self, record: int, manifest: Dict[str, Any]) -> None:
-        """The subtasks of a record acknowledge one that was triggered."""
+        """The subtasks of a record acknowledge one that was triggered, with their files in the manifest's order: if need be a savepoint has the files before."""
+        before = made(self.job, [self.client.savepoint()]) if self.is_mixed(manifest) else []
+        for it in before:
+            self.acknowledge(it["id"], manifest)
+        self.acknowledge(record, manifest)
+        made(self.job, [self.client.dispose(it["id"]) for it in before])
+
+    def acknowledge(self, record: int, manifest: Dict[str, Any]) -> None:
         some: List[Dict[str, Any]] = []
-        files, last = 0, {}
+        weight, last = 0, {}
         for ack in self.acks(record, manifest):
             some.append(ack)
-            files += len(ack["fresh"]) + len(ack["reused"])
-            if files >= MOST_FILES or len(some) == MOST_CALLS:
-                last, some, files = made(self.job, some)[-1], [], 0
+            weight += len(ack["fresh"]) + len(ack["reused"]) + len(ack.get("payload", "")) // OF_FILE
+            if weight >= MOST_FILES or len(some) == MOST_CALLS:
+                last, some, weight = made(self.job, some)[-1], [], 0
         last = made(self.job, some)[-1] if some else last
         if last.get("ack") != "completed":
             raise Refused(f"the manifest of record {record} lacks a subtask of its shape")
@@ -176,7 +202,15 @@ def found_in(source: Place, record: int) -> Found:
                 "give the number of a record to go on from an earlier one"), False)
         below = below._replace(number=max(below.number, unread + 1 + SOME_NUMBERS))
     savepoints = [texts[it.id] for it in all if it.is_savepoint and it.id != one.id and it.damage is None and not it.missing]
+    check_payloads(source, [texts[one.id], *savepoints])
     return Found(one.id, texts[one.id], savepoints, below, sum(it.damage is not None or it.missing != 0 for it in all))
+
+
+def check_payloads(source: Place, found: List[Dict[str, Any]]) -> None:
+    """Before anything changes. The library reads them when it makes a job itself."""
+    for it in found:
+        if not all(PAYLOAD.fullmatch(str(part.get("payload", ""))) for part in it["subtasks"]):
+            raise StoreError("Damaged", f"{source.url}: record-{it['record']}.manifest has what can't be a payload", False)
 
 
 def forget(source: Any, identity: str) -> None:
