@@ -1,4 +1,5 @@
 """A backup that is restored: which records have all their files, which files nobody knows, and the page's commands for PostgreSQL."""
+import base64
 import glob
 import itertools
 import json
@@ -354,9 +355,27 @@ def test_a_restore_that_ends_at_each_line():
         return f"{tried} ends"
 
 
-def copied(text, server, at, record, before, by_notes=False):
+def test_no_wait_of_the_page_is_endless():
+    """A service that runs and never lists its jobs. The copy or the program is in place then, and what the way back needs is there."""
+    with folder() as at:
+        for after in ("Here for SQLite and the job", "## To upgrade", "If the start ends with 78 all the same"):
+            place = Place(f"{at}/place", after)
+            place.fill()
+            asked = f"{place.at}/asked"
+            says = PUTS.replace("\n", f"\nif [ $1 = jobs ]; then echo >> {asked}; [ $(wc -l < {asked}) -gt 300 ]; exit; fi\n", 1)
+            for path in (f"{place.at}/bin/relkvanu", f"{place.at}/bin/relkvanu-before", f"{place.at}/relkvanu-new"):
+                with open(path, "w", encoding="utf-8") as it:
+                    it.write(says)
+                os.chmod(path, 0o755)
+            told = place.run()
+            assert told[0] == 1 and content(asked).count("\n") == 300, (after, told)
+            assert os.path.exists(f"{place.at}/bin/relkvanu-before") and not os.listdir(f"{place.at}/run"), (after, os.listdir(f"{place.at}/run"))
+        return "300 questions each"
+
+
+def copied(text, server, at, record, before, by_notes=False, status=0):
     """A block of docs/SERVICE-BACKUP.md that copies files of savepoint 12 to another machine or back, over folders and for this savepoint, which the
-    notes may name."""
+    notes may name. It ends with this status."""
     with open(f"{TOP}/docs/SERVICE-BACKUP.md", encoding="utf-8") as it:
         page = it.read()
     block = page.partition(text)[2].split("```")[1]
@@ -370,7 +389,7 @@ def copied(text, server, at, record, before, by_notes=False):
     for old, new in given.items():
         block = block.replace(old, new)
     told = subprocess.run(["bash", "-euc", block], cwd=at, stdout=subprocess.PIPE, stderr=subprocess.STDOUT, text=True, timeout=COMMAND, check=False)
-    assert told.returncode == 0 and "/12/" not in block and "record=12" not in block, (block, told.stdout)
+    assert told.returncode == status and "/12/" not in block and "record=12" not in block, (block, told.stdout)
     return told.stdout
 
 
@@ -380,7 +399,8 @@ def content(path):
 
 
 def test_the_page_copies_state_files_and_brings_them_back():
-    """To a folder in place of a machine: a file of two savepoints takes room once. What comes back replaces nothing, and a file that differs is told."""
+    """To a folder in place of a machine: a file of two savepoints takes room once. What comes back replaces nothing, and a file that differs is told. Payloads are
+    copied too, and a savepoint that has nothing else."""
     if not shutil.which("rsync") or not shutil.which("curl"):
         raise Skipped("rsync or curl", "one of them is not here")
     with served() as server:
@@ -391,7 +411,8 @@ def test_the_page_copies_state_files_and_brings_them_back():
         for name in ("token", *(f"files/state-{number}.bin" for number in range(1, 5))):
             with open(f"{at}/{name}", "w", encoding="utf-8") as it:
                 it.write(f"of {name}")
-        job.calls([savepoint(), ack(1, "0.0", [1, 2]), savepoint(), ack(2, "0.0", [3], [2])])
+        job.calls([savepoint(), ack(1, "0.0", [1, 2]), savepoint(), ack(2, "0.0", [3], [2], payload=b"and a payload")])
+        job.calls([savepoint(), ack(3, "0.0", payload=b"a payload alone"), savepoint()])
         there, back = "### A copy of the state files", "**If the files of a savepoint were [copied to another machine]"
         os.mkdir(f"{at}/notes")
         for name in ("20260101T000000Z.1", "20260102T000000Z.2", "new"):
@@ -400,15 +421,20 @@ def test_the_page_copies_state_files_and_brings_them_back():
             copied(there, server, at, record, record - 1, by_notes)
         shutil.rmtree(f"{at}/backup/orders/2")
         copied(there, server, at, 2, 1, by_notes=True)
-        made = {record: set(os.listdir(f"{at}/backup/orders/{record}")) for record in (1, 2)}
-        assert made == {1: {"state-1.bin", "state-2.bin", "savepoint-1.json"}, 2: {"state-2.bin", "state-3.bin", "savepoint-2.json"}}, made
+        copied(there, server, at, 3, 2)
+        copied(there, server, at, 4, 3, status=22)  # it is not complete
+        made = {int(it): set(os.listdir(f"{at}/backup/orders/{it}")) for it in os.listdir(f"{at}/backup/orders")}
+        files_of = {1: {"state-1.bin", "state-2.bin"}, 2: {"state-2.bin", "state-3.bin"}, 3: set()}
+        assert made == {record: {*names, f"savepoint-{record}.json"} for record, names in files_of.items()}, made
         assert os.path.samefile(f"{at}/backup/orders/1/state-2.bin", f"{at}/backup/orders/2/state-2.bin")
-        acks = json.loads(content(f"{at}/backup/orders/2/savepoint-2.json"))["live"]["acks"]
-        assert [(it["subtask"], sorted(it["files"])) for it in acks] == [("0.0", ["2", "3"])], acks
+        for record, wanted in (2, ("0.0", ["3", "2"], b"and a payload")), (3, ("0.0", [], b"a payload alone")):
+            told = json.loads(content(f"{at}/backup/orders/{record}/savepoint-{record}.json"))
+            assert [(it["subtask"], it["files"], base64.b64decode(it["payload"])) for it in told["subtasks"]] == [wanted], told
         for name in (f"{at}/files/state-3.bin", f"{files}/.relkvanu-orders"):
             os.remove(name)
         with open(f"{files}/state-2.bin", "w", encoding="utf-8") as it:
             it.write("of")
+        copied(back, server, at, 3, 2)
         told = [copied(back, server, at, 2, 1) for _ in range(2)]
         assert all("state-2.bin" in text and "state-1.bin" not in text and "state-4.bin" not in text for text in told), told
         assert set(os.listdir(files)) == {f"state-{number}.bin" for number in range(1, 5)}, os.listdir(files)
