@@ -273,22 +273,30 @@ def test_a_job_begins_from_a_savepoint_of_another():
         exec(page_code(3), names)
         old = service.open("orders", {"interval": 60_000}, SHAPE)
         task, record = old.begin().session(block=10), old.call(savepoint())["id"]
-        held = {subtask: [task.name()] for subtask in SUBTASKS}
-        for subtask, files in held.items():
-            task.ack(record, subtask, files)
+        held = {"0.0": ([task.name()], b""), "1.0": ([], b"a payload alone"), "1.1": ([task.name()], b"and a payload")}
+        for subtask, (files, payload) in held.items():
+            task.ack(record, subtask, files, payload=payload or None)
+
+        def to_load(start, record=record):
+            folder, told = names["to_load"](service, start, savepoint=record)
+            return folder, {subtask: (it["files"], it["payload"]) for subtask, it in told.items()}
+
         new = service.open("orders-2", {"interval": 40}, SHAPE)
         for _ in range(2):
             start = new.begin()
-            told = names["to_load"](service, start, savepoint=record)
-            assert told == ("/srv/orders", held), told
+            assert to_load(start) == ("/srv/orders", held), to_load(start)
+        try:
+            raise AssertionError(to_load(start, record + 1))
+        except SystemExit as ended:
+            assert ended.code == 78, ended
         until(lambda: any(not it["done"] for it in new.state()["live"]))
         [pending] = [it["id"] for it in new.state()["live"] if not it["done"]]
         task = start.session(block=10)
-        own = {subtask: [task.name()] for subtask in SUBTASKS}
-        for subtask, files in own.items():
-            task.ack(pending, subtask, files)
-        told = names["to_load"](service, new.begin(), savepoint=record)
-        assert told == ("/srv/orders-2", own), told
+        own = {subtask: ([task.name()], subtask.encode()) for subtask in SUBTASKS}
+        for subtask, (files, payload) in own.items():
+            task.ack(pending, subtask, files, payload=payload)
+        start = new.begin()
+        assert to_load(start) == ("/srv/orders-2", own), to_load(start)
         return "two starts from the savepoint, and one from its own checkpoint"
 
 
