@@ -1,8 +1,9 @@
 #!/usr/bin/env python3
 """faults/kill_chained.py KILLS [SEED]: runs chained.py of docs/CUT.md and mini.py and mini-rust of docs/RUNNER.md, kills a process of theirs KILLS times, and
-looks at what they published: each number of each source once, in its order, and the sums of one run. Then wrong engines have to be found wrong: of the
-first one that does not align, one that publishes at its cut, and one that does not publish again at its start, and of the second one that publishes what
-it prepared for records after the one that it begins from. RELKVANU_LIB names the folder of the library."""
+looks at what they published: each number of each source once, in its order, and the sums of one run. A job whose files were put back, as a backup is, has to
+refuse to publish a number again, and one whose transaction is lost has to refuse to start. Its status tells a supervisor when to start it again. Then
+wrong engines have to be found wrong: of the first one that does not align, one that publishes at its cut, and one that does not publish again at its
+start, and of the second one that publishes what it prepared for records after the one that it begins from. RELKVANU_LIB names the folder of the library."""
 import json
 import os
 import pathlib
@@ -104,6 +105,58 @@ def is_right(samples, sample, texts, kills, dice):
     return fault is None
 
 
+def put(folder, into):
+    """The job's file and its state, both of one moment, without what it published."""
+    for it in ("state", "job.db", "job.db-wal", "job.db-shm", "job.db.lock"):
+        if (into / it).is_dir():
+            shutil.rmtree(into / it)
+        (into / it).unlink(missing_ok=True)
+        if (folder / it).is_dir():
+            shutil.copytree(folder / it, into / it)
+        elif (folder / it).exists():
+            shutil.copy2(folder / it, into / it)
+
+
+def refuses(samples, sample, texts):
+    """Whether it publishes nothing again once its files were put back, and does not start once a transaction in its state is lost."""
+    job, kept = Job(samples / f"back {sample}", sample, samples, texts), samples / f"kept {sample}"
+    kept.mkdir()
+    target = job.folder / "target"
+
+    def ends(last):
+        status = job.start(last).wait(SECONDS)
+        return status, {it.name: it.read_bytes() for it in target.glob("*.published")}
+
+    first, _ = ends(5)
+    put(job.folder, kept)
+    second, published = ends(10)
+    put(kept, job.folder)
+    again, after = ends(10)
+    put(kept, job.folder)
+    for it in target.iterdir():
+        if it.suffix == ".published":
+            it.unlink()
+    lost, nothing = ends(10)
+    right = (first, second) == (0, 0) and again != 0 and after == published and lost != 0 and not nothing
+    told = "it refuses what it published before, and a start without it" if right else f"statuses {first}, {second}, {again}, {lost}"
+    print(f"{sample}, put back: {told}", flush=True)
+    return right
+
+
+def is_started_again(samples, texts):
+    """Whether the status of mini.py sends a supervisor back to it: after a restart, and after a cancel until no file is left."""
+    job, statuses, new = Job(samples / "ends", "mini.py", samples, texts), [], ["new"]
+    for call in ("runner.restart", "store.cancel"):
+        text = f"import sys, threading, mini; it = mini.Engine(*sys.argv[1:]); threading.Timer(0.5, it.{call}).start(); it.runner.run()"
+        words = [sys.executable, "-c", text, job.folder, str(1 << 62), *new]
+        statuses.append(subprocess.run(words, cwd=job.folder, stderr=subprocess.DEVNULL, timeout=SECONDS, check=False).returncode)
+        new = []
+    statuses.append(job.start(1 << 62).wait(SECONDS))
+    left = [it.name for it in (job.folder / "state").iterdir() if not it.name.startswith(".")]
+    print(f"mini.py, restarted, cancelled and started again: statuses {statuses}, {len(left)} files left", flush=True)
+    return statuses == [1, 1, 0] and not left
+
+
 def is_found(samples, why, texts, dice):
     """Whether a wrong engine publishes something wrong within 300 kills. Mostly a few are enough."""
     name, *swaps = WRONG[why]
@@ -141,6 +194,8 @@ def main(kills, seed=None):
         else:
             print("skipped: cargo: the engine in Rust")
         good = [is_right(samples, it, of, int(kills), dice) for it, of in texts.items()]
+        good += [refuses(samples, it, of) for it, of in texts.items() if it != "chained.py"]  # which refuses an earlier term
+        good.append(is_started_again(samples, texts["mini.py"]))
         good += [is_found(samples, why, texts, dice) for why in WRONG]
     print(f"{good.count(True)} engines passed, {good.count(False)} failed")
     return 0 if all(good) else 1

@@ -4,6 +4,7 @@ import pathlib
 import tempfile
 import threading
 import unittest
+from unittest import mock
 
 from relkvanu import Fenced, Kind, Refused, Settings
 from relkvanu.runner import Ended, FileLost, Record, Runner
@@ -66,6 +67,34 @@ class Words:
         self.note("end")
 
 
+class Failing(Words):
+    """Its tasks acknowledge in another thread than that of run(). The first time that it is asked `word` it raises; the next time it lets run() return."""
+
+    def __init__(self, word):
+        super().__init__()
+        self.word, self.tasks = word, []
+
+    def barrier(self, it):
+        task = threading.Thread(target=lambda: self.tasks.append(super(Failing, self).barrier(it)))  # nothing, if it raises
+        task.start()
+        task.join()
+
+    def asked(self, word):
+        if word == self.word and (word, "fails") not in self.said:
+            self.note(word, "fails")
+            raise LookupError(word)
+        if (self.word, "fails") in self.said:
+            self.runner.close()
+
+    def complete(self, id):
+        super().complete(id)
+        self.asked("complete")
+
+    def aborted(self, ids):
+        self.note("aborted", ids)
+        self.asked("aborted")
+
+
 class Running(unittest.TestCase):
     def setUp(self):
         self.work = tempfile.TemporaryDirectory()
@@ -73,10 +102,10 @@ class Running(unittest.TestCase):
         self.folder = pathlib.Path(self.work.name)
         (self.folder / "state").mkdir()
 
-    def begin(self, **settings):
+    def begin(self, engine=None, **settings):
         """Runs an engine in a thread."""
         store = Store(self.folder / "job.db", Settings(**{"interval": 20, "retained": 3, **settings}), [TASKS], storage=self.folder / "state", create=True)
-        engine, ended = Words(), []
+        engine, ended = engine or Words(), []
         engine.runner = Runner(store, engine)
 
         def run():
@@ -223,6 +252,30 @@ class Running(unittest.TestCase):
         store, engine, await_end = self.begin()
         self.assertIsInstance(await_end(), FileLost)
         self.assertEqual((engine.said, self.files()), ([("end",)], ["100000"]))
+
+    def ends_by_what(self, word, declined=None):
+        """Checks that what the engine raises at `word`, in the thread of a task, ends run(), and not the task."""
+        engine = Failing(word)
+        engine.declined = declined
+        _, _, await_end = self.begin(engine, tolerable=10)
+        fault = await_end()
+        self.assertIsInstance(fault, LookupError)
+        self.assertEqual(fault.args, (word,))
+        self.assertEqual(len(engine.tasks), sum(it[0] == "barrier" for it in engine.said))
+        self.assertNotIn(("end",), engine.said)
+
+    def test_sinks_that_fail_end_the_run(self):
+        self.ends_by_what("complete")
+
+    def test_tasks_that_fail_to_drop_a_record_end_the_run(self):
+        self.ends_by_what("aborted", Kind.CHECKPOINT)
+
+    def test_a_discarder_that_fails_ends_the_run(self):
+        engine = Words()
+        engine.complete = lambda id: engine.runner.close() if id > 50 else None  # it has failed long before
+        with mock.patch.object(Store, "discard", side_effect=LookupError("discard")):
+            _, _, await_end = self.begin(engine)
+            self.assertIsInstance(await_end(), LookupError)
 
     def test_two_completions_in_another_order(self):
         store, engine, await_end = self.begin()

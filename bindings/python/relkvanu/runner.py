@@ -4,7 +4,7 @@ import threading
 import time
 from dataclasses import dataclass
 from enum import Enum
-from typing import Optional, Protocol, Sequence, Set, Tuple
+from typing import Any, Callable, Optional, Protocol, Sequence, Set, Tuple
 
 from relkvanu.coordinator import Refused
 from relkvanu.errors import Error
@@ -40,7 +40,7 @@ class Ended(Enum):
 
     CLOSED = 1  # Runner.close() was called: the next process goes on
     STOPPED = 2  # the job is stopped with a savepoint, and goes on from it once Store.begin_job() was called
-    CANCELLED = 3  # the job has ended for good, and no file is left
+    CANCELLED = 3  # the job has ended for good. One sweep was made, and all that it and the job's records gave up is deleted
 
 
 class Engine(Protocol):
@@ -48,15 +48,17 @@ class Engine(Protocol):
     aborted(ids): see Runner."""
 
     def start(self, term: int, record: Optional[Record]) -> None:
-        """Starts all tasks with this term. They begin with the state that is in the record's files, or from nothing."""
+        """Starts all tasks with this term. They begin with the state that is in the record's files, or from nothing. Before it writes, a sink publishes
+        what its state lists, and gives up all else that was prepared."""
 
     def barrier(self, barrier: Barrier) -> None:
         """Sends a barrier to the sources."""
 
     def complete(self, id: int) -> None:
-        """Tells the sinks that the job would begin again from this record: they publish what they prepared for it and for records before it, and
-        give up, at a restore, what they prepared for later ones. Called by a thread that acknowledges, or before `start`; never for a smaller number than
-        before in one term; for the same one again after a restart."""
+        """Says that the job would begin again from this record. Called by a thread that acknowledges: sinks publish what they prepared for it and for
+        records before it; or by run() once the job is stopped. The numbers rise within a term. Also called while no task runs, for the record that the
+        job begins from: before `start`, and where a stopped job is opened. Nothing may be published by that number then: after a way back it may be
+        greater than those of records whose output comes again."""
 
     def go_on(self) -> None:
         """A stop of the job has failed: tasks that hold go on."""
@@ -66,9 +68,9 @@ class Engine(Protocol):
 
 
 class Runner:
-    """Runs an engine over a store. Tasks call `ack` and `decline` of the runner, and `reserve`, `put` and `forfeit` of the store, each with the
-    term that they were started with. Any thread may call trigger(), stop_job(), configure() or go_back() of the store: the engine sees the barrier or the
-    restart that it brings.
+    """Runs an engine over a store with a storage folder. Tasks call `ack` and `decline` of the runner, and `reserve`, `put` and `forfeit` of the store,
+    each with the term that they were started with. Any thread may call trigger(), stop_job(), configure() or go_back() of the store: the engine sees the
+    barrier or the restart that it brings.
 
     An engine that has aborted(ids) is told which records have ended whose barriers were sent, and which are not complete: tasks drop what they keep for them
     alone. Sinks keep what they prepared for them: the next checkpoint publishes it. Called as `complete`; not for what a restore ends."""
@@ -80,18 +82,20 @@ class Runner:
         self._pending: Set[int] = set()  # records whose barriers were sent
         self._holds = False  # tasks wait for the end of a stop
         self._closes, self._restarts = threading.Event(), threading.Event()
+        self._failed: Optional[BaseException] = None  # what was raised first in another thread
         self._discarder: Optional[threading.Thread] = None
 
     def ack(
         self, term: int, id: int, vertex: int, index: int, fresh: Sequence[int] = (), reused: Sequence[int] = (), *, payload: bytes = b"",
         bytes: int = 0, millis: int = 0
     ) -> Made:
-        """Acknowledges, with a payload if the task's state is small, and tells the sinks if the record of a checkpoint is complete. Raises as Store.ack_in."""
+        """Acknowledges, with a payload if the task's state is small, and tells the sinks if the record of a checkpoint is complete. Raises as Store.ack_in.
+        What the engine raises ends run(), and not the task."""
         made = self.store.ack_in(term, id, vertex, index, fresh, reused, payload=payload, bytes=bytes, millis=millis)
         if isinstance(made.reply, AckCompleted):
             self._pending.discard(id)
             if made.kind == Kind.CHECKPOINT:
-                self._tell(term, id)
+                self._noting(self._tell, term, id)
         self._abort(term, made.ended)
         return made
 
@@ -122,6 +126,7 @@ class Runner:
         else:
             self._begin(self.store.report.term)
         while True:
+            self._look_at_faults()
             if self._closes.is_set():
                 return self._ended(Ended.CLOSED)
             if self._restarts.is_set():
@@ -216,15 +221,28 @@ class Runner:
             aborted = [it for it in ended if it in self._pending] if term == self.term else []
             self._pending.difference_update(aborted)
             if aborted and hasattr(self.engine, "aborted"):
-                self.engine.aborted(aborted)
+                self._noting(self.engine.aborted, aborted)
+
+    def _noting(self, call: Callable[..., Any], *words: Any) -> None:
+        """Makes a call whose fault ends run(), in whatever thread it is raised."""
+        try:
+            call(*words)
+        except BaseException as fault:
+            if self._failed is None:
+                self._failed = fault
+
+    def _look_at_faults(self) -> None:
+        if self._failed is not None:
+            raise self._failed
 
     def _ended(self, ended: Ended) -> Ended:
-        """Ends the tasks. Of a job that was cancelled no file is left then; one that is stopped keeps what its savepoint has."""
+        """Ends the tasks. Then one sweep, and all deletions that are due: a task that still writes may leave a file, which a later sweep deletes."""
         self.engine.end()
         if ended != Ended.CLOSED:
             self._discard()
             self.store.sweep()
             while self._has_files():
+                self._look_at_faults()
                 time.sleep(LOOKS_AGAIN / 1000)
         self.store.stop()
         if self._discarder is not None:
@@ -238,5 +256,5 @@ class Runner:
 
     def _discard(self) -> None:
         if self._discarder is None:
-            self._discarder = threading.Thread(target=self.store.discard, name="relkvanu discarder", daemon=True)
+            self._discarder = threading.Thread(target=self._noting, args=(self.store.discard,), name="relkvanu discarder", daemon=True)
             self._discarder.start()

@@ -38,7 +38,7 @@ pub enum Ended {
     Closed,
     /// The job is stopped with a savepoint, and goes on from it once [`Store::begin_job`] was called.
     Stopped,
-    /// The job has ended for good, and no file is left.
+    /// The job has ended for good. One sweep was made, and all that it and the job's records gave up is deleted.
     Cancelled,
 }
 
@@ -80,15 +80,17 @@ pub type Told = Result<(), Box<dyn Error + Send + Sync>>;
 /// What an engine does. All of these are called by the thread of [`Runner::run`], one at a time, but [`complete`](Engine::complete)
 /// and [`aborted`](Engine::aborted), which wait for each other alone.
 pub trait Engine: Sized + Send + Sync + 'static {
-    /// Starts all tasks with this term. They begin with the state that is in the record's files, or from nothing. They acknowledge by the runner.
+    /// Starts all tasks with this term. They begin with the state that is in the record's files, or from nothing. They acknowledge by the runner. Before
+    /// it writes, a sink publishes what its state lists, and gives up all else that was prepared.
     fn start(&self, runner: &Arc<Runner<Self>>, term: u64, record: Option<&Record>) -> Told;
 
     /// Sends a barrier to the sources.
     fn barrier(&self, barrier: Barrier) -> Told;
 
-    /// Tells the sinks that the job would begin again from this record: they publish what they prepared for it and for records before it. Called by a
-    /// thread that acknowledges, or before [`start`](Engine::start); never for a smaller number than before in one term; for the same one again after
-    /// a restart.
+    /// Says that the job would begin again from this record. Called by a thread that acknowledges: sinks publish what they prepared for it and for
+    /// records before it; or by [`Runner::run`] once the job is stopped. The numbers rise within a term. Also called while no task runs, for the record
+    /// that the job begins from: before [`start`](Engine::start), and where a stopped job is opened. Nothing may be published by that number then: after
+    /// a way back it may be greater than those of records whose output comes again.
     fn complete(&self, id: u64) -> Told;
 
     /// Tells tasks that these records have ended and are not complete: they drop what they keep for them alone. Sinks keep what they prepared for them:
@@ -415,7 +417,7 @@ impl<E: Engine> Running<'_, E> {
         told.map_err(RunFault::Engine)
     }
 
-    /// Ends the tasks. Of a job that was cancelled no file is left then; one that is stopped keeps what its savepoint has.
+    /// Ends the tasks. Then one sweep, and all deletions that are due: a task that still writes may leave a file, which a later sweep deletes.
     fn ended(&mut self, ended: Ended) -> Result<Ended, RunFault> {
         let runner = self.runner;
         runner.engine.end().map_err(RunFault::Engine)?;
