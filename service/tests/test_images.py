@@ -279,8 +279,16 @@ def test_a_log_that_is_cut_while_it_is_read():
             missed = gone
         assert read == list(range(1, 1001)) and isinstance(missed, Gone), (read[-1], missed, first)
         assert (missed.reason, missed.first >= first) == ("cut", True), (missed.reason, missed.first, first)
-        assert [entry["seq"] for entry in job.log()] == list(range(job.state()["first"], job.state()["seq"] + 1))
+        until(lambda: reads_whole(job))
         return f"the log began with call {missed.first} when call 1001 was asked for"
+
+
+def reads_whole(job):
+    """Whether a reader gets each call that the log has. While it is still cut, a page may be gone, or the first call another."""
+    try:
+        return [entry["seq"] for entry in job.log()] == list(range(job.state()["first"], job.state()["seq"] + 1))
+    except Gone:
+        return False
 
 
 def test_bad_settings_are_named():
