@@ -15,6 +15,7 @@ ELSEWHERE = {
     "relkvanu_certificate_until_timestamp_seconds": "test_security",
     "relkvanu_clock_ahead_seconds": "test_clocks",
     "relkvanu_discard_files_total": "test_discard_folder",
+    "relkvanu_discard_works": "test_discard_names",
     "relkvanu_followed_timestamp_seconds": "test_lease_lengths",
     "relkvanu_history_lag_seconds": "test_summaries",
     "relkvanu_history_up": "test_summaries",
