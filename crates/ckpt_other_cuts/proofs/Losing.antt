@@ -1,20 +1,19 @@
 -- Tasks that do not hold lose nothing.
-use Rattle.std.proofs.Common.{◌≡◌, ℕ, ◌<◌, Bool, true, false, List, [], ◌∷◌, ◌++◌, ◌∙◌, refl, sym, ap, arith, if◌then◌else◌, Option, Some, None}
+use Rattle.std.proofs.Common.{◌≡◌, ℕ, ◌<◌, Bool, true, false, List, [], ◌∷◌, ◌++◌, ◌∙◌, refl, sym, ap, if◌then◌else◌, Some}
 use Rattle.std.specs.Prelude.{◌==◌, ◌&&◌}
 use Rattle.std.proofs.lemmas.Bool.{both_ways}
-use Rattle.std.proofs.lemmas.Grind.{common_steps}
 use Rattle.std.proofs.lemmas.List.{append-nil, append_assoc}
 use Rattle.ckpt_ids.specs.declared.call.Call.{Call}
 use Rattle.ckpt_align.specs.Alignment.{Alignment, opened}
 use Rattle.ckpt_align.specs.Histories.{Item, Element, Barrier, End, Action, Reads, GivesUp, Sends, Ends, after, answer_to, before, before_cut, cut_by, elements, has_cut, is_number, is_taken, processed, replay, sent, taken, taken_by}
 use Rattle.ckpt_align.specs.Laws.{Channel, HasCut, IsConnected, Network, Task}
-use Rattle.ckpt_align.proofs.Carrying.{sent_before}
+use Rattle.ckpt_align.proofs.Carrying.{is_number-Some, sent_before}
 use Rattle.ckpt_align.proofs.Cutting.{local_cut, reads_cut-element}
 use Rattle.ckpt_align.proofs.ItemLemmas.{elements-append, runs_not_fixed}
 use Rattle.ckpt_cuts.proofs.Consistency.{has_cut-from_done}
 use Rattle.ckpt_model.specs.Laws.{AreCalls, CanOpen}
 use Rattle.ckpt_model.specs.State.{Opening}
-use Rattle.ckpt_once.specs.Jobs.{IsPrefix}
+use Rattle.ckpt_once.proofs.Running.{prefix_like}
 use Rattle.ckpt_other_cuts.proofs.Stopping.{before_begins, closed, runs}
 use Rattle.ckpt_other_cuts.specs.Loose.{AtLeastOnce, DoneLosesNone, IsInOrder, LosesNone, LosesNoneBetween, is_answer, let_by, let_through}
 use Rattle.ckpt_other_cuts.specs.Stops.{has_stop}
@@ -102,9 +101,6 @@ cut_same n j a actions action e =
     ∙ ap (λ l. elements xs ++ l) (ap elements (append-nil (let_by j b action)) ∙ cut_lets_none n j b action e)
     ∙ append-nil (elements xs)
 
-prefix_like : (xs us ys vs : List ℕ) → xs ≡ us → ys ≡ vs → IsPrefix us vs → IsPrefix xs ys
-prefix_like xs us ys vs e f h = (h.0, f ∙ h.1 ∙ ap (λ l. l ++ h.0) (sym e))
-
 pub loses_none : (inputs : ℕ) (actions : List Action) (action : Action) (n j : ℕ) (rest : List Item) → LosesNone inputs actions action n j rest
 loses_none inputs actions action n j rest e within =
     let a : Alignment = opened inputs in
@@ -118,10 +114,6 @@ loses_none inputs actions action n j rest e within =
 
 abbrev CutAt : ℕ → Alignment → List Action → List Action → Type 0
 CutAt n a actions part = (x : Action) × (more : List Action) × (actions ≡ part ++ x ∷ more) × (cut_by (replay a part) x ≡ Some n)
-
-is_number-Some : (n : ℕ) (o : Option ℕ) → is_number n o ≡ true → o ≡ Some n
-is_number-Some n None e = grind (arith, common_steps)
-is_number-Some n (Some m) e = grind (arith, common_steps)
 
 cut_at_by : (n : ℕ) (a : Alignment) (y : Action) (ys part : List Action) (is has : Bool) → is_number n (cut_by a y) ≡ is → (if is then true else has) ≡ true → (has ≡ true → CutAt n (after a y) ys part) → CutAt n a (y ∷ ys) (if is then [] else y ∷ part)
 cut_at_by n a y ys part true has e h on = (y, ys, refl, is_number-Some n (cut_by a y) e)
