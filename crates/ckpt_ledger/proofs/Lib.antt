@@ -1,4 +1,5 @@
 -- The lemmas that the proofs use.
 pub mod Counting
 pub mod Publishing
+pub mod Restarting
 pub mod Timely

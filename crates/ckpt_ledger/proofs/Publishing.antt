@@ -79,7 +79,7 @@ acted o b moments (Some id) h xs rest =
     rest (record { waiting = h.waiting ++ record { id = id; content = h.open_one } ∷ []; open_one = [] })
     ∙ ap (published (completed moments)) (append_assoc h.waiting (record { id = id; content = h.open_one } ∷ []) (sealed o b [] (acts moments)))
 
-published_by : (o : ℕ) (a : Alignment) (moments : List Moment) → IsTimely a moments → (h : Held) → all_published h (entries o a moments) ≡ published (completed moments) (then_sealed o a h moments)
+pub published_by : (o : ℕ) (a : Alignment) (moments : List Moment) → IsTimely a moments → (h : Held) → all_published h (entries o a moments) ≡ published (completed moments) (then_sealed o a h moments)
 published_by o a [] t h = refl
 published_by o a (Acts action ∷ moments) t h =
     acted o (after a action) moments (cut_by a action) h (elements (sent_by o a action)) (published_by o (after a action) moments t)

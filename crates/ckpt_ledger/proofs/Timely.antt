@@ -1,9 +1,9 @@
 -- A sink that is told of records that it has cut cuts only greater ones afterwards.
-use Rattle.std.proofs.Common.{◌≡◌, ℕ, ◌<◌, Bool, true, false, if◌then◌else◌, List, [], ◌∷◌, ◌++◌, Option, Some, None, refl, sym, ap, ◌∙◌, subst, append_assoc, arith}
+use Rattle.std.proofs.Common.{◌≡◌, ℕ, ◌<◌, Bool, true, false, if◌then◌else◌, List, [], ◌∷◌, ◌++◌, Some, refl, sym, ap, ◌∙◌, subst, append_assoc}
 use Rattle.std.proofs.lemmas.Bool.{both_ways}
-use Rattle.std.proofs.lemmas.Grind.{common_steps}
 use Rattle.ckpt_align.specs.Alignment.{Alignment, opened}
 use Rattle.ckpt_align.specs.Histories.{Action, Reads, GivesUp, Sends, Ends, after, cut_by, has_cut, is_number, replay}
+use Rattle.ckpt_align.proofs.Carrying.{is_number-Some}
 use Rattle.ckpt_align.proofs.GoingOn.{cuts_rise}
 use Rattle.ckpt_once.proofs.ActionLemmas.{replay-append}
 use Rattle.ckpt_ledger.specs.Ledgers.{Acts, HaveBeenCut, Moment, Told}
@@ -24,13 +24,9 @@ IsTimely a (Told n ∷ moments) = CutsAbove n a moments × IsTimely a moments
 abbrev pub Found : ℕ → Alignment → List Action → Type 0
 Found n a xs = (front : List Action) × (x : Action) × (back : List Action) × (xs ≡ front ++ x ∷ back) × (cut_by (replay a front) x ≡ Some n)
 
-is_cut : (n : ℕ) (o : Option ℕ) → is_number n o ≡ true → o ≡ Some n
-is_cut n None e = grind (arith, common_steps)
-is_cut n (Some m) e = grind (arith, common_steps)
-
 found_by : (n : ℕ) (a : Alignment) (y : Action) (ys : List Action) (is : Bool) → is_number n (cut_by a y) ≡ is → (if is then true else has_cut n (after a y) ys) ≡ true
     → (has_cut n (after a y) ys ≡ true → Found n (after a y) ys) → Found n a (y ∷ ys)
-found_by n a y ys true e h rest = ([], y, ys, refl, is_cut n (cut_by a y) e)
+found_by n a y ys true e h rest = ([], y, ys, refl, is_number-Some n (cut_by a y) e)
 found_by n a y ys false e h rest = let f : Found n (after a y) ys = rest h in (y ∷ f.0, f.1, f.2, ap (λ (zs : List Action). y ∷ zs) f.3, f.4)
 
 pub found : (n : ℕ) (a : Alignment) (xs : List Action) → has_cut n a xs ≡ true → Found n a xs

@@ -1,4 +1,5 @@
 -- The definitions that contracts cite.
 pub mod Laws
 pub mod Ledgers
+pub mod Restarts
 pub mod WorkedExamples

@@ -4,6 +4,7 @@
 ghost use Rattle.std.specs.Prelude.{ℕ, List};
 ghost use Rattle.ckpt_ledger.specs.Laws.{Holds, PublishesAsSink};
 ghost use Rattle.ckpt_ledger.specs.Ledgers.{Moment};
+ghost use Rattle.ckpt_ledger.specs.Restarts.{AttemptTold, LostComesAgain, PublishesOverRestarts};
 ghost use Rattle.ckpt_once.specs.Jobs.{History, Job, States};
 ghost use Rattle.ckpt_once.specs.Sinks.{Sink};
 
@@ -16,4 +17,16 @@ pub fn publishes()
 /// And as long as no record was completed it holds what that sink has sealed.
 pub fn holds()
     ensures { (job : Job) (from : States) (h : History) (sink : Sink) (moments : List Moment) → Holds job from h sink moments }
+{}
+
+/// Over any number of failures, after each of which it is restored to the record that the job was
+/// restored to, a ledger publishes what that sink publishes: the same ledger, or one that was made
+/// anew from the snapshot of that record.
+pub fn publishes_over_restarts()
+    ensures { (job : Job) (sink : Sink) (ones : List AttemptTold) → PublishesOverRestarts job sink ones }
+{}
+
+/// If a ledger was made anew, what the lost one had published is the beginning of that.
+pub fn lost_comes_again()
+    ensures { (job : Job) (sink : Sink) (one : AttemptTold) (ones : List AttemptTold) → LostComesAgain job sink one ones }
 {}
