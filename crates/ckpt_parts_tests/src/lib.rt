@@ -11,8 +11,12 @@ mod align;
 #[cfg(test)]
 mod ledger;
 #[cfg(test)]
+mod lists;
+#[cfg(test)]
 mod parts;
 #[cfg(test)]
 mod secrets;
+#[cfg(test)]
+mod task;
 #[cfg(test)]
 mod values;

@@ -15,7 +15,7 @@ use Rattle.ckpt_task.specs.Turns.{At, IsSaved, cut_in, cut_of}
 use Rattle.ckpt_task.specs.declared.turn.Outcome.{Outcome}
 use Rattle.ckpt_task.specs.declared.turn.Outcome.TheVariants.{Moved, Held, Nothing, Cut, Unsaved, Abandoned}
 
-abbrev snap : ℕ → ℕ → Snapped
+abbrev pub snap : ℕ → ℕ → Snapped
 snap n s = record { id = n; state = s }
 
 later : (xs ys : List Snapped) (one : Snapped) → IsIn one ys → IsIn one (xs ++ ys)
@@ -23,17 +23,17 @@ later [] ys one has = has
 later (x ∷ xs) ys one has = inr (later xs ys one has)
 
 -- each snapshot of the record that is here is one of those that the task took
-abbrev Comes : ℕ → List Saved → List Snapped → Type 0
+abbrev pub Comes : ℕ → List Saved → List Snapped → Type 0
 Comes n ones taken = (s : ℕ) → state_of (under n ones) ≡ Some s → IsIn (snap n s) taken
 
-stays : (n : ℕ) (before now : List Saved) (new taken : List Snapped) → now ≡ before → Comes n before taken → Comes n now (new ++ taken)
+pub stays : (n : ℕ) (before now : List Saved) (new taken : List Snapped) → now ≡ before → Comes n before taken → Comes n now (new ++ taken)
 stays n before now new taken same comes s is = later new taken (snap n s) (comes s (sym (ap (λ (ones : List Saved). state_of (under n ones)) same) ∙ is))
 
 some_same : (s x : ℕ) → Some s ≡ Some x → s ≡ x
 some_same s x e = cc
 
 -- one more, that of this cut
-adds : (n m x : ℕ) (one : Saved) (before now : List Saved) (cut : Option ℕ) (taken : List Snapped) → one.id ≡ m → one.state ≡ x → Some m ≡ cut → now ≡ one ∷ before
+pub adds : (n m x : ℕ) (one : Saved) (before now : List Saved) (cut : Option ℕ) (taken : List Snapped) → one.id ≡ m → one.state ≡ x → Some m ≡ cut → now ≡ one ∷ before
     → Comes n before taken → Comes n now (snapped_at cut x ++ taken)
 adds n m x one before now cut taken id state is_cut is comes s has =
     let At : Option ℕ → Type 0 = λ c. IsIn (snap n s) (snapped_at c x ++ taken) in
@@ -64,8 +64,8 @@ are_taken n p s a (turn ∷ turns) before now none saved x is =
     goes n (state p s (moves_in a turns)) its.outcome saved.0 now (cut_of (aligned a turns) turn) (snapped_by p s a turns) its.waiting its.is_cut its.is_saved
     (are_taken n p s a turns before saved.0 none saved.1) x is
 
-pub restores_snapshot : (job : Job) (from : States) (h : History) (t : SubtaskId) (n : ℕ) (before now : List Saved) (task : At) → RestoresSnapshot job from h t n before now task
-restores_snapshot job from h t n before now task works saved none restored =
+pub restores_snapshot : (job : Job) (from : States) (h : History) (t : SubtaskId) (n : ℕ) (task : At) → RestoresSnapshot job from h t n task
+restores_snapshot job from h t n task before now works saved none restored =
     let one : Snapped = snap n task.state in
     let has : IsIn one (snapped_by (job.program t) (from t) (opened (job.inputs t)) (of t h)) =
     are_taken n (job.program t) (from t) (opened (job.inputs t)) (of t h) before now none saved task.state restored.state in

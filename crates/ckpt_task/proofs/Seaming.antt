@@ -1,6 +1,8 @@
 -- Engines of such tasks that restart from done records have invisible failures.
 use Rattle.std.proofs.Common.{ℕ, List, [], ◌∷◌, subst}
 use Rattle.ckpt_align.specs.Laws.{HasCut}
+use Rattle.ckpt_cuts.specs.Laws.{AcknowledgesCuts}
+use Rattle.ckpt_ids.specs.declared.call.Call.{Call}
 use Rattle.ckpt_model.specs.Laws.{CanOpen}
 use Rattle.ckpt_model.specs.State.{Opening}
 use Rattle.ckpt_once.proofs.Restarting.{restarts_invisible}
@@ -9,10 +11,11 @@ use Rattle.ckpt_once.specs.Restarts.{AreRestarts, WasDone}
 use Rattle.ckpt_task.proofs.Snapping.{snaps_at_cut}
 use Rattle.ckpt_task.proofs.Working.{makes_history}
 use Rattle.ckpt_task.specs.Engines.{IsWorking}
-use Rattle.ckpt_task.specs.Laws.{AreEngines, AreSeamless, WasCompleted}
+use Rattle.ckpt_task.specs.Laws.{AcknowledgesSnapped, AreEngines, AreSeamless, WasCompletedBy}
 
-was_done : (n : ℕ) (o : Opening) (job : Job) (from : States) (h : History) → IsWorking job from h → WasCompleted n o job from h → WasDone n o job from h
-was_done n o job from h works was = record {
+pub was_done : (Premise : ℕ → List Call → Type 0) (n : ℕ) (o : Opening) (job : Job) (from : States) (h : History)
+    → ((id : ℕ) (calls : List Call) → Premise id calls → AcknowledgesCuts id o calls (network job from h)) → WasCompletedBy Premise n o job → WasDone n o job from h
+was_done Premise n o job from h cuts was = record {
   calls = was.calls;
   are_calls = was.are_calls;
   done_record = was.done_record;
@@ -20,18 +23,23 @@ was_done n o job from h works was = record {
   is_done = was.is_done;
   is_this = was.is_this;
   is_of_job = was.is_of_job;
-  acknowledged = λ a has.
-      let one = was.acknowledged a has in
-      let Cut : ℕ → Type 0 = λ m. HasCut m ((network job from h).task a.subtask) in
-      subst Cut one.2 (snaps_at_cut job from h a.subtask one.0 works one.1).0;
+  acknowledged = cuts was.done_record.id was.calls was.acknowledged;
 }
+
+snapped_cuts : (o : Opening) (job : Job) (from : States) (h : History) → IsWorking job from h
+    → (id : ℕ) (calls : List Call) → AcknowledgesSnapped o job from h id calls → AcknowledgesCuts id o calls (network job from h)
+snapped_cuts o job from h works id calls acknowledged a has =
+    let one = acknowledged a has in
+    let Cut : ℕ → Type 0 = λ m. HasCut m ((network job from h).task a.subtask) in
+    subst Cut one.2 (snaps_at_cut job from h a.subtask one.0 works one.1).0
 
 are_restarts : (o : Opening) (job : Job) (attempts : List Attempt) → AreEngines o job attempts → AreRestarts o job attempts
 are_restarts o job [] are = tt
 are_restarts o job (attempt ∷ attempts) are = (
   are_restarts o job attempts are.0,
   (makes_history job (restored job attempts) attempt.history are.1).is_history,
-  was_done attempt.record_id o job (restored job attempts) attempt.history are.1 are.2,
+  was_done (AcknowledgesSnapped o job (restored job attempts) attempt.history) attempt.record_id o job (restored job attempts) attempt.history
+      (snapped_cuts o job (restored job attempts) attempt.history are.1) are.2,
 )
 
 pub are_seamless : (o : Opening) (job : Job) (attempts : List Attempt) (h : History) → CanOpen o → AreSeamless o job attempts h

@@ -21,7 +21,7 @@ use Rattle.ckpt_task.specs.Turns.{cut_of}
 
 -- a task that has ended takes no turn
 
-abbrev Ends-last : List Turn → Type 0
+abbrev pub Ends-last : List Turn → Type 0
 Ends-last [] = Unit {0}
 Ends-last (turn ∷ turns) = Ends-last turns × (has_ended_in turns ≡ false)
 
@@ -32,7 +32,7 @@ not_ended (Reads i item ∷ xs) ys e f = not_ended xs ys e f
 not_ended (GivesUp id ∷ xs) ys e f = not_ended xs ys e f
 not_ended (Sends o x ∷ xs) ys e f = not_ended xs ys e f
 
-not_ended_in : (p : Program) (s : ℕ) (a : Alignment) (turns : List Turn) → has_ended_in turns ≡ false → has_ended (actions p s a turns) ≡ false
+pub not_ended_in : (p : Program) (s : ℕ) (a : Alignment) (turns : List Turn) → has_ended_in turns ≡ false → has_ended (actions p s a turns) ≡ false
 not_ended_in p s a [] e = refl
 not_ended_in p s a (Ended ∷ turns) e = absurd (both_ways true e refl)
 not_ended_in p s a (Offered i item ∷ turns) e =
@@ -50,7 +50,7 @@ or_same : (b c d : Bool) → (c ≡ true → d ≡ true) → (if b then true els
 or_same true c d on e = refl
 or_same false c d on e = on e
 
-cut_stays : (n : ℕ) (a : Alignment) (xs ys : List Action) → has_cut n a xs ≡ true → has_cut n a (xs ++ ys) ≡ true
+pub cut_stays : (n : ℕ) (a : Alignment) (xs ys : List Action) → has_cut n a xs ≡ true → has_cut n a (xs ++ ys) ≡ true
 cut_stays n a [] ys e = absurd (both_ways true (sym e) refl)
 cut_stays n a (Ends ∷ xs) ys e = absurd (both_ways true (sym e) refl)
 cut_stays n a (Reads i item ∷ xs) ys e = let x : Action = Reads i item in or_same (is_number n (cut_by a x)) (has_cut n (after a x) xs) (has_cut n (after a x) (xs ++ ys)) (cut_stays n (after a x) xs ys) e
@@ -63,7 +63,7 @@ or_later : (b c : Bool) → c ≡ true → (if b then true else c) ≡ true
 or_later true c e = refl
 or_later false c e = e
 
-cut_later : (n : ℕ) (a : Alignment) (xs ys : List Action) → has_ended xs ≡ false → has_cut n (replay a xs) ys ≡ true → has_cut n a (xs ++ ys) ≡ true
+pub cut_later : (n : ℕ) (a : Alignment) (xs ys : List Action) → has_ended xs ≡ false → has_cut n (replay a xs) ys ≡ true → has_cut n a (xs ++ ys) ≡ true
 cut_later n a [] ys e f = f
 cut_later n a (Ends ∷ xs) ys e f = absurd (both_ways true e refl)
 cut_later n a (Reads i item ∷ xs) ys e f = let x : Action = Reads i item in or_later (is_number n (cut_by a x)) (has_cut n (after a x) (xs ++ ys)) (cut_later n (after a x) xs ys e f)
@@ -87,7 +87,7 @@ cuts n b (GivenUp id) e = (GivesUp id, [], λ es. refl, e)
 cuts n b Drawn e = grind (arith, common_steps)
 cuts n b Ended e = grind (arith, common_steps)
 
-turn_cuts : (n : ℕ) (b : Alignment) (turn : Turn) (es : List Emitted) → cut_of b turn ≡ Some n → has_cut n b (told turn ++ sendings es) ≡ true
+pub turn_cuts : (n : ℕ) (b : Alignment) (turn : Turn) (es : List Emitted) → cut_of b turn ≡ Some n → has_cut n b (told turn ++ sendings es) ≡ true
 turn_cuts n b (Offered i item) es e = is_cut_by n (cut_by b (Reads i item)) (has_cut n (after b (Reads i item)) (sendings es)) e
 turn_cuts n b (GivenUp id) es e = is_cut_by n (cut_by b (GivesUp id)) (has_cut n (after b (GivesUp id)) (sendings es)) e
 turn_cuts n b Drawn es e = grind (arith, common_steps)
@@ -118,10 +118,10 @@ or_none : (b c : Bool) → b ≡ false → c ≡ false → (b || c) ≡ false
 or_none b c e f = grind (arith, common_steps)
 
 -- what the law says, of the turns of a task
-abbrev IsSnap : Program → ℕ → Alignment → List Turn → Snapped → Type 0
+abbrev pub IsSnap : Program → ℕ → Alignment → List Turn → Snapped → Type 0
 IsSnap p s a turns one = (has_cut one.id a (actions p s a turns) ≡ true) × (one.state ≡ state p s (moves_in a (turns_before one.id p s a turns)))
 
-snap_stays : (p : Program) (s : ℕ) (a : Alignment) (turn : Turn) (turns : List Turn) (one : Snapped) → IsSnap p s a turns one → IsSnap p s a (turn ∷ turns) one
+pub snap_stays : (p : Program) (s : ℕ) (a : Alignment) (turn : Turn) (turns : List Turn) (one : Snapped) → IsSnap p s a turns one → IsSnap p s a (turn ∷ turns) one
 snap_stays p s a turn turns one k =
     let cut = cut_stays one.id a (actions p s a turns) (acts p (state p s (moves_in a turns)) (aligned a turns) turn) k.0 in
     (cut, k.1 ∙ ap (λ l. state p s (moves_in a l)) (sym (stopped_by one.id p s a turn turns cut)))
@@ -149,7 +149,7 @@ snap_by p s inputs turn turns one (Some n) going e (inl is) before =
     subst At (sym is) (snap_now p s inputs n turn turns going e)
 snap_by p s inputs turn turns one (Some n) going e (inr has) before = snap_stays p s (opened inputs) turn turns one (before has)
 
-snaps : (p : Program) (s inputs : ℕ) (turns : List Turn) (one : Snapped) → Ends-last turns → IsIn one (snapped_by p s (opened inputs) turns) → IsSnap p s (opened inputs) turns one
+pub snaps : (p : Program) (s inputs : ℕ) (turns : List Turn) (one : Snapped) → Ends-last turns → IsIn one (snapped_by p s (opened inputs) turns) → IsSnap p s (opened inputs) turns one
 snaps p s inputs [] one last has = absurd has
 snaps p s inputs (turn ∷ turns) one last has = snap_by p s inputs turn turns one (cut_of (aligned (opened inputs) turns) turn) last.1 refl has (snaps p s inputs turns one last.0)
 

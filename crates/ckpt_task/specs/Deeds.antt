@@ -14,8 +14,8 @@ abbrev pub as_came : Option Next → List Deed
 as_came None = []
 as_came (Some next) = Came next ∷ []
 
--- after a fault a deed was done or not
-abbrev pub IsUndone : Deed → List Deed → List Deed → Type 0
+-- after a fault a deed was done or not, or a snapshot saved
+abbrev pub IsUndone : {X : Type 0} → X → List X → List X → Type 0
 IsUndone deed before now = (now ≡ before) ⊎ (now ≡ deed ∷ before)
 
 -- what came, as turns

@@ -38,12 +38,12 @@ SnapsAtCut job from h t one =
 
 -- Each acknowledgement that was accepted is of a record whose snapshot its task took. An engine acknowledges so if it
 -- makes the call with the `Cut` of a turn of the task.
-abbrev pub AcknowledgesSnapped : ℕ → Opening → List Call → Job → States → History → Type 0
-AcknowledgesSnapped id o calls job from h =
+abbrev pub AcknowledgesSnapped : Opening → Job → States → History → ℕ → List Call → Type 0
+AcknowledgesSnapped o job from h id calls =
     (a : Acked) → IsIn a (along (accepted_by id) (model.opened o) calls) → (one : Snapped) × IsIn one (snapped job from h a.subtask) × (one.id ≡ id)
 
--- after some calls this record was live and done, and it is one of this job
-pub record WasCompleted (n : ℕ) (o : Opening) (job : Job) (from : States) (h : History) : Type 0 where
+-- After some calls this record was live and done, and it is one of this job. Its acknowledgements are as the premise says.
+pub record WasCompletedBy (Premise : ℕ → List Call → Type 0) (n : ℕ) (o : Opening) (job : Job) : Type 0 where
   pub calls : List Call
   pub are_calls : AreCalls calls
   pub done_record : Record
@@ -51,7 +51,7 @@ pub record WasCompleted (n : ℕ) (o : Opening) (job : Job) (from : States) (h :
   pub is_done : done_record.done ≡ true
   pub is_this : done_record.id ≡ n
   pub is_of_job : subtasks done_record.shape ≡ job.tasks
-  pub acknowledged : AcknowledgesSnapped done_record.id o calls job from h
+  pub acknowledged : Premise done_record.id calls
 
 -- Engines one after the other: each but the first starts from the snapshots of a done record.
 abbrev pub AreEngines : Opening → Job → List Attempt → Type 0
@@ -59,7 +59,7 @@ AreEngines o job [] = Unit {0}
 AreEngines o job (attempt ∷ attempts) =
     AreEngines o job attempts
     × IsWorking job (restored job attempts) attempt.history
-    × WasCompleted attempt.record_id o job (restored job attempts) attempt.history
+    × WasCompletedBy (AcknowledgesSnapped o job (restored job attempts) attempt.history) attempt.record_id o job
 
 -- Their failures are invisible, in the states of the tasks and in what sinks publish.
 abbrev pub AreSeamless : Opening → Job → List Attempt → History → Type 0

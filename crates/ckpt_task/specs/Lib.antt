@@ -2,6 +2,7 @@
 pub mod Deeds
 pub mod Engines
 pub mod Laws
+pub mod Loops
 pub mod Restores
 pub mod Runs
 pub mod Saving

@@ -30,9 +30,10 @@ pub record IsRestored (inputs n : ℕ) (ones : List Saved) (task : At) : Type 0 
   pub opened : task.alignment ≡ opened inputs
 
 -- If there was no snapshot of the record before this attempt, the task had cut the record, and begins the next attempt as the laws say: in its snapshot.
-abbrev pub RestoresSnapshot : Job → States → History → SubtaskId → ℕ → List Saved → List Saved → At → Type 0
-RestoresSnapshot job from h t n before now task =
-    IsWorking job from h
+abbrev pub RestoresSnapshot : Job → States → History → SubtaskId → ℕ → At → Type 0
+RestoresSnapshot job from h t n task =
+    (before now : List Saved)
+    → IsWorking job from h
     → AreSaved (job.program t) (from t) (opened (job.inputs t)) (of t h) before now
     → under n before ≡ None
     → IsRestored (job.inputs t) n now task

@@ -1,5 +1,5 @@
 -- What a run of a task does: turn by turn what came to it, as `ckpt_once` has it.
-use Rattle.std.specs.Prelude.{◌≡◌, ◌⊎◌, ℕ, List, [], ◌∷◌, ◌++◌, length, Option, Some, None}
+use Rattle.std.specs.Prelude.{◌≡◌, ◌⊎◌, ℕ, Bool, MatchBool, List, [], ◌∷◌, ◌++◌, length, Option, Some, None}
 use Rattle.ckpt_align.specs.Histories.{sent, taken}
 use Rattle.ckpt_ledger.specs.Ledgers.{Held}
 use Rattle.ckpt_once.specs.Programs.{Program, Turn, actions, aligned, moves_in, state}
@@ -110,3 +110,24 @@ pub record HasSunkOnce (p : Program) (m l : SinkAt) (x y : Around) : Type 0 wher
   pub one : HasTurned p (λ turn. (after_turn p m turn).waiting) x y
   pub held : l.held ≡ after_turn p m one.turn
   pub output : l.output ≡ m.output
+
+-- THE CLAUSES OF THE LOOPS: a run of a task, or one turn if anything came, over channels and snapshots of any types. Their traits
+-- tell what they did.
+
+abbrev pub RunsOver : {C S : Type 0} → Program → ℕ → (C → List Deed) → (S → List Saved) → (S → List ℕ) → At → C → S → At → C → S → Type 0
+RunsOver p n deeds saved refused m c s l d t = HasRun p waits_none n (around m (deeds c) (saved s) (refused s)) (around l (deeds d) (saved t) (refused t))
+
+abbrev pub TurnsOver : {C S : Type 0} → Program → Bool → (C → List Deed) → (S → List Saved) → (S → List ℕ) → At → C → S → At → C → S → Type 0
+TurnsOver p came deeds saved refused m c s l d t =
+    let x : Around = around m (deeds c) (saved s) (refused s) in
+    let y : Around = around l (deeds d) (saved t) (refused t) in
+    MatchBool came (HasTurned p (λ _. []) x y) (y ≡ x)
+
+abbrev pub SinksOver : {C S : Type 0} → Program → ℕ → (C → List Deed) → (S → List Saved) → (S → List ℕ) → SinkAt → C → S → SinkAt → C → S → Type 0
+SinksOver p n deeds saved refused m c s l d t = HasSunk p n m l (around m.task (deeds c) (saved s) (refused s)) (around l.task (deeds d) (saved t) (refused t))
+
+abbrev pub SinksOnce : {C S : Type 0} → Program → Bool → (C → List Deed) → (S → List Saved) → (S → List ℕ) → SinkAt → C → S → SinkAt → C → S → Type 0
+SinksOnce p came deeds saved refused m c s l d t =
+    let x : Around = around m.task (deeds c) (saved s) (refused s) in
+    let y : Around = around l.task (deeds d) (saved t) (refused t) in
+    MatchBool came (HasSunkOnce p m l x y) ((y ≡ x) × (l ≡ m))

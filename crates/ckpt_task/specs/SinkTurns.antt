@@ -1,10 +1,14 @@
 -- What the turns of a sink enter into its ledger.
-use Rattle.std.specs.Prelude.{ℕ, Bool, map}
+use Rattle.std.specs.Prelude.{◌≡◌, ℕ, Bool, map, Option, Some, Result}
+use Rattle.ckpt_align.specs.declared.event.Answer.{Answer}
+use Rattle.ckpt_align.specs.declared.event.Refusal.{Refusal}
 use Rattle.ckpt_ledger.specs.Ledgers.{Acts, Cuts, Held, Writes, after_entries, after_entry, entries}
 use Rattle.ckpt_once.specs.Programs.{Program, Turn, acts, on_output}
+use Rattle.ckpt_task.specs.declared.sink_task.SinkFault.{SinkFault}
+use Rattle.ckpt_task.specs.declared.sink_task.SinkFault.TheVariants as sink_fault
 use Rattle.ckpt_task.specs.declared.turn.Outcome.{Outcome}
 use Rattle.ckpt_task.specs.declared.turn.Outcome.TheVariants.{Moved, Cut}
-use Rattle.ckpt_task.specs.Turns.{At}
+use Rattle.ckpt_task.specs.Turns.{At, refusal_as}
 
 -- the task of a sink, its ledger, its own output, and whether memory ran out in the middle of a turn
 pub record SinkAt : Type 0 where
@@ -12,6 +16,10 @@ pub record SinkAt : Type 0 where
   pub held : Held
   pub output : ℕ
   pub has_failed : Bool
+
+-- if it says that the aligner refused the turn, the answer was that
+abbrev pub IsRefusedAs : SinkFault → Option (Result Answer Refusal) → Type 0
+IsRefusedAs why one = (r : Refusal) → why ≡ sink_fault.Refused r → refusal_as one ≡ Some r
 
 -- the ledger after a turn: it is told each write and each cut
 abbrev pub after_turn : Program → SinkAt → Turn → Held

@@ -31,6 +31,10 @@ as_turn (next.End i) = Offered i item.End
 as_turn (next.GiveUp n) = GivenUp n
 as_turn next.Draw = Drawn
 
+-- an element is next
+abbrev pub offers : ℕ → ℕ → Turn
+offers i x = Offered i (item.Element x)
+
 -- the task after a turn
 abbrev pub turned : Program → At → Turn → At
 turned p m turn = record { state = state p m.state (moves_in m.alignment (turn ∷ [])); alignment = aligned m.alignment (turn ∷ []) }

@@ -1,14 +1,20 @@
 -- Worked examples: a source and an adder over one channel, turn by turn. The job is that of `ckpt_once`. The expected
 -- values were written by hand.
-use Rattle.std.specs.Prelude.{◌≡◌, ℕ, List, [], ◌∷◌, refl, true, false, Some}
+use Rattle.std.specs.Prelude.{◌≡◌, ℕ, Bool, List, [], ◌∷◌, refl, true, false, Some, if◌then◌else◌}
 use Rattle.ckpt_align.specs.Alignment.{opened}
 use Rattle.ckpt_align.specs.Histories.{Element, Barrier}
 use Rattle.ckpt_align.specs.Steps.{step, settled, barrier}
 use Rattle.ckpt_ids.specs.declared.subtask.SubtaskId.{SubtaskId}
-use Rattle.ckpt_once.specs.Programs.{Turn, Offered, Drawn}
+use Rattle.ckpt_ids.specs.Shapes.{same_subtask}
+use Rattle.ckpt_once.specs.Programs.{Turn, Offered, Drawn, Ended}
 use Rattle.ckpt_once.specs.Jobs.{By, History, starts}
 use Rattle.ckpt_once.specs.WorkedExamples.{adder, job, line, source}
+use Rattle.ckpt_task.specs.declared.deed.Deed.{Deed}
+use Rattle.ckpt_task.specs.declared.deed.Deed.TheVariants.{Came, Took, Sent, SentBarrier, Acknowledged}
+use Rattle.ckpt_task.specs.declared.turn.Next.TheVariants as next
 use Rattle.ckpt_task.specs.Engines.{engine, snapped}
+use Rattle.ckpt_task.specs.Loops.{KeepsOrder, Looped, Loops, history_of}
+use Rattle.ckpt_task.specs.Runs.{around}
 use Rattle.ckpt_task.specs.Saving.{state_under}
 use Rattle.ckpt_task.specs.SinkTurns.{SinkAt, after_turn}
 use Rattle.ckpt_task.specs.Turns.{At, cut_of, is_left, answer_in, puts, takes, turned}
@@ -96,3 +102,23 @@ sink_seals = refl
 -- The newest snapshot of a record counts.
 pub loads_newest : state_under 7 (record { id = 8; state = 3; waiting = [] } ∷ record { id = 7; state = 2; waiting = [] } ∷ record { id = 7; state = 1; waiting = [] } ∷ []) ≡ Some 2
 loads_newest = refl
+
+-- The source and the adder in loops. The source has read 100 and cut record 7; the adder has taken 100, and then it ended.
+abbrev looped : List Deed → Bool → Looped
+looped deeds has_ended = record { first = around at [] [] []; last = around at deeds [] []; has_ended = has_ended }
+
+abbrev source_did : List Deed
+source_did = Acknowledged 7 ∷ SentBarrier 7 ∷ Took ∷ Came (next.Barrier 0 7) ∷ Sent 0 100 ∷ Took ∷ Came next.Draw ∷ []
+
+abbrev adder_did : List Deed
+adder_did = Sent 0 100 ∷ Took ∷ Came (next.Element 0 100) ∷ []
+
+abbrev loops : Loops
+loops = record { looped = λ t. if same_subtask t adder then looped adder_did true else looped source_did false; order = adder ∷ source ∷ [] }
+
+pub loops_history : history_of loops ≡ by adder Ended ∷ by adder (Offered 0 (Element 100)) ∷ by source (Offered 0 (Barrier 7)) ∷ by source Drawn ∷ []
+loops_history = refl
+
+-- the barrier is on the way
+pub loops_keep_order : KeepsOrder loops line
+loops_keep_order = (Barrier 7 ∷ [], refl)

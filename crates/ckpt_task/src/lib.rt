@@ -12,6 +12,7 @@ pub mod channels;
 pub mod deed;
 pub mod laws;
 pub mod log;
+pub mod loops;
 pub mod program;
 pub mod restarts;
 pub mod runner;

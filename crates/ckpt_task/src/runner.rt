@@ -1,10 +1,11 @@
 //! The loop of a task: it takes turns until nothing comes.
 
-ghost use Rattle.std.specs.Prelude.{◌≡◌, ◌∷◌, ◌++◌, ℕ, [], IfOk, OnOk, MatchBool};
+ghost use Rattle.std.specs.Prelude.{◌≡◌, ◌∷◌, ◌++◌, ℕ, IfOk, OnOk};
 ghost use Rattle.ckpt_once.specs.Programs.{Ended};
+ghost use Rattle.ckpt_task.specs.declared.deed.Deed.TheVariants as deed;
 ghost use Rattle.ckpt_task.specs.Deeds.{after_sends, deeds_after, sent_in};
 ghost use Rattle.ckpt_task.specs.Turns.{puts};
-ghost use Rattle.ckpt_task.specs.Runs.{HasRun, HasTurned, around, waits_none};
+ghost use Rattle.ckpt_task.specs.Runs.{RunsOver, TurnsOver};
 
 use crate::channels::{ChannelFault, Channels};
 use crate::program::{Emitted, Program};
@@ -111,7 +112,7 @@ impl<P: Program> Task<P> {
         snapshots: &mut S,
         turns: u64,
     ) -> Result<u64, RunFault>
-        ensures { IfOk result (λ n. HasRun P.program waits_none n (around self.old (C.deeds channels.old) (S.saved snapshots.old) (S.refused snapshots.old)) (around self.new (C.deeds channels.new) (S.saved snapshots.new) (S.refused snapshots.new))) }
+        ensures { IfOk result (λ n. RunsOver P.program n C.deeds S.saved S.refused self.old channels.old snapshots.old self.new channels.new snapshots.new) }
     {
         for done in 0..turns {
             if !self.run_once(channels, snapshots)? {
@@ -124,6 +125,7 @@ impl<P: Program> Task<P> {
     /// Ends the task, after a run: puts the end on each output. What is left is its state.
     pub fn finish<C: Channels>(self, channels: &mut C) -> Result<P, ChannelFault>
         ensures state { IfOk result (λ state. P.number state ≡ self.state) }
+        ensures ended { OnOk result (C.deeds channels.new ≡ deed.SentEnd ∷ C.deeds channels.old) }
         ensures sent { OnOk result ((c : ℕ) → sent_in c (C.deeds channels.new) ≡ sent_in c (C.deeds channels.old) ++ puts P.program self Ended c) }
     {
         channels.send_end()?;
@@ -136,7 +138,7 @@ impl<P: Program> Task<P> {
         channels: &mut C,
         snapshots: &mut S,
     ) -> Result<bool, RunFault>
-        ensures { IfOk result (λ b. let before = around self.old (C.deeds channels.old) (S.saved snapshots.old) (S.refused snapshots.old) in let now = around self.new (C.deeds channels.new) (S.saved snapshots.new) (S.refused snapshots.new) in MatchBool b (HasTurned P.program (λ _. []) before now) (now ≡ before)) }
+        ensures { IfOk result (λ b. TurnsOver P.program b C.deeds S.saved S.refused self.old channels.old snapshots.old self.new channels.new snapshots.new) }
     {
         let Some(next) = channels.next(self.aligner())? else {
             return Ok(false);

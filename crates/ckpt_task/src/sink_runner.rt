@@ -1,7 +1,7 @@
 //! The loop of a sink: it takes turns until nothing comes.
 
-ghost use Rattle.std.specs.Prelude.{◌≡◌, IfOk, MatchBool, false};
-ghost use Rattle.ckpt_task.specs.Runs.{HasSunk, HasSunkOnce, around};
+ghost use Rattle.std.specs.Prelude.{IfOk};
+ghost use Rattle.ckpt_task.specs.Runs.{SinksOver, SinksOnce};
 
 use crate::channels::Channels;
 use crate::program::Program;
@@ -18,7 +18,7 @@ impl<P: Program> SinkTask<P> {
         snapshots: &mut S,
         turns: u64,
     ) -> Result<u64, RunFault>
-        ensures { IfOk result (λ n. HasSunk P.program n self.old self.new (around self.old.task (C.deeds channels.old) (S.saved snapshots.old) (S.refused snapshots.old)) (around self.new.task (C.deeds channels.new) (S.saved snapshots.new) (S.refused snapshots.new))) }
+        ensures { IfOk result (λ n. SinksOver P.program n C.deeds S.saved S.refused self.old channels.old snapshots.old self.new channels.new snapshots.new) }
     {
         for done in 0..turns {
             if !self.run_once(channels, snapshots)? {
@@ -34,8 +34,7 @@ impl<P: Program> SinkTask<P> {
         channels: &mut C,
         snapshots: &mut S,
     ) -> Result<bool, RunFault>
-        ensures turn { IfOk result (λ b. let before = around self.old.task (C.deeds channels.old) (S.saved snapshots.old) (S.refused snapshots.old) in let now = around self.new.task (C.deeds channels.new) (S.saved snapshots.new) (S.refused snapshots.new) in MatchBool b (HasSunkOnce P.program self.old self.new before now) (now ≡ before)) }
-        ensures nothing { IfOk result (λ b. b ≡ false → self.new ≡ self.old) }
+        ensures { IfOk result (λ b. SinksOnce P.program b C.deeds S.saved S.refused self.old channels.old snapshots.old self.new channels.new snapshots.new) }
     {
         let Some(next) = channels.next(self.aligner())? else {
             return Ok(false);

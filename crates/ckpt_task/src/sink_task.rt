@@ -8,7 +8,7 @@ ghost use Rattle.ckpt_ledger.specs.Ledgers.{Completes, Writes, after_entries, af
 ghost use Rattle.ckpt_once.specs.Programs.{on_output};
 ghost use Rattle.ckpt_once.specs.Sinks.{up_to};
 ghost use Rattle.ckpt_task.specs.Saving.{state_under, waiting_under};
-ghost use Rattle.ckpt_task.specs.SinkTurns.{after_outcome, after_turn};
+ghost use Rattle.ckpt_task.specs.SinkTurns.{IsRefusedAs, after_outcome, after_turn};
 ghost use Rattle.ckpt_task.specs.Turns.{IsSaved, abandoned_as, abandoned_in, answer_in, as_turn, cut_in, cut_of, is_held, is_left, put_on, puts, refusal_as, refusals_of, turned};
 ghost use Rattle.ckpt_task.specs.declared.sink_task.SinkFault.TheVariants as sink_fault;
 
@@ -151,7 +151,7 @@ impl<P: Program> SinkTask<P> {
         ensures refuses_none { OnErr result (S.refused snapshots.new ≡ S.refused snapshots.old) }
         ensures unsaved { OnErr result (S.saved snapshots.new ≡ S.saved snapshots.old) }
         ensures answered { OnOk result (refusal_as (answer_in self.old.task.alignment (as_turn next)) ≡ None) }
-        ensures refused { IfErr result (λ why. (r : Refusal) → why ≡ sink_fault.Refused r → refusal_as (answer_in self.old.task.alignment (as_turn next)) ≡ Some r) }
+        ensures refused { IfErr result (λ why. IsRefusedAs why (answer_in self.old.task.alignment (as_turn next))) }
         ensures output { self.new.output ≡ self.old.output }
         ensures going { OnOk result (self.new.has_failed ≡ false) }
         ensures failed { IfErr result (λ why. why ≡ sink_fault.Failed → self.new.has_failed ≡ true) }

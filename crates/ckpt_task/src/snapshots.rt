@@ -1,6 +1,7 @@
 //! Where the snapshots of a task are kept.
 
-ghost use Rattle.std.specs.Prelude.{◌≡◌, ◌⊎◌, ℕ, List, ◌∷◌, Some, IfOk, OnErr, OnOk};
+ghost use Rattle.std.specs.Prelude.{◌≡◌, ℕ, List, ◌∷◌, Some, IfOk, OnErr, OnOk};
+ghost use Rattle.ckpt_task.specs.Deeds.{IsUndone};
 ghost use Rattle.ckpt_task.specs.Saving.{Saved, state_under, waiting_under};
 
 use crate::program::Program;
@@ -40,7 +41,7 @@ pub trait Snapshots<P: Program> {
         ensures saved { OnOk result (saved self.new ≡ record { id = id; state = P.number state.now; waiting = waiting.now } ∷ saved self.old) }
         ensures refuses_none { OnOk result (refused self.new ≡ refused self.old) }
         ensures refuses { OnErr result (refused self.new ≡ id ∷ refused self.old) }
-        ensures failed { OnErr result ((saved self.new ≡ saved self.old) ⊎ (saved self.new ≡ record { id = id; state = P.number state.now; waiting = waiting.now } ∷ saved self.old)) };
+        ensures failed { OnErr result (IsUndone (record { id = id; state = P.number state.now; waiting = waiting.now }) (saved self.old) (saved self.new)) };
 
     /// Loads the snapshot of this record, as it was saved last.
     fn load(&mut self, id: CheckpointId) -> Result<Loaded<P>, SnapshotFault>

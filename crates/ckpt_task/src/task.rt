@@ -4,12 +4,11 @@ ghost use Rattle.std.specs.Prelude.{◌≡◌, ◌↔◌, ◌++◌, ℕ, [], ◌
 ghost use Rattle.ckpt_align.specs.Alignment.{is_a_task, opened};
 ghost use Rattle.ckpt_align.specs.declared.aligner.OpenFault.TheVariants as open_fault;
 ghost use Rattle.ckpt_align.specs.declared.event.Refusal.{Refusal};
-ghost use Rattle.ckpt_align.specs.Histories as item;
 ghost use Rattle.ckpt_align.specs.Histories.{answer_to};
 ghost use Rattle.ckpt_align.specs.Steps.{step};
-ghost use Rattle.ckpt_once.specs.Programs.{Offered, aligned, emitted_by, move_in, moves_in, on_output, state};
+ghost use Rattle.ckpt_once.specs.Programs.{aligned, emitted_by, move_in, moves_in, on_output, state};
 ghost use Rattle.ckpt_task.specs.Saving.{state_under, waiting_under};
-ghost use Rattle.ckpt_task.specs.Turns.{IsSaved, IsToldAs, abandoned_as, abandoned_in, answer_in, as_turn, cut_in, cut_of, emitted_in, is_held, is_left, is_unsaved, put_on, puts, refusal_as, refusal_in, refusals_of, told_as};
+ghost use Rattle.ckpt_task.specs.Turns.{IsSaved, IsToldAs, abandoned_as, abandoned_in, answer_in, as_turn, cut_in, cut_of, emitted_in, is_held, is_left, is_unsaved, offers, put_on, puts, refusal_as, refusal_in, refusals_of, told_as};
 
 use crate::program::Program;
 use crate::snapshots::{Loaded, SnapshotFault, Snapshots};
@@ -160,15 +159,15 @@ impl<P: Program> Task<P> {
     /// An element is next on this input.
     #[tactic(auto, using(crate::proofs::Turning::element_stays, crate::proofs::Turning::element_put))]
     fn element(&mut self, input: u32, element: u64) -> Result<Outcome, TurnFault>
-        ensures state { OnOk result (self.new.state ≡ state P.program self.old.state (moves_in self.old.alignment (Offered input (item.Element element) ∷ []))) }
-        ensures aligner { OnOk result (self.new.alignment ≡ aligned self.old.alignment (Offered input (item.Element element) ∷ [])) }
-        ensures emitted { IfOk result (λ o. emitted_in o ≡ emitted_by P.program self.old.state (move_in self.old.alignment (Offered input (item.Element element)))) }
-        ensures put { IfOk result (λ o. (c : ℕ) → put_on c o ≡ puts P.program self.old (Offered input (item.Element element)) c) }
-        ensures held { IfOk result (λ o. is_held o ≡ is_left (answer_in self.old.alignment (Offered input (item.Element element)))) }
-        ensures cut { IfOk result (λ o. cut_in o ≡ cut_of self.old.alignment (Offered input (item.Element element))) }
-        ensures abandoned { IfOk result (λ o. abandoned_in o ≡ abandoned_as (answer_in self.old.alignment (Offered input (item.Element element)))) }
+        ensures state { OnOk result (self.new.state ≡ state P.program self.old.state (moves_in self.old.alignment (offers input element ∷ []))) }
+        ensures aligner { OnOk result (self.new.alignment ≡ aligned self.old.alignment (offers input element ∷ [])) }
+        ensures emitted { IfOk result (λ o. emitted_in o ≡ emitted_by P.program self.old.state (move_in self.old.alignment (offers input element))) }
+        ensures put { IfOk result (λ o. (c : ℕ) → put_on c o ≡ puts P.program self.old (offers input element) c) }
+        ensures held { IfOk result (λ o. is_held o ≡ is_left (answer_in self.old.alignment (offers input element))) }
+        ensures cut { IfOk result (λ o. cut_in o ≡ cut_of self.old.alignment (offers input element)) }
+        ensures abandoned { IfOk result (λ o. abandoned_in o ≡ abandoned_as (answer_in self.old.alignment (offers input element))) }
         ensures fresh { IfOk result (λ o. is_unsaved o ≡ false) }
-        ensures refused { refusal_in result ≡ refusal_as (answer_in self.old.alignment (Offered input (item.Element element))) }
+        ensures refused { refusal_in result ≡ refusal_as (answer_in self.old.alignment (offers input element)) }
         ensures unchanged { OnErr result (self.new ≡ self.old) }
     {
         match self.aligner.apply(Event::Element(input))? {

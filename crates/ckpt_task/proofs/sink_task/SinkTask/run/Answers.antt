@@ -17,14 +17,15 @@ returns-then-not-branch g c =
     let z : Around = around c.run_once.new.self.task (g.C.Channels.deeds c.run_once.new.channels) (g.S.Snapshots.saved c.run_once.new.snapshots) (g.S.Snapshots.refused c.run_once.new.snapshots) in
     let Same : SinkAt → Type 0 = λ l. HasSunk g.P.Program.program c.loop-done.done c.args.self.now l x z in
     let To : Around → Type 0 = λ w. HasSunk g.P.Program.program c.loop-done.done c.args.self.now c.loop-done.self x w in
-    subst Same (sym (c.in_ok-run_once.ensures.nothing c.if-not-branch.true)) (subst To (sym (by_false _ c.in_ok-run_once.field-0 c.if-not-branch.true c.in_ok-run_once.ensures.turn)) c.loop-done.invariant)
+    let nothing = by_false _ c.in_ok-run_once.field-0 c.if-not-branch.true c.in_ok-run_once.ensures in
+    subst Same (sym nothing.1) (subst To (sym nothing.0) c.loop-done.invariant)
 
 pub loop-done-preserved : goal.loop-done-preserved
 loop-done-preserved g c =
     let x : Around = around c.args.self.now.task (g.C.Channels.deeds c.args.channels.now) (g.S.Snapshots.saved c.args.snapshots.now) (g.S.Snapshots.refused c.args.snapshots.now) in
     let y : Around = around c.loop-done.self.task (g.C.Channels.deeds c.loop-done.channels) (g.S.Snapshots.saved c.loop-done.snapshots) (g.S.Snapshots.refused c.loop-done.snapshots) in
     let z : Around = around c.run_once.new.self.task (g.C.Channels.deeds c.run_once.new.channels) (g.S.Snapshots.saved c.run_once.new.snapshots) (g.S.Snapshots.refused c.run_once.new.snapshots) in
-    sinks_more g.P.Program.program c.loop-done.done c.args.self.now c.loop-done.self c.run_once.new.self x y z refl refl c.loop-done.invariant (by_true _ c.in_ok-run_once.field-0 c.if-not-branch.false c.in_ok-run_once.ensures.turn)
+    sinks_more g.P.Program.program c.loop-done.done c.args.self.now c.loop-done.self c.run_once.new.self x y z refl refl c.loop-done.invariant (by_true _ c.in_ok-run_once.field-0 c.if-not-branch.false c.in_ok-run_once.ensures)
 
 pub returns : goal.returns
 returns g c =

@@ -11,8 +11,8 @@ use Rattle.ckpt_task.specs.Turns.{IsSaved}
 use Rattle.ckpt_task.specs.declared.turn.Next.{Next}
 use Rattle.ckpt_task.specs.declared.turn.Outcome.{Outcome}
 
-pub returns-clause-turn : goal.returns-clause-turn
-returns-clause-turn g c =
+pub returns : goal.returns
+returns g c =
     let p : Program = g.P.Program.program in
     let m : SinkAt = c.args.self.now in
     let next : Next = c.in-Some.next in

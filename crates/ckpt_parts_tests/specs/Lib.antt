@@ -1,0 +1,3 @@
+-- The definitions that contracts cite.
+pub mod Adders
+pub mod Rows
