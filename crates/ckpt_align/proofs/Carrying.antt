@@ -11,7 +11,7 @@ use Rattle.std.proofs.Common.{inl, inr}
 
 -- the sender
 
-elements-barriers : (o : Option ℕ) (items : List Item) → elements (barriers o ++ items) ≡ elements items
+pub elements-barriers : (o : Option ℕ) (items : List Item) → elements (barriers o ++ items) ≡ elements items
 elements-barriers None items = refl
 elements-barriers (Some m) items = refl
 
@@ -39,7 +39,7 @@ sent_before n c a (Reads i item ∷ actions) =
 
 -- the receiver
 
-is_number-Some : (n : ℕ) (o : Option ℕ) → is_number n o ≡ true → o ≡ Some n
+pub is_number-Some : (n : ℕ) (o : Option ℕ) → is_number n o ≡ true → o ≡ Some n
 is_number-Some n None e = grind (arith, common_steps)
 is_number-Some n (Some m) e = grind (arith, common_steps)
 

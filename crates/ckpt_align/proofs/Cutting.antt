@@ -3,7 +3,8 @@ use Rattle.ckpt_align.proofs.Names.{◌≡◌, ◌≢◌, ℕ, ◌<◌, Bool, tr
 use Rattle.ckpt_align.proofs.Names.{Input, Open, Held, Ended, Alignment, is_open, is_late, released, is_aligning, held_for, with_input, opened, Item, Element, Barrier, End, Action, Reads, GivesUp, Sends, Ends}
 use Rattle.ckpt_align.proofs.Names.{after, answer_to, before, cut_as, cut_by, elements, event_of, is_taken, replay, taken, taken_by}
 use Rattle.ckpt_align.proofs.ItemLemmas.{Stops, elements-append}
-use Rattle.ckpt_align.proofs.InputLemmas.{any-get, get-within, length-replicate}
+use Rattle.ckpt_ids.proofs.PlaceLemmas.{some_at}
+use Rattle.ckpt_align.proofs.InputLemmas.{any-get, length-replicate}
 use Rattle.ckpt_align.proofs.Fitting.{Fits, FitsAs, opened_fits, action_fits, not_late-latest, barrier_by, held_fits-same, held_fits-other, ended_fits-same, ended_fits-other, above_not}
 use Rattle.ckpt_align.proofs.Fitting.{taken-same, taken-other, taken_always, element_reads-other}
 unfoldable use Rattle.ckpt_align.proofs.Fitting.{settled_by, give_up_by}
@@ -39,7 +40,7 @@ not_open a j s none at = grind (arith, common_steps, any-get is_open a.inputs j 
 settled_stops : (j n : ℕ) (a : Alignment) (c : List Item) → cut_as (settled a).1 ≡ Some n → Fits j a c → j < length a.inputs → Stops n c
 settled_stops j n a c e h within =
     let cut = settled_cut a n e in
-    let its = get-within a.inputs j within in
+    let its = some_at a.inputs j within in
     let At : ℕ → Type 0 = λ m. Stops m c in
     subst At (sym cut.2) (stops_as a its.0 c cut.0 (not_open a j its.0 cut.1 its.1) (h its.0 its.1))
 

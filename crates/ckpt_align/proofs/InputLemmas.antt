@@ -1,5 +1,5 @@
 -- Lists of inputs.
-use Rattle.ckpt_align.proofs.Names.{◌≡◌, ◌≢◌, ℕ, zero, suc, ◌<◌, Bool, true, false, List, [], ◌∷◌, length, map, refl, ap, arith, common_steps, Some, replicate, slice_get, slice_set, list_any}
+use Rattle.ckpt_align.proofs.Names.{◌≡◌, ◌≢◌, ℕ, zero, suc, Bool, true, false, List, [], ◌∷◌, length, map, refl, ap, arith, common_steps, Some, replicate, slice_get, slice_set, list_any}
 use Rattle.ckpt_align.proofs.Names.{Input, Open, Held, Ended, is_held, is_open, released}
 
 pub get-set_same : {X : Type 0} (xs : List X) (i : ℕ) (x y : X) → slice_get xs i ≡ Some x → slice_get (slice_set xs i y) i ≡ Some y
@@ -21,12 +21,6 @@ get-replicate (suc n) (suc j) x y e = get-replicate n j x y e
 
 pub length-replicate : {X : Type 0} (n : ℕ) (x : X) → length (replicate n x) ≡ n
 length-replicate n x = grind (arith, common_steps)
-
--- a place within a list has an element
-pub get-within : {X : Type 0} (xs : List X) (j : ℕ) → j < length xs → (x : X) × (slice_get xs j ≡ Some x)
-get-within [] j h = absurd (omega arith)
-get-within (x ∷ xs) zero h = (x, refl)
-get-within (x ∷ xs) (suc j) h = get-within xs j (omega arith)
 
 -- an element that passes a test is found
 pub any-get : {X : Type 0} (p : X → Bool) (xs : List X) (j : ℕ) (x : X) → slice_get xs j ≡ Some x → p x ≡ true → list_any p xs ≡ true

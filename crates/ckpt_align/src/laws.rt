@@ -12,7 +12,7 @@ pub fn local_cut()
 
 /// A task cuts each record at most once, and in rising order.
 pub fn cuts_rise()
-    ensures { (inputs : ℕ) (actions : List Action) (first : Action) (between : List Action) (second : Action) → CutsRise inputs actions first between second }
+    ensures { (inputs : ℕ) (actions : List Action) (first : Action) (between : List Action) (last : Action) → CutsRise inputs actions first between last }
 {}
 
 /// While an input is held another one is open, so a task can always read on.

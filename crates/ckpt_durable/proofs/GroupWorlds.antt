@@ -2,7 +2,7 @@
 use Rattle.std.proofs.Common.{◌≡◌, ℕ, zero, suc, ◌+◌, ◌<◌, ◌≤◌, true, List, [], ◌∷◌, ◌++◌, take, refl, sym, ap, ◌∙◌, subst, append_assoc, append-nil, take-append-drop, arith}
 use Rattle.std.specs.Prelude.{drop}
 use Rattle.ckpt_ids.specs.declared.reply.Answer.{Answer}
-use Rattle.ckpt_ids.specs.Records.{count, uses}
+use Rattle.ckpt_model.specs.State.{IsUnused}
 use Rattle.ckpt_terms.specs.declared.call.FencedAnswer.TheVariants as answer
 use Rattle.ckpt_terms.specs.declared.call.FencedCall.{FencedCall}
 use Rattle.ckpt_terms.specs.declared.call.FencedCall.TheVariants.{Make, Reserve}
@@ -172,8 +172,8 @@ groups_use_none_again m turns later i t l before after n f is at gone =
     let now : v.life.now ≡ machine.Fenced (fenced_replay n (calls_named rest)) =
     whole_now m v (on_holds m w later (its_world m turns)) ∙ ap (events_replay m) whole ∙ replay-append m before rest
     ∙ ap (λ (k : Machine). events_replay k rest) at ∙ named.1 in
-    ap (λ (k : Machine). count (uses (core_in k).records) f) now
-    ∙ deletions_are_safe n (calls_named rest) (subst IsWell at (replay_well m before each.0 i)) named.0 f gone
+    subst (λ (k : Machine). IsUnused (core_in k) f) (sym now)
+    (deletions_are_safe n (calls_named rest) (subst IsWell at (replay_well m before each.0 i)) named.0 f gone)
 
 pub group_reads_are_safe : (m : Machine) (turns later : List Turn) → IsWell m → AreTurns turns → AreTurns later → ReadsAreSafe m turns later
 group_reads_are_safe m turns later i t l xs ys r n f told at gone =

@@ -1,18 +1,14 @@
 -- What always holds of a coordinator, its device and its callers.
 use Rattle.std.proofs.Common.{◌≡◌, ℕ, zero, suc, List, [], ◌∷◌, ◌++◌, take, refl, sym, ap, ◌∙◌, subst, append_assoc, append-nil}
-use Rattle.ckpt_ids.specs.Records.{count, uses}
+use Rattle.ckpt_model.specs.State.{IsUnused}
 use Rattle.ckpt_terms.specs.declared.call.FencedAnswer.{FencedAnswer}
 use Rattle.ckpt_terms.specs.declared.call.FencedCall.{FencedCall}
 use Rattle.ckpt_terms.specs.Fencing.{Fenced, fenced_step, fenced_replay}
 use Rattle.ckpt_terms.specs.FencedLaws.{AreFencedCalls, IsFenced}
 use Rattle.ckpt_terms.proofs.Classes.{deletions_are_safe}
-use Rattle.ckpt_terms.proofs.Fences.{replay_fenced}
+use Rattle.ckpt_terms.proofs.Fences.{fenced_calls-join, fenced_calls-split, fenced_replay-append, replay_fenced}
 use Rattle.ckpt_durable.specs.Crashes.{AreEvents, Event, Life, Made, Committed, Crashed, IsDurable, IsLife, IsWithin, KeepsAll, UsesNoneAgain, World, along, goes_on, happens, lives, on_device, started, world}
 use Rattle.ckpt_durable.proofs.Lists.{within_both, within_itself, within_take, within_then}
-
-pub replay_append : (m : Fenced) (xs ys : List FencedCall) → fenced_replay m (xs ++ ys) ≡ fenced_replay (fenced_replay m xs) ys
-replay_append m [] ys = refl
-replay_append m (x ∷ xs) ys = replay_append (fenced_step m x).0 xs ys
 
 along_append : (m : Fenced) (xs ys : List FencedCall) → along m (xs ++ ys) ≡ along m xs ++ along (fenced_replay m xs) ys
 along_append m [] ys = refl
@@ -27,10 +23,10 @@ step_holds : (m : Fenced) (w : World) (event : Event) → Holds m w → Holds m 
 step_holds m w (Made call) h =
     let n : Fenced = fenced_replay m w.life.kept in
     let same : on_device w.life ++ call ∷ [] ≡ w.life.kept ++ (w.life.loose ++ call ∷ []) = append_assoc w.life.kept w.life.loose (call ∷ []) in
-    let here : w.life.now ≡ fenced_replay n w.life.loose = h.durable.now ∙ replay_append m w.life.kept w.life.loose in
+    let here : w.life.now ≡ fenced_replay n w.life.loose = h.durable.now ∙ fenced_replay-append m w.life.kept w.life.loose in
     record {
       durable = record {
-        now = ap (λ (k : Fenced). (fenced_step k call).0) h.durable.now ∙ sym (replay_append m (on_device w.life) (call ∷ [])) ∙ ap (fenced_replay m) same;
+        now = ap (λ (k : Fenced). (fenced_step k call).0) h.durable.now ∙ sym (fenced_replay-append m (on_device w.life) (call ∷ [])) ∙ ap (fenced_replay m) same;
         told = h.durable.told;
         made = subst (λ (xs : List FencedCall). IsWithin xs (w.made ++ call ∷ [])) same (within_both (on_device w.life) w.made (call ∷ []) (call ∷ []) h.durable.made (within_itself (call ∷ [])));
       };
@@ -75,23 +71,15 @@ keeps_all m w (Crashed n ∷ later) = keeps_all m (happens m w (Crashed n)) late
 
 -- the calls are of a valid shape
 
-calls_split : (xs ys : List FencedCall) → AreFencedCalls (xs ++ ys) → AreFencedCalls xs × AreFencedCalls ys
-calls_split [] ys a = (tt, a)
-calls_split (x ∷ xs) ys a = let rest : AreFencedCalls xs × AreFencedCalls ys = calls_split xs ys a.1 in ((a.0, rest.0), rest.1)
-
-calls_join : (xs ys : List FencedCall) → AreFencedCalls xs → AreFencedCalls ys → AreFencedCalls (xs ++ ys)
-calls_join [] ys a b = b
-calls_join (x ∷ xs) ys a b = (a.0, calls_join xs ys a.1 b)
-
 calls_take : (n : ℕ) (xs : List FencedCall) → AreFencedCalls xs → AreFencedCalls (take n xs)
 calls_take zero xs a = tt
 calls_take (suc n) [] a = tt
 calls_take (suc n) (x ∷ xs) a = (a.0, calls_take n xs a.1)
 
 pub on_calls : (m : Fenced) (w : World) (events : List Event) → AreEvents events → AreFencedCalls w.life.kept → AreFencedCalls w.life.loose → AreFencedCalls (on_device (goes_on m w events).life)
-on_calls m w [] e a b = calls_join w.life.kept w.life.loose a b
-on_calls m w (Made call ∷ events) e a b = on_calls m (happens m w (Made call)) events e.1 a (calls_join w.life.loose (call ∷ []) b (e.0, tt))
-on_calls m w (Committed ∷ events) e a b = on_calls m (happens m w Committed) events e (calls_join w.life.kept w.life.loose a b) tt
+on_calls m w [] e a b = fenced_calls-join w.life.kept w.life.loose a b
+on_calls m w (Made call ∷ events) e a b = on_calls m (happens m w (Made call)) events e.1 a (fenced_calls-join w.life.loose (call ∷ []) b (e.0, tt))
+on_calls m w (Committed ∷ events) e a b = on_calls m (happens m w Committed) events e (fenced_calls-join w.life.kept w.life.loose a b) tt
 on_calls m w (Crashed n ∷ events) e a b = on_calls m (happens m w (Crashed n)) events e a (calls_take n w.life.loose b)
 
 pub uses_none_again : (m : Fenced) (events later : List Event) → IsFenced m → AreEvents events → AreEvents later → UsesNoneAgain m events later
@@ -102,11 +90,11 @@ uses_none_again m events later i e l before after f is gone =
     let rest : List FencedCall = (after ++ more.0) ++ v.life.loose in
     let whole : on_device v.life ≡ before ++ rest =
     ap (λ (k : List FencedCall). k ++ v.life.loose) (more.1 ∙ ap (λ (k : List FencedCall). k ++ more.0) is ∙ append_assoc before after more.0) ∙ append_assoc before (after ++ more.0) v.life.loose in
-    let first : AreFencedCalls w.life.kept × AreFencedCalls w.life.loose = calls_split w.life.kept w.life.loose (on_calls m (started m) events e tt tt) in
-    let each : AreFencedCalls before × AreFencedCalls rest = calls_split before rest (subst AreFencedCalls whole (on_calls m w later l first.0 first.1)) in
+    let first : AreFencedCalls w.life.kept × AreFencedCalls w.life.loose = fenced_calls-split w.life.kept w.life.loose (on_calls m (started m) events e tt tt) in
+    let each : AreFencedCalls before × AreFencedCalls rest = fenced_calls-split before rest (subst AreFencedCalls whole (on_calls m w later l first.0 first.1)) in
     let now : v.life.now ≡ fenced_replay (fenced_replay m before) rest =
-    (on_holds m w later (on_holds m (started m) events (started_holds m))).durable.now ∙ ap (fenced_replay m) whole ∙ replay_append m before rest in
-    ap (λ (k : Fenced). count (uses k.core.records) f) now ∙ deletions_are_safe (fenced_replay m before) rest (replay_fenced m before each.0 i) each.1 f gone
+    (on_holds m w later (on_holds m (started m) events (started_holds m))).durable.now ∙ ap (fenced_replay m) whole ∙ fenced_replay-append m before rest in
+    subst (λ (k : Fenced). IsUnused k.core f) (sym now) (deletions_are_safe (fenced_replay m before) rest (replay_fenced m before each.0 i) each.1 f gone)
 
 -- of the code: a life with one call more
 
@@ -114,9 +102,9 @@ life_made : (m : Fenced) (l : Life) (call : FencedCall) → IsLife m l → IsLif
 life_made m l call h =
     let n : Fenced = fenced_replay m l.kept in
     let one : List (FencedCall × FencedAnswer) = (call, (fenced_step l.now call).1) ∷ [] in
-    let here : l.now ≡ fenced_replay n l.loose = h.now ∙ replay_append m l.kept l.loose in
+    let here : l.now ≡ fenced_replay n l.loose = h.now ∙ fenced_replay-append m l.kept l.loose in
     record {
-      now = ap (λ (k : Fenced). (fenced_step k call).0) h.now ∙ sym (replay_append m (on_device l) (call ∷ [])) ∙ ap (fenced_replay m) (append_assoc l.kept l.loose (call ∷ []));
+      now = ap (λ (k : Fenced). (fenced_step k call).0) h.now ∙ sym (fenced_replay-append m (on_device l) (call ∷ [])) ∙ ap (fenced_replay m) (append_assoc l.kept l.loose (call ∷ []));
       waiting = subst (IsWithin (l.waiting ++ one)) (sym (along_append n l.loose (call ∷ [])))
           (within_both l.waiting (along n l.loose) one (along (fenced_replay n l.loose) (call ∷ [])) h.waiting
           (subst (λ (k : Fenced). IsWithin one (along k (call ∷ []))) here (within_itself one)));

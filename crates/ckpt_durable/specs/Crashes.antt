@@ -1,6 +1,6 @@
 -- A coordinator with names whose calls are appended to a device, and any number of crashes.
 use Rattle.std.specs.Prelude.{◌≡◌, ℕ, ◌+◌, ◌<◌, ◌≤◌, Bool, true, List, [], ◌∷◌, ◌++◌, take, ◌⊎◌, ⊤}
-use Rattle.ckpt_ids.specs.Records.{count, uses}
+use Rattle.ckpt_model.specs.State.{IsUnused}
 use Rattle.ckpt_terms.specs.declared.call.FencedCall.{FencedCall}
 use Rattle.ckpt_terms.specs.declared.call.FencedAnswer.{FencedAnswer}
 use Rattle.ckpt_terms.specs.declared.call.FencedCall.TheVariants.{Reserve}
@@ -36,6 +36,14 @@ lives m w (Made call) = record {
 }
 lives m w Committed = record { kept = w.kept ++ w.loose; loose = []; now = w.now; waiting = [] }
 lives m w (Crashed n) = record { kept = w.kept; loose = take n w.loose; now = fenced_replay m (w.kept ++ take n w.loose); waiting = [] }
+
+-- what recovery leaves: the calls that were found are made, of which these were synced and these not
+abbrev pub recovered : Fenced → List FencedCall → List FencedCall → List FencedCall → Life
+recovered m found kept loose = record { kept = kept; loose = loose; now = fenced_replay m found; waiting = [] }
+
+-- it is what a crash leaves of every life, if such calls are on the device after it
+abbrev pub IsLeftByCrash : Fenced → List FencedCall → List FencedCall → Life → Type 0
+IsLeftByCrash m kept loose after = (l : Life) (n : ℕ) → kept ≡ l.kept → loose ≡ take n l.loose → after ≡ lives m l (Crashed n)
 
 -- with what callers were told and the calls that were made, since the first start and through all crashes
 pub record World : Type 0 where
@@ -95,7 +103,7 @@ UsesNoneAgain m events later =
     (before after : List FencedCall) (f : ℕ)
     → (world m events).life.kept ≡ before ++ after
     → may_be_deleted (fenced_replay m before) f ≡ true
-    → count (uses (goes_on m (world m events) later).life.now.core.records) f ≡ 0
+    → IsUnused (goes_on m (world m events) later).life.now.core f
 
 -- A file that may be deleted while no call waits for a sync is used by no live record, then or later, through all crashes. So what is read
 -- of the coordinator then may be told.
@@ -105,7 +113,7 @@ ReadsAreSafe m events later =
     (f : ℕ)
     → now.loose ≡ []
     → may_be_deleted now.now f ≡ true
-    → count (uses (goes_on m (world m events) later).life.now.core.records) f ≡ 0
+    → IsUnused (goes_on m (world m events) later).life.now.core f
 
 -- Names that were told are told to nobody else: of two reservations that were told, the later one's names begin behind the earlier one's.
 abbrev pub GivesNamesOnce : Fenced → List Event → Type 0

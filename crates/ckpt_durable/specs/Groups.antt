@@ -1,7 +1,7 @@
 -- A coordinator, with names or without, whose calls are appended to a device in groups; images that cut its log, and any number of crashes.
 use Rattle.std.specs.Prelude.{◌≡◌, ℕ, ◌+◌, ◌<◌, ◌≤◌, true, List, [], ◌∷◌, ◌++◌, take, drop, ⊤}
-use Rattle.ckpt_ids.specs.Records.{count, uses}
 use Rattle.ckpt_ids.specs.declared.reply.Answer.{Answer}
+use Rattle.ckpt_model.specs.State.{IsUnused}
 use Rattle.ckpt_terms.specs.declared.call.FencedAnswer.TheVariants.{Reserved}
 use Rattle.ckpt_terms.specs.declared.call.FencedAnswer.TheVariants as answer
 use Rattle.ckpt_terms.specs.declared.call.FencedCall.{FencedCall}
@@ -120,7 +120,7 @@ UsesNoneAgain m turns later =
     → synced (world m turns) ≡ before ++ after
     → events_replay m before ≡ machine.Fenced n
     → may_be_deleted n f ≡ true
-    → count (uses (core_in (goes_on (world m turns) later).life.now).records) f ≡ 0
+    → IsUnused (core_in (goes_on (world m turns) later).life.now) f
 
 -- So what was read may be told with its receipt: a file that might be deleted in the state of a receipt that was told is used by no live
 -- record, then or later, through all crashes.
@@ -130,7 +130,7 @@ ReadsAreSafe m turns later =
     → (world m turns).told ≡ xs ++ r ∷ ys
     → r.state ≡ machine.Fenced n
     → may_be_deleted n f ≡ true
-    → count (uses (core_in (goes_on (world m turns) later).life.now).records) f ≡ 0
+    → IsUnused (core_in (goes_on (world m turns) later).life.now) f
 
 -- this receipt is of a reservation of so many names, from this one on
 pub record Reserves (r : Receipt) (first count : ℕ) : Type 0 where

@@ -34,8 +34,8 @@ job = fenced (record { config = usual; shape = 1 ∷ []; start = 0; first = 1 })
 abbrev told : List Event → List (FencedCall × FencedAnswer)
 told events = (world job events).told
 
-abbrev kept : List Event → List FencedCall
-kept events = (world job events).life.kept
+abbrev kept_after : List Event → List FencedCall
+kept_after events = (world job events).life.kept
 
 abbrev next_name : List Event → ℕ
 next_name events = (world job events).life.now.next_name
@@ -54,7 +54,7 @@ pub cut_told : told cut ≡ (three, answer.Reserved 5) ∷ (two, answer.Reserved
 unfolding fenced_step
 cut_told = refl
 
-pub cut_kept : kept cut ≡ three ∷ two ∷ []
+pub cut_kept : kept_after cut ≡ three ∷ two ∷ []
 cut_kept = refl
 
 pub cut_next : next_name cut ≡ 10
@@ -69,7 +69,7 @@ pub found_told : told found ≡ (three, answer.Reserved 5) ∷ (two, answer.Rese
 unfolding fenced_step
 found_told = refl
 
-pub found_kept : kept found ≡ three ∷ two ∷ two ∷ []
+pub found_kept : kept_after found ≡ three ∷ two ∷ two ∷ []
 found_kept = refl
 
 pub found_next : next_name found ≡ 12
@@ -95,7 +95,7 @@ untold = Made three ∷ Crashed 1 ∷ Committed ∷ []
 pub untold_told : told untold ≡ []
 untold_told = refl
 
-pub untold_kept : kept untold ≡ three ∷ []
+pub untold_kept : kept_after untold ≡ three ∷ []
 untold_kept = refl
 
 -- A restore that was told ends the term of the tasks that ran before, through a crash too.

@@ -1,10 +1,10 @@
 //! A coordinator with names whose answers are told only once their calls outlive a crash.
 
-ghost use Rattle.std.specs.Prelude.{◌≡◌, ◌<◌, ◌≤◌, ◌⊎◌, ℕ, true, false, take, ◌++◌, ◌∷◌, [], Some, None, IfOk, IfErr, IfSome, OnOk, length};
+ghost use Rattle.std.specs.Prelude.{◌≡◌, ◌<◌, ◌≤◌, ◌⊎◌, true, false, ◌++◌, ◌∷◌, [], Some, None, IfOk, IfErr, IfSome, OnOk, length};
 ghost use Rattle.ckpt_memory.specs.Refusals.{one_more};
 ghost use Rattle.ckpt_terms.specs.Fencing.{fenced_replay};
 ghost use Rattle.ckpt_terms.specs.FencedLaws.{IsFencedCall};
-ghost use Rattle.ckpt_durable.specs.Crashes.{Committed, Crashed, Life, Made, lives};
+ghost use Rattle.ckpt_durable.specs.Crashes.{Committed, IsLeftByCrash, Made, lives, recovered};
 
 use crate::journal::Journal;
 use ckpt_memory::{Meter, list};
@@ -105,8 +105,8 @@ impl<J: Journal> Durable<J> {
     ) -> Result<Durable<J>, J>
         requires found { found.now ≡ J.kept journal ++ J.loose journal }
         ensures begin { IfOk result (λ d. d.begin ≡ terms) }
-        ensures life { IfOk result (λ d. d.life ≡ record { kept = J.kept journal; loose = J.loose journal; now = fenced_replay terms found.now; waiting = [] }) }
-        ensures crashed { IfOk result (λ d. (l : Life) (n : ℕ) → J.kept journal ≡ l.kept → J.loose journal ≡ take n l.loose → d.life ≡ lives terms l (Crashed n)) }
+        ensures life { IfOk result (λ d. d.life ≡ recovered terms found.now (J.kept journal) (J.loose journal)) }
+        ensures crashed { IfOk result (λ d. IsLeftByCrash terms (J.kept journal) (J.loose journal) d.life) }
         ensures unsynced { IfOk result (λ d. d.is_synced ≡ false) }
         ensures counted { IfOk result (λ d. d.faults ≡ J.faults journal) }
         ensures same { IfErr result (λ j. j ≡ journal) }

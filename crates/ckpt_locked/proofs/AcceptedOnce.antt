@@ -1,36 +1,18 @@
 -- The accepted acknowledgements of a done record: one per subtask.
-use Rattle.ckpt_locked.proofs.Names.{Acknowledgements, Bool, History, IsSound, List, [], ap, calls_of, false, map, refl, subst, sym, true, ⊎_elim, ◌∙◌, ◌∷◌, ◌≡◌}
-use Rattle.ckpt_ids.proofs.CountLemmas.{count_by-in_order, count_by-none, count_by_no, count_by_yes}
-use Rattle.ckpt_ids.proofs.OrderLemmas.{same_subtask-Decides, subtasks_in_order}
-use Rattle.ckpt_ids.proofs.OrderedLemmas.{ComesBefore-at, IsIn-in_order}
-use Rattle.ckpt_ids.specs.Acknowledged.{AreInSubtaskOrder, acknowledges_before, is_before}
+use Rattle.ckpt_locked.proofs.Names.{Acknowledgements, History, IsSound, List, ap, calls_of, subst, sym, ◌∙◌, ◌≡◌}
+use Rattle.ckpt_ids.proofs.CountLemmas.{count_by-in_order}
+use Rattle.ckpt_ids.proofs.OrderedLemmas.{IsIn-in_order}
+use Rattle.ckpt_ids.specs.Acknowledged.{acknowledges_before}
 use Rattle.ckpt_ids.specs.Counting.{one_if}
-use Rattle.ckpt_ids.specs.Ordered.{ComesBefore, IsIn, in_order}
+use Rattle.ckpt_ids.specs.Ordered.{IsIn, in_order}
 use Rattle.ckpt_ids.specs.Shapes.{is_subtask, same_subtask}
 use Rattle.ckpt_ids.specs.declared.ack.Acked.{Acked}
 use Rattle.ckpt_ids.specs.declared.subtask.SubtaskId.{SubtaskId}
 use Rattle.ckpt_locked.specs.Books.{state_of_book}
-use Rattle.ckpt_locked.specs.Promises.{ExactlyOne, accepted_in, times_of}
-use Rattle.std.proofs.lemmas.Bool.{both_ways, cases_Bool}
+use Rattle.ckpt_locked.specs.Promises.{ExactlyOne, accepted_in}
+use Rattle.ckpt_model.proofs.Records.Once.{times_of-in_order}
+use Rattle.ckpt_model.specs.Laws.{times_of}
 use Rattle.std.specs.List.{list_any}
-
--- after an acknowledgement of s there is no other of s
-later_differs : (s : SubtaskId) (x a : Acked) (xs : List Acked) → ComesBefore acknowledges_before x xs → IsIn a xs → same_subtask s x.subtask ≡ true → same_subtask s a.subtask ≡ false
-later_differs s x a xs first h same =
-    ⊎_elim
-    (λ (e : same_subtask s a.subtask ≡ true).
-    let is : x.subtask ≡ a.subtask = sym ((same_subtask-Decides s x.subtask).0 same) ∙ (same_subtask-Decides s a.subtask).0 e in
-    absurd (both_ways (is_before a.subtask a.subtask) (subtasks_in_order.irreflexive a.subtask) (ap (λ t. is_before t a.subtask) (sym is) ∙ ComesBefore-at acknowledges_before x a xs first h)))
-    (λ e. e)
-    (cases_Bool (same_subtask s a.subtask))
-
--- in order there is at most one of each subtask
-times_of-in_order : (s : SubtaskId) (acks : List Acked) → AreInSubtaskOrder acks → times_of s acks ≡ one_if (list_any (same_subtask s) (map (λ a. a.subtask) acks))
-times_of-in_order s [] o = refl
-times_of-in_order s (a ∷ acks) o =
-    let is_its : Acked → Bool = λ b. same_subtask s b.subtask in
-    ⊎_elim (λ (e : is_its a ≡ true). count_by_yes is_its a acks e ∙ rw (count_by-none is_its acks (λ b h. later_differs s a b acks o.0 h e), e))
-    (λ (e : is_its a ≡ false). count_by_no is_its a acks e ∙ rw e (times_of-in_order s acks o.1)) (cases_Bool (is_its a))
 
 pub exactly_one : (h : History) → IsSound (state_of_book h) → Acknowledgements h.opening (calls_of h.entries) → ExactlyOne h
 unfolding state_of_book

@@ -16,7 +16,7 @@ pub use Rattle.ckpt_model.specs.Laws.{Acknowledgements, AreCalls, CanOpen}
 pub use Rattle.ckpt_model.specs.Refusals.{refusal}
 pub use Rattle.ckpt_model.specs.Soundness.{IsCall, IsSound}
 pub use Rattle.ckpt_model.specs.State.{Opening, opened}
-pub use Rattle.std.proofs.Common.{All, Bool, Err, List, Option, Some, [], ap, append-nil, append_assoc, arith, cond, drop, eq-eqb, eqb, false, get_or, inl, inr, length, length-append, map, ne_eqb}
+pub use Rattle.std.proofs.Common.{All, Err, List, Option, Some, [], ap, append-nil, append_assoc, arith, cond, drop, eq-eqb, eqb, false, get_or, inl, inr, length, length-append, ne_eqb}
 pub use Rattle.std.proofs.Common.{refl, rules, set, subst, suc, sym, true, true≢false, vec_capacity, vec_len, zero, ℕ, ⊎_elim, ◌%◌, ◌++◌, ◌+◌, ◌-◌, ◌<◌, ◌==◌, ◌^◌, ◌∙◌, ◌∷◌, ◌≡◌, ◌≢◌, ◌≤◌, ◌⊎◌}
 pub use Rattle.std.proofs.Math.Seq.{drop-append_seam}
 pub use Rattle.std.proofs.lemmas.List.{map-append, nil_from_length}

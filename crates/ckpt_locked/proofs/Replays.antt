@@ -1,26 +1,14 @@
 -- One call more, in the list and in the state.
-use Rattle.ckpt_locked.proofs.Names.{Answer, AreCalls, Call, Entry, History, IsCall, IsKept, List, Opening, [], ap, calls_of, counted, entered, history_of, map-append, opened, refl, subst, sym, ℕ, ◌++◌, ◌∙◌}
+use Rattle.ckpt_locked.proofs.Names.{Answer, Call, Entry, History, IsCall, IsKept, List, Opening, [], ap, calls_of, counted, entered, history_of, map-append, opened, refl, subst, sym, ℕ, ◌++◌, ◌∙◌}
 use Rattle.ckpt_locked.proofs.Names.{◌∷◌, ◌≡◌}
 use Rattle.ckpt_ids.specs.Configuration.{Configuration}
 use Rattle.ckpt_ids.specs.declared.call.Call.TheVariants.{Count}
 use Rattle.ckpt_locked.specs.Books.{answer_to, state_of_book}
+use Rattle.ckpt_model.proofs.Histories.Replays.{calls-join, replay-append}
 use Rattle.ckpt_model.proofs.Stepping.Walk.{step_is}
-use Rattle.ckpt_model.specs.Histories.{replay}
 use Rattle.ckpt_model.specs.Refusals.{refusal}
 use Rattle.ckpt_model.specs.State.{State}
 use Rattle.ckpt_model.specs.Steps.{effect, step}
-
-replay-push : (m : State) (calls : List Call) (call : Call) → replay m (calls ++ call ∷ []) ≡ (step (replay m calls) call).0
-replay-push m [] call = refl
-replay-push m (first ∷ calls) call = replay-push (step m first).0 calls call
-
-are_calls-push : (calls : List Call) (call : Call) → AreCalls calls → IsCall call → AreCalls (calls ++ call ∷ [])
-are_calls-push [] call a c = (c, tt)
-are_calls-push (first ∷ calls) call a c = (a.0, are_calls-push calls call a.1 c)
-
-pub are_calls-append : (before calls : List Call) → AreCalls (before ++ calls) → AreCalls before × AreCalls calls
-are_calls-append [] calls a = (tt, a)
-are_calls-append (first ∷ before) calls a = let rest : AreCalls before × AreCalls calls = are_calls-append before calls a.1 in ((a.0, rest.0), rest.1)
 
 -- a call may change the configuration of the opening, and nothing else of it
 same_opening : (first : Configuration) (core : State) (call : Call) → record (step core call).0.opening { config = first } ≡ record core.opening { config = first }
@@ -34,8 +22,8 @@ kept_step first core entries entry keep kept call =
     let same : record (step core entry.call).0.opening { config = first } ≡ record core.opening { config = first } = same_opening first core entry.call in
     let calls : calls_of (entries ++ entry ∷ []) ≡ calls_of entries ++ entry.call ∷ [] = map-append (λ e. e.call) entries (entry ∷ []) in
     record {
-      history = record { can_open = rw same kept.history.can_open; are_calls = rw calls (are_calls-push (calls_of entries) entry.call kept.history.are_calls call) };
-      is_replay = ap (λ m. (step m entry.call).0) kept.is_replay ∙ rw (same, calls) (sym (replay-push (opened (record core.opening { config = first })) (calls_of entries) entry.call));
+      history = record { can_open = rw same kept.history.can_open; are_calls = rw calls (calls-join (calls_of entries) (entry.call ∷ []) kept.history.are_calls (call, tt)) };
+      is_replay = ap (λ m. (step m entry.call).0) kept.is_replay ∙ rw (same, calls) (sym (replay-append (opened (record core.opening { config = first })) (calls_of entries) (entry.call ∷ [])));
     }
 
 -- a call was made, and its entry is the last

@@ -1,14 +1,14 @@
 -- What every book promises.
-use Rattle.std.specs.Prelude.{◌≡◌, ℕ, true, List, ◌∷◌, ◌++◌, count_by}
+use Rattle.std.specs.Prelude.{◌≡◌, ℕ, true, List, ◌∷◌, ◌++◌}
 use Rattle.ckpt_ids.specs.declared.ack.Acked.{Acked}
 use Rattle.ckpt_ids.specs.declared.call.Call.{Call}
 use Rattle.ckpt_ids.specs.declared.subtask.SubtaskId.{SubtaskId}
 use Rattle.ckpt_ids.specs.Counting.{one_if}
 use Rattle.ckpt_ids.specs.Ordered.{IsIn}
 use Rattle.ckpt_ids.specs.Records.{Record, IsFull}
-use Rattle.ckpt_ids.specs.Shapes.{is_subtask, same_subtask}
+use Rattle.ckpt_ids.specs.Shapes.{is_subtask}
 use Rattle.ckpt_model.specs.State.{State, opened}
-use Rattle.ckpt_model.specs.Laws.{along, accepted_by, Pinned, Savepoints, UsedNoMore}
+use Rattle.ckpt_model.specs.Laws.{along, accepted_by, times_of, Pinned, Savepoints, UsedNoMore}
 use Rattle.ckpt_locked.specs.Books.{History, calls_of, state_of_book}
 
 -- each done record has exactly one acknowledgement of each subtask, and no other
@@ -18,10 +18,6 @@ AreDoneFull m = (r : Record) → IsIn r m.records → r.done ≡ true → IsFull
 -- the acknowledgements of a number that were accepted, in the order of the calls
 abbrev pub accepted_in : History → ℕ → List Acked
 accepted_in h id = along (accepted_by id) (opened h.opening) (calls_of h.entries)
-
--- how many of these are of the subtask
-abbrev pub times_of : SubtaskId → List Acked → ℕ
-times_of s acks = count_by (λ a. same_subtask s a.subtask) acks
 
 -- for a done record exactly one acknowledgement per subtask of its shape was accepted, and none from any other; they
 -- are the record's. Source: Carbone et al. 2015: a snapshot is complete when each task has taken its part, once.

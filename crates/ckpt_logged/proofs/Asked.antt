@@ -41,18 +41,6 @@ pub events-split : (before after : List Event) → AreEvents (before ++ after) �
 events-split [] after a = (tt, a)
 events-split (event ∷ before) after a = let rest : AreEvents before × AreEvents after = events-split before after a.1 in ((a.0, rest.0), rest.1)
 
-pub calls-split : (before after : List Call) → AreCalls (before ++ after) → AreCalls before × AreCalls after
-calls-split [] after a = (tt, a)
-calls-split (call ∷ before) after a = let rest : AreCalls before × AreCalls after = calls-split before after a.1 in ((a.0, rest.0), rest.1)
-
-calls-join : (before after : List Call) → AreCalls before → AreCalls after → AreCalls (before ++ after)
-calls-join [] after a b = b
-calls-join (call ∷ before) after a b = (a.0, calls-join before after a.1 b)
-
-pub fenced-split : (before after : List FencedCall) → AreFencedCalls (before ++ after) → AreFencedCalls before × AreFencedCalls after
-fenced-split [] after a = (tt, a)
-fenced-split (call ∷ before) after a = let rest : AreFencedCalls before × AreFencedCalls after = fenced-split before after a.1 in ((a.0, rest.0), rest.1)
-
 -- what always holds
 
 fence_well : (m : State) (first : ℕ) → IsSound m → (fault : Option FenceFault) → fence_fault (machine.Plain m) first ≡ fault → IsWell (named_from (machine.Plain m) first fault)
@@ -108,7 +96,7 @@ reaches m (event ∷ events) a =
     let n : Machine = event_step m event in
     let one = reach m event a.0 in
     let rest = reaches n events a.1 in (
-      calls-join (reached m event) (calls_in n events) one.0 rest.0,
+      history.calls-join (reached m event) (calls_in n events) one.0 rest.0,
       rest.1 ∙ ap (λ (k : State). replay k (calls_in n events)) one.1 ∙ sym (history.replay-append (core_in m) (reached m event) (calls_in n events)),
     )
 

@@ -1,28 +1,17 @@
 -- A show leaves the coordinator as it was.
 use Rattle.std.proofs.Common.{◌≡◌, ℕ, List, refl, sym, ap, ◌∙◌, subst}
-use Rattle.std.specs.Prelude.{Option, Some, None, Result, Ok, Err, IfOk, OnErr}
+use Rattle.std.specs.Prelude.{Option, Result, Ok, Err, IfOk, OnErr}
 use Rattle.std.specs.declared.alloc.AllocError.{AllocError}
 use Rattle.ckpt_ids.specs.declared.call.Call.TheVariants as call
 use Rattle.ckpt_ids.specs.declared.reply.Answer.{Answer}
-use Rattle.ckpt_ids.specs.declared.reply.Refusal.{Refusal as Why}
-use Rattle.ckpt_model.specs.Refusals.{refusal}
+use Rattle.ckpt_model.proofs.Answering.StepCases.{show_stays}
 use Rattle.ckpt_model.specs.State.{State}
-use Rattle.ckpt_model.specs.Steps.{Stepped, effect, step, unless_refused}
+use Rattle.ckpt_model.specs.Steps.{Stepped, step}
 use Rattle.ckpt_terms.specs.declared.machine.Machine.{Machine}
 use Rattle.ckpt_terms.specs.declared.machine.Machine.TheVariants.{Plain, Fenced}
 use Rattle.ckpt_terms.specs.Machines.{Issued, core_in, machine_of, names_in}
 use Rattle.ckpt_logged.specs.Chronicles.{Chronicle, IsChronicle}
 use Rattle.ckpt_logged.specs.Events.{Event}
-
-shows_leave : (m : State) (id : ℕ) (w : Option Why) → (unless_refused m (call.Show id) w).0 ≡ m
-unfolding effect
-shows_leave m id (Some why) = refl
-shows_leave m id None = refl
-
--- a show leaves the state
-show_stays : (m : State) (id : ℕ) → (step m (call.Show id)).0 ≡ m
-unfolding step
-show_stays m id = shows_leave m id (refusal m (call.Show id))
 
 pub whole : (k : Machine) → k ≡ machine_of (core_in k) (names_in k)
 whole (Plain m) = refl

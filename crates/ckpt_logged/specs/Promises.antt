@@ -1,5 +1,5 @@
 -- What every chronicle promises.
-use Rattle.std.specs.Prelude.{◌≡◌, ℕ, ◌+◌, ◌≤◌, ◌⊎◌, ◌↔◌, true, false, List, [], ◌∷◌, ◌++◌, count_by, length, Option, Some, None}
+use Rattle.std.specs.Prelude.{◌≡◌, ℕ, ◌+◌, ◌≤◌, ◌⊎◌, ◌↔◌, true, false, List, [], ◌∷◌, ◌++◌, length, Option, Some, None}
 use Rattle.std.specs.List.{range_with_len}
 use Rattle.ckpt_ids.specs.declared.ack.Acked.{Acked}
 use Rattle.ckpt_ids.specs.declared.call.Call.{Call}
@@ -9,14 +9,14 @@ use Rattle.ckpt_ids.specs.declared.subtask.SubtaskId.{SubtaskId}
 use Rattle.ckpt_ids.specs.Acknowledged.{put_ack}
 use Rattle.ckpt_ids.specs.Counting.{one_if, times}
 use Rattle.ckpt_ids.specs.Ordered.{IsIn}
-use Rattle.ckpt_ids.specs.Records.{Record, count, is_present, uses}
-use Rattle.ckpt_ids.specs.Shapes.{is_subtask, same_subtask}
-use Rattle.ckpt_model.specs.State.{State, choice_of, chosen, files_of, in_outbox, is_checkpoint, record_of}
+use Rattle.ckpt_ids.specs.Records.{Record, is_present, uses}
+use Rattle.ckpt_ids.specs.Shapes.{is_subtask}
+use Rattle.ckpt_model.specs.State.{IsUnused, State, choice_of, chosen, files_of, in_outbox, is_checkpoint, record_of}
 use Rattle.ckpt_model.specs.Refusals.{refusal}
 use Rattle.ckpt_model.specs.Histories.{replay}
 use Rattle.ckpt_model.specs.Keeping.{TakesNewest}
 use Rattle.ckpt_model.specs.Laws.{AreCalls, IsNeverDisposed, NoneAgain, Part}
-use Rattle.ckpt_model.specs.Laws.{accepted_by, ack_of, along, deleted_by, given_by, handed_by, id_of_choice, registered_by}
+use Rattle.ckpt_model.specs.Laws.{accepted_by, ack_of, along, deleted_by, given_by, handed_by, id_of_choice, registered_by, times_of}
 use Rattle.ckpt_terms.specs.declared.call.FencedCall.{FencedCall}
 use Rattle.ckpt_terms.specs.declared.call.FencedCall.TheVariants.{Make}
 use Rattle.ckpt_terms.specs.declared.machine.Machine.TheVariants as machine
@@ -26,15 +26,7 @@ use Rattle.ckpt_terms.specs.Machines.{core_in}
 use Rattle.ckpt_logged.specs.Events.{Event, IsWell, calls_named, events_replay}
 use Rattle.ckpt_logged.specs.Chronicles.{Chronicle, calls_of}
 
--- no live record uses the file
-abbrev pub IsUnused : State → ℕ → Type 0
-IsUnused m f = count (uses m.records) f ≡ 0
-
 -- From an opening or an image, with names or without.
-
--- how many of these are of the subtask
-abbrev pub times_of : SubtaskId → List Acked → ℕ
-times_of s acks = count_by (λ a. same_subtask s a.subtask) acks
 
 -- a live done record has exactly one acknowledgement of each subtask of its shape, and none from any other
 abbrev pub OneOfEach : State → Type 0

@@ -36,7 +36,7 @@ pub use Rattle.ckpt_model.specs.Interleavings.{AnyOrder, AreApart, AreMissing, N
 pub use Rattle.ckpt_model.specs.Keeping.{IsNewest, Keeps, KeepsThrough, LeavesDone, Restores, TakesNewest, has_done_checkpoint, is_accepted, may_drop, newer_than}
 pub use Rattle.ckpt_model.specs.Laws.{NoneLeaks, Outgoing, Accounted, Acknowledgements, AreCalls, Balance, CanOpen, ChoiceIsLive, Exchange, Handed, IsNeverDisposed, NoneAgain, Numbers, Outbox, Part, Pinned, Savepoints}
 pub use Rattle.ckpt_model.specs.Laws.{ShareNone, UsedNoMore, accepted_by, ack_of, along, deleted_as, deleted_by, given_as, given_by, handed_by, is_ack_pending, is_ack_taken}
-pub use Rattle.ckpt_model.specs.Laws.{id_of_choice, is_disposed_by, new_by, registered_as, registered_by}
+pub use Rattle.ckpt_model.specs.Laws.{id_of_choice, is_disposed_by, new_by, registered_as, registered_by, times_of}
 pub use Rattle.ckpt_model.specs.Opening.{open_fault}
 pub use Rattle.ckpt_model.specs.Reads.{NoneIsEarlyFrom, NoneTriggersBefore, next_due, triggered_one, was_early}
 pub use Rattle.ckpt_model.specs.Refusals.{first_some, has_repeats, is_done_savepoint, is_foreign, is_number, is_repeat, is_running}
@@ -44,7 +44,7 @@ pub use Rattle.ckpt_model.specs.Refusals.{moment_of, named, pending_of, refuse_i
 pub use Rattle.ckpt_model.specs.Refusals.{was_not_given, where_pending}
 unfoldable pub use Rattle.ckpt_model.specs.Refusals.{refusal}
 pub use Rattle.ckpt_model.specs.Soundness.{IsCall, IsRecord, IsSound, id_before}
-pub use Rattle.ckpt_model.specs.State.{Opening, State, choice_from, chosen, files_of, in_outbox, is_checkpoint, is_done_checkpoint, is_expired, is_known, is_pending, is_surplus, kept}
+pub use Rattle.ckpt_model.specs.State.{IsUnused, Opening, State, choice_from, chosen, files_of, in_outbox, is_checkpoint, is_done_checkpoint, is_expired, is_known, is_pending, is_surplus, kept}
 pub use Rattle.ckpt_model.specs.State.{last_checkpoint, opened, record_of, released_by, unpinned}
 unfoldable pub use Rattle.ckpt_model.specs.State.{choice_of, drop, pins_now}
 pub use Rattle.ckpt_model.specs.Steps.{Stepped, at_moment, cancelled, cleared, dropped_by, fails_the_job, failures_with, pending_checkpoints, replaced, rolled_back, show, superseded, unless_refused}

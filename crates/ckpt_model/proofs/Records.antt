@@ -3,6 +3,7 @@ pub mod Acknowledged
 pub mod Counts
 pub mod Held
 pub mod Lists
+pub mod Once
 pub mod Pins
 pub mod Present
 pub mod Released
@@ -11,6 +12,7 @@ pub use Acknowledged.*
 pub use Counts.*
 pub use Held.*
 pub use Lists.*
+pub use Once.*
 pub use Present.*
 pub use Released.*
 pub use Replacing.*

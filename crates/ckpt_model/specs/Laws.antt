@@ -1,5 +1,5 @@
 -- Laws of a coordinator: of two calls, and of every list of calls.
-use Rattle.std.specs.Prelude.{◌≡◌, ℕ, ◌+◌, ◌<◌, ◌≤◌, Bool, true, false, not, ◌&&◌, ◌==◌, List, [], ◌∷◌, ◌++◌, filter, length, if◌then◌else◌, ◌↔◌, Option, Some, None, ⊤}
+use Rattle.std.specs.Prelude.{◌≡◌, ℕ, ◌+◌, ◌<◌, ◌≤◌, Bool, true, false, not, ◌&&◌, ◌==◌, List, [], ◌∷◌, ◌++◌, filter, length, count_by, if◌then◌else◌, ◌↔◌, Option, Some, None, ⊤}
 use Rattle.std.specs.Prelude as prelude
 use Rattle.std.specs.List.{range_with_len}
 use Rattle.ckpt_ids.specs.declared.limits.TheConstants.{MOMENTS_END, NUMBERS_END}
@@ -18,9 +18,9 @@ use Rattle.ckpt_ids.specs.Acknowledged.{acknowledges_before}
 use Rattle.ckpt_ids.specs.Ascending.{ascending}
 use Rattle.ckpt_ids.specs.Configuration.{IsWithinLimits}
 use Rattle.ckpt_ids.specs.Ordered.{IsIn, in_order}
-use Rattle.ckpt_ids.specs.Records.{Record, IsFull, uses, count, is_present}
-use Rattle.ckpt_ids.specs.Shapes.{IsShape}
-use Rattle.ckpt_model.specs.State.{State, Opening, opened, is_checkpoint, is_known, in_outbox, choice_of, record_of, chosen, files_of}
+use Rattle.ckpt_ids.specs.Records.{Record, IsFull, uses, is_present}
+use Rattle.ckpt_ids.specs.Shapes.{IsShape, same_subtask}
+use Rattle.ckpt_model.specs.State.{State, Opening, opened, IsUnused, is_checkpoint, is_known, in_outbox, choice_of, record_of, chosen, files_of}
 use Rattle.ckpt_model.specs.Refusals.{refusal}
 use Rattle.ckpt_model.specs.Steps.{step}
 use Rattle.ckpt_model.specs.Histories.{replay}
@@ -133,13 +133,13 @@ abbrev pub Handed : Opening → List Call → Type 0
 Handed o calls =
     let m : State = replay (opened o) calls in
     NoneAgain [] (opened o) calls
-    → (f : ℕ) → IsIn f (along handed_by (opened o) calls) ↔ (IsIn f (along registered_by (opened o) calls) × (count (uses m.records) f ≡ 0))
+    → (f : ℕ) → IsIn f (along handed_by (opened o) calls) ↔ (IsIn f (along registered_by (opened o) calls) × IsUnused m f)
 
 -- a registered file that no live record uses waits for deletion, or was fetched for it, or was reported as deleted
 abbrev pub Accounted : Opening → List Call → Type 0
 Accounted o calls =
     let m : State = replay (opened o) calls in
-    (f : ℕ) → IsIn f (along registered_by (opened o) calls) → count (uses m.records) f ≡ 0 → in_outbox m f ≡ false → IsIn f (along deleted_by (opened o) calls)
+    (f : ℕ) → IsIn f (along registered_by (opened o) calls) → IsUnused m f → in_outbox m f ≡ false → IsIn f (along deleted_by (opened o) calls)
 
 -- Each file was handed out as often as it was reported as deleted, and once more if it waits for deletion or was fetched for it.
 abbrev pub Outgoing : Opening → List Call → Type 0
@@ -157,7 +157,7 @@ NoneLeaks o calls =
 abbrev pub UsedNoMore : Opening → List Call → List Call → Type 0
 UsedNoMore o before calls =
     let m : State = replay (opened o) (before ++ calls) in
-    NoneAgain [] (opened o) (before ++ calls) → (f : ℕ) → IsIn f (along handed_by (opened o) before) → count (uses m.records) f ≡ 0
+    NoneAgain [] (opened o) (before ++ calls) → (f : ℕ) → IsIn f (along handed_by (opened o) before) → IsUnused m f
 
 -- each file is in at most one of present, waiting and taken, and there once
 abbrev pub Outbox : Opening → List Call → Type 0
@@ -171,6 +171,10 @@ accepted_by id m (Ack now its_id subtask fresh reused) =
     let is_taken : Bool = is_ack_taken (step m (Ack now its_id subtask fresh reused)).1 in
     if (its_id == id) && is_taken then record { subtask = subtask; files = ascending (fresh ++ reused) } ∷ [] else []
 accepted_by id m call = []
+
+-- how many of these acknowledgements a subtask made
+abbrev pub times_of : SubtaskId → List Acked → ℕ
+times_of s acks = count_by (λ a. same_subtask s a.subtask) acks
 
 -- a live record's acknowledgements are exactly the accepted ones of its number, by subtask; a done one has one of each subtask
 abbrev pub Acknowledgements : Opening → List Call → Type 0

@@ -2,7 +2,7 @@
 -- Modelled, from memory, on the Flink documentation 1.15 to 1.19 (Checkpointing, Checkpoints, Savepoints, State Backends, Configuration)
 -- and on Carbone et al. 2015, "Lightweight Asynchronous Snapshots for Distributed Dataflows"; what names none of them is
 -- this project's own rule.
-use Rattle.std.specs.Prelude.{ℕ, ◌+◌, Bool, true, false, not, ◌&&◌, ◌||◌, nat_lt, nat_le, ◌==◌, List, [], ◌∷◌, ◌++◌, map, filter, find, count_by, if◌then◌else◌, Option, Some, None}
+use Rattle.std.specs.Prelude.{◌≡◌, ℕ, ◌+◌, Bool, true, false, not, ◌&&◌, ◌||◌, nat_lt, nat_le, ◌==◌, List, [], ◌∷◌, ◌++◌, map, filter, find, count_by, if◌then◌else◌, Option, Some, None}
 use Rattle.std.specs.List.{list_any}
 use Rattle.ckpt_ids.specs.Configuration.{Configuration}
 use Rattle.ckpt_ids.specs.declared.numbers.Kind.TheVariants as kind
@@ -10,7 +10,7 @@ use Rattle.ckpt_ids.specs.declared.reply.Choice.{Choice}
 use Rattle.ckpt_ids.specs.declared.reply.Choice.TheVariants as choice
 use Rattle.ckpt_model.specs.declared.mode.Mode.{Mode}
 use Rattle.ckpt_model.specs.declared.mode.Mode.TheVariants.{Running}
-use Rattle.ckpt_ids.specs.Records.{Record, uses, is_present, released}
+use Rattle.ckpt_ids.specs.Records.{Record, uses, count, is_present, released}
 use Rattle.ckpt_ids.specs.Ascending.{ascending_set}
 use Rattle.ckpt_rules.specs.Trigger.{gap}
 pub use Rattle.ckpt_store.specs.Storing.{choice_from}
@@ -64,6 +64,10 @@ is_pending r = not r.done
 
 abbrev pub record_of : State → ℕ → Option Record
 record_of m id = find (λ r. r.id == id) m.records
+
+-- no live record uses the file
+abbrev pub IsUnused : State → ℕ → Type 0
+IsUnused m f = count (uses m.records) f ≡ 0
 
 -- a file that waits for deletion, or was fetched for it
 abbrev pub in_outbox : State → ℕ → Bool

@@ -1,13 +1,10 @@
 -- A member that is put at its place brings no float and no greater depth than its own.
-use Rattle.std.proofs.Common.{◌≡◌, ℕ, ◌≤◌, Bool, true, false, ◌||◌, List, refl, arith, Ordering, Less, Equal, Greater, nat_cmp}
+use Rattle.std.proofs.Common.{◌≡◌, ℕ, ◌≤◌, false, List, refl, arith, Ordering, Less, Equal, Greater, nat_cmp}
+use Rattle.std.proofs.lemmas.Bool.{or_parts}
 use Rattle.std.specs.Cmp.Lexicographic.{slice_cmp}
 use Rattle.std.specs.Ordering.{match_ordering}
 use Rattle.serde_json.specs.Data.{Data, Members, member, no_members, put, depth, members_depth}
 use Rattle.serde_json.specs.Written.{has_float, members_have_float}
-
-neither : (a b : Bool) → (a || b) ≡ false → (a ≡ false) × (b ≡ false)
-neither true b e = absurd (cc)
-neither false b e = (refl, e)
 
 float_at : (o : Ordering) (k l : List ℕ) (d e : Data) (ms rest : Members)
     → has_float d ≡ false → has_float e ≡ false → members_have_float ms ≡ false → members_have_float rest ≡ false
@@ -19,7 +16,7 @@ float_at Greater k l d e ms rest here its ours theirs = rw (its, theirs) refl
 pub float_put : (k : List ℕ) (d : Data) (ms : Members) → has_float d ≡ false → members_have_float ms ≡ false → members_have_float (put k d ms) ≡ false
 float_put k d no_members here all = rw here refl
 float_put k d (member l e ms) here all =
-    let parts = neither (has_float e) (members_have_float ms) all in
+    let parts = or_parts (has_float e) (members_have_float ms) all in
     float_at (slice_cmp nat_cmp k l) k l d e ms (put k d ms) here parts.0 parts.1 (float_put k d ms here parts.1)
 
 depth_at : (o : Ordering) (k l : List ℕ) (d e : Data) (ms rest : Members) (n : ℕ)

@@ -1,34 +1,19 @@
 -- A restart to the coordinator's choice.
-use Rattle.std.proofs.Common.{◌≡◌, ℕ, ◌≤◌, true, List, [], ◌∷◌, ◌++◌, ◌∙◌, refl, sym, ap, subst, arith}
+use Rattle.std.proofs.Common.{◌≡◌, ℕ, ◌≤◌, true, List, [], ◌∷◌, ◌∙◌, sym, ap, subst, arith}
 use Rattle.std.proofs.lemmas.Grind.{common_steps}
 use Rattle.std.specs.Prelude.{◌==◌}
 use Rattle.ckpt_ids.specs.declared.call.Call.{Call}
 use Rattle.ckpt_ids.specs.declared.reply.Choice.TheVariants as choice
 use Rattle.ckpt_cuts.specs.Laws.{AcknowledgesCuts}
 use Rattle.ckpt_model.specs.State.{Opening, State, choice_of, opened}
-use Rattle.ckpt_model.specs.Steps.{step}
 use Rattle.ckpt_model.specs.Histories.{replay}
 use Rattle.ckpt_model.specs.Laws.{AreCalls, CanOpen, ack_of, id_of_choice}
 use Rattle.ckpt_model.proofs.Histories.Choice.{chosen_is_done}
+use Rattle.ckpt_model.proofs.Histories.Replays.{calls-split, replay-append}
 use Rattle.ckpt_model.proofs.Soundness.Histories.{replay_is_sound}
 use Rattle.ckpt_once.specs.Jobs.{Attempt, Job, States, network, restored}
 use Rattle.ckpt_once.specs.Restarts.{ChosenAreLast, WasChosen, WasCompleted, WasDone}
-use Rattle.ckpt_once.proofs.Newer.{choice_is_no_older, found_in}
-
-calls_before : (before later : List Call) (call : Call) → AreCalls (before ++ call ∷ later) → AreCalls before
-calls_before [] later call are = tt
-calls_before (one ∷ before) later call are = (are.0, calls_before before later call are.1)
-
-calls_from : (before later : List Call) (call : Call) → AreCalls (before ++ call ∷ later) → AreCalls (call ∷ later)
-calls_from [] later call are = are
-calls_from (one ∷ before) later call are = calls_from before later call are.1
-
-replay_on : (m : State) (before later : List Call) (call : Call) → replay m (before ++ call ∷ later) ≡ replay (step (replay m before) call).0 later
-replay_on m [] later call = refl
-replay_on m (one ∷ before) later call = replay_on (step m one).0 before later call
-
-same_checkpoint : (m n : ℕ) → choice.Checkpoint m ≡ choice.Checkpoint n → m ≡ n
-same_checkpoint m n e = grind (arith, common_steps)
+use Rattle.ckpt_once.proofs.Newer.{choice_is_no_older, found_in, same_choice}
 
 same_id : (m n : ℕ) → (m == n) ≡ true → m ≡ n
 same_id m n e = grind (arith, common_steps)
@@ -38,8 +23,9 @@ no_older n m o calls opens are chosen was =
     let Are : List Call → Type 0 = λ l. AreCalls l in
     let all = subst Are was.are_these are in
     let call : Call = ack_of was.now m was.part in
-    let law = choice_is_no_older (replay (opened o) was.before) was.now m was.part was.later (replay_is_sound o was.before opens (calls_before was.before was.later call all)) (calls_from was.before was.later call all) was.completing was.checkpoint was.none_back in
-    let same : law.0 ≡ n = same_checkpoint law.0 n (sym law.1 ∙ ap choice_of (sym (ap (replay (opened o)) was.are_these ∙ replay_on (opened o) was.before was.later call)) ∙ chosen) in
+    let both : AreCalls was.before × AreCalls (call ∷ was.later) = calls-split was.before (call ∷ was.later) all in
+    let law = choice_is_no_older (replay (opened o) was.before) was.now m was.part was.later (replay_is_sound o was.before opens both.0) both.1 was.completing was.checkpoint was.none_back in
+    let same : law.0 ≡ n = same_choice law.0 n (sym law.1 ∙ ap choice_of (sym (ap (replay (opened o)) was.are_these ∙ replay-append (opened o) was.before (call ∷ was.later))) ∙ chosen) in
     let Up : ℕ → Type 0 = λ k. m ≤ k in
     subst Up same law.2
 

@@ -50,7 +50,7 @@ completion_leaves_newer id m h x s e =
     let from : id ≤ h.0.id = h.3 in
     (one.0, one.1, parts.0, omega (arith, after, from))
 
-same_choice : (m n : ℕ) → choice.Checkpoint m ≡ choice.Checkpoint n → m ≡ n
+pub same_choice : (m n : ℕ) → choice.Checkpoint m ≡ choice.Checkpoint n → m ≡ n
 same_choice m n e = grind (arith, common_steps)
 
 no_savepoint : (m n : ℕ) → choice.Savepoint m ≡ choice.Checkpoint n → ⊥

@@ -4,13 +4,15 @@ use Rattle.std.specs.Prelude.{◌==◌, ◌&&◌}
 use Rattle.ckpt_ids.specs.declared.subtask.SubtaskId.{SubtaskId}
 use Rattle.ckpt_ids.specs.Shapes.{same_subtask}
 use Rattle.ckpt_align.specs.declared.input.Input.{Input}
-use Rattle.ckpt_align.specs.declared.input.Input.TheVariants.{Open, Held, Ended}
+use Rattle.ckpt_align.specs.declared.input.Input.TheVariants.{Open}
 use Rattle.ckpt_align.specs.Alignment.{Alignment, opened}
 use Rattle.ckpt_align.specs.Steps.{step, element}
 use Rattle.ckpt_align.specs.Histories.{Item, Element, Action, Reads, after, answer_to, is_taken, cut_as, barriers, replay, taken, sent, elements}
 use Rattle.ckpt_align.specs.Laws.{Channel}
 use Rattle.ckpt_align.proofs.ItemLemmas.{elements-append}
-use Rattle.ckpt_align.proofs.InputLemmas.{get-replicate, get-within, length-replicate}
+use Rattle.ckpt_ids.proofs.PlaceLemmas.{some_at}
+use Rattle.ckpt_align.proofs.Fitting.{element_reads-other}
+use Rattle.ckpt_align.proofs.InputLemmas.{get-replicate, length-replicate}
 use Rattle.ckpt_align.proofs.Cutting.{reads_cut-element}
 use Rattle.ckpt_once.specs.Programs.{Move, Takes, Draws, Emitted, Program, state, Turn, told, move_in, with_one, aligned, moves_in, emitted_by, sendings, actions}
 use Rattle.ckpt_once.specs.Jobs.{GivesInOrder, IsHistory, IsJob, IsMoveOf, IsPrefix, IsRun, IsTurnOf, Job, Run, States, as_step, network, of, put_on, run_of, taken_off}
@@ -32,15 +34,9 @@ of_history t (step ∷ run) = of_if (same_subtask step.task t) step.what (of t r
 
 -- elements change nothing in an aligner
 
-element_keeps : (a : Alignment) (o : Option Input) → (element a o).0 ≡ a
-element_keeps a None = refl
-element_keeps a (Some Open) = refl
-element_keeps a (Some Held) = refl
-element_keeps a (Some Ended) = refl
-
 reads_keeps : (a : Alignment) (i x : ℕ) → after a (Reads i (Element x)) ≡ a
 unfolding step
-reads_keeps a i x = element_keeps a (slice_get a.inputs i)
+reads_keeps a i x = element_reads-other a (slice_get a.inputs i)
 
 turn_keeps : (a : Alignment) (move : Move) → replay a (told (turn_of move)) ≡ a
 turn_keeps a (Takes i x) = reads_keeps a i x
@@ -61,7 +57,7 @@ answer_taken a i x e = element_taken a (slice_get a.inputs i) e
 
 open_at : (inputs i : ℕ) → i < inputs → slice_get (replicate inputs Open) i ≡ Some Open
 open_at inputs i h =
-    let its = get-within (replicate inputs Open) i (rw (length-replicate inputs Open) h) in
+    let its = some_at (replicate inputs Open) i (rw (length-replicate inputs Open) h) in
     its.1 ∙ ap Some (get-replicate inputs i Open its.0 its.1)
 
 abbrev IsWithin : ℕ → Move → Type 0

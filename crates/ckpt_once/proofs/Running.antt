@@ -112,7 +112,7 @@ pub put_before_is : (n : ℕ) (job : Job) (from : States) (h : History) (c : Cha
 put_before_is n job from h c =
     put_on_is job from (before_cuts n job from h) c ∙ ap (λ l. elements (sent c.output (opened (job.inputs c.sender)) l)) (acts_before n job from h c.sender)
 
-prefix_like : (xs us ys vs : List ℕ) → xs ≡ us → ys ≡ vs → IsPrefix us vs → IsPrefix xs ys
+pub prefix_like : (xs us ys vs : List ℕ) → xs ≡ us → ys ≡ vs → IsPrefix us vs → IsPrefix xs ys
 prefix_like xs us ys vs e f h = (h.0, f ∙ h.1 ∙ ap (λ l. l ++ h.0) (sym e))
 
 abbrev pub IsOrdered : Job → States → Run → Run → Type 0

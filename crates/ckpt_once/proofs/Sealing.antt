@@ -7,6 +7,7 @@ use Rattle.std.proofs.lemmas.List.{append-nil, append_assoc}
 use Rattle.ckpt_ids.specs.Ordered.{IsIn}
 use Rattle.ckpt_align.specs.Alignment.{Alignment, opened}
 use Rattle.ckpt_align.specs.Histories.{Action, Reads, GivesUp, Sends, Ends, after, replay, barriers, sent, sent_by, elements, before_cut, has_cut, cut_by, is_number}
+use Rattle.ckpt_align.proofs.Carrying.{is_number-Some}
 use Rattle.ckpt_align.proofs.ItemLemmas.{elements-append}
 use Rattle.ckpt_align.proofs.GoingOn.{cuts_rise}
 use Rattle.ckpt_once.specs.Jobs.{IsPrefix}
@@ -18,10 +19,6 @@ use Rattle.ckpt_once.proofs.ActionLemmas.{replay-append}
 rises : (inputs : ℕ) (done : List Action) (x : Action) (between : List Action) (y : Action) (n m : ℕ) → cut_by (replay (opened inputs) done) x ≡ Some n → cut_by (replay (after (replay (opened inputs) done) x) between) y ≡ Some m → n < m
 rises inputs done x between y n m e f =
     cuts_rise inputs done x between y n m e (ap (λ (k : Alignment). cut_by k y) (replay-append (opened inputs) done (x ∷ between)) ∙ f)
-
-is_number-Some : (n : ℕ) (o : Option ℕ) → is_number n o ≡ true → o ≡ Some n
-is_number-Some n None e = grind (arith, common_steps)
-is_number-Some n (Some m) e = grind (arith, common_steps)
 
 -- what is cut later is greater
 cut_above_by : (inputs : ℕ) (done : List Action) (x : Action) (between : List Action) (y : Action) (m n : ℕ) (is has : Bool) → cut_by (replay (opened inputs) done) x ≡ Some m

@@ -1,11 +1,12 @@
 -- A task's turns, as moves and as actions.
 use Rattle.std.proofs.Common.{◌≡◌, ℕ, Bool, true, false, ◌||◌, List, [], ◌∷◌, ◌++◌, ◌∙◌, refl, sym, ap, subst, arith, if◌then◌else◌, Option, Some}
 use Rattle.std.specs.Prelude.{None, ◌==◌, ◌&&◌}
-use Rattle.std.proofs.lemmas.Bool.{cases_Bool}
+use Rattle.std.proofs.lemmas.Bool.{cases_Bool, or_parts}
 use Rattle.std.proofs.lemmas.Grind.{common_steps}
 use Rattle.std.proofs.lemmas.List.{append-nil}
 use Rattle.ckpt_align.specs.Alignment.{Alignment}
-use Rattle.ckpt_align.specs.Histories.{Item, Element, Barrier, End, Action, Reads, GivesUp, after, answer_to, is_taken, cut_as, barriers, replay, taken, sent, elements, before_cut, has_cut, has_ended, cut_by, is_number}
+use Rattle.ckpt_align.specs.Histories.{Item, Element, Barrier, End, Action, Reads, GivesUp, after, answer_to, is_taken, cut_as, replay, taken, sent, elements, before_cut, has_cut, has_ended, cut_by, is_number}
+use Rattle.ckpt_align.proofs.Carrying.{elements-barriers}
 use Rattle.ckpt_align.proofs.ItemLemmas.{elements-append}
 use Rattle.ckpt_once.specs.Programs.{Move, Takes, Draws, Emitted, Program, state, emitted, on_output, from_input, Turn, Offered, GivenUp, Drawn, Ended, told, move_in, with_one, aligned, moves_in, emitted_by, sendings, acts, actions}
 use Rattle.ckpt_once.proofs.ActionLemmas.{replay-append, taken-append, sent-append, stopped, stopped-append, before-append, before_all, before_stays}
@@ -85,13 +86,9 @@ taken_is j p s a (turn ∷ turns) =
 
 -- what is sent
 
-elements_barriers : (o : Option ℕ) (items : List Item) → elements (barriers o ++ items) ≡ elements items
-elements_barriers None items = refl
-elements_barriers (Some m) items = refl
-
 sent_turn : (c : ℕ) (b : Alignment) (turn : Turn) (es : List Emitted) → elements (sent c b (told turn ++ sendings es)) ≡ on_output c es
-sent_turn c b (Offered i item) es = elements_barriers (cut_as (answer_to b i item)) (sent c (after b (Reads i item)) (sendings es)) ∙ sent_sendings c (after b (Reads i item)) es
-sent_turn c b (GivenUp id) es = elements_barriers (cut_by b (GivesUp id)) (sent c (after b (GivesUp id)) (sendings es)) ∙ sent_sendings c (after b (GivesUp id)) es
+sent_turn c b (Offered i item) es = elements-barriers (cut_as (answer_to b i item)) (sent c (after b (Reads i item)) (sendings es)) ∙ sent_sendings c (after b (Reads i item)) es
+sent_turn c b (GivenUp id) es = elements-barriers (cut_by b (GivesUp id)) (sent c (after b (GivesUp id)) (sendings es)) ∙ sent_sendings c (after b (GivesUp id)) es
 sent_turn c b Drawn es = sent_sendings c b es
 sent_turn c b Ended es = sent_sendings c b es
 
@@ -135,17 +132,13 @@ stopped_turn n b (GivenUp id) es e = stopped_reads n (is_number n (cut_by b (Giv
 stopped_turn n b Drawn es e = grind (arith, common_steps, has_cut_sendings n b es, has_ended_sendings es)
 stopped_turn n b Ended es e = refl
 
-or_false : (b c : Bool) → (b || c) ≡ false → (b ≡ false) × (c ≡ false)
-or_false true c e = grind (arith, common_steps)
-or_false false c e = (refl, e)
-
 -- a task that has not stopped has only turns before its cut
 pub turns_all : (n : ℕ) (p : Program) (s : ℕ) (a : Alignment) (turns : List Turn) → stopped n a (actions p s a turns) ≡ false → turns_before n p s a turns ≡ turns
 turns_all n p s a [] e = refl
 turns_all n p s a (turn ∷ turns) e =
     let xs : List Action = actions p s a turns in
     let zs : List Action = acts p (state p s (moves_in a turns)) (aligned a turns) turn in
-    let parts = or_false (stopped n a xs) (stopped n (replay a xs) zs) (sym (stopped-append n a xs zs) ∙ e) in
+    let parts = or_parts (stopped n a xs) (stopped n (replay a xs) zs) (sym (stopped-append n a xs zs) ∙ e) in
     let At : Bool → Type 0 = λ b. (if b then turns_before n p s a turns else turn ∷ turns_before n p s a turns) ≡ turn ∷ turns in
     subst At (sym e) (ap (λ l. turn ∷ l) (turns_all n p s a turns parts.0))
 

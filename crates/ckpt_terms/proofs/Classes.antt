@@ -4,12 +4,13 @@ use Rattle.std.specs.List.{list_any}
 use Rattle.std.proofs.lemmas.Bool.{cases_Bool, both_ways, not-true, and_parts, and_from, or_cases, or_parts, not_from_false, ltb-true, ltb-false, leb-true, leb-false}
 use Rattle.ckpt_ids.specs.Counting.{one_if, times}
 use Rattle.ckpt_ids.specs.Ordered.{IsIn}
-use Rattle.ckpt_ids.specs.Records.{uses, count, is_present}
+use Rattle.ckpt_ids.specs.Records.{uses, is_present}
 use Rattle.ckpt_ids.proofs.CountLemmas.{one_if-true, one_if-false, times-append}
 use Rattle.ckpt_ids.proofs.AscendingLemmas.{numbers_in_order}
 use Rattle.ckpt_ids.proofs.OrderedLemmas.{IsIn-append_right, IsIn-from_test, not_in-from_test, AreDistinct-from_order}
 use Rattle.ckpt_model.specs.State.{is_known, in_outbox}
 use Rattle.ckpt_model.proofs.Records.Lists.{outbox_of}
+use Rattle.ckpt_model.proofs.Histories.Balance.{unused-from_absent}
 use Rattle.ckpt_model.proofs.Histories.Balances.{times_none, times_once}
 use Rattle.ckpt_terms.specs.declared.call.FencedCall.{FencedCall}
 use Rattle.ckpt_terms.specs.Fencing.{Fenced, fenced_replay, is_unspent, is_garbage, may_be_deleted}
@@ -68,8 +69,7 @@ deletions_are_safe m calls i b f h =
     ⊎_elim (λ (e : is_present (uses n.core.records) f ≡ true).
     ⊎_elim (λ (k : is_present (uses m.core.records) f ≡ true). absurd (both_ways (is_present (uses m.core.records) f) d.1 k)) (λ (o : IsOpen m f). absurd (d.0 o)) (l.present f e))
     (λ (e : is_present (uses n.core.records) f ≡ false). e) (cases_Bool (is_present (uses n.core.records) f)) in
-    let none : count (uses n.core.records) f ≤ 0 = ltb-false 0 (count (uses n.core.records) f) absent in
-    omega arith
+    unused-from_absent n.core f absent
 
 -- a known file is in use, waits or was fetched, once
 known_once : (m : Fenced) (f : ℕ) → IsFenced m → is_known m.core f ≡ true → one_if (is_present (uses m.core.records) f) + times f (m.core.waiting ++ m.core.taken) ≡ 1

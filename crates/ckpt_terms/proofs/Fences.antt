@@ -1,5 +1,5 @@
 -- What always holds, and what stays so, over every list of calls.
-use Rattle.std.proofs.Common.{refl, ℕ, List, [], ◌∷◌, arith}
+use Rattle.std.proofs.Common.{◌≡◌, refl, ℕ, List, [], ◌∷◌, ◌++◌, arith}
 use Rattle.ckpt_model.specs.State.{Opening}
 use Rattle.ckpt_model.proofs.Soundness.Histories.{opening_is_sound}
 use Rattle.ckpt_terms.specs.declared.call.FencedCall.{FencedCall}
@@ -34,6 +34,20 @@ opening_fenced o first c = record {
   ascending = tt;
   ended = λ e. refl;
 }
+
+-- two lists, one after the other
+
+pub fenced_replay-append : (m : Fenced) (before after : List FencedCall) → fenced_replay m (before ++ after) ≡ fenced_replay (fenced_replay m before) after
+fenced_replay-append m [] after = refl
+fenced_replay-append m (call ∷ before) after = fenced_replay-append (fenced_step m call).0 before after
+
+pub fenced_calls-split : (before after : List FencedCall) → AreFencedCalls (before ++ after) → AreFencedCalls before × AreFencedCalls after
+fenced_calls-split [] after a = (tt, a)
+fenced_calls-split (call ∷ before) after a = let rest : AreFencedCalls before × AreFencedCalls after = fenced_calls-split before after a.1 in ((a.0, rest.0), rest.1)
+
+pub fenced_calls-join : (before after : List FencedCall) → AreFencedCalls before → AreFencedCalls after → AreFencedCalls (before ++ after)
+fenced_calls-join [] after a b = b
+fenced_calls-join (call ∷ before) after a b = (a.0, fenced_calls-join before after a.1 b)
 
 -- the law
 pub always : (o : Opening) (first : ℕ) (calls : List FencedCall) → CanFence o first → AreFencedCalls calls → IsFenced (fenced_replay (fenced o first) calls)

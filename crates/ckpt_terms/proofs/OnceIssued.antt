@@ -3,9 +3,8 @@ use Rattle.std.proofs.Common.{◌≡◌, ℕ, List, [], ◌∷◌, ◌++◌, ref
 use Rattle.std.specs.Prelude.{◌↔◌}
 use Rattle.ckpt_ids.specs.declared.call.Call.{Call}
 use Rattle.ckpt_ids.specs.Ordered.{IsIn}
-use Rattle.ckpt_ids.specs.Records.{uses, count}
 use Rattle.ckpt_ids.proofs.OrderedLemmas.{IsIn-append_cases}
-use Rattle.ckpt_model.specs.State.{State, Opening, opened}
+use Rattle.ckpt_model.specs.State.{IsUnused, State, Opening, opened}
 use Rattle.ckpt_model.specs.Histories.{replay}
 use Rattle.ckpt_model.specs.Laws.{AreCalls, NoneAgain, along, handed_by, registered_by, deleted_by}
 use Rattle.ckpt_model.proofs.Histories.Balance.{handed}
@@ -95,5 +94,5 @@ issued_once o first calls c a =
     let m : Fenced = fenced o first in
     let its : List Call = core_calls m calls in
     let h : IssuesOnce m calls = issues_once m calls (opening_fenced o first c) a in
-    let At : State → Type 0 = λ n. (f : ℕ) → IsIn f (along handed_by (opened o) its) ↔ (IsIn f (along registered_by (opened o) its) × (count (uses n.records) f ≡ 0)) in
+    let At : State → Type 0 = λ n. (f : ℕ) → IsIn f (along handed_by (opened o) its) ↔ (IsIn f (along registered_by (opened o) its) × IsUnused n f) in
     record { made = h.made; core = h.core; none_again = h.none_again; handed = subst At (sym h.core) (handed o its c.core h.made h.none_again) }

@@ -1,24 +1,23 @@
 -- Each accepted acknowledgement of a pending record was made in the term of its trigger.
-use Rattle.std.proofs.Common.{◌≡◌, ℕ, ◌+◌, ◌<◌, true, false, not, ◌&&◌, eqb, List, [], ◌∷◌, refl, sym, ap, ◌∙◌, ◌⊎◌, inl, inr, ⊎_elim, arith}
+use Rattle.std.proofs.Common.{◌≡◌, ℕ, ◌+◌, ◌<◌, true, false, not, ◌&&◌, eqb, List, [], ◌∷◌, refl, sym, ap, ◌∙◌, ⊎_elim, arith}
 use Rattle.std.specs.Prelude.{Option, None, max}
 use Rattle.std.proofs.lemmas.Bool.{cases_Bool, both_ways, and_parts, and_from, not-true, not-false, not_from_false, eqb-true, cond_both}
 use Rattle.std.proofs.lemmas.Grind.{common_steps}
 use Rattle.ckpt_ids.specs.declared.call.Call.{Call}
-use Rattle.ckpt_ids.specs.declared.call.Call.TheVariants.{Ack, Restore, Cancel}
+use Rattle.ckpt_ids.specs.declared.call.Call.TheVariants.{Restore, Cancel}
 use Rattle.ckpt_ids.specs.declared.call.Target.{Target}
 use Rattle.ckpt_ids.specs.declared.call.Target.TheVariants as target
 use Rattle.ckpt_ids.specs.Ordered.{IsIn}
 use Rattle.ckpt_ids.specs.Records.{Record}
 use Rattle.ckpt_model.specs.State.{State, drop}
 use Rattle.ckpt_model.specs.Steps.{Stepped, cancel, cancelled, effect, restarted, restore, rolled_back, step}
-use Rattle.ckpt_model.specs.Laws.{Part, ack_of, given_as, is_ack_taken}
-use Rattle.ckpt_model.specs.Soundness.{IsSound}
+use Rattle.ckpt_model.specs.Laws.{Part, ack_of, is_ack_taken}
 use Rattle.ckpt_model.proofs.Answering.StepCases.{step_by}
 use Rattle.ckpt_model.proofs.Records.Counts.{IsIn-from_changed}
-use Rattle.ckpt_model.proofs.Histories.Moves.{IsMoved, IsTriggered, moved_from}
-use Rattle.ckpt_model.proofs.Histories.Numbers.{step_gives, next_rises}
-use Rattle.ckpt_model.proofs.Histories.Takings.{taken_from, taken_id}
-use Rattle.ckpt_model.proofs.Stepping.Changes.{IsPassedOver, IsTakenBy, passed_moves}
+use Rattle.ckpt_model.proofs.Histories.Moves.{IsTriggered}
+use Rattle.ckpt_model.proofs.Histories.Numbers.{next_rises}
+use Rattle.ckpt_model.proofs.Histories.Pinned.{given_is_next, step_came}
+use Rattle.ckpt_model.proofs.Stepping.Changes.{IsPassedOver, IsTakenBy}
 use Rattle.ckpt_model.proofs.Stepping.Walk.{step_is}
 use Rattle.ckpt_terms.specs.declared.call.FencedCall.{FencedCall}
 use Rattle.ckpt_terms.specs.declared.call.FencedCall.TheVariants.{Reserve, Forfeit, Make, Advance}
@@ -55,19 +54,6 @@ ended_is_idle m (Cancel now) y e h =
     step_by m (Cancel now) (λ (x : Stepped). (is_accepted x.1 && true) ≡ true → IsIn y x.0.records → y.done ≡ true) (λ why _ k h. absurd (both_ways false refl k))
     (λ _ k h. cancelled_is_idle (record m { latest = max now m.latest }) y h) e h
 ended_is_idle m call y e h = absurd (both_ways (ends_the_term call) refl (and_parts (is_accepted (step m call).1) (ends_the_term call) e).1)
-
--- a record that is pending after a call was pending before, or was triggered by it
-abbrev Came : State → List Record → Type 0
-Came m after = (y : Record) → IsIn y after → y.done ≡ false → ((x : Record) × IsIn x m.records × (x.done ≡ false) × (y.id ≡ x.id)) ⊎ IsTriggered m y
-
-moved_came : {m : State} {d : Option ℕ} {after : List Record} → IsMoved m d after → Came m after
-moved_came {m} i y h e = ⊎_elim (λ (k : IsIn y m.records). inl (y, k, e, refl)) (λ (k : IsTriggered m y). inr k) (moved_from i y h)
-
-step_came : (m : State) (call : Call) → IsSound m → Came m (step m call).0.records
-step_came m (Ack now id subtask fresh reused) s y h e =
-    let taken : IsTakenBy m id subtask fresh reused (step m (Ack now id subtask fresh reused)) → _ = λ i. grind (arith, common_steps, taken_id i.taken, taken_from i.taken y h) steps 1000000 in
-    ⊎_elim (λ i. moved_came (passed_moves i) y h e) taken ((step_is m (Ack now id subtask fresh reused)).records s)
-step_came m call s y h e = moved_came ((step_is m call).records s) y h e
 
 -- a record of this number is pending only in this term
 record IsOfTerm (m : Fenced) (number term : ℕ) : Type 0 where
@@ -106,10 +92,6 @@ replay_of_term : (m : Fenced) (calls : List FencedCall) (number term : ℕ) → 
 replay_of_term m [] number term i a p = p
 replay_of_term m (call ∷ calls) number term i a p = replay_of_term (fenced_step m call).0 calls number term (step_fenced m call a.0 i) a.1 (step_of_term m call number term i p)
 
--- a call that gives a number ends no term
-gives_goes_on : (m : State) (call : Call) (number : ℕ) → given_as (step m call).1 ≡ number ∷ [] → (number ≡ m.next) × (number < ((step m call).0).next)
-gives_goes_on m call number e = grind (arith, common_steps, step_gives)
-
 -- the trigger
 trigger_of_term : (m : Fenced) (call : FencedCall) (number : ℕ) → IsFenced m → given_in (fenced_step m call).1 ≡ number ∷ [] → IsOfTerm (fenced_step m call).0 number m.term
 trigger_of_term m call number i =
@@ -118,7 +100,7 @@ trigger_of_term m call number i =
     by_make : (its : ℕ) (c : Call) → given_in (made m (Make its c)).1 ≡ number ∷ [] → IsOfTerm (made m (Make its c)).0 number m.term
     by_make its c e =
         let s : Stepped = step m.core c in
-        let g = gives_goes_on m.core c number e in
+        let g = given_is_next m.core c number e in
         record {
           given = g.1;
           pending = λ y h k waits.
@@ -132,7 +114,7 @@ trigger_of_term m call number i =
     by_call (Forfeit its names) e = absurd (cc)
     by_call (Make its c) e = by_make its c e
     by_call (Advance now its first) e =
-        let g = gives_goes_on m.core (restart now) number e in
+        let g = given_is_next m.core (restart now) number e in
         advance_by m now its first (λ (n : Fenced). IsOfTerm n number m.term)
         (λ yes. record { given = g.1; pending = λ y h k waits. absurd (both_ways y.done waits (ended_is_idle m.core (restart now) y (ap (λ b. b && true) yes) h)) })
         (λ _. by_make 0 (restart now) e)

@@ -24,6 +24,7 @@ use Rattle.ckpt_terms.specs.declared.call.FencedAnswer.TheVariants as answer
 use Rattle.ckpt_terms.specs.Fencing.{Fenced, ends_the_term, is_accepted, fence, unspent_after, after_call, advanced, restart, FencedStepped, made, unless_fenced, fenced_step, fenced_replay}
 use Rattle.ckpt_terms.specs.FencedLaws.{IsFenced}
 use Rattle.ckpt_terms.specs.TermsImages.{fenced_answers, fenced_settled, AreFencedAlike, FencedGoesOnAs, CanHoldFenced, IsFencedCut}
+use Rattle.ckpt_terms.proofs.Fences.{fenced_replay-append}
 use Rattle.ckpt_terms.proofs.Known.{known-from_outbox, known-from_present}
 use Rattle.ckpt_terms.proofs.TermLemmas.{layer}
 
@@ -125,10 +126,6 @@ goes_on_alike m n (call ∷ calls) e =
     }
 
 -- a log in two parts
-replay-append : (m : Fenced) (before after : List FencedCall) → fenced_replay m (before ++ after) ≡ fenced_replay (fenced_replay m before) after
-replay-append m [] after = refl
-replay-append m (call ∷ before) after = replay-append (fenced_step m call).0 before after
-
 answers-append : (m : Fenced) (before after : List FencedCall) → fenced_answers m (before ++ after) ≡ fenced_answers m before ++ fenced_answers (fenced_replay m before) after
 answers-append m [] after = refl
 answers-append m (call ∷ before) after = ap (λ (bs : List FencedAnswer). (fenced_step m call).1 ∷ bs) (answers-append (fenced_step m call).0 before after)
@@ -143,7 +140,7 @@ fenced_cut m before after =
     let Alike : Fenced → Type 0 = λ k. AreFencedAlike k (fenced_replay (fenced_settled n) after) in
     record {
       answers = answers-append m before after ∙ ap (λ (bs : List FencedAnswer). fenced_answers m before ++ bs) same.answers;
-      state = subst Alike (sym (replay-append m before after)) same.state;
+      state = subst Alike (sym (fenced_replay-append m before after)) same.state;
     }
 
 -- a file is known whatever the order

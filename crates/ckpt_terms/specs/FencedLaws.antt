@@ -3,8 +3,8 @@ use Rattle.std.specs.Prelude.{◌≡◌, ℕ, ◌+◌, ◌<◌, ◌≤◌, Bool,
 use Rattle.ckpt_ids.specs.Ascending.{IsAscendingSet}
 use Rattle.ckpt_ids.specs.Counting.{one_if, times}
 use Rattle.ckpt_ids.specs.Ordered.{IsIn}
-use Rattle.ckpt_ids.specs.Records.{uses, count, is_present}
-use Rattle.ckpt_model.specs.State.{Opening, opened, is_known}
+use Rattle.ckpt_ids.specs.Records.{uses, is_present}
+use Rattle.ckpt_model.specs.State.{IsUnused, Opening, opened, is_known}
 use Rattle.ckpt_model.specs.Refusals.{is_cancelled}
 use Rattle.ckpt_model.specs.Histories.{replay}
 use Rattle.ckpt_model.specs.Soundness.{IsSound, IsCall}
@@ -60,7 +60,7 @@ GarbageForGood m calls = (f : ℕ) → is_garbage m f ≡ true → is_garbage (f
 
 -- no live record uses a file that may be deleted, neither then nor later
 abbrev pub DeletionsAreSafe : Fenced → List FencedCall → Type 0
-DeletionsAreSafe m calls = (f : ℕ) → may_be_deleted m f ≡ true → count (uses (fenced_replay m calls).core.records) f ≡ 0
+DeletionsAreSafe m calls = (f : ℕ) → may_be_deleted m f ≡ true → IsUnused (fenced_replay m calls).core f
 
 -- The calls that reach the coordinator are a history of it, so each law of plain calls holds of them. None of them reports a
 -- file as new again that was deleted after m.
@@ -76,7 +76,7 @@ pub record IssuedOnce (o : Opening) (first : ℕ) (calls : List FencedCall) : Ty
   pub core : (fenced_replay (fenced o first) calls).core ≡ replay (opened o) (core_calls (fenced o first) calls)
   pub none_again : NoneAgain [] (opened o) (core_calls (fenced o first) calls)
   pub handed : (f : ℕ) → IsIn f (along handed_by (opened o) (core_calls (fenced o first) calls))
-      ↔ (IsIn f (along registered_by (opened o) (core_calls (fenced o first) calls)) × (count (uses (fenced_replay (fenced o first) calls).core.records) f ≡ 0))
+      ↔ (IsIn f (along registered_by (opened o) (core_calls (fenced o first) calls)) × IsUnused (fenced_replay (fenced o first) calls).core f)
 
 -- a call of a task
 abbrev pub is_from_task : FencedCall → Bool

@@ -22,7 +22,7 @@ pub fn fenced_always()
     ensures opening { (o : Opening) (first : ℕ) → CanFence o first → IsFenced (fenced o first) }
     ensures named { (m : State) (first : ℕ) → IsSound m → fence_fault (machine.Plain m) first ≡ None → IsFenced (fenced_of m (first_names first)) }
     ensures after { (m : Fenced) (calls : List FencedCall) → IsFenced m → AreFencedCalls calls → IsFenced (fenced_replay m calls) }
-    ensures opened { (o : Opening) (first : ℕ) (calls : List FencedCall) → CanFence o first → AreFencedCalls calls → IsFenced (fenced_replay (fenced o first) calls) }
+    ensures opened { (o : Opening) (n : ℕ) (its : List FencedCall) → CanFence o n → AreFencedCalls its → IsFenced (fenced_replay (fenced o n) its) }
 {}
 
 /// A fence as first call leaves what an opening with names gives, and is not refused.
@@ -69,7 +69,7 @@ pub fn advances()
 /// Each acknowledgement that is accepted for a pending record was made in the term in which that
 /// record was triggered.
 pub fn one_term()
-    ensures { (m : Fenced) (call : FencedCall) (calls : List FencedCall) → IsFenced m → IsFencedCall call → AreFencedCalls calls → OneTerm m call calls }
+    ensures { (m : Fenced) (c : FencedCall) (later : List FencedCall) → IsFenced m → IsFencedCall c → AreFencedCalls later → OneTerm m c later }
 {}
 
 /// If each subtask that a pending record lacks acknowledges once in the term that runs, in any

@@ -1,5 +1,5 @@
 -- The alignment of a task in plain memory, and what a step is told as.
-use Rattle.std.specs.Prelude.{ℕ, ◌==◌, List, map, Result, Ok, Err, if◌then◌else◌}
+use Rattle.std.specs.Prelude.{◌≡◌, ℕ, ◌==◌, List, map, slice_get, Result, Ok, Err, if◌then◌else◌}
 use Rattle.ckpt_align.specs.declared.input.Input.{Input}
 use Rattle.ckpt_align.specs.declared.input.Input.TheVariants.{Open, Held, Ended}
 use Rattle.ckpt_align.specs.declared.event.Answer.{Answer}
@@ -7,6 +7,7 @@ use Rattle.ckpt_align.specs.declared.event.Answer.TheVariants.{Process, Hold, No
 use Rattle.ckpt_align.specs.declared.event.Refusal.{Refusal}
 use Rattle.ckpt_align.specs.declared.event.Refusal.TheVariants.{UnknownInput, HeldInput, EndedInput}
 use Rattle.ckpt_align.specs.Alignment.{Alignment}
+use Rattle.ckpt_align.specs.Steps.{Stepped, if_open}
 use Rattle.relkvanu.specs.declared.aligning.Aligner.{Aligner}
 use Rattle.relkvanu.specs.declared.aligning.Step.{Step}
 
@@ -17,6 +18,11 @@ input_of byte = if byte == 0 then Open else (if byte == 1 then Held else Ended)
 -- the alignment that this memory is; every memory is one
 abbrev pub alignment_in : Aligner → List ℕ → Alignment
 alignment_in aligner inputs = record { inputs = map input_of inputs; latest = aligner.latest }
+
+-- an input that is not open is refused so, whatever it delivers
+abbrev pub IsNotOpen : List ℕ → ℕ → Refusal → Type 0
+IsNotOpen inputs input why =
+    (a : Aligner) (stepped : Stepped) → if_open (alignment_in a inputs) (slice_get (map input_of inputs) input) stepped ≡ (alignment_in a inputs, Err why)
 
 abbrev pub step_with : ℕ → ℕ → Step
 step_with what id = record { what = what; id = id }

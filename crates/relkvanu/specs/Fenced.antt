@@ -24,30 +24,30 @@ use Rattle.relkvanu.specs.Calls.{ack_of}
 use Rattle.relkvanu.specs.Told.{answer, answer_told, bad_argument, done, no_memory, out_of_memory, too_short_for}
 
 -- the code of a call that a term or the names refuse
-abbrev pub fenced : ℕ → ℕ → Answer
-fenced what file = answer 7 what file 0
+abbrev pub fence_refused : ℕ → ℕ → Answer
+fence_refused what file = answer 7 what file 0
 
 -- the handle has no names
 abbrev pub no_names : Answer
-no_names = fenced 8 0
+no_names = fence_refused 8 0
 
 -- the handle has names
 abbrev pub has_names : Answer
-has_names = fenced 9 0
+has_names = fence_refused 9 0
 
 -- the bad argument of a first name outside its limits
 abbrev pub bad_name : ℕ
 bad_name = 8
 
 abbrev pub fenced_refusal_told : FencedRefusal → Answer
-fenced_refusal_told why.OldTerm = fenced 1 0
-fenced_refusal_told why.Ended = fenced 2 0
-fenced_refusal_told why.BadCount = fenced 3 0
-fenced_refusal_told why.NamesUsedUp = fenced 4 0
-fenced_refusal_told why.TermsUsedUp = fenced 5 0
+fenced_refusal_told why.OldTerm = fence_refused 1 0
+fenced_refusal_told why.Ended = fence_refused 2 0
+fenced_refusal_told why.BadCount = fence_refused 3 0
+fenced_refusal_told why.NamesUsedUp = fence_refused 4 0
+fenced_refusal_told why.TermsUsedUp = fence_refused 5 0
 fenced_refusal_told why.BadName = bad_argument bad_name
-fenced_refusal_told (why.Spent file) = fenced 6 file
-fenced_refusal_told (why.NeverReserved file) = fenced 7 file
+fenced_refusal_told (why.Spent file) = fence_refused 6 file
+fenced_refusal_told (why.NeverReserved file) = fence_refused 7 file
 
 -- the answer to a call that asked for this many names
 abbrev pub fenced_told : ℕ → FencedAnswer → Answer
@@ -103,7 +103,7 @@ abbrev pub fence_told : Option FenceFault → Answer
 fence_told None = done 59 0 0
 fence_told (Some fault.HasNames) = has_names
 fence_told (Some fault.BadName) = bad_argument bad_name
-fence_told (Some fault.NameInUse) = fenced 10 0
+fence_told (Some fault.NameInUse) = fence_refused 10 0
 fence_told (Some fault.Memory) = out_of_memory
 
 -- a coordinator gets names from this one on

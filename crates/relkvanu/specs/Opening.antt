@@ -1,5 +1,7 @@
 -- Why a handle is not opened.
-use Rattle.std.specs.Prelude.{◌≡◌, ◌≢◌, ℕ, true, not, if◌then◌else◌, List, Option, Some, None}
+use Rattle.std.specs.Prelude.{◌≡◌, ◌≢◌, ℕ, Bool, true, not, if◌then◌else◌, List, Option, Some, None}
+use Rattle.ckpt_ids.specs.declared.call.Call.{Call}
+use Rattle.ckpt_ids.specs.declared.call.Call.TheVariants.{Configure}
 use Rattle.ckpt_ids.specs.Configuration.{Configuration, configured, is_within_limits}
 use Rattle.ckpt_ids.specs.Shapes.{is_shape}
 use Rattle.ckpt_model.specs.declared.faults.OpenFault.{OpenFault}
@@ -12,6 +14,14 @@ use Rattle.relkvanu.specs.Told.{bad_config, bad_shape, bad_moment, bad_first, ba
 
 abbrev pub configuration_of : Settings → Configuration
 configuration_of s = configured s.interval s.pause s.at_once s.timeout s.tolerable s.retained s.keep_on_cancel
+
+-- the settings are within their limits
+abbrev pub are_good : Settings → Bool
+are_good s = is_within_limits (configuration_of s)
+
+-- what a configure asks for
+abbrev pub configure_of : ℕ → Settings → Call
+configure_of now s = Configure now (configuration_of s)
 
 abbrev pub fault_number : Option OpenFault → Option ℕ
 fault_number None = None

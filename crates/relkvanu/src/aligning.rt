@@ -3,13 +3,13 @@
 //! Every such memory is an alignment, so none is bad. What each function does is the step of
 //! [`ckpt_align::Aligner`].
 
-ghost use Rattle.std.specs.Prelude.{◌≡◌, ◌<◌, ℕ, true, false, length, map, Some, Ok, Err, IfErr, OnOk, replicate, slice_get};
+ghost use Rattle.std.specs.Prelude.{◌≡◌, ◌<◌, true, false, length, map, Some, Ok, Err, IfErr, OnOk, replicate, slice_get};
 ghost use Rattle.std.specs.List.{list_any};
 ghost use Rattle.ckpt_align.specs.Alignment.{all_released, held_for, is_a_task, is_held, is_late, is_open, opened, released, with_input};
-ghost use Rattle.ckpt_align.specs.Steps.{Stepped, barrier, element, give_up, if_open, settled, step};
+ghost use Rattle.ckpt_align.specs.Steps.{barrier, element, give_up, settled, step};
 ghost use Rattle.relkvanu.specs.declared.aligning.Aligner.{Aligner};
 ghost use Rattle.ckpt_align.specs.declared.event.Event.TheVariants as event;
-ghost use Rattle.relkvanu.specs.Aligning.{alignment_in, bad_inputs, input_of, is_ready, told};
+ghost use Rattle.relkvanu.specs.Aligning.{IsNotOpen, alignment_in, bad_inputs, input_of, is_ready, told};
 
 use ckpt_align::{Answer, Input, MOST_INPUTS, Refusal};
 use ckpt_ids::CheckpointId;
@@ -186,7 +186,7 @@ fn input_at(inputs: &[u8], input: u32) -> Option<Input>
 fn open_input(inputs: &[u8], input: u32) -> Result<(), Refusal>
     ensures ok { OnOk result (slice_get (map input_of inputs.now) input ≡ Some Input.Open) }
     ensures within { OnOk result (input < length inputs.now) }
-    ensures err { IfErr result (λ why. (a : Aligner) (stepped : Stepped) → if_open (alignment_in a inputs.now) (slice_get (map input_of inputs.now) input) stepped ≡ (alignment_in a inputs.now, Err why)) }
+    ensures err { IfErr result (λ why. IsNotOpen inputs.now input why) }
 {
     match input_at(inputs, input) {
         None => Err(Refusal::UnknownInput),

@@ -2,7 +2,7 @@
 
 ghost use Rattle.std.specs.Prelude.{◌≡◌};
 ghost use Rattle.relkvanu.specs.Asking.{bad_line};
-ghost use Rattle.relkvanu.specs.Fenced.{fenced};
+ghost use Rattle.relkvanu.specs.Fenced.{fence_refused};
 ghost use Rattle.relkvanu.specs.Requested.{IsRefused};
 ghost use Rattle.relkvanu.specs.Told.{refusal_told, reply_told, restore_told, tick_told, done, refused, out_of_memory, is_closed, bad_argument};
 ghost use Rattle.relkvanu.specs.Told.{too_short, too_short_for};
@@ -150,7 +150,7 @@ impl Answer {
 
     /// The answer if a term or the names refuse a call, with its file if it has one.
     pub(crate) fn fenced(what: u32, file: u64) -> Answer
-        ensures { result ≡ fenced what file }
+        ensures { result ≡ fence_refused what file }
     {
         Answer {
             code: FENCED,

@@ -110,7 +110,7 @@ pub extern "C" fn relkvanu_group_hold(
     ensures group { IsRoom group.old (length held.old) → group.new ≡ one_more group.old }
     ensures held { IsRoom group.old (length held.old) → held.new ≡ set held.old group.old.waiting answer.now }
     ensures told { IsRoom group.old (length held.old) → result ≡ done 63 group.old.waiting 0 }
-    ensures looks { (p : Program) (handle : Handle) → Has p handle group.old held.old → result.code ≡ 0 → Does p (Looks answer.now) handle group.new held.new }
+    ensures looks { (p : Program) (h : Handle) → Has p h group.old held.old → result.code ≡ 0 → Does p (Looks answer.now) h group.new held.new }
 {
     if let Some(why) = refused(group, held.len()) {
         return why;
@@ -125,7 +125,7 @@ pub extern "C" fn relkvanu_group_hold(
 pub extern "C" fn relkvanu_group_synced(group: &mut Group) -> Answer
     ensures failed { group.old.has_failed ≡ true → (result ≡ why_full group.old) × (group.new ≡ group.old) }
     ensures synced { group.old.has_failed ≡ false → (result ≡ done 64 group.old.waiting 0) × (group.new ≡ all_told group.old) }
-    ensures syncs { (p : Program) (handle : Handle) (held : List Answer) → Has p handle group.old held → result.code ≡ 0 → Does p Syncs handle group.new held }
+    ensures syncs { (p : Program) (h : Handle) (held : List Answer) → Has p h group.old held → result.code ≡ 0 → Does p Syncs h group.new held }
 {
     if group.has_failed {
         return Answer::bad_argument(BAD_GROUP);

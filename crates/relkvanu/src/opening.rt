@@ -1,10 +1,9 @@
 //! Opening and closing a handle.
 
 ghost use Rattle.std.specs.Prelude.{◌≡◌, ◌≢◌, true, false, None, IfOk, IfErr, OnOk};
-ghost use Rattle.ckpt_ids.specs.Configuration.{is_within_limits};
 ghost use Rattle.ckpt_ids.specs.Shapes.{is_shape};
 ghost use Rattle.relkvanu.specs.Calls.{HasNoNumbers, StaysAsItWas};
-ghost use Rattle.relkvanu.specs.Opening.{configuration_of, opening_of, IsNotOpened, IsOpened, IsOpening, IsWhyNot, OpeningWantsMemory, StaysOpen};
+ghost use Rattle.relkvanu.specs.Opening.{are_good, configuration_of, opening_of, IsNotOpened, IsOpened, IsOpening, IsWhyNot, OpeningWantsMemory, StaysOpen};
 ghost use Rattle.ckpt_model.specs.Laws.{CanOpen};
 ghost use Rattle.ckpt_model.specs.State.{opened};
 ghost use Rattle.ckpt_terms.specs.declared.machine.Machine.TheVariants as machine;
@@ -147,9 +146,9 @@ fn plain_of(
 
 /// The configuration, or the answer if a value is outside its limits.
 pub(crate) fn config_of(settings: &Settings) -> Result<Config, Answer>
-    ensures good { IfOk result (λ config. is_within_limits (configuration_of settings.now) ≡ true) }
+    ensures good { IfOk result (λ config. are_good settings.now ≡ true) }
     ensures value { IfOk result (λ config. config ≡ configuration_of settings.now) }
-    ensures fault { IfErr result (λ answer. is_within_limits (configuration_of settings.now) ≡ false) }
+    ensures fault { IfErr result (λ answer. are_good settings.now ≡ false) }
     ensures told { IfErr result (λ answer. answer ≡ bad_argument bad_config) }
 {
     let values = ConfigValues {

@@ -1,11 +1,10 @@
 //! The calls that have no list and no buffer.
 
 ghost use Rattle.std.specs.Prelude.{◌≡◌, ◌≢◌, true, false};
-ghost use Rattle.ckpt_ids.specs.Configuration.{is_within_limits};
 ghost use Rattle.ckpt_ids.specs.declared.call.Call.TheVariants as call;
 ghost use Rattle.relkvanu.specs.Calls.{HasNoNumbers, IsAnswered, IsMade, IsMadePlainly, IsRefusedAs, StaysAsItWas, StaysClosed, WantsMemory, subtask_at};
 ghost use Rattle.relkvanu.specs.Fenced.{IsHandled, call_step};
-ghost use Rattle.relkvanu.specs.Opening.{configuration_of};
+ghost use Rattle.relkvanu.specs.Opening.{are_good, configure_of};
 ghost use Rattle.relkvanu.specs.Past.{GrowsBy, plainly};
 ghost use Rattle.relkvanu.specs.Told.{bad_config, no_memory};
 
@@ -162,12 +161,12 @@ pub extern "C" fn relkvanu_configure(
     settings: &Settings,
 ) -> Answer
     ensures closed { StaysClosed handle.old.value handle.new.value result }
-    ensures bad_config { is_within_limits (configuration_of settings.now) ≡ false → IsRefusedAs handle.old.value handle.new.value bad_config result }
-    ensures answered { is_within_limits (configuration_of settings.now) ≡ true → IsMade handle.old.value handle.new.value (call.Configure now (configuration_of settings.now)) result }
+    ensures bad_config { are_good settings.now ≡ false → IsRefusedAs handle.old.value handle.new.value bad_config result }
+    ensures answered { are_good settings.now ≡ true → IsMade handle.old.value handle.new.value (configure_of now settings.now) result }
     ensures memory { result.code ≢ no_memory }
     ensures names { handle.new.names ≡ handle.old.names }
-    ensures past { is_within_limits (configuration_of settings.now) ≡ true → GrowsBy (plainly (call.Configure now (configuration_of settings.now))) handle.old.past handle.new.past result }
-    ensures past_kept { is_within_limits (configuration_of settings.now) ≡ false → handle.new.past ≡ handle.old.past }
+    ensures past { are_good settings.now ≡ true → GrowsBy (plainly (configure_of now settings.now)) handle.old.past handle.new.past result }
+    ensures past_kept { are_good settings.now ≡ false → handle.new.past ≡ handle.old.past }
 {
     match config_of(settings) {
         Ok(config) => {

@@ -1,6 +1,6 @@
 -- The record that the choice names is live and done.
 use Rattle.ckpt_model.proofs.Names.{◌≡◌, ℕ, true, cond, eqb, List, [], ◌∷◌, refl, ◌⊎◌, Option, Some, None, cases_Bool, and_parts, eqb-true, Call, IsIn, IsInOrder, Record, IsIn-from_list_any, State}
-use Rattle.ckpt_model.proofs.Names.{Opening, opened, is_done_checkpoint, last_checkpoint, choice_from, choice_of, record_of, replay, IsSound, id_before}
+use Rattle.ckpt_model.proofs.Names.{Opening, opened, files_of, is_done_checkpoint, is_present, last_checkpoint, choice_from, choice_of, record_of, replay, uses, IsSound, id_before}
 use Rattle.ckpt_model.proofs.Names.{id_of_choice, ChoiceIsLive, common_steps, arith}
 use Rattle.ckpt_model.proofs.Records.{present-from_IsHeld, same_record}
 use Rattle.ckpt_model.proofs.Reordering.ExchangeLemmas.{find-only}
@@ -32,9 +32,13 @@ chosen_is_done m id s e =
     let is = names_is (last_checkpoint m.records) m.base id e in
     grind (arith, common_steps, is, last_is_done m.records id, found m, s.records.in_order, and_parts, s.base id, IsIn-from_list_any (is_savepoint id) m.records, eqb-true) steps 1000000
 
--- the law, of a sound state
-pub choice_is_live : (o : Opening) (calls : List Call) → IsSound (replay (opened o) calls) → ChoiceIsLive o calls
-choice_is_live o calls s id e =
-    let m : State = replay (opened o) calls in
+-- it is there with its files
+pub choice_stands : (m : State) → IsSound m → (id : ℕ) → id_of_choice (choice_of m) ≡ Some id
+    → (r : Record) × (record_of m id ≡ Some r) × (r.done ≡ true) × ((f : ℕ) → IsIn f (files_of (Some r)) → is_present (uses m.records) f ≡ true)
+choice_stands m s id e =
     let q = chosen_is_done m id s e in
     (q.0, q.2, q.3, λ f h. present-from_IsHeld f m.records (held-from_files_of f (Some q.0) m.records (λ r k. grind (arith, common_steps)) h))
+
+-- the law
+pub choice_is_live : (o : Opening) (calls : List Call) → IsSound (replay (opened o) calls) → ChoiceIsLive o calls
+choice_is_live o calls s = choice_stands (replay (opened o) calls) s

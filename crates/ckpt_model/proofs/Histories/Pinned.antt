@@ -18,7 +18,7 @@ pub record HasPins (m : State) (number : ℕ) (pins : List ℕ) : Type 0 where
   pub has : (y : Record) → IsIn y m.records → y.id ≡ number → y.done ≡ false → y.pins ≡ pins
 
 -- what a step leaves of the pending records: they were there with their pins, or were triggered
-abbrev Came : State → List Record → Type 0
+abbrev pub Came : State → List Record → Type 0
 Came m after = (y : Record) → IsIn y after → y.done ≡ false → ((x : Record) × IsIn x m.records × (x.done ≡ false) × (y.id ≡ x.id) × (y.pins ≡ x.pins)) ⊎ IsTriggered m y
 
 -- if the step drops some and triggers some
@@ -26,7 +26,7 @@ moved_came : {m : State} {d : Option ℕ} {after : List Record} → IsMoved m d 
 moved_came {m} i y h e = ⊎_elim (λ (k : IsIn y m.records). inl (y, k, e, refl, refl)) (λ (k : IsTriggered m y). inr k) (moved_from i y h)
 
 -- each call
-step_came : (m : State) (call : Call) → IsSound m → Came m (step m call).0.records
+pub step_came : (m : State) (call : Call) → IsSound m → Came m (step m call).0.records
 step_came m (Ack now id subtask fresh reused) s y h e =
     let taken : IsTakenBy m id subtask fresh reused (step m (Ack now id subtask fresh reused)) → _ = λ i. grind (arith, common_steps, taken_id i.taken, taken_from i.taken y h) steps 1000000 in
     ⊎_elim (λ i. moved_came (passed_moves i) y h e) taken ((step_is m (Ack now id subtask fresh reused)).records s)
@@ -45,7 +45,7 @@ has_pins_along m [] number pins s c p = p
 has_pins_along m (call ∷ calls) number pins s c p = has_pins_along (step m call).0 calls number pins (step_keeps m call c.0 s) c.1 (step_has_pins m call number pins s p)
 
 -- the number that a call gives is the next one
-given_is_next : (m : State) (call : Call) (number : ℕ) → given_by m call ≡ number ∷ [] → (number ≡ m.next) × (number < ((step m call).0).next)
+pub given_is_next : (m : State) (call : Call) (number : ℕ) → given_by m call ≡ number ∷ [] → (number ≡ m.next) × (number < ((step m call).0).next)
 given_is_next m call number e = grind (arith, common_steps, step_gives)
 
 -- the record that a call triggers pins the files of the choice
@@ -96,11 +96,10 @@ pins_are : (m : State) → pins_now m ≡ files_of (chosen (choice_of m) m)
 unfolding pins_now
 pins_are m = refl
 
--- the law
-pub pinned : (o : Opening) (before : List Call) (call : Call) (calls : List Call) → CanOpen o → AreCalls before → IsCall call → AreCalls calls → Pinned o before call calls
-pinned o before call calls c a b d id now subtask fresh reused f given among h =
-    let m : State = replay (opened o) before in
-    let s : IsSound m = replay_is_sound o before c a in
+-- after a call that gives a number, from any sound state
+pub pinned_from : (m : State) (call : Call) (calls : List Call) → IsSound m → IsCall call → AreCalls calls → (id now : ℕ) (subtask : SubtaskId) (fresh reused : List ℕ) (f : ℕ) → given_by m call ≡ id ∷ []
+    → ((g : ℕ) → IsIn g reused → IsIn g (files_of (chosen (choice_of m) m))) → refusal (replay (step m call).0 calls) (Ack now id subtask fresh reused) ≡ Some (FileGone f) → ⊥
+pinned_from m call calls s b d id now subtask fresh reused f given among h =
     let n : State = replay (step m call).0 calls in
     let p : HasPins n id (pins_now m) = has_pins_along (step m call).0 calls id (pins_now m) (step_keeps m call b s) d (has_pins_first m call id s given) in
     let g = file_gone_found n now id subtask fresh reused f h in
@@ -108,3 +107,7 @@ pinned o before call calls c a b d id now subtask fresh reused f given among h =
     let parts = and_parts (is_pending g.0) (eqb (g.0).id id) i.1 in
     let held : IsIn f (g.0).pins = rw ((p.has g.0 i.0 (eqb-true (g.0).id id parts.1) (not-true (g.0).done parts.0)) ∙ pins_are m) (among f g.2) in
     both_ways (is_present (uses n.records) f) g.3 (present-from_IsHeld f n.records (g.0, i.0, inr held))
+
+-- the law
+pub pinned : (o : Opening) (before : List Call) (call : Call) (calls : List Call) → CanOpen o → AreCalls before → IsCall call → AreCalls calls → Pinned o before call calls
+pinned o before call calls c a b d = pinned_from (replay (opened o) before) call calls (replay_is_sound o before c a) b d

@@ -25,8 +25,8 @@ savepoint_stays m (Ack now id subtask fresh reused) r s d e =
 savepoint_stays m (Dispose id) r s d e = savepoint_moved ((step_is m (Dispose id)).records s) r d.there d.done d.savepoint (disposes_other r.id id (step m (Dispose id)).1 e)
 savepoint_stays m call r s d e = savepoint_moved ((step_is m call).records s) r d.there d.done d.savepoint (none-some r.id)
 
--- through a list of such calls
-savepoint_stays_along : (m : State) (calls : List Call) (r : Record) → IsSound m → AreCalls calls → IsDoneSavepoint m r → IsNeverDisposed r.id m calls → IsIn r (replay m calls).records
+-- through a list of such calls, from any sound state
+pub savepoint_stays_along : (m : State) (calls : List Call) (r : Record) → IsSound m → AreCalls calls → IsDoneSavepoint m r → IsNeverDisposed r.id m calls → IsIn r (replay m calls).records
 savepoint_stays_along m [] r s a d n = d.there
 savepoint_stays_along m (call ∷ calls) r s a d n =
     savepoint_stays_along (step m call).0 calls r (step_keeps m call a.0 s) a.1 (record { there = savepoint_stays m call r s d n.0; done = d.done; savepoint = d.savepoint }) n.1

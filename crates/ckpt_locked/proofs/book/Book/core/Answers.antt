@@ -1,6 +1,7 @@
 -- Answers the goals of `Book::core`.
-use Rattle.ckpt_locked.proofs.{AreCalls, History, IsHistory, IsSound, ap, are_calls-append, calls_of, exactly_one, subst, sym, ◌∙◌, ◌∷◌, ◌≡◌}
+use Rattle.ckpt_locked.proofs.{AreCalls, History, IsHistory, IsSound, ap, calls_of, exactly_one, subst, sym, ◌∙◌, ◌∷◌, ◌≡◌}
 use Rattle.ckpt_locked.specs.Books.{state_of_book}
+use Rattle.ckpt_model.proofs.Histories.Replays.{calls-split}
 use Rattle.ckpt_locked.proofs.book.Book.core.Goals as goal
 
 -- the laws are about each opening and list; these are the book's
@@ -37,10 +38,10 @@ returns-clause-outbox c = let h : History = c.args.self.now in c.outbox.ensures 
 
 pub returns-clause-savepoints : goal.returns-clause-savepoints
 returns-clause-savepoints c before calls split =
-    let both : AreCalls before × AreCalls calls = are_calls-append before calls (subst AreCalls split (its_history c).are_calls) in
+    let both : AreCalls before × AreCalls calls = calls-split before calls (subst AreCalls split (its_history c).are_calls) in
     c.savepoints.ensures c.args.self.now.opening before calls (its_history c).can_open both.0 both.1
 
 pub returns-clause-pinned : goal.returns-clause-pinned
 returns-clause-pinned c before call calls split =
-    let both : AreCalls before × AreCalls (call ∷ calls) = are_calls-append before (call ∷ calls) (subst AreCalls split (its_history c).are_calls) in
+    let both : AreCalls before × AreCalls (call ∷ calls) = calls-split before (call ∷ calls) (subst AreCalls split (its_history c).are_calls) in
     c.pinned.ensures c.args.self.now.opening before call calls (its_history c).can_open both.0 both.1.0 both.1.1

@@ -5,8 +5,8 @@ use Rattle.ckpt_ids.specs.declared.call.Call.{Call}
 use Rattle.ckpt_ids.specs.declared.call.Call.TheVariants.{Ack}
 use Rattle.ckpt_ids.specs.declared.reply.Refusal.TheVariants.{FileGone}
 use Rattle.ckpt_ids.specs.Ordered.{IsIn}
-use Rattle.ckpt_ids.specs.Records.{count, is_present, uses}
-use Rattle.ckpt_model.specs.State.{State, in_outbox}
+use Rattle.ckpt_ids.specs.Records.{is_present, uses}
+use Rattle.ckpt_model.specs.State.{IsUnused, State, in_outbox}
 use Rattle.ckpt_model.specs.Histories.{replay}
 use Rattle.ckpt_model.specs.Laws.{AreCalls, NoneAgain, ack_of, along, deleted_by, handed_by, registered_by}
 use Rattle.ckpt_model.specs.Refusals.{refusal}
@@ -25,13 +25,16 @@ use Rattle.ckpt_logged.specs.Chronicles.{Chronicle, IsChronicle, calls_of}
 use Rattle.ckpt_logged.specs.Promises.{AreAccounted, AreAcknowledged, AreDeletedSafely, AreHandedOut, AreIssuedOnce, HaveOneTerm, IsBalanced, LeaksNone}
 use Rattle.ckpt_logged.specs.Promises.{NeverAgain, OneOfEach, PinsHold, SavepointsStay, UsesNoMore}
 use Rattle.ckpt_logged.proofs.Asked as asked
-use Rattle.ckpt_logged.proofs.Asked.{calls-split, events-split, fenced-split, reached_named, reaches, replay_named, replay_well}
-use Rattle.ckpt_model.proofs.Histories.Replays.{replay-append}
+use Rattle.ckpt_logged.proofs.Asked.{events-split, reached_named, reaches, replay_named, replay_well}
+use Rattle.ckpt_model.proofs.Histories.Balance.{accounted_from, balance_from, flow_from, handed_before, handed_from, in_one_place}
+use Rattle.ckpt_model.proofs.Histories.Choice.{choice_stands}
+use Rattle.ckpt_model.proofs.Histories.Pinned.{pinned_from}
+use Rattle.ckpt_model.proofs.Histories.Replays.{calls-split, replay-append}
+use Rattle.ckpt_model.proofs.Histories.Savepoints.{savepoint_stays_along}
 use Rattle.ckpt_model.proofs.Keeping.Latest.{takes_newest}
 use Rattle.ckpt_model.proofs.Soundness.Histories.{replay_keeps}
-use Rattle.ckpt_logged.proofs.Counts.{balanced, flowing}
-use Rattle.ckpt_logged.proofs.Once.{one_of_each}
-use Rattle.ckpt_logged.proofs.Since.{accounted, acknowledged, choice_stands, handed_before, handed_out, in_one_place, pinned, savepoints_stay}
+use Rattle.ckpt_terms.proofs.Fences.{fenced_calls-split}
+use Rattle.ckpt_logged.proofs.Since.{acknowledged, one_of_each}
 use Rattle.ckpt_logged.proofs.logged.Logged.machine.Goals as goal
 
 its : (c : goal.After-self) → IsChronicle c.args.self.now
@@ -56,14 +59,14 @@ exactly_one_here c = one_of_each (core_in c.args.self.now.now) (its_core c.args.
 balance_here : (c : goal.After-self) → IsBalanced c.args.self.now
 balance_here c f =
     let k : Chronicle = c.args.self.now in
-    rw (core_here c) (balanced (core_in k.begin) (calls_of k) (calls_here c) (its_core k.begin (its c).begin) f)
+    rw (core_here c) (balance_from (core_in k.begin) (calls_of k) f (its_core k.begin (its c).begin) (calls_here c))
 
 no_leak_here : (c : goal.After-self) → LeaksNone c.args.self.now
 no_leak_here c f =
     let k : Chronicle = c.args.self.now in
     let m : State = core_in k.begin in
     let s : IsSound m = its_core k.begin (its c).begin in
-    rw (core_here c) (omega (arith, balanced m (calls_of k) (calls_here c) s f, flowing m (calls_of k) (calls_here c) s f))
+    rw (core_here c) (omega (arith, balance_from m (calls_of k) f s (calls_here c), flow_from m (calls_of k) f s (calls_here c)))
 
 -- since the beginning
 
@@ -80,7 +83,8 @@ savepoints_here c before after split r there done savepoint never =
     let k : Chronicle = c.args.self.now in
     let both : AreCalls before × AreCalls after = calls-split before after (subst AreCalls split (calls_here c)) in
     subst (λ (n : State). IsIn r n.records) (sym (core_here c ∙ ap (replay (core_in k.begin)) split ∙ replay-append (core_in k.begin) before after))
-    (savepoints_stay (replay (core_in k.begin) before) after r (replay_keeps (core_in k.begin) before both.0 (first_sound c)) both.1 there done savepoint never)
+    (savepoint_stays_along (replay (core_in k.begin) before) after r (replay_keeps (core_in k.begin) before both.0 (first_sound c)) both.1
+    (record { there = there; done = done; savepoint = savepoint }) never)
 
 pinned_here : (c : goal.After-self) → PinsHold c.args.self.now
 pinned_here c before after call id now subtask fresh reused f split given among gone =
@@ -88,21 +92,21 @@ pinned_here c before after call id now subtask fresh reused f split given among 
     let both : AreCalls before × AreCalls (call ∷ after) = calls-split before (call ∷ after) (subst AreCalls split (calls_here c)) in
     let n : State = replay (core_in k.begin) before in
     let here : core_in k.now ≡ replay (step n call).0 after = core_here c ∙ ap (replay (core_in k.begin)) split ∙ replay-append (core_in k.begin) before (call ∷ after) in
-    pinned n call after (replay_keeps (core_in k.begin) before both.0 (first_sound c)) both.1.0 both.1.1 id now subtask fresh reused f given among
+    pinned_from n call after (replay_keeps (core_in k.begin) before both.0 (first_sound c)) both.1.0 both.1.1 id now subtask fresh reused f given among
     (subst (λ (m : State). refusal m (Ack now id subtask fresh reused) ≡ Some (FileGone f)) here gone)
 
 accounted_here : (c : goal.After-self) → AreAccounted c.args.self.now
 accounted_here c =
     let k : Chronicle = c.args.self.now in
-    subst (λ (n : State). (f : ℕ) → IsIn f (along registered_by (core_in k.begin) (calls_of k)) → count (uses n.records) f ≡ 0 → in_outbox n f ≡ false → IsIn f (along deleted_by (core_in k.begin) (calls_of k)))
-    (sym (core_here c)) (accounted (core_in k.begin) (calls_of k) (first_sound c) (calls_here c))
+    subst (λ (n : State). (f : ℕ) → IsIn f (along registered_by (core_in k.begin) (calls_of k)) → IsUnused n f → in_outbox n f ≡ false → IsIn f (along deleted_by (core_in k.begin) (calls_of k)))
+    (sym (core_here c)) (accounted_from (core_in k.begin) (calls_of k) (first_sound c) (calls_here c))
 
 handed_here : (c : goal.After-self) → AreHandedOut c.args.self.now
 handed_here c none f =
     let k : Chronicle = c.args.self.now in
     let m : State = core_in k.begin in
-    subst (λ (n : State). IsIn f (along handed_by m (calls_of k)) ↔ ((IsIn f (along registered_by m (calls_of k)) ⊎ (is_present (uses m.records) f ≡ true)) × (count (uses n.records) f ≡ 0)))
-    (sym (core_here c)) (handed_out m (calls_of k) (first_sound c) (calls_here c) none f)
+    subst (λ (n : State). IsIn f (along handed_by m (calls_of k)) ↔ ((IsIn f (along registered_by m (calls_of k)) ⊎ (is_present (uses m.records) f ≡ true)) × IsUnused n f))
+    (sym (core_here c)) (handed_from m (calls_of k) (first_sound c) (calls_here c) none f)
 
 used_no_more_here : (c : goal.After-self) → UsesNoMore c.args.self.now
 used_no_more_here c before after split none f h =
@@ -133,14 +137,14 @@ now_is c before after m split at =
 safe_here : (c : goal.After-self) → AreDeletedSafely c.args.self.now
 safe_here c before after m split at f h =
     let calls : AreFencedCalls (calls_named after) = (replay_named m after (calls_since c before after split)).0 in
-    subst (λ (n : Machine). count (uses (core_in n).records) f ≡ 0) (sym (now_is c before after m split at))
+    subst (λ (n : Machine). IsUnused (core_in n) f) (sym (now_is c before after m split at))
     (c.deletions_are_safe.ensures m (calls_named after) (is_fenced c before after m split at) calls f h)
 
 one_term_here : (c : goal.After-self) → HaveOneTerm c.args.self.now
 one_term_here c before after m call between later id term now p split at these given taken =
     let ack : FencedCall = Make term (ack_of now id p) in
     let calls : AreFencedCalls (call ∷ (between ++ ack ∷ later)) = subst AreFencedCalls these (replay_named m after (calls_since c before after split)).0 in
-    c.one_term.ensures m call between (is_fenced c before after m split at) calls.0 (fenced-split between (ack ∷ later) calls.1).0 id term now p given taken
+    c.one_term.ensures m call between (is_fenced c before after m split at) calls.0 (fenced_calls-split between (ack ∷ later) calls.1).0 id term now p given taken
 
 once_here : (c : goal.After-self) → AreIssuedOnce c.args.self.now
 once_here c before after m split at =
