@@ -280,12 +280,12 @@ typedef struct {
 #define RELKVANU_CALL_UNDELETED 10u
 #define RELKVANU_CALL_SHOW 11u
 #define RELKVANU_CALL_COUNT 12u
-#define RELKVANU_CALL_FENCE 13u   /* relkvanu_fence */
-#define RELKVANU_CALL_RESERVE 14u /* relkvanu_reserve */
-#define RELKVANU_CALL_FORFEIT 15u /* relkvanu_forfeit */
+#define RELKVANU_CALL_FENCE 13u   /* the job gives out names from here on */
+#define RELKVANU_CALL_RESERVE 14u /* a task reserves names */
+#define RELKVANU_CALL_FORFEIT 15u /* a task gives up names */
 #define RELKVANU_CALL_TRIGGER 16u
 #define RELKVANU_CALL_CONFIGURE 17u
-#define RELKVANU_CALL_ADVANCE 18u /* relkvanu_advance */
+#define RELKVANU_CALL_ADVANCE 18u /* the job goes on above the terms and names that were told */
 
 /* what of a step */
 #define RELKVANU_STEP_PROCESS 1u       /* process the element now */

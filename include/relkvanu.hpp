@@ -723,6 +723,12 @@ public:
         return is_reply(told, RELKVANU_FORFEITED) ? forfeit_answer(forfeited{}) : refusal(told);
     }
 
+    /* Restores a job that goes on from an older image, from its latest record, in a term above term, the greatest that any task was told,
+     * and with names from first_name on, above each that was given out. It is the first call of such a job. */
+    restore_answer advance(std::uint64_t now, std::uint64_t term, std::uint64_t first_name) noexcept {
+        return is_ahead(now) ? restore_answer(too_large()) : restore_of(relkvanu_advance(&handle_, now, term, first_name));
+    }
+
     /* ack of a task of this term. If it is accepted, it spends the names of the fresh files. The same acknowledgement once more is
      * refused as error::fenced_spent, if it has fresh files: a task deletes no file for that answer. */
     [[nodiscard]] ack_answer ack_in(std::uint64_t term, std::uint64_t now, std::uint64_t id, std::uint16_t vertex, std::uint16_t index,

@@ -30,7 +30,7 @@
  * - A thread that calls has 256 KiB of stack or more: one that commits also makes the calls of those that wait.
  * - A list or buffer that is passed stays as it is until the function returns, or until the completion of a submit.
  * - A thread that reads (relkvanu_store_read) makes no call before relkvanu_store_read_end, except a submit: it would wait for itself. Such a call is
- *   RELKVANU_STORE_BAD_ARGUMENT, relkvanu_store_why says so, and relkvanu_store_close does nothing then.
+ *   RELKVANU_STORE_BAD_ARGUMENT, relkvanu_store_why says so, and relkvanu_store_close does nothing then. It discards, sweeps and awaits no tick either.
  * - In a forked child each function returns RELKVANU_STORE_FORKED, and relkvanu_store_close does nothing.
  * - No call is made from a signal handler, and no thread is cancelled inside of one.
  * - relkvanu_store_close comes after the last call of each other thread.
@@ -83,11 +83,12 @@ typedef struct relkvanu_store relkvanu_store;
 /* Flags of an opening. */
 #define RELKVANU_STORE_RECOVER 0u       /* there has to be a job: a wrong path makes no new one */
 #define RELKVANU_STORE_CREATE 1u        /* makes a job if there is none */
-#define RELKVANU_STORE_CREATE_ONLY 2u   /* makes a job, and there may be none */
+#define RELKVANU_STORE_CREATE_ONLY 2u   /* makes a job, and fails if there is one */
 #define RELKVANU_STORE_ADOPT 4u         /* makes a job also if the storage folder has files. THE NEXT SWEEP DELETES THEM ALL, if their names are numbers */
 #define RELKVANU_STORE_EARLIER_IMAGE 8u /* begins with the image before the last one, which is damaged. The log after it is whole. The pages of the file are not checked */
 #define RELKVANU_STORE_BACKUP 32u       /* PATH is a backup: READ relkvanu_store_backup FIRST. Makes no job */
 #define RELKVANU_STORE_MANIFESTS 64u    /* the folder of the storage gets a manifest of each complete record, for relkvanu_store_recover. With each opening, or not at all */
+#define RELKVANU_STORE_CHECKSUMS 128u   /* with RELKVANU_STORE_MANIFESTS: manifests have a checksum of each file, for which the store reads it once */
 
 /* A moment of a call: that of the store's clock. The clock goes on from the greatest moment of the log, and does not follow the wall clock. A call
  * with a moment ahead of it sets it forward. */
@@ -582,7 +583,10 @@ int relkvanu_store_backup(relkvanu_store *store, const char *path, char *message
  * anybody is told of it. It has what a job needs to go on from that record without PATH: settings, shape, and the files of each subtask with their
  * lengths. The log stays the truth. A manifest is never ahead of it, and those that should be there are written again at an opening. If the folder is
  * full, the calls go on: failed_manifests counts it. Manifests of records that ended are deleted, also by relkvanu_store_sweep, which deletes all of them if
- * this opening has not the flag. docs/DURABLE-RECOVERY.md has their format. */
+ * this opening has not the flag. docs/DURABLE-RECOVERY.md has their format.
+ *
+ * With RELKVANU_STORE_CHECKSUMS too they have a CRC-32 of each file. Who writes a manifest reads the files that no manifest has a checksum of yet, so who completes
+ * a record waits until its new files are read. The other files keep the checksum that they had, also across openings. A file that can't be read gets none. */
 
 /* Functions of an engine that keeps manifests in a place of its own, such as a bucket. `with` is the pointer that it gave beside them. Each returns a status of
  * relkvanu_storage.h, and calls no function of the store. check: is the place there, and this opening's? put: makes or replaces an object of this name,
@@ -613,7 +617,9 @@ typedef struct {
     uint64_t written;  /* when the manifest was, in ms of the wall clock since 1970 */
     uint64_t files, bytes;
     uint64_t missing; /* files that are not there, or have another length */
-    uint64_t reserved[4];
+    uint64_t unknown; /* files of which the manifest has no checksum */
+    uint64_t changed; /* of relkvanu_store_check_records: files that have another checksum, or can't be read */
+    uint64_t reserved[2];
 } relkvanu_store_record;
 
 /* Whether it goes on. */
@@ -623,6 +629,20 @@ typedef bool (*relkvanu_store_each_record)(void *with, const relkvanu_store_reco
  *
  * RELKVANU_STORE_STORAGE: there is no such folder; RELKVANU_STORE_FAILED, RELKVANU_STORE_NO_MEMORY. message gets what went wrong. */
 int relkvanu_store_records(const char *folder, relkvanu_store_each_record each, void *with, char *message, size_t message_len);
+
+/* What is wrong with a file of a record. */
+#define RELKVANU_STORE_FILE_MISSING 1    /* it is not there */
+#define RELKVANU_STORE_FILE_LENGTH 2     /* it has another length than the manifest says */
+#define RELKVANU_STORE_FILE_CHANGED 3    /* it has another checksum */
+#define RELKVANU_STORE_FILE_UNREADABLE 4 /* it can't be read */
+
+/* Whether it goes on. */
+typedef bool (*relkvanu_store_each_fault)(void *with, uint64_t record, uint64_t file, uint32_t fault);
+
+/* The same as relkvanu_store_records, and reads the files: each one that a manifest has a checksum of, once. Tells what is wrong with the files of a record, and then
+ * the record. A record that ends meanwhile is left out. */
+int relkvanu_store_check_records(const char *folder, relkvanu_store_each_record each, relkvanu_store_each_fault each_fault, void *with,
+    char *message, size_t message_len);
 
 typedef struct {
     uint64_t record;     /* the choice, which has the number that it had */
@@ -676,7 +696,7 @@ typedef struct {
  * made beside `to`, as to.part, and gets its name once all is on the disk. So killed at any moment it has done nothing, or all.
  *
  * RELKVANU_STORE_PRESENT: there is something at `to`, and it is no empty folder; RELKVANU_STORE_ABSENT: no record with a manifest has all its files;
- * RELKVANU_STORE_DAMAGED: a file is not as long as its manifest says; RELKVANU_STORE_IN_USE: another call makes this folder; otherwise as
+ * RELKVANU_STORE_DAMAGED: a file is not as long as its manifest says, or a copy has another checksum; RELKVANU_STORE_IN_USE: another call makes this folder; otherwise as
  * relkvanu_store_recover. */
 int relkvanu_store_export(const char *folder, uint64_t record, const char *to, relkvanu_store_carried *carried);
 

@@ -134,27 +134,78 @@ struct whole_record {
 /* A record of a storage folder, as its manifest says it: relkvanu_store_record. */
 using stored_record = relkvanu_store_record;
 
+/* What is wrong with a file of a record: RELKVANU_STORE_FILE_MISSING and so on. */
+struct file_fault {
+    std::uint64_t file;
+    std::uint32_t fault;
+};
+
+/* A record whose files were read. */
+struct checked_record {
+    stored_record is;
+    std::vector<file_fault> faults;
+};
+
+namespace detail {
+/* What C tells of a folder. */
+struct listing {
+    std::vector<checked_record> found;
+    std::vector<file_fault> faults; /* of the record that comes next */
+    bool has_memory = true;
+
+    /* Nothing may be thrown through C. */
+    template <class Note> bool note(Note made) {
+        try {
+            made();
+        } catch (const std::bad_alloc &) {
+            has_memory = false;
+        }
+        return has_memory;
+    }
+};
+
+inline bool note_record(void *with, const relkvanu_store_record *record) {
+    auto *it = static_cast<listing *>(with);
+    return it->note([&] {
+        it->found.push_back({*record, std::move(it->faults)});
+        it->faults.clear();
+    });
+}
+
+inline bool note_fault(void *with, std::uint64_t, std::uint64_t file, std::uint32_t fault) {
+    auto *it = static_cast<listing *>(with);
+    return it->note([&] { it->faults.push_back({file, fault}); });
+}
+
+inline not_made not_listed(int status, const char *message) {
+    return not_made{store_code(status == RELKVANU_STORE_OK ? RELKVANU_STORE_NO_MEMORY : status), message};
+}
+} // namespace detail
+
 /* The records of a storage folder that have a manifest, in the order of their numbers. It needs no job, and may be called at any time. */
 [[nodiscard]] inline std::variant<std::vector<stored_record>, not_made> records(const std::string &folder) {
-    struct listing {
-        std::vector<stored_record> found;
-        bool has_memory = true;
-    } all;
+    detail::listing all;
     char message[RELKVANU_STORE_MESSAGE] = "";
-    auto note = [](void *with, const relkvanu_store_record *record) -> bool {
-        auto *it = static_cast<listing *>(with);
-        try {
-            it->found.push_back(*record);
-        } catch (const std::bad_alloc &) { /* nothing may be thrown through C */
-            it->has_memory = false;
-        }
-        return it->has_memory;
-    };
-    int status = relkvanu_store_records(folder.c_str(), note, &all, message, sizeof message);
-    if (status == RELKVANU_STORE_OK && all.has_memory) {
-        return std::move(all.found);
+    int status = relkvanu_store_records(folder.c_str(), detail::note_record, &all, message, sizeof message);
+    if (status != RELKVANU_STORE_OK || !all.has_memory) {
+        return detail::not_listed(status, message);
     }
-    return not_made{store_code(status == RELKVANU_STORE_OK ? RELKVANU_STORE_NO_MEMORY : status), message};
+    std::vector<stored_record> found;
+    for (const checked_record &it : all.found) {
+        found.push_back(it.is);
+    }
+    return found;
+}
+
+/* The same, and reads the files of which a manifest has a checksum: relkvanu_store_check_records. */
+[[nodiscard]] inline std::variant<std::vector<checked_record>, not_made> check_records(const std::string &folder) {
+    detail::listing all;
+    char message[RELKVANU_STORE_MESSAGE] = "";
+    int status = relkvanu_store_check_records(folder.c_str(), detail::note_record, detail::note_fault, &all, message, sizeof message);
+    if (status != RELKVANU_STORE_OK || !all.has_memory) {
+        return detail::not_listed(status, message);
+    }
+    return std::move(all.found);
 }
 
 namespace detail {

@@ -4,11 +4,13 @@
  * refused and ask again), which have nothing to do. By turns again a job of 16 threads without and with manifests. A job of 4096 subtasks, 3 files
  * in each acknowledgement, and an image every 10,000 calls.
  *
- * bench FOLDER payloads SECONDS: by turns, a job of 4096 subtasks without files, without and with a payload of 64 bytes each.
+ * bench FOLDER payloads SECONDS: by turns, a job of 4096 subtasks without files, without and with a payload of 64 bytes each; and one whose acknowledgements have
+ * three names of files each, and one with such payloads instead.
  *
  * bench FOLDER share SECONDS: those turns with SQLite alone. bench FOLDER manifests SECONDS: the last turns alone, and how long the acknowledgement took that completed a record, without and with its manifest:
  * who completes it waits for that one. It tells what the others make meanwhile, so what a manifest costs all of them. bench FOLDER recover FILES: how long a manifest of so many files of 4096 subtasks takes, and to
- * make the job again of it. */
+ * make the job again of it. bench FOLDER checksums SECONDS BYTES: as manifests, with manifests without checksums of files, and with them; and how long the last
+ * acknowledgement of a record of 4096 files takes, by turns. Each file has so many bytes. */
 #define _GNU_SOURCE
 #include "../include/relkvanu_store.h"
 
@@ -26,7 +28,7 @@
 #include <unistd.h>
 
 enum { SUBTASKS = 4096, FILES = 3, VERTICES = 4, AHEAD = 4, MOST_THREADS = 256, MOST_TIMES = 1 << 22, WATCHERS = 8, TURNS = 5 };
-enum { MOST_COMPLETED = 4096, PAYLOAD = 64 };
+enum { MOST_COMPLETED = 4096, PAYLOAD = 64, MOST_LINKS = 1000, MADE = 120000 };
 enum { STEP = 1000000 }; /* ms between two triggers: no timer of the bench ever has a tick to make */
 
 static relkvanu_store *store;
@@ -42,7 +44,7 @@ static atomic_uint_fast64_t completed_len[2];
 /* Of these times: how long they are together, and how many acknowledgements others made meanwhile. And the same of all of those turns. */
 static atomic_uint_fast64_t meanwhile_ns[2], meanwhile_made[2];
 static double turns_seconds[2], turns_made[2];
-enum kind { CALLS, DISCARDER, KEPT, WATCHED, STORED, MANIFESTS, SMALL, PAYLOADS };
+enum kind { CALLS, DISCARDER, KEPT, WATCHED, STORED, MANIFESTS, CHECKSUMS, SMALL, PAYLOADS };
 static enum kind running; /* the kind of the job. SMALL and PAYLOADS: no subtask has a file */
 static atomic_int turn;   /* which of the two; -1: none is noted */
 
@@ -149,7 +151,7 @@ static void remove_job(const char *path) {
     }
 }
 
-/* In the kinds from KEPT on no file is released. In the last two the job has a storage folder. */
+/* In the kinds from KEPT on no file is released. From STORED on the job has a storage folder. */
 
 static void deletes(void *with, const uint64_t *files, size_t files_len, uint8_t *is_gone) {
     (void)with, (void)files;
@@ -205,6 +207,36 @@ static void remove_folder(const char *folder) {
     check("folder", rmdir(folder) == 0, folder);
 }
 
+static size_t file_bytes; /* of each file that is there before a turn; 0: there is none */
+
+static void make_file(int folder, uint64_t file) {
+    static const char piece[1 << 16] = "the state of a subtask";
+    char name[32];
+    snprintf(name, sizeof name, "%" PRIu64, file);
+    int made = openat(folder, name, O_WRONLY | O_CREAT | O_CLOEXEC, 0600);
+    check("file", made >= 0, name);
+    for (size_t left = file_bytes; left != 0;) {
+        ssize_t len = write(made, piece, left < sizeof piece ? left : sizeof piece);
+        check("file", len > 0, name);
+        left -= (size_t)len;
+    }
+    close(made);
+}
+
+/* Files with the numbers from 1 on. Many of them are one, so that they are soon made. */
+static void make_links(int folder, uint64_t len) {
+    char name[32], first[32] = "";
+    for (uint64_t file = 1; file <= len; file++) {
+        snprintf(name, sizeof name, "%" PRIu64, file);
+        if (file % MOST_LINKS == 1) {
+            make_file(folder, file);
+            memcpy(first, name, sizeof first);
+        } else {
+            check("link", linkat(folder, first, folder, name, 0) == 0, name);
+        }
+    }
+}
+
 static double group; /* calls a commit, in the last measurement */
 
 static void note_group(void) {
@@ -215,8 +247,8 @@ static void note_group(void) {
 
 /* Returns acknowledgements a second. */
 static double measure(const char *path, unsigned len, unsigned seconds, enum kind kind) {
-    static const char *const kinds[] = {
-        "", ", a discarder", ", files stay", ", files stay, 16 watch", ", a folder", ", manifests", ", no files", ", payloads"};
+    static const char *const kinds[] = {"", ", a discarder", ", files stay", ", files stay, 16 watch", ", a folder", ", manifests",
+        ", checksums", ", no files", ", payloads"};
     pthread_t threads[MOST_THREADS], watchers[2 * WATCHERS];
     char what[60];
     relkvanu_store_report report;
@@ -228,10 +260,14 @@ static double measure(const char *path, unsigned len, unsigned seconds, enum kin
     if (kind >= STORED) {
         options.settings.retained = 1;
         options.storage = make_folder(path);
-        options.flags |= kind == MANIFESTS ? RELKVANU_STORE_MANIFESTS : 0;
+        options.flags |= kind == MANIFESTS || kind == CHECKSUMS ? RELKVANU_STORE_MANIFESTS : 0;
+        options.flags |= kind == CHECKSUMS ? RELKVANU_STORE_CHECKSUMS : 0;
     }
     check("open", relkvanu_store_open(&store, path, &options, &report) == RELKVANU_STORE_OK, report.message);
     term = report.term;
+    if (file_bytes != 0) {
+        make_links(relkvanu_store_folder(store), MADE);
+    }
     running = kind;
     next_ack = times_len = 0;
     is_over = false;
@@ -273,24 +309,24 @@ static double median_of(double *numbers, size_t len) {
     return len == 0 ? 0 : numbers[len / 2];
 }
 
-static void tell_completed(void) {
+static void tell_completed(const char *words) {
     double without = median_of(completed[0], completed_len[0]), with = median_of(completed[1], completed_len[1]);
-    printf("half of %" PRIu64 " acknowledgements that completed a record took %.2f ms, and of %" PRIu64 " with its manifest %.2f ms\n",
-        completed_len[0], without, completed_len[1], with);
+    printf("half of %" PRIu64 " acknowledgements that completed a record took %.2f ms, and of %" PRIu64 " with %s %.2f ms\n",
+        completed_len[0], without, completed_len[1], words, with);
     double usual = turns_made[1] / turns_seconds[1], seconds = (double)meanwhile_ns[1] / 1e9,
            share = (double)meanwhile_made[1] / seconds / usual;
-    printf("while the latter waited, the others made %.2f of the acknowledgements a second that they made otherwise: a record with its "
-           "manifest "
-           "costs %.1f ms of all callers\n",
-        share, 1e3 * seconds * (1 - share) / (double)completed_len[1]);
+    printf(
+        "while the latter waited, the others made %.2f of the acknowledgements a second that they made otherwise: a record with %s costs "
+        "%.1f ms of all callers\n",
+        share, words, 1e3 * seconds * (1 - share) / (double)completed_len[1]);
 }
 
 /* By turns, so that both have the same machine. */
-static void measure_turns(const char *path, unsigned threads, unsigned seconds, enum kind kind, const char *words) {
+static void measure_turns(const char *path, unsigned threads, unsigned seconds, enum kind than, enum kind kind, const char *words) {
     double shares[TURNS];
     for (unsigned i = 0; i < TURNS; i++) {
         turn = 0;
-        double without = measure(path, threads, seconds, kind - 1);
+        double without = measure(path, threads, seconds, than);
         turn = 1;
         shares[i] = measure(path, threads, seconds, kind) / without;
     }
@@ -309,8 +345,8 @@ static void make_files(int folder, uint64_t len) {
     }
 }
 
-/* A savepoint whose subtasks have so many files together. Tells how long its last acknowledgement took. */
-static void complete(uint64_t files) {
+/* A savepoint whose subtasks have so many files together. Tells how long its last acknowledgement took, and returns it. */
+static double complete(uint64_t files) {
     uint64_t each = files / SUBTASKS, next = 1, *fresh = malloc((each + 1) * sizeof *fresh);
     relkvanu_store_call call = {.call = {.kind = RELKVANU_CALL_SAVEPOINT}};
     relkvanu_answer answer;
@@ -331,6 +367,41 @@ static void complete(uint64_t files) {
     }
     free(fresh);
     printf("%" PRIu64 " files: the last acknowledgement, with the manifest, took %.3f s, %.3f of a processor\n", files, seconds, processor);
+    return seconds;
+}
+
+/* The last acknowledgement of a record of one file for each subtask, which were just written. */
+static double measure_record(const char *path, uint32_t flags) {
+    relkvanu_store_report report;
+    uint64_t shape[VERTICES] = {1024, 1024, 1024, 1024};
+    relkvanu_store_options options = {.flags = RELKVANU_STORE_CREATE_ONLY | RELKVANU_STORE_MANIFESTS | flags,
+        .storage = make_folder(path),
+        .settings = {.interval = STEP, .at_once = 1, .timeout = UINT64_C(1) << 40, .retained = 1},
+        .shape = shape,
+        .shape_len = VERTICES};
+    check("open", relkvanu_store_open(&store, path, &options, &report) == RELKVANU_STORE_OK, report.message);
+    term = report.term;
+    for (uint64_t file = 1; file <= SUBTASKS; file++) {
+        make_file(relkvanu_store_folder(store), file);
+    }
+    double took = complete(SUBTASKS);
+    relkvanu_store_close(store);
+    remove_job(path);
+    remove_folder(options.storage);
+    return took;
+}
+
+static void measure_checksums(const char *path, unsigned seconds) {
+    double without[TURNS], with[TURNS];
+    running = STORED;
+    for (unsigned i = 0; i < TURNS; i++) {
+        without[i] = measure_record(path, 0);
+        with[i] = measure_record(path, RELKVANU_STORE_CHECKSUMS);
+    }
+    printf("%d files of %zu bytes: half of the last acknowledgements took %.3f s, and with checksums %.3f s\n", SUBTASKS, file_bytes,
+        median_of(without, TURNS), median_of(with, TURNS));
+    measure_turns(path, 16, seconds, MANIFESTS, CHECKSUMS, "checksums");
+    tell_completed("checksums");
 }
 
 /* A job whose file is lost, and made again. */
@@ -414,13 +485,19 @@ int main(int argc, char **argv) {
     check("bench FOLDER [SECONDS [ROUNDS]]", argc > 1, "a folder is missing");
     snprintf(path, sizeof path, "%s/bench-%d.db", argv[1], (int)getpid());
     if (argc == 4 && strcmp(argv[2], "manifests") == 0) {
-        measure_turns(path, 16, (unsigned)atoi(argv[3]), MANIFESTS, "manifests");
-        tell_completed();
+        measure_turns(path, 16, (unsigned)atoi(argv[3]), STORED, MANIFESTS, "manifests");
+        tell_completed("its manifest");
+        return 0;
+    }
+    if (argc == 5 && strcmp(argv[2], "checksums") == 0) {
+        file_bytes = strtoull(argv[4], NULL, 10);
+        measure_checksums(path, (unsigned)atoi(argv[3]));
         return 0;
     }
     if (argc == 4 && strcmp(argv[2], "payloads") == 0) {
         for (unsigned threads = 1; threads <= MOST_THREADS; threads *= 16) {
-            measure_turns(path, threads, (unsigned)atoi(argv[3]), PAYLOADS, "payloads of 64 bytes, and 0 files,");
+            measure_turns(path, threads, (unsigned)atoi(argv[3]), SMALL, PAYLOADS, "payloads of 64 bytes, and 0 files,");
+            measure_turns(path, threads, (unsigned)atoi(argv[3]), CALLS, PAYLOADS, "payloads in place of the names of 3 files");
         }
         return 0;
     }
@@ -442,8 +519,8 @@ int main(int argc, char **argv) {
     }
     measure_share(path, 1, seconds);
     measure_share(path, MOST_THREADS, seconds);
-    measure_turns(path, 24, seconds, WATCHED, "8 timers and 8 discarders");
-    measure_turns(path, MOST_THREADS, seconds, WATCHED, "8 timers and 8 discarders");
-    measure_turns(path, 16, seconds, MANIFESTS, "manifests");
+    measure_turns(path, 24, seconds, KEPT, WATCHED, "8 timers and 8 discarders");
+    measure_turns(path, MOST_THREADS, seconds, KEPT, WATCHED, "8 timers and 8 discarders");
+    measure_turns(path, 16, seconds, STORED, MANIFESTS, "manifests");
     return 0;
 }

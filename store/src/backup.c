@@ -25,7 +25,7 @@ struct backup {
     size_t message_len;
 };
 
-static int told(struct backup *b, int status, const char *name, const char *words) {
+static int set_message(struct backup *b, int status, const char *name, const char *words) {
     snprintf(b->message, b->message_len, "%.400s: %s", name, words);
     return status;
 }
@@ -33,7 +33,7 @@ static int told(struct backup *b, int status, const char *name, const char *word
 /* What the system says. */
 static int failed(struct backup *b, const char *name, int error) {
     int status = error == ENOMEM ? RELKVANU_STORE_NO_MEMORY : error == EEXIST ? RELKVANU_STORE_PRESENT : RELKVANU_STORE_NOT_PUT;
-    told(b, status, name, strerror(error));
+    set_message(b, status, name, strerror(error));
     errno = error;
     return status;
 }
@@ -87,7 +87,7 @@ static int begin_part(struct backup *b) {
         return failed(b, b->path, EEXIST);
     }
     if (lstat(b->part_lock, &target) == 0) {
-        return told(b, RELKVANU_STORE_PRESENT, b->part, "it is the file of a job, and a backup would be written there first");
+        return set_message(b, RELKVANU_STORE_PRESENT, b->part, "it is the file of a job, and a backup would be written there first");
     }
     int file = open(b->part, O_RDWR | O_CREAT | O_CLOEXEC | O_NOFOLLOW, 0600);
     if (file < 0) {
@@ -95,7 +95,7 @@ static int begin_part(struct backup *b) {
     }
     b->file = file;
     if (!has_part(b)) {
-        return told(b, RELKVANU_STORE_NOT_NOW, b->part, "another backup writes it");
+        return set_message(b, RELKVANU_STORE_NOT_NOW, b->part, "another backup writes it");
     }
     b->is_own = true;
     bool is_begun = is_removed(b->part_wal) && is_removed(b->part_journal) && fchmod(file, 0600) == 0 && ftruncate(file, 0) == 0;
@@ -159,7 +159,7 @@ static int check_part(struct backup *b) {
     }
     if (strcmp(found, "ok") != 0) {
         errno = EIO;
-        return told(b, RELKVANU_STORE_NOT_PUT, b->part, found);
+        return set_message(b, RELKVANU_STORE_NOT_PUT, b->part, found);
     }
     return RELKVANU_STORE_OK;
 }

@@ -23,7 +23,7 @@ struct claim {
     relkvanu_store_recovered *told;
 };
 
-static int told(struct claim *c, int status, const char *name, const char *words) {
+static int set_fault(struct claim *c, int status, const char *name, const char *words) {
     snprintf(c->from->fault, sizeof c->from->fault, "%.300s: %.200s", name, words);
     return status;
 }
@@ -139,7 +139,7 @@ static int leave_all(struct claim *c, uint64_t record) {
     }
     if (status != RELKVANU_STORE_OK) {
         return status == RELKVANU_STORE_NO_MEMORY ? status
-                                                  : told(c, RELKVANU_STORE_DAMAGED, c->from_name,
+                                                  : set_fault(c, RELKVANU_STORE_DAMAGED, c->from_name,
                                                         "another manifest can't be read: the files of the record stay there too");
     }
     status = is_there ? rks_manifest_parts(&c->all, c->from->folder, record, leave, c) : status;
@@ -182,7 +182,7 @@ static int claim_in_place(struct claim *c, uint64_t record, const char *path) {
 static int go_on(struct claim *c, const char *path, const char *folder) {
     struct rks_manifests there = {0};
     const struct rks_manifest *one = imported(c, &there, folder);
-    int status = one == NULL ? told(c, RELKVANU_STORE_PRESENT, path, "there is a job") : fence(c);
+    int status = one == NULL ? set_fault(c, RELKVANU_STORE_PRESENT, path, "there is a job") : fence(c);
     status = status == RELKVANU_STORE_OK ? list(c) : status;
     status = status == RELKVANU_STORE_OK ? leave_all(c, one->id) : status;
     if (status == RELKVANU_STORE_OK) {
@@ -202,7 +202,7 @@ static int claim_elsewhere(struct claim *c, uint64_t record, const char *path, c
     bool is_begun = imported(c, &there, folder) != NULL;
     rks_free_manifests(&there);
     if (!is_begun && !is_free(folder)) {
-        return told(c, RELKVANU_STORE_PRESENT, folder, "it is there, and is no empty folder");
+        return set_fault(c, RELKVANU_STORE_PRESENT, folder, "it is there, and is no empty folder");
     }
     int status = fence(c);
     if (status == RELKVANU_STORE_OK) {
@@ -221,10 +221,10 @@ static int claim(struct claim *c, uint64_t record, const char *path, const char 
         return status;
     }
     if (is_file(path)) {
-        return is_same_folder(c, folder) ? told(c, RELKVANU_STORE_PRESENT, path, "there is a job") : go_on(c, path, folder);
+        return is_same_folder(c, folder) ? set_fault(c, RELKVANU_STORE_PRESENT, path, "there is a job") : go_on(c, path, folder);
     }
     if (chosen(c, record) == NULL) {
-        return told(c, RELKVANU_STORE_ABSENT, c->from_name, "no record that has a manifest there has all its files");
+        return set_fault(c, RELKVANU_STORE_ABSENT, c->from_name, "no record that has a manifest there has all its files");
     }
     status = rks_check_free(path, c->from->fault);
     if (status != RELKVANU_STORE_OK) {

@@ -6,6 +6,8 @@
 #include <time.h>
 #include <zlib.h>
 
+enum { SMALL_IMAGE = 1 << 16, LOG_OF_IMAGE = 4 }; /* bytes; the log before the next image, in images */
+
 /* The checksum of the calls so far with one more: its line, its answer and its files. */
 uint32_t rks_chain(uint32_t chain, const struct rks_row *row) {
     uint64_t numbers[] = {row->place, row->answer.what, row->answer.a, row->answer.b};
@@ -139,12 +141,20 @@ static uint64_t saturated(uint64_t a, uint64_t b) {
     return a > UINT64_MAX - b ? UINT64_MAX : a + b;
 }
 
+/* All callers wait for an image. A large one is due only when the log has several times its bytes: so it costs a call no more than a part of its line, and an
+ * opening reads that much. */
+static bool is_due(const relkvanu_store *s) {
+    bool is_large = s->image.len > SMALL_IMAGE;
+    return s->place >= s->next_image && (!is_large || s->logged / LOG_OF_IMAGE >= s->image.len);
+}
+
 /* Whether an image is due, and is in the buffer. */
 static bool has_saved(relkvanu_store *s, bool is_wanted) {
-    if (s->options.image_calls == RELKVANU_STORE_NO_IMAGES || (!is_wanted && s->place < s->next_image)) {
+    if (s->options.image_calls == RELKVANU_STORE_NO_IMAGES || (!is_wanted && !is_due(s))) {
         return false;
     }
     s->next_image = saturated(s->place, s->options.image_calls);
+    s->logged = 0;
     /* While many files wait, images are large. Then a call costs no more for them than so many bytes. */
     if (rks_save(s) != RELKVANU_STORE_OK) {
         s->led.failed_images++;

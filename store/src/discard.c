@@ -281,6 +281,10 @@ static int discard(struct discarder *d) {
     if (rks_is_forked(s)) {
         return RELKVANU_STORE_FORKED;
     }
+    int status = rks_check_reader(s);
+    if (status != RELKVANU_STORE_OK) {
+        return status; /* no file could begin to wait while it reads */
+    }
     d->batch = d->batch == 0 ? BATCH : d->batch;
     if (d->batch >= RELKVANU_STORE_MOST_CALLS || d->storage == NULL) {
         return RELKVANU_STORE_BAD_ARGUMENT;
@@ -292,7 +296,6 @@ static int discard(struct discarder *d) {
     if (is_second) {
         return RELKVANU_STORE_NOT_NOW;
     }
-    int status = RELKVANU_STORE_OK;
     while (status == RELKVANU_STORE_OK && (status = run(d)) == RELKVANU_STORE_NO_MEMORY && !is_over(d)) {
         status = pause_for(s, NO_MEMORY_WAIT); /* it settles again what is taken */
     }

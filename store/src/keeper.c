@@ -17,6 +17,10 @@ static void end_work(relkvanu_store *s) {
     }
     keeper->work = NULL;
     pthread_cond_broadcast(&keeper->changed);
+    if (s->orders.len != 0) { /* timers may be told of them now */
+        s->version++;
+        pthread_cond_broadcast(&s->changed);
+    }
 }
 
 static void *keeps(void *with) {
@@ -88,7 +92,7 @@ void rks_await_held(relkvanu_store *s, const struct rks_waiter *own) {
 }
 
 /* Whether its answers say nothing of a completion: each is that of an acknowledgement that is not the last one, or of a reservation. Submits keep their order. */
-static bool may_be_told(const struct rks_waiter *w) {
+static bool says_no_completion(const struct rks_waiter *w) {
     bool is_plain = w->verb == RKS_CALLS && !w->is_submitted;
     for (size_t i = 0; i < w->calls_len && is_plain; i++) {
         relkvanu_answer answer = w->calls[i].answer;
@@ -100,7 +104,7 @@ static bool may_be_told(const struct rks_waiter *w) {
 bool rks_is_held(relkvanu_store *s, struct rks_waiter *w, const struct rks_waiter *own) {
     struct rks_keeper *keeper = &s->keeper;
     bool is_made = w->status == RELKVANU_STORE_OK || w->status == RELKVANU_STORE_NOT_NOW;
-    if (s->kept.beside == NULL || !is_made || may_be_told(w)) {
+    if (s->kept.beside == NULL || !is_made || says_no_completion(w)) {
         return false;
     }
     pthread_mutex_lock(&s->mutex);

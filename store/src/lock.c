@@ -130,7 +130,7 @@ static int opened_beside(relkvanu_store *s, const char *end, int *file) {
     return status;
 }
 
-static int told_in_use(relkvanu_store *s) {
+static int set_in_use(relkvanu_store *s) {
     char holder[32];
     ssize_t len = pread(s->lock, holder, sizeof holder - 1, 0);
     holder[len > 0 ? len : 0] = 0;
@@ -148,7 +148,7 @@ static int check_named(relkvanu_store *s) {
     }
     bool is_same = fstat(s->lock, &held) == 0 && stat(name, &named) == 0 && held.st_ino == named.st_ino && held.st_dev == named.st_dev;
     free(name);
-    return is_same ? RELKVANU_STORE_OK : told_in_use(s);
+    return is_same ? RELKVANU_STORE_OK : set_in_use(s);
 }
 
 /* SQLite's own lock of PATH is a POSIX lock: it ends once anything in this process opens and closes PATH. So there are two others. The lock
@@ -162,7 +162,7 @@ int rks_lock(relkvanu_store *s, const char *path) {
         return status;
     }
     if (flock(s->lock, LOCK_EX | LOCK_NB) != 0) {
-        return errno == EWOULDBLOCK ? told_in_use(s) : rks_file_fault(s, s->path, errno);
+        return errno == EWOULDBLOCK ? set_in_use(s) : rks_file_fault(s, s->path, errno);
     }
     if ((status = check_named(s)) != RELKVANU_STORE_OK) {
         return status;

@@ -122,6 +122,7 @@ static void add_row(relkvanu_store *s, relkvanu_store_call *call, struct rks_lin
     call->place = ++s->place;
     *row = (struct rks_row){line, call->answer, call->files, call->place, 0};
     s->chain = row->chain = rks_chain(s->chain, row);
+    s->logged += line.len;
 }
 
 /* A term begins with an accepted restore, cancel or advance. Who starts tasks gets it from the answer: another one may begin meanwhile. */

@@ -133,7 +133,7 @@ static bool take(struct rks_writing *w, bool is_savepoint) {
     return is_taken;
 }
 
-static struct rks_writing *taken(relkvanu_store *s, relkvanu_answer live) {
+static struct rks_writing *new_writing(relkvanu_store *s, relkvanu_answer live) {
     struct rks_writing *w = calloc(1, sizeof *w);
     if (w == NULL) {
         return NULL;
@@ -177,6 +177,28 @@ static bool add_file(struct rks_writing *w, uint64_t file, bool is_first) {
     return add(&w->text, "%s\"%s\":%" PRIu64, comma, name, (uint64_t)found.st_size);
 }
 
+/* The checksum of a file, which is null if it can't be read. */
+static bool add_sum(struct rks_writing *w, uint64_t file, bool is_first) {
+    uint32_t sum;
+    const char *comma = is_first ? "" : ",";
+    switch (rks_sum_of(&w->s->kept.sums, w->s->folder, file, &sum)) {
+    case RELKVANU_STORE_OK: return add(&w->text, "%s\"%08" PRIx32 "\"", comma, sum);
+    case RELKVANU_STORE_NO_MEMORY: return false;
+    default: return add(&w->text, "%snull", comma);
+    }
+}
+
+static bool add_sums(struct rks_writing *w, const uint64_t *names, size_t len) {
+    if (!w->s->kept.has_sums || len == 0) {
+        return true;
+    }
+    bool is_added = add(&w->text, ",\"sums\":[");
+    for (size_t i = 0; i < len && is_added; i++) {
+        is_added = add_sum(w, names[i], i == 0);
+    }
+    return is_added && add(&w->text, "]");
+}
+
 /* A subtask with its files, whose names were taken. */
 static bool add_subtask(struct rks_writing *w, uint16_t vertex, uint16_t index, const uint64_t *names, size_t len) {
     bool is_first = vertex == 0 && index == 0;
@@ -186,7 +208,7 @@ static bool add_subtask(struct rks_writing *w, uint16_t vertex, uint16_t index, 
     for (size_t i = 0; i < len && is_added; i++) {
         is_added = add_file(w, ordered[i], i == 0);
     }
-    return is_added && add(&w->text, "}") && add_payload(w, part) && add(&w->text, "}");
+    return is_added && add(&w->text, "}") && add_sums(w, ordered, len) && add_payload(w, part) && add(&w->text, "}");
 }
 
 static bool add_subtasks(struct rks_writing *w) {
@@ -335,19 +357,20 @@ static uint64_t next_number(relkvanu_store *s) {
     return low;
 }
 
-static bool is_told(uint64_t next, uint64_t *below, uint64_t some) {
-    bool is_told = next > *below;
-    *below = is_told ? next + some : *below;
-    return is_told;
+/* Whether a number is above its bound, which is raised above it then. */
+static bool raise_bound(uint64_t next, uint64_t *below, uint64_t some) {
+    bool is_above = next > *below;
+    *below = is_above ? next + some : *below;
+    return is_above;
 }
 
 /* Whether something was told that no manifest is above. Then all are above it that are written from now on. */
 static bool is_raised(relkvanu_store *s) {
     struct rks_kept *kept = &s->kept;
     relkvanu_answer term = relkvanu_term(s->handle);
-    bool is_raised = is_told(next_number(s), &kept->number, SOME_NUMBERS);
-    is_raised = is_told(term.a + 1, &kept->term, SOME_TERMS) || is_raised;
-    return is_told(term.b, &kept->name, SOME_NAMES) || is_raised;
+    bool is_raised = raise_bound(next_number(s), &kept->number, SOME_NUMBERS);
+    is_raised = raise_bound(term.a + 1, &kept->term, SOME_TERMS) || is_raised;
+    return raise_bound(term.b, &kept->name, SOME_NAMES) || is_raised;
 }
 
 static bool is_done(relkvanu_store *s, uint64_t id) {
@@ -382,7 +405,7 @@ static bool is_kept(struct rks_kept *kept, const struct rks_writing *w) {
 
 /* Writes a record's manifest, and notes it. */
 static bool write_one(relkvanu_store *s, relkvanu_answer live) {
-    struct rks_writing *w = taken(s, live);
+    struct rks_writing *w = new_writing(s, live);
     if (w == NULL) {
         return false;
     }
@@ -500,7 +523,7 @@ static relkvanu_answer only_one(const relkvanu_store *s, uint64_t again) {
 static bool goes_beside(relkvanu_store *s, uint64_t again) {
     struct rks_kept *kept = &s->kept;
     relkvanu_answer one = only_one(s, again);
-    struct rks_writing *w = one.what == RELKVANU_LIVE_NONE ? NULL : taken(s, one);
+    struct rks_writing *w = one.what == RELKVANU_LIVE_NONE ? NULL : new_writing(s, one);
     if (w == NULL) {
         return false;
     }
@@ -544,6 +567,7 @@ void rks_end_manifests(relkvanu_store *s) {
     rks_end_keeper(s);
     take_back(s);
     free(s->kept.ids);
+    rks_free_sums(&s->kept.sums);
 }
 
 void rks_note_manifest(relkvanu_store *s, relkvanu_answer answer) {
@@ -571,27 +595,51 @@ void rks_note_manifest(relkvanu_store *s, relkvanu_answer answer) {
     }
 }
 
+/* Whether a record has a manifest from before. One that lacks checksums which it is to have is written anew. */
+static bool is_found(const relkvanu_store *s, const struct rks_manifests *all, uint64_t id) {
+    char name[RKS_MANIFEST_NAME];
+    bool is_found = false;
+    if (!s->kept.has_sums) {
+        rks_manifest_name(id, "", name);
+        return faccessat(s->folder, name, F_OK, AT_SYMLINK_NOFOLLOW) == 0;
+    }
+    for (size_t i = 0; i < all->len && !is_found; i++) {
+        const struct rks_manifest *it = &all->at[i];
+        is_found = it->id == id && it->status == RELKVANU_STORE_OK && it->unknown == 0 && strcmp(it->job, s->identity) == 0;
+    }
+    return is_found;
+}
+
 /* Notes which complete records have a manifest from before. */
-static void note_found(relkvanu_store *s) {
+static void note_found(relkvanu_store *s, const struct rks_manifests *all) {
     relkvanu_answer choice = relkvanu_choice(s->handle);
     for (relkvanu_answer it = relkvanu_live_from(s->handle, 0); it.what != RELKVANU_LIVE_NONE;
          it = relkvanu_live_from(s->handle, it.a + 1)) {
-        char name[RKS_MANIFEST_NAME];
         bool is_choice = choice.what != RELKVANU_CHOICE_FRESH && choice.a == it.a;
-        rks_manifest_name(it.a, "", name);
-        if (it.b != 0 && !is_choice && faccessat(s->folder, name, F_OK, AT_SYMLINK_NOFOLLOW) == 0) {
+        if (it.b != 0 && !is_choice && is_found(s, all, it.a)) {
             is_noted(&s->kept, it.a);
         }
     }
+}
+
+/* What is in the folder from before. If it can't be read, all is written anew, and files are read again. */
+static void note_before(relkvanu_store *s) {
+    struct rks_manifests all = {0};
+    if (s->kept.has_sums && rks_list_manifests(s->folder, &all) == RELKVANU_STORE_OK) {
+        rks_note_sums(&all, s->folder, s->identity, &s->kept.sums);
+    }
+    note_found(s, &all);
+    rks_free_manifests(&all);
 }
 
 /* The manifest of the choice is written again, with the number of this opening, and those that are missing. */
 void rks_begin_manifests(relkvanu_store *s) {
     struct rks_kept *kept = &s->kept;
     kept->is_on = (s->options.flags & RELKVANU_STORE_MANIFESTS) != 0 && s->folder >= 0;
+    kept->has_sums = kept->is_on && (s->options.flags & RELKVANU_STORE_CHECKSUMS) != 0;
     kept->is_due = true;
     if (kept->is_on) {
-        note_found(s);
+        note_before(s);
         rks_keep_manifests(s, false);
     }
 }

@@ -21,6 +21,9 @@ struct rks_manifest {
     uint64_t shape[RKS_VERTICES];
     size_t shape_len;
     uint64_t missing; /* files that are not in the folder, or have another length */
+    uint64_t unknown; /* files without a checksum */
+    uint64_t changed; /* files that were read, and have another checksum or can't be read */
+    bool has_ended;   /* while its files were read */
     int status;       /* RELKVANU_STORE_OK; RELKVANU_STORE_DAMAGED: its text is; RELKVANU_STORE_NOT_A_STORE: a later version wrote it */
 };
 
@@ -31,15 +34,31 @@ struct rks_manifests {
     sqlite3 *db; /* which reads JSON; it has no file */
 };
 
-/* A file of a subtask; has_bytes: whether its length is known. A subtask without files is one call, whose is_file is false. The payload is the same in each call
+/* A file of a subtask; has_bytes, has_sum: whether its length and its checksum are known. A subtask without files is one call, whose is_file is false. The payload is the same in each call
  * of a subtask: hexadecimal digits, or NULL. Returns a status. */
 struct rks_part {
     uint16_t vertex, index;
     uint64_t file, bytes;
-    bool is_file, has_bytes;
+    uint32_t sum;
+    bool is_file, has_bytes, has_sum;
     const char *payload;
 };
 typedef int (*rks_each_part)(void *with, const struct rks_part *part);
+
+/* To whom records are told, and what is wrong with their files. */
+struct rks_telling {
+    relkvanu_store_each_record each;
+    relkvanu_store_each_fault each_fault; /* NULL: the files are not read */
+    void *with;
+    const char *job; /* that of the folder, or NULL */
+    const struct rks_manifest *next;
+};
+
+/* Tells what is known of a record. Returns whether it goes on. */
+bool rks_tell_record(const struct rks_manifest *it, const struct rks_telling *telling);
+
+/* Reads the files of all records, and tells what is wrong with them, and then the record. RELKVANU_STORE_NO_MEMORY. */
+int rks_check_manifests(struct rks_manifests *all, int folder, const struct rks_telling *telling);
 
 /* The number of the record whose manifest has this name. Returns false if it is the name of none. Sets *is_part for one that is written. */
 bool rks_manifest_names(const char *name, uint64_t *id, bool *is_part);
@@ -51,6 +70,12 @@ DIR *rks_entries(int folder);
 /* Reads all manifests of an open folder, and looks for the files of each. RELKVANU_STORE_NO_MEMORY; RELKVANU_STORE_FAILED: errno says why. */
 int rks_list_manifests(int folder, struct rks_manifests *found);
 void rks_free_manifests(struct rks_manifests *found);
+
+/* Whether an entry of this name is a file as the part says it, but for its checksum, which is not looked at. 0, or RELKVANU_STORE_FILE_MISSING or _LENGTH. */
+uint32_t rks_fault_of(int folder, const struct rks_part *part);
+
+/* Notes what the manifests of the job say of the checksums of files. Those that it has no memory for are read again. */
+void rks_note_sums(struct rks_manifests *all, int folder, const char *job, struct rks_sums *sums);
 
 /* Calls `each` for each file of the record, in the order of the subtasks. */
 int rks_manifest_parts(struct rks_manifests *all, int folder, uint64_t id, rks_each_part each, void *with);

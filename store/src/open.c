@@ -31,13 +31,13 @@ struct job {
     char identity[RKS_IDENTITY + 1], opening[LINES];
 };
 
-static int told(relkvanu_store *s, int status, const char *words) {
+static int set_fault(relkvanu_store *s, int status, const char *words) {
     snprintf(s->fault, sizeof s->fault, "%.400s: %s", s->path, words);
     return status;
 }
 
 /* The folder of the storage was not listed: it is gone, or errno says why. */
-static int told_of_listing(relkvanu_store *s, int status) {
+static int set_listing_fault(relkvanu_store *s, int status) {
     int error = errno;
     status = status == RELKVANU_STORE_NOT_DONE ? rks_status_of_errno(error) : status;
     snprintf(s->fault, sizeof s->fault, "%.300s: the storage folder can't be read: %s", s->path, strerror(error));
@@ -66,10 +66,10 @@ static int open_files(relkvanu_store *s, const char *path) {
         status = rks_open_folder(s, s->options.storage);
     }
     if (status == RELKVANU_STORE_OK && (stat(s->path, &file) != 0 || file.st_size == 0)) { /* a refusal makes no file */
-        status = may_create(s) ? rks_check_new_folder(s, s->options.storage) : told(s, RELKVANU_STORE_ABSENT, "it has no job");
+        status = may_create(s) ? rks_check_new_folder(s, s->options.storage) : set_fault(s, RELKVANU_STORE_ABSENT, "it has no job");
         status = status == RELKVANU_STORE_OK ? rks_make_file(s) : status;
     } else if (status == RELKVANU_STORE_OK && file.st_nlink != 1) {
-        status = told(s, RELKVANU_STORE_FAILED, "it has several names, each of which would have a log of its own");
+        status = set_fault(s, RELKVANU_STORE_FAILED, "it has several names, each of which would have a log of its own");
     }
     if (status == RELKVANU_STORE_OK) {
         status = rks_check_wal(s);
@@ -85,17 +85,18 @@ static int check_format(relkvanu_store *s, struct job *job) {
     job->is_backup = job->format > RKS_BACKUP;
     job->format -= job->is_backup ? RKS_BACKUP : 0;
     if (job->format == RKS_UNNAMED) {
-        return told(s, RELKVANU_STORE_NOT_A_STORE,
+        return set_fault(s, RELKVANU_STORE_NOT_A_STORE,
             "an earlier version of the library made it, as a job without names, which this one does not have");
     }
     if (job->format != RKS_FORMAT) {
-        return told(s, RELKVANU_STORE_NOT_A_STORE, "a later version of the library made it");
+        return set_fault(s, RELKVANU_STORE_NOT_A_STORE, "a later version of the library made it");
     }
     if (job->is_backup && !wants_backup(s)) {
-        return told(s, RELKVANU_STORE_STORAGE, "it is a backup, which lacks the calls since it was made: RELKVANU_STORE_BACKUP opens it");
+        return set_fault(
+            s, RELKVANU_STORE_STORAGE, "it is a backup, which lacks the calls since it was made: RELKVANU_STORE_BACKUP opens it");
     }
     if (!job->is_backup && wants_backup(s)) {
-        return told(s, RELKVANU_STORE_BAD_ARGUMENT, "it is no backup, or was opened before: open it without RELKVANU_STORE_BACKUP");
+        return set_fault(s, RELKVANU_STORE_BAD_ARGUMENT, "it is no backup, or was opened before: open it without RELKVANU_STORE_BACKUP");
     }
     return RELKVANU_STORE_OK;
 }
@@ -112,7 +113,7 @@ static int check_pages(relkvanu_store *s) {
     bool is_read = code == NULL || (atoi(code + strlen("error code=")) & 255) == SQLITE_CORRUPT;
     char text[104];
     snprintf(text, sizeof text, "the file %s: %.78s", is_read ? "is damaged" : "can't be read", found);
-    return told(s, is_read ? RELKVANU_STORE_DAMAGED : RELKVANU_STORE_FAILED, text);
+    return set_fault(s, is_read ? RELKVANU_STORE_DAMAGED : RELKVANU_STORE_FAILED, text);
 }
 
 static int read_job(relkvanu_store *s, struct job *job) {
@@ -124,7 +125,7 @@ static int read_job(relkvanu_store *s, struct job *job) {
         return status;
     }
     if (application != APPLICATION) {
-        return told(s, RELKVANU_STORE_NOT_A_STORE, "it is another kind of database");
+        return set_fault(s, RELKVANU_STORE_NOT_A_STORE, "it is another kind of database");
     }
     status = check_format(s, job);
     status = status == RELKVANU_STORE_OK ? check_pages(s) : status;
@@ -134,7 +135,7 @@ static int read_job(relkvanu_store *s, struct job *job) {
     status = status == RELKVANU_STORE_OK ? rks_ask(s, "SELECT opening FROM job", NULL, job->opening, sizeof job->opening) : status;
     job->is_there = status == RELKVANU_STORE_OK;
     if (job->is_there && (strlen(job->identity) != RKS_IDENTITY || job->epoch < 1)) {
-        return told(s, RELKVANU_STORE_DAMAGED, "the row of the job is damaged");
+        return set_fault(s, RELKVANU_STORE_DAMAGED, "the row of the job is damaged");
     }
     memcpy(s->identity, job->identity, sizeof s->identity);
     return status;
@@ -154,7 +155,7 @@ static int opened(relkvanu_store *s, const relkvanu_store_options *o, relkvanu_a
         return RELKVANU_STORE_OK;
     }
     int status = answer.code == RELKVANU_NO_MEMORY ? RELKVANU_STORE_NO_MEMORY : rks_tell_limit(o, answer.what, words, sizeof words);
-    return status == RELKVANU_STORE_BAD_ARGUMENT ? told(s, status, words) : status;
+    return status == RELKVANU_STORE_BAD_ARGUMENT ? set_fault(s, status, words) : status;
 }
 
 /* The first name of a new job: above the numbers of all files that are adopted, so that these count as given out. 0: it gets its names last. */
@@ -162,10 +163,11 @@ static int choose_first_name(relkvanu_store *s, uint64_t *name) {
     uint64_t greatest = 0;
     int status = s->folder < 0 ? RELKVANU_STORE_OK : rks_greatest_file(s, &greatest);
     if (status != RELKVANU_STORE_OK) {
-        return told_of_listing(s, status);
+        return set_listing_fault(s, status);
     }
     if (greatest >= RKS_MOST_NAME) {
-        return told(s, RELKVANU_STORE_STORAGE, "the storage folder has a file with a number from 2^62 on, so that no name is above it");
+        return set_fault(
+            s, RELKVANU_STORE_STORAGE, "the storage folder has a file with a number from 2^62 on, so that no name is above it");
     }
     *name = s->names_last ? 0 : greatest + 1;
     return status;
@@ -179,7 +181,7 @@ static int begin_job(relkvanu_store *s, const relkvanu_store_options *o, char li
         return status;
     }
     if (getentropy(words, sizeof words) != 0) {
-        return told(s, RELKVANU_STORE_FAILED, "no random numbers");
+        return set_fault(s, RELKVANU_STORE_FAILED, "no random numbers");
     }
     snprintf(s->identity, sizeof s->identity, "%016" PRIx64 "%016" PRIx64, words[2], words[3]);
     uint64_t first = 1;
@@ -227,7 +229,7 @@ static int write_job(relkvanu_store *s, const char *lines, int storage) {
 static int create(relkvanu_store *s, const relkvanu_store_options *o) {
     char lines[LINES];
     if (!may_create(s)) {
-        return told(s, RELKVANU_STORE_ABSENT, "it has no job");
+        return set_fault(s, RELKVANU_STORE_ABSENT, "it has no job");
     }
     int status = rks_check_new_folder(s, o->storage);
     status = status == RELKVANU_STORE_OK ? opened(s, o, opening_lines(o, lines)) : status;
@@ -248,10 +250,10 @@ static int pass_openings(relkvanu_store *s, struct job *job, const char *folder)
 /* Checks that the storage is that of the job. A process may have ended before the marker of a new job was there. */
 static int check_storage(relkvanu_store *s, struct job *job, const char *folder) {
     if (job->storage == NO_STORAGE) {
-        return folder == NULL ? RELKVANU_STORE_OK : told(s, RELKVANU_STORE_STORAGE, "the job was made without a storage folder");
+        return folder == NULL ? RELKVANU_STORE_OK : set_fault(s, RELKVANU_STORE_STORAGE, "the job was made without a storage folder");
     }
     if (folder == NULL) {
-        return told(s, RELKVANU_STORE_STORAGE, "the job has a storage folder, and the options name none");
+        return set_fault(s, RELKVANU_STORE_STORAGE, "the job has a storage folder, and the options name none");
     }
     if (job->storage == TO_MARK && !rks_has_marker(s)) {
         return rks_check_new_folder(s, folder);
@@ -282,10 +284,11 @@ static int pass_names(relkvanu_store *s) {
     }
     int status = rks_greatest_file(s, &greatest);
     if (status != RELKVANU_STORE_OK) {
-        return told_of_listing(s, status);
+        return set_listing_fault(s, status);
     }
     if (greatest >= term.b + MOST_PASSED) {
-        return told(s, RELKVANU_STORE_STORAGE, "the storage folder has a file with a number 2^24 or more above the names of the backup");
+        return set_fault(
+            s, RELKVANU_STORE_STORAGE, "the storage folder has a file with a number 2^24 or more above the names of the backup");
     }
     return give_names(s, term.a, term.b, greatest);
 }
@@ -308,7 +311,7 @@ static int read_settings(relkvanu_store *s, const struct job *job) {
         return RELKVANU_STORE_NO_MEMORY;
     }
     if (says.what != RELKVANU_LINE_CONFIG) {
-        return told(s, RELKVANU_STORE_DAMAGED, "the row of the job is damaged");
+        return set_fault(s, RELKVANU_STORE_DAMAGED, "the row of the job is damaged");
     }
     s->settings = rks_settings(numbers);
     return RELKVANU_STORE_OK;
@@ -329,7 +332,7 @@ static bool differ(relkvanu_store *s, const struct job *job, const relkvanu_stor
 
 static int recover(relkvanu_store *s, struct job *job, const relkvanu_store_options *o, relkvanu_store_report *report) {
     if ((o->flags & RELKVANU_STORE_CREATE_ONLY) != 0) {
-        return told(s, RELKVANU_STORE_PRESENT, "it has a job");
+        return set_fault(s, RELKVANU_STORE_PRESENT, "it has a job");
     }
     int status = check_storage(s, job, o->storage);
     status = status == RELKVANU_STORE_OK ? read_settings(s, job) : status;
@@ -429,6 +432,7 @@ int rks_begin_store(relkvanu_store *s) {
     s->handle = s->handles;
     s->lock = s->shm = s->folder = s->event = -1;
     s->tail = &s->head;
+    s->sleepers_tail = &s->sleepers;
     s->completed_tail = &s->completed;
     s->keeper.tail = &s->keeper.holds;
     s->process = getpid();
@@ -466,9 +470,13 @@ void rks_release_store(relkvanu_store *s) {
 /* Whether the flags are known and the reserved fields are 0. Otherwise says which is not. */
 static bool are_known(const relkvanu_store_options *o, char *message) {
     const uint32_t flags = RELKVANU_STORE_CREATE | RELKVANU_STORE_CREATE_ONLY | RELKVANU_STORE_ADOPT | RELKVANU_STORE_EARLIER_IMAGE |
-                           RELKVANU_STORE_BACKUP | RELKVANU_STORE_MANIFESTS;
+                           RELKVANU_STORE_BACKUP | RELKVANU_STORE_MANIFESTS | RELKVANU_STORE_CHECKSUMS;
     if ((o->flags & ~flags) != 0) {
         snprintf(message, RKS_MESSAGE, "flags has 0x%" PRIx32 ", which is not known", o->flags & ~flags);
+        return false;
+    }
+    if ((o->flags & (RELKVANU_STORE_CHECKSUMS | RELKVANU_STORE_MANIFESTS)) == RELKVANU_STORE_CHECKSUMS) {
+        snprintf(message, RKS_MESSAGE, "checksums are in manifests: RELKVANU_STORE_CHECKSUMS goes with RELKVANU_STORE_MANIFESTS");
         return false;
     }
     for (size_t i = 0; i < sizeof o->reserved / sizeof *o->reserved; i++) {

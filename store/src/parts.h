@@ -5,6 +5,7 @@
 #define _GNU_SOURCE
 #endif
 #include "../../include/relkvanu_store.h"
+#include "sums.h"
 
 #include <dirent.h>
 #include <pthread.h>
@@ -42,8 +43,7 @@ enum rks_verb { RKS_CALLS, RKS_STOPS, RKS_BEGINS };
 
 /* Calls, a read (calls is NULL) or a submit that waits in the queue. */
 struct rks_waiter {
-    struct rks_waiter *next, *wakes; /* the first of those whom it wakes once it is woken */
-    size_t wakes_len;
+    struct rks_waiter *next;
     relkvanu_store_call *calls;
     size_t calls_len;
     sem_t turn;
@@ -197,6 +197,7 @@ struct relkvanu_store {
     sqlite3_stmt *statements[RKS_STATEMENTS];
     uint64_t place, first, cut_to;                  /* the last call; the one before the first of the log; what may be cut */
     uint64_t image_place, image_before, next_image; /* of the last two images; when the next one is due */
+    uint64_t logged;                                /* bytes of lines since the last image of this opening */
     uint32_t chain;
     struct rks_row *rows;
     relkvanu_group group;  /* the answers that wait for the commit are in it, */
@@ -233,7 +234,8 @@ struct relkvanu_store {
     pthread_mutex_t mutex;
     pthread_cond_t changed;
     struct rks_waiter *head, **tail;
-    size_t queued, loners; /* how many wait in it; and of these, join no group */
+    struct rks_waiter *sleepers, **sleepers_tail; /* who are answered, and have to be woken */
+    size_t queued, loners;                        /* how many wait in it; and of these, join no group */
     bool is_led;
     size_t gathers; /* who leads waits until so many do; 0: it does not wait for them */
     pthread_cond_t gathered;
@@ -261,6 +263,8 @@ struct relkvanu_store {
         uint64_t chosen, carrier;           /* the records whose manifest says that it is the choice; that has the numbers below. 0: none */
         uint64_t number, term, name, tries; /* what somebody was told is below these; when a failed one is tried again, by rks_clock_ns */
         bool is_on, is_due, has_failed, is_more; /* is_more: it is due for another reason than a completion */
+        bool has_sums;                           /* manifests have checksums of files */
+        struct rks_sums sums;                    /* of files that were read; used by who writes a manifest */
         struct rks_writing *beside;              /* what the thread that keeps manifests was given, or NULL */
         struct rks_place {                       /* where they go if it is not the folder: put is NULL otherwise */
             relkvanu_store_check_place check;
@@ -520,7 +524,7 @@ uint64_t rks_stop_expiry(const relkvanu_store *s);
 int rks_write_phase(relkvanu_store *s);
 int rks_read_phase(relkvanu_store *s);
 
-/* Only for the thread that leads, with the mutex. */
+/* With the mutex; the first only for the thread that leads. Whether a timer is to be told of an order, which is not told again. */
 bool rks_show_phase(relkvanu_store *s);
 bool rks_next_order(relkvanu_store *s, struct rks_order *order);
 
@@ -547,8 +551,9 @@ int rks_check_calls(relkvanu_store *s, relkvanu_store_call *calls, size_t calls_
 /* verbs.c: a call of this kind, at the moment of the store's clock. */
 relkvanu_call rks_of_kind(uint32_t kind);
 
-/* reads.c: whether this thread reads, so that a call of it would wait for itself. */
+/* reads.c: whether this thread reads, so that a call of it would wait for itself; the status of such a call, which is noted for relkvanu_store_why. */
 bool rks_is_reading(const relkvanu_store *s);
+int rks_check_reader(const relkvanu_store *s);
 
 /* Moves those of the files to the front that are garbage, and counts those whose names were not given out. */
 int rks_deletable(relkvanu_store *s, uint64_t *files, size_t *files_len, size_t *unissued);

@@ -147,8 +147,9 @@ bool rks_show_phase(relkvanu_store *s) {
     return is_other;
 }
 
+/* An order tells of the choice, whose manifest the keeper may be writing: no timer is told of it before, and all others go on. */
 bool rks_next_order(relkvanu_store *s, struct rks_order *order) {
-    if (s->orders.len == 0) {
+    if (s->orders.len == 0 || s->keeper.work != NULL) {
         return false;
     }
     *order = s->orders.of[0];

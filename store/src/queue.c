@@ -5,7 +5,7 @@
 #include <string.h>
 #include <time.h>
 
-enum { LONGEST_GATHERING = 5000000, WOKEN_BY_ONE = 16, MADE_AT_ONCE = 32 }; /* ns; callers; callers */
+enum { LONGEST_GATHERING = 5000000, WOKEN_AT_ONCE = 16, MADE_AT_ONCE = 32 }; /* ns; callers; callers */
 
 void rks_drop_answers(relkvanu_store_call *calls, size_t calls_len) {
     for (size_t i = 0; i < calls_len; i++) {
@@ -15,12 +15,21 @@ void rks_drop_answers(relkvanu_store_call *calls, size_t calls_len) {
     }
 }
 
-/* Wakes some of those who wait, one behind the other. Each belongs to its own thread from then on. */
-static void wake(struct rks_waiter *w, size_t len) {
-    for (struct rks_waiter *next; w != NULL && len != 0; w = next, len--) {
+/* Wakes the next of those who are answered, and belong to their own threads from then on. Returns whether some are left. */
+static bool wake_some(relkvanu_store *s) {
+    pthread_mutex_lock(&s->mutex);
+    struct rks_waiter *first = s->sleepers, *behind = first;
+    for (size_t len = 0; behind != NULL && len < WOKEN_AT_ONCE; len++) {
+        behind = behind->next;
+    }
+    s->sleepers = behind;
+    s->sleepers_tail = behind == NULL ? &s->sleepers : s->sleepers_tail;
+    pthread_mutex_unlock(&s->mutex);
+    for (struct rks_waiter *w = first, *next; w != behind; w = next) {
         next = w->next;
         sem_post(&w->turn);
     }
+    return behind != NULL;
 }
 
 /* Whether it may be behind others in a group. At most one stop ends in a group, since rks_make has room for one restore that it ends with. */
@@ -33,12 +42,11 @@ int rks_enter(relkvanu_store *s, struct rks_waiter *w) {
     if (rks_is_forked(s)) {
         return RELKVANU_STORE_FORKED;
     }
-    if (!w->is_submitted && rks_is_reading(s)) {
-        rks_why_words("this thread reads, so that the call would wait for itself: make it after the read");
-        return RELKVANU_STORE_BAD_ARGUMENT;
+    int status = w->is_submitted ? RELKVANU_STORE_OK : rks_check_reader(s);
+    if (status != RELKVANU_STORE_OK) {
+        return status;
     }
-    w->next = w->wakes = NULL;
-    w->wakes_len = 0;
+    w->next = NULL;
     w->is_answered = false;
     if (!w->is_submitted && sem_init(&w->turn, 0, 0) != 0) {
         return RELKVANU_STORE_NO_MEMORY;
@@ -66,7 +74,9 @@ int rks_enter(relkvanu_store *s, struct rks_waiter *w) {
         return RELKVANU_STORE_OK; /* it may be answered and freed by now */
     }
     while (!leads && sem_wait(&w->turn) != 0) {}
-    wake(w->wakes, w->wakes_len);
+    if (w->is_answered) {
+        wake_some(s);
+    }
     sem_destroy(&w->turn);
     if (!w->is_answered && w->calls == NULL) {
         rks_await_keeper(s); /* a read sees no record whose manifest is not there yet */
@@ -120,22 +130,19 @@ static void answer(relkvanu_store *s, struct rks_waiter *w, int status) {
     }
 }
 
-/* The first of some that it may wake. Returns the first behind them. */
-static struct rks_waiter *share(struct rks_waiter *w) {
-    struct rks_waiter *behind = w->next;
-    w->wakes = behind;
-    for (w->wakes_len = 0; w->wakes_len + 1 < WOKEN_BY_ONE && behind != NULL; w->wakes_len++) {
-        behind = behind->next;
+/* Nobody has to wake them all: each who is woken wakes some of those who are left. So one whom the system lets wait keeps nobody else waiting. Afterwards a
+ * waiter belongs to who waits for it. */
+static void wake_all(relkvanu_store *s, struct rks_waiter *answered) {
+    if (answered == NULL) {
+        return;
     }
-    return behind;
-}
-
-/* Nobody wakes them all: some are woken here, and wake the others. Afterwards a waiter belongs to who waits for it. */
-static void wake_all(struct rks_waiter *sleepers) {
-    for (struct rks_waiter *w = sleepers, *next; w != NULL; w = next) {
-        next = share(w);
-        sem_post(&w->turn);
+    pthread_mutex_lock(&s->mutex);
+    *s->sleepers_tail = answered;
+    while (*s->sleepers_tail != NULL) {
+        s->sleepers_tail = &(*s->sleepers_tail)->next;
     }
+    pthread_mutex_unlock(&s->mutex);
+    while (wake_some(s)) {}
 }
 
 /* Completes the submits of these. Returns the others, who sleep. Afterwards a waiter belongs to who waits for it, and one that was submitted is not the
@@ -156,7 +163,7 @@ static struct rks_waiter *tell_submits(relkvanu_store *s, struct rks_waiter *ans
 }
 
 void rks_tell_all(relkvanu_store *s, struct rks_waiter *answered) {
-    wake_all(tell_submits(s, answered));
+    wake_all(s, tell_submits(s, answered));
 }
 
 /* Answers a group, but for those who have to wait for the keeper. Returns those who sleep, and have to be woken. Who leads sees its own answer. */
@@ -205,7 +212,7 @@ void rks_hand_on(relkvanu_store *s, int dead) {
         pthread_cond_broadcast(&s->changed);
     }
     pthread_mutex_unlock(&s->mutex);
-    wake_all(answer_all(s, failed, RELKVANU_STORE_CLOSED, NULL));
+    wake_all(s, answer_all(s, failed, RELKVANU_STORE_CLOSED, NULL));
 }
 
 /* Commits the calls that were made. others_go_on: a manifest may be written while other groups are committed. */
@@ -241,8 +248,8 @@ static bool closes(relkvanu_store *s, int status) {
         bury(s, status);
         return true;
     }
-    if (s->is_news || s->made_orders.len != 0) {
-        rks_await_keeper(s); /* timers are told of the choice */
+    if (s->is_news) {
+        rks_await_keeper(s); /* timers are told of the phase */
     }
     rks_show(s);
     return false;
@@ -250,21 +257,30 @@ static bool closes(relkvanu_store *s, int status) {
 
 /* How a leader waits for more callers. */
 struct gathering {
-    struct timespec end;
+    uint64_t end;  /* of all waiting, by monotonic_ns */
     size_t before; /* callers of the group without it */
     bool rests, is_over;
 };
 
+/* The clock of the condition. */
+static uint64_t monotonic_ns(void) {
+    struct timespec now;
+    clock_gettime(CLOCK_MONOTONIC, &now);
+    return (uint64_t)now.tv_sec * 1000000000 + (uint64_t)now.tv_nsec;
+}
+
 /* At most half as long as the last commit took, from now on. */
 static struct gathering begin_gathering(relkvanu_store *s) {
     uint64_t most = s->took / 2 < LONGEST_GATHERING ? s->took / 2 : LONGEST_GATHERING;
-    struct timespec now;
-    clock_gettime(CLOCK_MONOTONIC, &now);
-    uint64_t until = (uint64_t)now.tv_nsec + most;
-    struct timespec end = {now.tv_sec + (time_t)(until / 1000000000), (long)(until % 1000000000)};
     bool rests = s->resting != 0;
     s->resting -= rests;
-    return (struct gathering){.end = end, .rests = rests, .is_over = rests};
+    return (struct gathering){.end = monotonic_ns() + most, .rests = rests, .is_over = rests};
+}
+
+/* Until when it waits for those who are missing: no longer than these calls are worth, since all others wait meanwhile. */
+static struct timespec end_of_wait(const relkvanu_store *s, const struct gathering *g, size_t missing) {
+    uint64_t worth = monotonic_ns() + s->took * missing / s->expected, end = worth < g->end ? worth : g->end;
+    return (struct timespec){(time_t)(end / 1000000000), (long)(end % 1000000000)};
 }
 
 /* Waits until all callers are in the group or in the queue, or some more, or one that joins no group. Returns whether the first joins the group. */
@@ -273,9 +289,10 @@ static bool has_more(relkvanu_store *s, struct gathering *g) {
         return false;
     }
     size_t missing = s->expected - s->callers, wanted = missing < MADE_AT_ONCE ? missing : MADE_AT_ONCE;
+    struct timespec end = end_of_wait(s, g, missing);
     pthread_mutex_lock(&s->mutex);
     for (s->gathers = s->queued < wanted && s->loners == 0 ? wanted : 0; s->gathers != 0 && !g->is_over;) {
-        g->is_over = pthread_cond_timedwait(&s->gathered, &s->mutex, &g->end) != 0;
+        g->is_over = pthread_cond_timedwait(&s->gathered, &s->mutex, &end) != 0;
     }
     s->gathers = 0;
     bool is_more = s->head != NULL && joins(s->head);
@@ -333,11 +350,12 @@ void rks_lead(relkvanu_store *s, struct rks_waiter *own) {
     bool is_dead = closes(s, status);
     struct rks_waiter *sleepers = answer_all(s, group, status, own);
     if (is_untidy(s)) {
-        wake_all(sleepers);
+        wake_all(s, sleepers);
         sleepers = NULL;
+        s->callers = 0; /* those who call again wait in the queue when the -wal is in the file: nobody is to count them twice */
     }
     rks_hand_on(s, is_dead ? 0 : tidy(s));
-    wake_all(sleepers);
+    wake_all(s, sleepers);
     rks_await_held(s, own);
 }
 

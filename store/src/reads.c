@@ -23,6 +23,14 @@ bool rks_is_reading(const relkvanu_store *s) {
     return s->reader == &own;
 }
 
+int rks_check_reader(const relkvanu_store *s) {
+    if (!rks_is_reading(s)) {
+        return RELKVANU_STORE_OK;
+    }
+    rks_why_words("this thread reads, so that the call would wait for itself: make it after the read");
+    return RELKVANU_STORE_BAD_ARGUMENT;
+}
+
 int relkvanu_store_read(relkvanu_store *s, relkvanu **handle) {
     struct rks_waiter w = {0};
     int status = rks_enter(s, &w);

@@ -158,44 +158,82 @@ static bool is_file(const char *text, uint64_t *file) {
     return errno == 0 && text != NULL && strcmp(text, written) == 0;
 }
 
-/* The files of a subtask, whose JSON is in the row. */
-static int each_file(sqlite3_stmt *it, sqlite3_stmt *row, struct rks_part part, rks_each_part each, void *with) {
-    int status = RELKVANU_STORE_OK, code = SQLITE_DONE;
-    bool has_files = false;
-    const char *text = (const char *)sqlite3_column_text(row, 2);
-    if (text == NULL || sqlite3_bind_text(it, 1, text, -1, SQLITE_STATIC) != SQLITE_OK) {
-        return text == NULL ? lacking(row) : RELKVANU_STORE_NO_MEMORY;
+/* Reads the subtasks of a manifest, and the files and the checksums of one. */
+struct reading {
+    sqlite3_stmt *subtasks, *files, *sums;
+    bool has_sums;
+};
+enum { VERTEX, INDEX, FILES, PAYLOAD, SUMS }; /* of a subtask */
+
+/* Binds what a subtask has. Checksums may be missing. */
+static int bind_files(struct reading *r) {
+    const char *files = (const char *)sqlite3_column_text(r->subtasks, FILES), *sums = (const char *)sqlite3_column_text(r->subtasks, SUMS);
+    r->has_sums = sums != NULL;
+    if (files == NULL || (sums == NULL && sqlite3_column_type(r->subtasks, SUMS) != SQLITE_NULL)) {
+        return lacking(r->subtasks);
     }
-    while (status == RELKVANU_STORE_OK && (code = sqlite3_step(it)) == SQLITE_ROW) {
+    bool is_bound = sqlite3_bind_text(r->files, 1, files, -1, SQLITE_STATIC) == SQLITE_OK;
+    is_bound = is_bound && sqlite3_bind_text(r->sums, 1, r->has_sums ? sums : "[]", -1, SQLITE_STATIC) == SQLITE_OK;
+    return is_bound ? RELKVANU_STORE_OK : RELKVANU_STORE_NO_MEMORY;
+}
+
+/* The checksum of the next file: eight hexadecimal digits, or null if it is not known. There are as many as files. */
+static int next_sum(struct reading *r, struct rks_part *part) {
+    char written[16];
+    part->has_sum = false;
+    int code = r->has_sums ? sqlite3_step(r->sums) : SQLITE_ROW;
+    if (code != SQLITE_ROW || !r->has_sums || sqlite3_column_type(r->sums, 0) == SQLITE_NULL) {
+        return code == SQLITE_ROW ? RELKVANU_STORE_OK : status_of(code);
+    }
+    const char *text = (const char *)sqlite3_column_text(r->sums, 0);
+    part->has_sum = text != NULL;
+    part->sum = text == NULL ? 0 : (uint32_t)strtoul(text, NULL, 16);
+    snprintf(written, sizeof written, "%08" PRIx32, part->sum);
+    return text != NULL && strcmp(text, written) == 0 ? RELKVANU_STORE_OK : lacking(r->sums);
+}
+
+/* The files of a subtask. */
+static int each_file(struct reading *r, struct rks_part part, rks_each_part each, void *with) {
+    int status = bind_files(r), code = SQLITE_DONE;
+    bool has_files = false;
+    while (status == RELKVANU_STORE_OK && (code = sqlite3_step(r->files)) == SQLITE_ROW) {
         part.is_file = has_files = true;
-        part.has_bytes = sqlite3_column_type(it, 1) == SQLITE_INTEGER;
-        part.bytes = (uint64_t)sqlite3_column_int64(it, 1);
-        status = is_file((const char *)sqlite3_column_text(it, 0), &part.file) ? each(with, &part) : lacking(it);
+        part.has_bytes = sqlite3_column_type(r->files, 1) == SQLITE_INTEGER;
+        part.bytes = (uint64_t)sqlite3_column_int64(r->files, 1);
+        status = is_file((const char *)sqlite3_column_text(r->files, 0), &part.file) ? next_sum(r, &part) : lacking(r->files);
+        status = status == RELKVANU_STORE_OK ? each(with, &part) : status;
     }
     status = status == RELKVANU_STORE_OK && code != SQLITE_DONE ? status_of(code) : status;
-    sqlite3_reset(it);
+    sqlite3_reset(r->files);
+    sqlite3_reset(r->sums);
     return status == RELKVANU_STORE_OK && !has_files ? each(with, &part) : status;
+}
+
+static int each_subtask(struct reading *r, rks_each_part each, void *with) {
+    sqlite3_int64 vertex = sqlite3_column_int64(r->subtasks, VERTEX), index = sqlite3_column_int64(r->subtasks, INDEX);
+    bool is_valid = vertex >= 0 && vertex < RKS_VERTICES && index >= 0 && index <= UINT16_MAX;
+    struct rks_part part = {
+        .vertex = (uint16_t)vertex, .index = (uint16_t)index, .payload = (const char *)sqlite3_column_text(r->subtasks, PAYLOAD)};
+    is_valid = is_valid && (part.payload != NULL || sqlite3_column_type(r->subtasks, PAYLOAD) == SQLITE_NULL);
+    return is_valid ? each_file(r, part, each, with) : RELKVANU_STORE_DAMAGED;
 }
 
 /* The files of all subtasks. */
 static int each_part(sqlite3 *db, const struct rks_text *text, rks_each_part each, void *with) {
-    static const char SUBTASKS[] = "SELECT json_extract(value,'$.vertex'),json_extract(value,'$.index'),json_extract(value,'$.files'),"
-                                   "json_extract(value,'$.payload')"
-                                   " FROM json_each(?1,'$.subtasks')";
+    static const char SUBTASKS_OF[] = "SELECT json_extract(value,'$.vertex'),json_extract(value,'$.index'),json_extract(value,'$.files'),"
+                                      "json_extract(value,'$.payload'),json_extract(value,'$.sums')"
+                                      " FROM json_each(?1,'$.subtasks')";
     int status = RELKVANU_STORE_OK, code = SQLITE_DONE;
-    sqlite3_stmt *rows = asked(db, SUBTASKS, (const char *)text->at, text->len, &status);
-    sqlite3_stmt *files = rows == NULL ? NULL : asked(db, "SELECT key,value FROM json_each(?1)", "{}", 2, &status);
-    while (files != NULL && status == RELKVANU_STORE_OK && (code = sqlite3_step(rows)) == SQLITE_ROW) {
-        sqlite3_int64 vertex = sqlite3_column_int64(rows, 0), index = sqlite3_column_int64(rows, 1);
-        bool is_valid = vertex >= 0 && vertex < RKS_VERTICES && index >= 0 && index <= UINT16_MAX;
-        struct rks_part part = {
-            .vertex = (uint16_t)vertex, .index = (uint16_t)index, .payload = (const char *)sqlite3_column_text(rows, 3)};
-        is_valid = is_valid && (part.payload != NULL || sqlite3_column_type(rows, 3) == SQLITE_NULL);
-        status = is_valid ? each_file(files, rows, part, each, with) : RELKVANU_STORE_DAMAGED;
+    struct reading r = {.subtasks = asked(db, SUBTASKS_OF, (const char *)text->at, text->len, &status)};
+    r.files = r.subtasks == NULL ? NULL : asked(db, "SELECT key,value FROM json_each(?1)", "{}", 2, &status);
+    r.sums = r.files == NULL ? NULL : asked(db, "SELECT value FROM json_each(?1)", "[]", 2, &status);
+    while (r.sums != NULL && status == RELKVANU_STORE_OK && (code = sqlite3_step(r.subtasks)) == SQLITE_ROW) {
+        status = each_subtask(&r, each, with);
     }
     status = status == RELKVANU_STORE_OK && code != SQLITE_DONE ? status_of(code) : status;
-    sqlite3_finalize(rows);
-    sqlite3_finalize(files);
+    sqlite3_finalize(r.subtasks);
+    sqlite3_finalize(r.files);
+    sqlite3_finalize(r.sums);
     return status;
 }
 
@@ -241,21 +279,49 @@ int rks_manifest_text(struct rks_manifests *all, int folder, uint64_t id, const 
     return status == RELKVANU_STORE_OK && job != NULL ? rewrite(all->db, job, text) : status;
 }
 
+uint32_t rks_fault_of(int folder, const struct rks_part *part) {
+    char name[32];
+    struct stat found;
+    snprintf(name, sizeof name, "%" PRIu64, part->file);
+    if (fstatat(folder, name, &found, AT_SYMLINK_NOFOLLOW) != 0 || !S_ISREG(found.st_mode)) {
+        return RELKVANU_STORE_FILE_MISSING;
+    }
+    return part->has_bytes && (uint64_t)found.st_size != part->bytes ? RELKVANU_STORE_FILE_LENGTH : 0;
+}
+
 struct looking {
     int folder;
-    uint64_t missing;
+    uint64_t missing, unknown;
 };
 
 static int look_for(void *with, const struct rks_part *part) {
     struct looking *looking = with;
-    char name[32];
-    struct stat found;
-    snprintf(name, sizeof name, "%" PRIu64, part->file);
     if (part->is_file) {
-        bool is_there = fstatat(looking->folder, name, &found, AT_SYMLINK_NOFOLLOW) == 0 && S_ISREG(found.st_mode);
-        looking->missing += !is_there || (part->has_bytes && (uint64_t)found.st_size != part->bytes);
+        looking->missing += rks_fault_of(looking->folder, part) != 0;
+        looking->unknown += !part->has_sum;
     }
     return RELKVANU_STORE_OK;
+}
+
+struct noting {
+    struct rks_sums *sums;
+    int folder;
+};
+
+static int note_sum(void *with, const struct rks_part *part) {
+    struct noting *noting = with;
+    bool is_noted = !part->is_file || !part->has_sum || rks_note_sum(noting->sums, noting->folder, part->file, part->sum);
+    return is_noted ? RELKVANU_STORE_OK : RELKVANU_STORE_NO_MEMORY;
+}
+
+void rks_note_sums(struct rks_manifests *all, int folder, const char *job, struct rks_sums *sums) {
+    struct noting noting = {.sums = sums, .folder = folder};
+    for (size_t i = 0; i < all->len; i++) {
+        const struct rks_manifest *it = &all->at[i];
+        if (it->status == RELKVANU_STORE_OK && strcmp(it->job, job) == 0) {
+            (void)rks_manifest_parts(all, folder, it->id, note_sum, &noting);
+        }
+    }
 }
 
 /* Reads one manifest, and looks for its files. What is wrong with it is noted in it; other statuses are returned. */
@@ -265,6 +331,7 @@ static int read_manifest(struct rks_manifests *all, int folder, struct rks_text 
     status = status == RELKVANU_STORE_OK ? read_members(all->db, text, m) : status;
     status = status == RELKVANU_STORE_OK ? each_part(all->db, text, look_for, &looking) : status;
     m->missing = looking.missing;
+    m->unknown = looking.unknown;
     m->status = status == RELKVANU_STORE_NOT_A_STORE ? status : status != RELKVANU_STORE_OK ? RELKVANU_STORE_DAMAGED : status;
     return status == RELKVANU_STORE_NO_MEMORY || status == RELKVANU_STORE_FAILED ? status : RELKVANU_STORE_OK;
 }
@@ -356,27 +423,31 @@ struct rks_manifest *rks_choose_manifest(struct rks_manifests *all, const char *
     return chosen;
 }
 
+bool rks_tell_record(const struct rks_manifest *it, const struct rks_telling *telling) {
+    relkvanu_store_record record = {.id = it->id, .status = (uint32_t)it->status};
+    if (it->status == RELKVANU_STORE_OK) {
+        record.is_savepoint = it->is_savepoint;
+        record.is_of_job = telling->job == NULL || strcmp(it->job, telling->job) == 0;
+        record.is_next = it == telling->next;
+        record.written = it->written;
+        record.files = it->files;
+        record.bytes = it->bytes;
+        record.missing = it->missing;
+        record.unknown = it->unknown;
+        record.changed = it->changed;
+    }
+    return it->has_ended || telling->each(telling->with, &record);
+}
+
 /* Tells what is known of each. */
-static void tell(
-    const struct rks_manifests *all, const struct rks_manifest *next, const char *job, relkvanu_store_each_record each, void *with) {
+static void tell(const struct rks_manifests *all, const struct rks_telling *telling) {
     bool goes_on = true;
     for (size_t i = 0; i < all->len && goes_on; i++) {
-        const struct rks_manifest *it = &all->at[i];
-        relkvanu_store_record record = {.id = it->id, .status = (uint32_t)it->status};
-        if (it->status == RELKVANU_STORE_OK) {
-            record.is_savepoint = it->is_savepoint;
-            record.is_of_job = job == NULL || strcmp(it->job, job) == 0;
-            record.is_next = it == next;
-            record.written = it->written;
-            record.files = it->files;
-            record.bytes = it->bytes;
-            record.missing = it->missing;
-        }
-        goes_on = each(with, &record);
+        goes_on = rks_tell_record(&all->at[i], telling);
     }
 }
 
-static int tell_records(relkvanu_store *s, const char *folder, relkvanu_store_each_record each, void *with) {
+static int tell_records(relkvanu_store *s, const char *folder, struct rks_telling telling) {
     struct rks_manifests all = {0};
     uint64_t marked = 0;
     bool has_marker = false;
@@ -385,18 +456,23 @@ static int tell_records(relkvanu_store *s, const char *folder, relkvanu_store_ea
     if (status != RELKVANU_STORE_OK) {
         return status;
     }
-    const char *job = has_marker ? s->identity : NULL;
+    telling.job = has_marker ? s->identity : NULL;
     status = rks_list_manifests(s->folder, &all);
     if (status == RELKVANU_STORE_OK) {
-        tell(&all, rks_choose_manifest(&all, job, 0), job, each, with);
+        telling.next = rks_choose_manifest(&all, telling.job, 0);
     } else if (status != RELKVANU_STORE_NO_MEMORY) {
         status = rks_file_fault(s, folder, errno);
+    }
+    if (status == RELKVANU_STORE_OK && telling.each_fault != NULL) {
+        status = rks_check_manifests(&all, s->folder, &telling);
+    } else if (status == RELKVANU_STORE_OK) {
+        tell(&all, &telling);
     }
     rks_free_manifests(&all);
     return status;
 }
 
-int relkvanu_store_records(const char *folder, relkvanu_store_each_record each, void *with, char *message, size_t message_len) {
+static int tell_folder(const char *folder, struct rks_telling telling, char *message, size_t message_len) {
     relkvanu_store *s = calloc(1, sizeof *s);
     int status = s == NULL ? RELKVANU_STORE_NO_MEMORY : rks_begin_store(s);
     snprintf(message, message_len, "%s", "");
@@ -405,10 +481,19 @@ int relkvanu_store_records(const char *folder, relkvanu_store_each_record each, 
         return status;
     }
     rks_list(s);
-    status = tell_records(s, folder, each, with);
+    status = tell_records(s, folder, telling);
     snprintf(message, message_len, "%s", status == RELKVANU_STORE_OK ? "" : s->fault);
     int error = errno;
     rks_release_store(s);
     errno = error;
     return status;
+}
+
+int relkvanu_store_records(const char *folder, relkvanu_store_each_record each, void *with, char *message, size_t message_len) {
+    return tell_folder(folder, (struct rks_telling){.each = each, .with = with}, message, message_len);
+}
+
+int relkvanu_store_check_records(const char *folder, relkvanu_store_each_record each, relkvanu_store_each_fault each_fault, void *with,
+    char *message, size_t message_len) {
+    return tell_folder(folder, (struct rks_telling){.each = each, .each_fault = each_fault, .with = with}, message, message_len);
 }

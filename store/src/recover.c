@@ -46,7 +46,7 @@ struct recovery {
     relkvanu_store_recovered *told;
 };
 
-static int told(struct recovery *r, int status, const char *words) {
+static int set_fault(struct recovery *r, int status, const char *words) {
     snprintf(r->old->fault, sizeof r->old->fault, "%.300s: %.200s", r->old->path, words);
     return status;
 }
@@ -157,7 +157,7 @@ static int make(struct recovery *r, relkvanu_store_call *calls, size_t len) {
         if (code != RELKVANU_DONE) {
             relkvanu_answer_text(&calls[i].answer, (uint8_t *)text, RELKVANU_ANSWER_TEXT);
             snprintf(words, sizeof words, "a manifest is not that of a record: %s", text);
-            status = code == RELKVANU_NO_MEMORY ? RELKVANU_STORE_NO_MEMORY : told(r, RELKVANU_STORE_DAMAGED, words);
+            status = code == RELKVANU_NO_MEMORY ? RELKVANU_STORE_NO_MEMORY : set_fault(r, RELKVANU_STORE_DAMAGED, words);
         }
     }
     if (status >= RELKVANU_STORE_FAILED && status <= RELKVANU_STORE_OUT_OF_MEMORY) {
@@ -218,10 +218,10 @@ static int carry_parts(struct recovery *r, uint64_t id) {
 static int complete(struct recovery *r, const struct rks_manifest *m, uint64_t id) {
     r->fresh.len = r->reused.len = r->ordered.len = r->payloads.len = r->acks_len = 0;
     int status = rks_manifest_parts(&r->all, r->old->folder, m->id, note_part, r);
-    status = status == RELKVANU_STORE_DAMAGED ? told(r, status, "a manifest has changed meanwhile") : status;
+    status = status == RELKVANU_STORE_DAMAGED ? set_fault(r, status, "a manifest has changed meanwhile") : status;
     status = status == RELKVANU_STORE_OK ? acknowledge(r, id) : status;
     if (status == RELKVANU_STORE_OK && relkvanu_standing(r->job->handle, id).what != RELKVANU_STANDS_DONE) {
-        status = told(r, RELKVANU_STORE_DAMAGED, "a manifest lacks a subtask of its shape");
+        status = set_fault(r, RELKVANU_STORE_DAMAGED, "a manifest lacks a subtask of its shape");
     }
     return status == RELKVANU_STORE_OK ? carry_parts(r, id) : status;
 }
@@ -286,7 +286,7 @@ static int keep_savepoints(struct recovery *r, const struct rks_manifest *choice
 static int pass_names(struct recovery *r) {
     relkvanu_answer answer;
     if (r->below.name > RKS_MOST_NAME) {
-        return told(r, RELKVANU_STORE_STORAGE, "its names are used up");
+        return set_fault(r, RELKVANU_STORE_STORAGE, "its names are used up");
     }
     relkvanu_call advance = {.kind = RELKVANU_CALL_ADVANCE, .term = r->below.term, .number = r->below.name};
     int status = make_one(r, (relkvanu_call){.kind = RELKVANU_CALL_FENCE, .number = r->below.name}, NULL, &answer);
@@ -403,7 +403,7 @@ static int check_unread(struct recovery *r, const struct rks_manifest *choice, u
         is_far ? "its number is far above the others, so move it away if it is none of the job's"
                : "give the number of a record to go on from an earlier one");
     if (is_far || record == 0) {
-        return told(r, RELKVANU_STORE_DAMAGED, words);
+        return set_fault(r, RELKVANU_STORE_DAMAGED, words);
     }
     r->below.number = greater(r->below.number, r->unread + 1 + SOME_NUMBERS);
     return RELKVANU_STORE_OK;
@@ -419,7 +419,7 @@ static int choose(struct recovery *r, uint64_t record, struct rks_manifest **cho
     gather(r);
     *choice = rks_choose_manifest(&r->all, r->old->identity, record);
     if (*choice == NULL) {
-        return told(r, RELKVANU_STORE_ABSENT, "no record that has a manifest in the storage folder has all its files there");
+        return set_fault(r, RELKVANU_STORE_ABSENT, "no record that has a manifest in the storage folder has all its files there");
     }
     return check_unread(r, *choice, record);
 }
@@ -461,10 +461,10 @@ static int read_owner(struct recovery *r, const char *folder) {
 static int check_absent(struct recovery *r) {
     struct stat found;
     if (stat(r->old->path, &found) == 0 && found.st_size != 0) {
-        return told(r, RELKVANU_STORE_PRESENT, "there is a job");
+        return set_fault(r, RELKVANU_STORE_PRESENT, "there is a job");
     }
     if (stat(r->old->wal, &found) == 0 && found.st_size != 0) {
-        return told(
+        return set_fault(
             r, RELKVANU_STORE_PRESENT, "its -wal is there, which has calls that this file would lack. Move it away if the file is lost");
     }
     return RELKVANU_STORE_OK;

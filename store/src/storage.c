@@ -51,24 +51,24 @@ int relkvanu_store_storage(relkvanu_store *s, relkvanu_storage *storage) {
     return status;
 }
 
-static int told_of_put(uint64_t file, int storage_status) {
+static int put_status(uint64_t file, int storage_status) {
     rks_why_file(file, storage_status);
     return status_of(storage_status, RELKVANU_STORE_NOT_PUT);
 }
 
 int relkvanu_store_put(relkvanu_store *s, uint64_t file, const void *contents, size_t len) {
     int status = has_folder(s);
-    return status != RELKVANU_STORE_OK ? status : told_of_put(file, rks_folder_put(&s->files, file, contents, len));
+    return status != RELKVANU_STORE_OK ? status : put_status(file, rks_folder_put(&s->files, file, contents, len));
 }
 
 int relkvanu_store_put_from(relkvanu_store *s, uint64_t file, relkvanu_store_source source, void *with) {
     int status = has_folder(s);
-    return status != RELKVANU_STORE_OK ? status : told_of_put(file, rks_folder_put_from(&s->files, file, source, with));
+    return status != RELKVANU_STORE_OK ? status : put_status(file, rks_folder_put_from(&s->files, file, source, with));
 }
 
 int relkvanu_store_put_link(relkvanu_store *s, uint64_t file, int from, const char *name) {
     int status = has_folder(s);
-    return status != RELKVANU_STORE_OK ? status : told_of_put(file, rks_folder_link(&s->files, file, from, name));
+    return status != RELKVANU_STORE_OK ? status : put_status(file, rks_folder_link(&s->files, file, from, name));
 }
 
 void relkvanu_store_delete_files(void *store, const uint64_t *files, size_t files_len, uint8_t *is_gone) {
@@ -160,7 +160,8 @@ int relkvanu_store_sweep_storage(relkvanu_store *s, const relkvanu_storage *stor
     if (rks_is_forked(s)) {
         return RELKVANU_STORE_FORKED;
     }
-    if (!rks_is_storage(storage)) {
+    int status = rks_check_reader(s);
+    if (status != RELKVANU_STORE_OK || !rks_is_storage(storage)) {
         return RELKVANU_STORE_BAD_ARGUMENT;
     }
     int checked = storage->check(storage->with);
@@ -168,7 +169,7 @@ int relkvanu_store_sweep_storage(relkvanu_store *s, const relkvanu_storage *stor
     if (checked != RELKVANU_STORAGE_OK) {
         return status_of_sweep(checked);
     }
-    int status = list_all(&sweep);
+    status = list_all(&sweep);
     *left = sweep.left;
     pthread_mutex_lock(&s->mutex);
     s->failed_deletions += sweep.left;

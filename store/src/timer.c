@@ -186,6 +186,11 @@ int relkvanu_store_await_tick(relkvanu_store *s, uint64_t longest, relkvanu_stor
 int relkvanu_store_await_tick_with(relkvanu_store *s, uint64_t longest, relkvanu_store_call *tick, relkvanu_store_more *more) {
     *tick = (relkvanu_store_call){.call = {.kind = RELKVANU_CALL_TICK, .now = RELKVANU_STORE_NOW}, .more = more};
     rks_clear_more(tick);
+    int refused = rks_is_forked(s) ? RELKVANU_STORE_OK : rks_check_reader(s);
+    if (refused != RELKVANU_STORE_OK) {
+        rks_drop_answers(tick, 1);
+        return refused;
+    }
     for (uint64_t end = rks_after(longest);;) {
         struct timer timer = {0};
         int status = look(s, &timer, true);

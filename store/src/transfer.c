@@ -13,6 +13,7 @@
 #include <sys/file.h>
 #include <sys/random.h>
 #include <unistd.h>
+#include <zlib.h>
 
 enum { PIECE = 1 << 20, TRIES = 100 }; /* bytes; times that a record may end while it is carried */
 
@@ -29,17 +30,18 @@ static int failed(struct transfer *t, const char *what, int error) {
     return rks_file_fault(t->from, what, error);
 }
 
-static int told(struct transfer *t, int status, const char *folder, const char *words) {
+static int set_fault(struct transfer *t, int status, const char *folder, const char *words) {
     snprintf(t->from->fault, sizeof t->from->fault, "%.300s: %.200s", folder, words);
     return status;
 }
 
-/* Copies what is in a file, and syncs it. Returns 0, or what is wrong as errno. */
-static int copy_contents(int from, int to) {
+/* Copies what is in a file, and syncs it. *sum is its checksum. Returns 0, or what is wrong as errno. */
+static int copy_contents(int from, int to, uint32_t *sum) {
     char *piece = malloc(PIECE);
     off_t at = 0;
     ssize_t len = 1;
     int error = piece == NULL ? ENOMEM : 0;
+    *sum = 0;
     while (error == 0 && len != 0) {
         len = pread(from, piece, PIECE, at);
         if (len < 0) {
@@ -47,33 +49,35 @@ static int copy_contents(int from, int to) {
         } else if (!rks_write_whole(to, piece, (size_t)len, at)) {
             error = errno;
         }
+        *sum = len > 0 ? (uint32_t)crc32_z(*sum, (const uint8_t *)piece, (size_t)len) : *sum;
         at += len > 0 ? len : 0;
     }
     free(piece);
     return error == 0 && fsync(to) != 0 ? errno : error;
 }
 
-static int copy_file(const struct transfer *t, const char *name) {
+static int copy_file(const struct transfer *t, const char *name, uint32_t *sum) {
     int from = openat(t->from->folder, name, O_RDONLY | O_NOFOLLOW | O_NONBLOCK | O_CLOEXEC);
     if (from < 0) {
         return errno;
     }
     int to = openat(t->to, name, O_WRONLY | O_CREAT | O_EXCL | O_NOFOLLOW | O_CLOEXEC, 0600);
-    int error = to < 0 ? errno : copy_contents(from, to);
+    int error = to < 0 ? errno : copy_contents(from, to, sum);
     error = to >= 0 && close(to) != 0 && error == 0 ? errno : error;
     close(from);
     return error;
 }
 
-/* A link is on the disk with the folder. File systems without links, or with too few of them, get a copy. */
-static int carry_file(struct transfer *t, const char *name) {
+/* A link is on the disk with the folder, and is not read. File systems without links, or with too few of them, get a copy, of which *sum is the checksum. */
+static int carry_file(struct transfer *t, const char *name, bool *is_copy, uint32_t *sum) {
+    *is_copy = false;
     if (t->may_link && linkat(t->from->folder, name, t->to, name, 0) == 0) {
         return 0;
     }
     int error = t->may_link ? errno : EXDEV;
-    bool needs_copy = error == EXDEV || error == EPERM || error == EMLINK || error == ENOTSUP || error == ENOSYS;
+    *is_copy = error == EXDEV || error == EPERM || error == EMLINK || error == ENOTSUP || error == ENOSYS;
     t->may_link = t->may_link && error == EMLINK;
-    return needs_copy ? copy_file(t, name) : error;
+    return *is_copy ? copy_file(t, name, sum) : error;
 }
 
 /* Carries a file of the record. RELKVANU_STORE_NOT_NOW: it is not there any more. */
@@ -81,17 +85,22 @@ static int carry(void *with, const struct rks_part *part) {
     struct transfer *t = with;
     char name[32];
     struct stat found;
+    bool is_copy;
+    uint32_t sum = 0;
     snprintf(name, sizeof name, "%" PRIu64, part->file);
     if (!part->is_file || (fstatat(t->to, name, &found, AT_SYMLINK_NOFOLLOW) == 0)) {
         return RELKVANU_STORE_OK; /* several subtasks may have it */
     }
-    int error = carry_file(t, name);
+    int error = carry_file(t, name, &is_copy, &sum);
     if (error != 0) {
         return error == ENOENT ? RELKVANU_STORE_NOT_NOW : failed(t, name, error);
     }
     bool is_there = fstatat(t->to, name, &found, AT_SYMLINK_NOFOLLOW) == 0 && S_ISREG(found.st_mode);
     if (!is_there || (part->has_bytes && (uint64_t)found.st_size != part->bytes)) {
-        return told(t, RELKVANU_STORE_DAMAGED, name, "it is not as long as its manifest says");
+        return set_fault(t, RELKVANU_STORE_DAMAGED, name, "it is not as long as its manifest says");
+    }
+    if (is_copy && part->has_sum && part->sum != sum) {
+        return set_fault(t, RELKVANU_STORE_DAMAGED, name, "it has another checksum than its manifest says");
     }
     t->told->files++;
     t->told->bytes += (uint64_t)found.st_size;
@@ -141,9 +150,9 @@ static int open_part(struct transfer *t) {
     }
     int status = RELKVANU_STORE_OK;
     if (is_from(t)) {
-        status = told(t, RELKVANU_STORE_PRESENT, t->part, "it is the folder to carry from, and would be made anew");
+        status = set_fault(t, RELKVANU_STORE_PRESENT, t->part, "it is the folder to carry from, and would be made anew");
     } else if (flock(t->to, LOCK_EX | LOCK_NB) != 0) {
-        status = errno == EWOULDBLOCK ? told(t, RELKVANU_STORE_IN_USE, t->part, "another export or import writes it")
+        status = errno == EWOULDBLOCK ? set_fault(t, RELKVANU_STORE_IN_USE, t->part, "another export or import writes it")
                                       : failed(t, t->part, errno);
     } else if (!has_name(t)) {
         status = RELKVANU_STORE_NOT_NOW;
@@ -161,7 +170,7 @@ static int lock_part(struct transfer *t) {
     for (int tries = 0; tries < TRIES && status == RELKVANU_STORE_NOT_NOW; tries++) {
         status = open_part(t);
     }
-    return status == RELKVANU_STORE_NOT_NOW ? told(t, RELKVANU_STORE_IN_USE, t->part, "other exports or imports write it") : status;
+    return status == RELKVANU_STORE_NOT_NOW ? set_fault(t, RELKVANU_STORE_IN_USE, t->part, "other exports or imports write it") : status;
 }
 
 /* Makes the part anew. */
@@ -229,13 +238,13 @@ static int carry_chosen(struct transfer *t, uint64_t record, const char *job) {
         if (chosen != NULL) {
             status = carry_record(t, &all, chosen, job);
         } else if (status == RELKVANU_STORE_OK) {
-            status = told(t, RELKVANU_STORE_ABSENT, t->from_name, "no record that has a manifest there has all its files");
+            status = set_fault(t, RELKVANU_STORE_ABSENT, t->from_name, "no record that has a manifest there has all its files");
         } else if (status != RELKVANU_STORE_NO_MEMORY) {
             status = failed(t, t->from_name, errno);
         }
         rks_free_manifests(&all);
     }
-    return status == RELKVANU_STORE_NOT_NOW ? told(t, RELKVANU_STORE_ABSENT, t->from_name, "its records end too soon") : status;
+    return status == RELKVANU_STORE_NOT_NOW ? set_fault(t, RELKVANU_STORE_ABSENT, t->from_name, "its records end too soon") : status;
 }
 
 /* Gives the folder its name, once all of it is on the disk. One of that name has to be empty, or not there. */
@@ -245,7 +254,8 @@ static int name_folder(struct transfer *t) {
     }
     if (rename(t->part, t->to_name) != 0) {
         bool is_there = errno == ENOTEMPTY || errno == EEXIST || errno == ENOTDIR;
-        return is_there ? told(t, RELKVANU_STORE_PRESENT, t->to_name, "it is there, and is no empty folder") : failed(t, t->to_name, errno);
+        return is_there ? set_fault(t, RELKVANU_STORE_PRESENT, t->to_name, "it is there, and is no empty folder")
+                        : failed(t, t->to_name, errno);
     }
     close(t->to);
     t->to = -1;

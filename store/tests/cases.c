@@ -166,8 +166,8 @@ static bool passes(const char *within, const struct test *test) {
 
 int main(int argc, char **argv) {
     const struct test *all[] = {open_cases, damage_cases, storage_cases, call_cases, queue_cases, discard_cases, file_cases, folder_cases,
-        name_cases, object_cases, backup_cases, log_cases, told_cases, look_cases, alone_cases, manifest_cases, keeper_cases, verb_cases,
-        beside_cases};
+        name_cases, object_cases, backup_cases, log_cases, told_cases, look_cases, alone_cases, manifest_cases, keeper_cases, sum_cases,
+        verb_cases, beside_cases};
     unsigned passed = 0, failed = 0;
     CHECK(argc >= 2, "cases FOLDER [NAME]");
     for (size_t i = 0; i < sizeof all / sizeof *all; i++) {

@@ -41,6 +41,6 @@ struct test {
 };
 extern const struct test open_cases[], damage_cases[], storage_cases[], call_cases[], queue_cases[], discard_cases[], file_cases[],
     folder_cases[], name_cases[], object_cases[], backup_cases[], log_cases[], told_cases[], look_cases[], alone_cases[], manifest_cases[],
-    keeper_cases[], verb_cases[], beside_cases[];
+    keeper_cases[], sum_cases[], verb_cases[], beside_cases[];
 
 #endif

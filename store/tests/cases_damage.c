@@ -188,6 +188,62 @@ static void log_behind_both_images(void) {
     relkvanu_store_close(store);
 }
 
+enum { LARGE = 2000, FORFEITED = 65536 };
+
+/* A savepoint whose subtasks have many files, so that an image is large. */
+static void save_many(relkvanu_store *store) {
+    relkvanu_answer names, answer;
+    uint64_t fresh[LARGE], id = done(store, RELKVANU_CALL_SAVEPOINT, RELKVANU_STORE_NOW, 0).a;
+    CHECK(relkvanu_store_reserve(store, 1, SUBTASKS * LARGE, &names) == RELKVANU_STORE_OK && names.code == RELKVANU_DONE, "names");
+    for (uint16_t index = 0; index < SUBTASKS; index++) {
+        for (uint64_t i = 0; i < LARGE; i++) {
+            fresh[i] = names.a + index * LARGE + i;
+        }
+        int status = relkvanu_store_ack_in(store, 1, RELKVANU_STORE_NOW, id, 0, index, fresh, LARGE, NULL, 0, &answer);
+        CHECK(status == RELKVANU_STORE_OK && answer.code == RELKVANU_DONE, "status %d", status);
+    }
+}
+
+/* Reserves the most names at once, and gives them up: lines of half a million bytes. */
+static void forfeit_many(relkvanu_store *store) {
+    static uint64_t names[FORFEITED];
+    relkvanu_answer reserved, answer;
+    CHECK(relkvanu_store_reserve(store, 1, FORFEITED, &reserved) == RELKVANU_STORE_OK && reserved.code == RELKVANU_DONE, "names");
+    for (uint64_t i = 0; i < FORFEITED; i++) {
+        names[i] = reserved.a + i;
+    }
+    int status = relkvanu_store_forfeit(store, 1, names, FORFEITED, &answer);
+    CHECK(status == RELKVANU_STORE_OK && answer.code == RELKVANU_DONE, "status %d", status);
+}
+
+static uint64_t images_of(relkvanu_store *store) {
+    relkvanu_store_counts counts;
+    relkvanu_store_count(store, &counts);
+    return counts.images;
+}
+
+/* A large image waits until the log has several times its bytes, however many calls these are. */
+static void large_images(void) {
+    static relkvanu_store_call calls[RELKVANU_STORE_MOST_CALLS];
+    relkvanu_store_options options = job_options(RELKVANU_STORE_CREATE, IMAGE_CALLS);
+    relkvanu_store *store = opens(&options, RELKVANU_STORE_OK);
+    save_many(store);
+    uint64_t images = images_of(store), forfeits = 0;
+    CHECK(images != 0, "no image has all these files");
+    for (size_t i = 0; i < RELKVANU_STORE_MOST_CALLS; i++) {
+        calls[i].call = (relkvanu_call){.kind = RELKVANU_CALL_RESERVE, .number = 1, .term = 1};
+    }
+    CHECK(relkvanu_store_calls(store, calls, RELKVANU_STORE_MOST_CALLS) == RELKVANU_STORE_OK, "a list");
+    CHECK(images_of(store) == images, "an image after %d short calls", RELKVANU_STORE_MOST_CALLS);
+    while (images_of(store) == images && forfeits < 8) {
+        forfeit_many(store);
+        forfeits++;
+    }
+    CHECK(images_of(store) == images + 1 && forfeits != 8, "%" PRIu64 " images after %" PRIu64 " forfeits", images_of(store), forfeits);
+    relkvanu_store_close(store);
+    relkvanu_store_close(opens(&options, RELKVANU_STORE_OK));
+}
+
 static void copy_file(const char *from, const char *to, long flip) {
     static char bytes[1 << 20];
     FILE *it = fopen(from, "rb");
@@ -259,4 +315,4 @@ static void replaced_files(void) {
 
 const struct test damage_cases[] = {{"other_files", other_files}, {"other_answers", other_answers}, {"other_names", other_names},
     {"damaged_rows", damaged_rows}, {"an_earlier_image", an_earlier_image}, {"log_behind_both_images", log_behind_both_images},
-    {"any_damaged_byte", any_damaged_byte}, {"replaced_files", replaced_files}, {NULL, NULL}};
+    {"large_images", large_images}, {"any_damaged_byte", any_damaged_byte}, {"replaced_files", replaced_files}, {NULL, NULL}};

@@ -243,6 +243,37 @@ static void an_end_without_a_cancel(void) {
     relkvanu_store_close(store);
 }
 
+static bool is_never_asked(void *with, const uint64_t *files, size_t len, uint8_t *is_gone) {
+    CHECK(false, "%zu files from %" PRIu64 " with %p, %d", len, files[0], with, is_gone[0]);
+}
+
+/* Each of these would wait for what only the end of the read can bring: so the first one waits for a second at most. */
+static void in_a_read(void) {
+    relkvanu_store_options options = storage_options(RELKVANU_STORE_CREATE, 0);
+    relkvanu_store *store = opens(&options, RELKVANU_STORE_OK);
+    struct discarding d = {.store = store, .batch = 5};
+    relkvanu_store_call tick;
+    relkvanu *handle;
+    size_t left;
+    char words[RELKVANU_STORE_MESSAGE];
+    CHECK(relkvanu_store_discard_for(store, 0, 1, NULL, NULL) == RELKVANU_STORE_TIMED_OUT, "one that has nothing to settle");
+    done(store, RELKVANU_CALL_CANCEL, RELKVANU_STORE_NOW, 0); /* no tick is due any more */
+    CHECK(relkvanu_store_read(store, &handle) == RELKVANU_STORE_OK, "a read");
+    CHECK(relkvanu_store_discard_for(store, 0, 1000, NULL, NULL) == RELKVANU_STORE_BAD_ARGUMENT, "for a while");
+    relkvanu_store_why(words, sizeof words);
+    CHECK(strstr(words, "this thread reads") != NULL, "%s", words);
+    CHECK(relkvanu_store_discard_storage(store, 0, NULL) == RELKVANU_STORE_BAD_ARGUMENT, "of the folder");
+    CHECK(relkvanu_store_discard(store, 5, delete_files, &d) == RELKVANU_STORE_BAD_ARGUMENT, "with a function");
+    CHECK(
+        relkvanu_store_discard_for(store, 0, UINT64_MAX, is_never_asked, NULL) == RELKVANU_STORE_BAD_ARGUMENT, "with one that may end it");
+    CHECK(relkvanu_store_await_tick(store, UINT64_MAX, &tick) == RELKVANU_STORE_BAD_ARGUMENT, "a timer");
+    CHECK(tick.answer.code == RELKVANU_STORE_NOT_MADE, "its answer");
+    CHECK(relkvanu_store_sweep(store, &left) == RELKVANU_STORE_BAD_ARGUMENT && left == 0, "a sweep of a folder without files");
+    relkvanu_store_read_end(store);
+    CHECK(relkvanu_store_discard_for(store, 0, 1, NULL, NULL) == RELKVANU_STORE_TIMED_OUT, "after the read");
+    relkvanu_store_close(store);
+}
+
 const struct test discard_cases[] = {{"deletes_and_reports", deletes_and_reports}, {"never_gives_up", never_gives_up}, {"settles", settles},
     {"without_marker", without_marker}, {"another_opening", another_opening}, {"an_end_without_a_cancel", an_end_without_a_cancel},
-    {NULL, NULL}};
+    {"in_a_read", in_a_read}, {NULL, NULL}};

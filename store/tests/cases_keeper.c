@@ -6,12 +6,12 @@
 #include <stdatomic.h>
 #include <unistd.h>
 
-/* A caller with a thread of its own. Without calls it reads. */
+/* A caller with a thread of its own. Without calls it reads, or it is a timer. */
 struct caller {
     pthread_t thread;
     relkvanu_store *store;
     relkvanu_store_call call;
-    bool reads;
+    bool reads, is_timer;
     char must_be_there[PATHS]; /* when it is answered; "": nothing */
     atomic_bool is_answered;
 };
@@ -19,7 +19,9 @@ struct caller {
 static void *calls(void *with) {
     struct caller *it = with;
     relkvanu *handle;
-    int status = it->reads ? relkvanu_store_read(it->store, &handle) : relkvanu_store_calls(it->store, &it->call, 1);
+    int status = it->reads      ? relkvanu_store_read(it->store, &handle)
+                 : it->is_timer ? relkvanu_store_await_tick(it->store, 600000, &it->call)
+                                : relkvanu_store_calls(it->store, &it->call, 1);
     CHECK(status == RELKVANU_STORE_OK, "status %d", status);
     CHECK(it->must_be_there[0] == 0 || access(it->must_be_there, F_OK) == 0, "%s is not there", it->must_be_there);
     if (it->reads) {
@@ -114,6 +116,50 @@ static void others_go_on(void) {
     relkvanu_store_close(store);
 }
 
+static uint64_t committed(relkvanu_store *store) {
+    relkvanu_store_counts counts;
+    relkvanu_store_count(store, &counts);
+    return counts.calls;
+}
+
+/* A checkpoint that somebody asks for by hand: he waits for the manifest, and the timer that is told of it, since both are told of the choice. Nobody else does. */
+static void a_trigger_by_hand(void) {
+    relkvanu_store_options options = storage_options(RELKVANU_STORE_CREATE | RELKVANU_STORE_MANIFESTS, 0);
+    options.settings.interval = 1 << 30; /* so that no tick is due */
+    relkvanu_store *store = opens(&options, RELKVANU_STORE_OK);
+    uint64_t id = nearly_all(store, trigger(store)), other = savepoint(store);
+    struct caller completes = {.store = store, .call = ack(id, SUBTASKS - 1)}, timer = {.store = store, .is_timer = true},
+                  triggers = {.store = store, .call = {.call = {.kind = RELKVANU_CALL_TRIGGER, .now = RELKVANU_STORE_NOW}}},
+                  acknowledges = {.store = store, .call = ack(other, 0)};
+    needs(&completes, id);
+    needs(&timer, id);
+    needs(&triggers, id);
+    hold_syncs("/record-1.manifest.part");
+    begins_behind_a_read(store, &completes);
+    CHECK(awaits_a_held_sync(), "the manifest");
+    start(&timer);
+    uint64_t before = committed(store);
+    start(&triggers);
+    for (int i = 0; i < 3000 && committed(store) == before; i++) {
+        usleep(10000);
+    }
+    start(&acknowledges);
+    for (int i = 0; i < 3000 && !acknowledges.is_answered; i++) {
+        usleep(10000);
+    }
+    CHECK(acknowledges.is_answered, "an acknowledgement waits for a manifest that is not its own");
+    ends(&acknowledges);
+    usleep(200000);
+    CHECK(!completes.is_answered && !triggers.is_answered && !timer.is_answered, "somebody was told before the manifest was there");
+    hold_syncs(NULL);
+    ends(&completes);
+    ends(&triggers);
+    ends(&timer);
+    CHECK(triggers.call.answer.what == RELKVANU_TICK_TRIGGERED && timer.call.answer.b == triggers.call.answer.b, "the record");
+    CHECK(timer.call.choice.what == RELKVANU_CHOICE_CHECKPOINT && timer.call.choice.a == id, "the choice");
+    relkvanu_store_close(store);
+}
+
 /* Submits are answered in their order. A close waits for the manifest. */
 static void submits_keep_their_order(void) {
     relkvanu_store *store = opens_with_manifests();
@@ -139,12 +185,6 @@ static void submits_keep_their_order(void) {
     CHECK(last.answer.what == RELKVANU_ACK_COMPLETED && again.answer.what == RELKVANU_ACK_PENDING, "the answers");
     CHECK(access(in("storage/record-1.manifest"), F_OK) == 0, "the manifest");
     relkvanu_store_close(store);
-}
-
-static uint64_t committed(relkvanu_store *store) {
-    relkvanu_store_counts counts;
-    relkvanu_store_count(store, &counts);
-    return counts.calls;
 }
 
 /* The next completion is committed only behind the manifest of the one before: manifests are at most one record behind the log. */
@@ -205,6 +245,33 @@ static void ended_manifests_go_beside(void) {
     relkvanu_store_close(store);
 }
 
-const struct test keeper_cases[] = {{"others_go_on", others_go_on}, {"submits_keep_their_order", submits_keep_their_order},
-    {"one_record_behind", one_record_behind}, {"manifests_that_fail_beside", manifests_that_fail_beside},
-    {"ended_manifests_go_beside", ended_manifests_go_beside}, {NULL, NULL}};
+/* The thread reads the files of a record while others call. */
+static void checksums_beside(void) {
+    relkvanu_store *store = opens_with_manifests();
+    relkvanu_answer names;
+    relkvanu_store_close(store);
+    relkvanu_store_options options = storage_options(RELKVANU_STORE_MANIFESTS | RELKVANU_STORE_CHECKSUMS, 0);
+    store = opens(&options, RELKVANU_STORE_OK);
+    for (uint64_t id = 1; id <= 3; id++) {
+        CHECK(relkvanu_store_reserve(store, report.term, 1, &names) == RELKVANU_STORE_OK && names.code == RELKVANU_DONE, "no name");
+        CHECK(relkvanu_store_put(store, names.a, "123456789", 9) == RELKVANU_STORE_OK, "no file");
+        CHECK(nearly_all(store, trigger(store)) == id, "the number");
+        struct caller last = {.store = store, .call = ack(id, SUBTASKS - 1)};
+        last.call.first = &names.a;
+        last.call.first_len = 1;
+        begins_behind_a_read(store, &last);
+        ends(&last);
+    }
+    char text[1 << 12];
+    FILE *from = fopen(in("storage/record-3.manifest"), "r");
+    CHECK(from != NULL, "the manifest");
+    text[fread(text, 1, sizeof text - 1, from)] = 0;
+    fclose(from);
+    CHECK(strstr(text, ":9},\"sums\":[\"cbf43926\"]}") != NULL, "%s", text); /* the check value of CRC-32 */
+    relkvanu_store_close(store);
+}
+
+const struct test keeper_cases[] = {{"others_go_on", others_go_on}, {"a_trigger_by_hand", a_trigger_by_hand},
+    {"submits_keep_their_order", submits_keep_their_order}, {"one_record_behind", one_record_behind},
+    {"manifests_that_fail_beside", manifests_that_fail_beside}, {"ended_manifests_go_beside", ended_manifests_go_beside},
+    {"checksums_beside", checksums_beside}, {NULL, NULL}};

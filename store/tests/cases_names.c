@@ -37,7 +37,7 @@ static bool has_file(uint64_t number) {
 }
 
 /* One call, and the store's status RELKVANU_STORE_OK. */
-static relkvanu_store_call made(relkvanu_store *store, relkvanu_call call) {
+static relkvanu_store_call make_call(relkvanu_store *store, relkvanu_call call) {
     relkvanu_store_call it = {.call = call};
     int status = relkvanu_store_calls(store, &it, 1);
     CHECK(status == RELKVANU_STORE_OK, "kind %" PRIu32 ": status %d", call.kind, status);
@@ -102,13 +102,13 @@ static void terms_and_names(void) {
     fenced(acked(store, 1, first, 0, 11), RELKVANU_NEVER_RESERVED, 11);
     fenced(acked(store, 0, first, 0, 9), RELKVANU_OLD_TERM, 0);
     fenced(acked(store, 2, first, 0, 9), RELKVANU_OLD_TERM, 0);
-    fenced(made(store, (relkvanu_call){.kind = RELKVANU_CALL_DECLINE, .number = first}).answer, RELKVANU_OLD_TERM, 0);
-    fenced(made(store, (relkvanu_call){.kind = RELKVANU_CALL_RESERVE, .number = 0, .term = 1}).answer, RELKVANU_BAD_COUNT, 0);
-    fenced(made(store, (relkvanu_call){.kind = RELKVANU_CALL_RESERVE, .number = 65537, .term = 1}).answer, RELKVANU_BAD_COUNT, 0);
+    fenced(make_call(store, (relkvanu_call){.kind = RELKVANU_CALL_DECLINE, .number = first}).answer, RELKVANU_OLD_TERM, 0);
+    fenced(make_call(store, (relkvanu_call){.kind = RELKVANU_CALL_RESERVE, .number = 0, .term = 1}).answer, RELKVANU_BAD_COUNT, 0);
+    fenced(make_call(store, (relkvanu_call){.kind = RELKVANU_CALL_RESERVE, .number = 65537, .term = 1}).answer, RELKVANU_BAD_COUNT, 0);
     relkvanu_answer late = acked(store, 1, first, 0, 9); /* the record is complete */
     CHECK(late.code == RELKVANU_DONE && late.what == RELKVANU_ACK_LATE && late.a == 1, "what %" PRIu32 " %" PRIu64, late.what, late.a);
     uint64_t second = trigger(store);
-    relkvanu_store_call restore = made(store, (relkvanu_call){.kind = RELKVANU_CALL_RESTORE, .now = RELKVANU_STORE_NOW});
+    relkvanu_store_call restore = make_call(store, (relkvanu_call){.kind = RELKVANU_CALL_RESTORE, .now = RELKVANU_STORE_NOW});
     CHECK(restore.answer.what == RELKVANU_RESTORED_CHECKPOINT && restore.answer.b == first && restore.term == 2, "term %" PRIu64,
         restore.term);
     fenced(acked(store, 1, second, 0, 9), RELKVANU_OLD_TERM, 0);
@@ -119,10 +119,10 @@ static void terms_and_names(void) {
     CHECK(report.term == 2 && report.next_name == 14 && report.is_recovered && !report.settings_differ,
         "term %" PRIu64 ", next name %" PRIu64, report.term, report.next_name);
     CHECK(reserved(store, 2, 1) == 14, "after a recovery");
-    relkvanu_store_call cancel = made(store, (relkvanu_call){.kind = RELKVANU_CALL_CANCEL, .now = RELKVANU_STORE_NOW});
+    relkvanu_store_call cancel = make_call(store, (relkvanu_call){.kind = RELKVANU_CALL_CANCEL, .now = RELKVANU_STORE_NOW});
     CHECK(cancel.answer.what == RELKVANU_CANCELLED && cancel.term == 3, "term %" PRIu64, cancel.term);
-    fenced(made(store, (relkvanu_call){.kind = RELKVANU_CALL_RESERVE, .number = 1, .term = 3}).answer, RELKVANU_ENDED, 0);
-    relkvanu_store_call refused = made(store, (relkvanu_call){.kind = RELKVANU_CALL_RESTORE, .now = RELKVANU_STORE_NOW});
+    fenced(make_call(store, (relkvanu_call){.kind = RELKVANU_CALL_RESERVE, .number = 1, .term = 3}).answer, RELKVANU_ENDED, 0);
+    relkvanu_store_call refused = make_call(store, (relkvanu_call){.kind = RELKVANU_CALL_RESTORE, .now = RELKVANU_STORE_NOW});
     CHECK(refused.answer.code == RELKVANU_REFUSED && refused.term == 0 && refused.place == 0, "a restore of a cancelled job");
     relkvanu_store_close(store);
 }
@@ -134,7 +134,7 @@ static int reserves_and_is_killed(void *with) {
     uint64_t term = report.term;
     for (int i = 0; i < 5; i++) {
         reserved(store, term, 7);
-        term = made(store, (relkvanu_call){.kind = RELKVANU_CALL_RESTORE, .now = RELKVANU_STORE_NOW}).term;
+        term = make_call(store, (relkvanu_call){.kind = RELKVANU_CALL_RESTORE, .now = RELKVANU_STORE_NOW}).term;
     }
     uint64_t last = reserved(store, term, 7);
     return (int)(last * 10 + term); /* no close */
@@ -163,7 +163,7 @@ static void by_an_earlier_image(void) {
     for (uint64_t i = 1; i <= 17; i++) {
         CHECK(reserved(store, term, 1) == i, "name %" PRIu64, i);
         if (i % 4 == 0) {
-            term = made(store, (relkvanu_call){.kind = RELKVANU_CALL_RESTORE, .now = RELKVANU_STORE_NOW}).term;
+            term = make_call(store, (relkvanu_call){.kind = RELKVANU_CALL_RESTORE, .now = RELKVANU_STORE_NOW}).term;
         }
     }
     relkvanu_store_close(store);
@@ -221,7 +221,7 @@ static void sweeps_at_any_time(void) {
     for (uint64_t name = 1; name <= 33; name++) {
         CHECK(has_file(name) == (name != 17 && name != 18), "file %" PRIu64, name);
     }
-    made(store, (relkvanu_call){.kind = RELKVANU_CALL_RESTORE, .now = RELKVANU_STORE_NOW});
+    make_call(store, (relkvanu_call){.kind = RELKVANU_CALL_RESTORE, .now = RELKVANU_STORE_NOW});
     CHECK(unlink(in("storage/19")) == 0 && mkdir(in("storage/19.part"), 0700) == 0, "a folder");
     CHECK(relkvanu_store_sweep(store, &left) == RELKVANU_STORE_OK && left == 1, "%zu are left", left);
     for (uint64_t name = 1; name <= 33; name++) { /* in use and waiting; those of the ended term are garbage; not given out */
@@ -245,7 +245,7 @@ static void its_own_file(void) {
     CHECK(
         relkvanu_store_put(store, 7, "state", 5) == RELKVANU_STORE_PRESENT && relkvanu_store_put(store, 8, "state", 5) == RELKVANU_STORE_OK,
         "put");
-    made(store, (relkvanu_call){.kind = RELKVANU_CALL_RESTORE, .now = RELKVANU_STORE_NOW});
+    make_call(store, (relkvanu_call){.kind = RELKVANU_CALL_RESTORE, .now = RELKVANU_STORE_NOW});
     CHECK(relkvanu_store_sweep(store, &left) == RELKVANU_STORE_OK && left == 0 && has_file(7) && !has_file(8), "a sweep");
     relkvanu_store_close(store);
 }
@@ -258,7 +258,7 @@ static void a_later_opening(void) {
     for (uint64_t name = 1; name <= 3; name++) {
         make_file(name);
     }
-    made(store, (relkvanu_call){.kind = RELKVANU_CALL_RESTORE, .now = RELKVANU_STORE_NOW});
+    make_call(store, (relkvanu_call){.kind = RELKVANU_CALL_RESTORE, .now = RELKVANU_STORE_NOW});
     FILE *marker = fopen(in("storage/.relkvanu-job"), "w");
     CHECK(marker != NULL && fprintf(marker, "relkvanu job %016" PRIx64 "%016" PRIx64 "\nepoch 2\n", report.job[0], report.job[1]) > 0 &&
               fclose(marker) == 0,
@@ -458,7 +458,7 @@ static void round_of(struct fleet *fleet) {
         }
     }
     usleep((useconds_t)rand() % 2000); /* some tasks are in the middle of their part */
-    relkvanu_store_call restore = made(fleet->store, (relkvanu_call){.kind = RELKVANU_CALL_RESTORE, .now = RELKVANU_STORE_NOW});
+    relkvanu_store_call restore = make_call(fleet->store, (relkvanu_call){.kind = RELKVANU_CALL_RESTORE, .now = RELKVANU_STORE_NOW});
     CHECK(restore.answer.what == RELKVANU_RESTORED_CHECKPOINT && restore.term == fleet->term + 1, "term %" PRIu64, restore.term);
     start_tasks(fleet, restore.term);
     check_live(fleet->store);

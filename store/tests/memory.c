@@ -219,7 +219,7 @@ static int open_and_work(uint64_t images) {
     relkvanu_store *store;
     relkvanu_store_report report;
     relkvanu_store_options options = job_options(RELKVANU_STORE_CREATE, images);
-    options.flags = RELKVANU_STORE_CREATE | RELKVANU_STORE_MANIFESTS;
+    options.flags = RELKVANU_STORE_CREATE | RELKVANU_STORE_MANIFESTS | RELKVANU_STORE_CHECKSUMS;
     options.storage = storage;
     int status = relkvanu_store_open(&store, path, &options, &report);
     term = report.term;
@@ -388,7 +388,7 @@ static uint64_t lose_job(void) {
     char name[PATHS + 20];
     uint64_t id = 0;
     remove_job();
-    options.flags = RELKVANU_STORE_CREATE | RELKVANU_STORE_MANIFESTS;
+    options.flags = RELKVANU_STORE_CREATE | RELKVANU_STORE_MANIFESTS | RELKVANU_STORE_CHECKSUMS;
     options.storage = storage;
     CHECK(relkvanu_store_open(&store, path, &options, &report) == RELKVANU_STORE_OK, "%s", report.message);
     term = report.term;

@@ -103,7 +103,8 @@ def main(folder: str, inputs: str) -> None:
     work = pathlib.Path(folder)
     (work / "state").mkdir(exist_ok=True)
     settings = Settings(interval=10, timeout=600_000)
-    with Store(work / "job.db", settings, [TASKS], storage=work / "state", create=not (work / "begun").exists(), manifests=True) as job:
+    with Store(work / "job.db", settings, [TASKS], storage=work / "state", create=not (work / "begun").exists(), manifests=True,
+               checksums=True) as job:
         (work / "begun").touch()  # from now on there is a job: a missing file is a lost one
         Engine(job, Sink(work), int(inputs)).run()
 

@@ -22,6 +22,7 @@ sys.path.insert(0, str(pathlib.Path(__file__).resolve().parent.parent.parent / "
 from engines import recovers as runs_to
 from power import Journal, Loss, read_tree, write_tree
 from relkvanu import Settings
+from relkvanu.manifest import files_in
 from relkvanu.store import Store
 
 SEED = os.environ.get("SEED", str(time.time()))
@@ -132,12 +133,19 @@ def goes_on(it, folder, complete):
     told = it.recovers(folder)
     assert told.returncode == is_there and ("there is a job" in told.stdout) == is_there, (is_there, told.stdout)
     assert not list(folder.glob("*.relkvanu-new*")), list(folder.iterdir())
-    with Store(folder / "job.db", Settings(interval=10), [2], storage=folder / "state", manifests=True) as job, job.read() as reads:
+    with Store(folder / "job.db", Settings(interval=10), [2], storage=folder / "state", manifests=True, checksums=True) as job, job.read() as reads:
         choice = reads.choice()
         assert choice.id in (complete, complete + 1), (choice, complete)
         for task in range(2):
             (file,) = reads.files_of(choice.id, 0, task)
             assert (folder / "state" / str(file)).stat().st_size > 0, file
+    is_right(it, folder / "state")
+
+
+def is_right(it, folder):
+    """Each record has a checksum of each file, which is right."""
+    told = it.runs("show", "--whole", folder)
+    assert told.returncode == 0 and told.stdout.count("; each checksum is right") == len(told.stdout.splitlines()) - 1 > 0, told.stdout
 
 
 def recovery(folder):
@@ -210,6 +218,7 @@ def is_exported(it, folder, complete):
     assert told.returncode == is_there and not (folder / "out.part").exists(), told.stdout
     told = it.runs("show", folder / "out")
     assert told.stdout.count("whole; ") == 1 and int(told.stdout.split("\n")[1].split()[0]) in (complete, complete + 1), told.stdout
+    is_right(it, folder / "out")
 
 
 def exports_at_each_end(it):
@@ -231,10 +240,11 @@ def is_imported(it, folder, complete):
     is_there, told = (folder / "new.db").exists(), it.runs(*imports(folder))
     assert told.returncode == is_there and ("there is a job" in told.stdout) == is_there, told.stdout
     assert not list(folder.glob(".new.db.relkvanu-new*")) and not (folder / "new.part").exists(), list(folder.iterdir())
-    with Store(folder / "new.db", Settings(interval=10), [2], storage=folder / "new", manifests=True) as job, job.read() as reads:
+    with Store(folder / "new.db", Settings(interval=10), [2], storage=folder / "new", manifests=True, checksums=True) as job, job.read() as reads:
         assert reads.choice().id in (complete, complete + 1), reads.choice()
         for task in range(2):
             assert (folder / "new" / str(*reads.files_of(reads.choice().id, 0, task))).stat().st_size > 0
+    is_right(it, folder / "new")
     assert it.recovers(folder).returncode == 0, "the first job"
 
 
@@ -257,11 +267,12 @@ def is_claimed(it, folder, complete):
     ended, told = (folder / "new.db").exists(), it.runs(*claim(folder))
     assert told.returncode == 0 or (ended and "there is a job" in told.stdout), told.stdout  # it had done all but say so
     assert not list(folder.glob(".new.db.relkvanu-new*")) and not (folder / "new.part").exists(), list(folder.iterdir())
-    with Store(folder / "new.db", Settings(interval=10), [2], storage=folder / "new", manifests=True) as job, job.read() as reads:
+    with Store(folder / "new.db", Settings(interval=10), [2], storage=folder / "new", manifests=True, checksums=True) as job, job.read() as reads:
         assert reads.choice().id in (complete, complete + 1), reads.choice()
         used = [file for task in range(2) for file in reads.files_of(reads.choice().id, 0, task)]
     assert all((folder / "new" / str(file)).stat().st_size > 0 for file in used), used
     assert not [file for file in used if (folder / "state" / str(file)).exists()], used
+    is_right(it, folder / "new")
     told = it.recovers(folder)
     assert told.returncode == 1 and "no record" in told.stdout, told.stdout  # it has left
 
@@ -286,10 +297,11 @@ def is_claimed_in_place(it, folder, complete):
     """The same command makes the job, unless it is there."""
     is_there, told = (folder / "new.db").exists(), it.runs(*claim_in_place(folder))
     assert told.returncode == is_there, told.stdout
-    with Store(folder / "new.db", Settings(interval=10), [2], storage=folder / "out", manifests=True) as job, job.read() as reads:
+    with Store(folder / "new.db", Settings(interval=10), [2], storage=folder / "out", manifests=True, checksums=True) as job, job.read() as reads:
         assert reads.choice().id in (complete, complete + 1), reads.choice()
         for task in range(2):
             assert (folder / "out" / str(*reads.files_of(reads.choice().id, 0, task))).stat().st_size > 0
+    is_right(it, folder / "out")
 
 
 def exported_base(it):
@@ -336,17 +348,39 @@ def after_a_whole_one(it):
         assert job.report.is_recovered and job.report.choice.id == record_of(told.stdout), job.report
 
 
+def a_changed_file(it, folder):
+    """One bit is another: who reads the file finds it, and says which one."""
+    is_right(it, folder / "state")
+    # (the folder may also have files that no record names, and an older record)
+    record = next(line.split()[0] for line in it.runs("show", folder / "state").stdout.splitlines() if "a recovery" in line)
+    file = folder / "state" / str(next(iter(files_in((folder / "state" / f"record-{record}.manifest").read_bytes()))))
+    before = file.read_bytes()
+    for contents, words in ((bytes([before[0] ^ 1]) + before[1:], "has another checksum"), (before[:-1], "has another length"), (None, "is missing")):
+        if contents is None:
+            file.unlink()
+        else:
+            file.write_bytes(contents)
+        told, plain = it.runs("show", "--whole", folder / "state"), it.runs("show", folder / "state")
+        assert told.returncode == 1 and f"file {file.name} {words}\n" in told.stdout, told.stdout
+        said = next(line for line in plain.stdout.splitlines() if line.split()[0] == record)
+        assert plain.returncode == 0 and ("whole; a recovery" in said) == (words == "has another checksum"), plain.stdout
+    file.write_bytes(before)
+    is_right(it, folder / "state")
+
+
 def what_it_says(it):
     folder, complete = base_of(it)
     told = it.runs("show", folder / "state")
     assert told.returncode == 0 and "whole; a recovery or an import begins from it" in told.stdout, told.stdout
     assert any(line.split()[0] == str(complete) or line.split()[0] == str(complete + 1) for line in told.stdout.splitlines()[1:]), told.stdout
     for words, status, text in ((("show",), 2, "relkvanu-store show FOLDER"), (("show", folder / "nowhere"), 1, "No such file"),
+                                (("show", "--whole", folder / "nowhere"), 1, "No such file"), (("show", "--all", folder), 2, "show --whole FOLDER"),
                                 (("recover", folder / "job.db", folder / "state", "x"), 2, "recover JOB FOLDER"),
                                 (("recover", folder / "job.db", folder / "state", "999"), 1, "no record"),
                                 (("recover", folder / "job.db", folder), 1, "no marker"), (("--version",), 0, "relkvanu-store 0."), (("--help",), 0, "show FOLDER")):
         told = it.runs(*words)
         assert told.returncode == status and text in told.stdout, (words, told.returncode, told.stdout)
+    a_changed_file(it, folder)
     assert it.recovers(folder).returncode == 0
     told = it.recovers(folder)
     assert told.returncode == 1 and "there is a job" in told.stdout, told.stdout

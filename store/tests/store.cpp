@@ -4,6 +4,7 @@
 #include <algorithm>
 #include <chrono>
 #include <cstdio>
+#include <fstream>
 #include <set>
 #include <stdexcept>
 #include <thread>
@@ -418,10 +419,27 @@ template <class Made> static std::error_code why_not(const Made &made) {
     return it ? it->why : std::error_code();
 }
 
+static std::vector<ckpt::checked_record> checked(const std::string &state) {
+    return std::get<std::vector<ckpt::checked_record>>(ckpt::check_records(state));
+}
+
+/* A file that changed is found by who reads it. */
+static void check_files(const std::string &state) {
+    const std::string file = state + "/2";
+    CHECK(checked(state).size() == 1 && checked(state)[0].faults.empty() && checked(state)[0].is.unknown == 0);
+    std::ofstream(file) << "stats";
+    const auto found = checked(state);
+    CHECK(found.size() == 1 && found[0].is.changed == 1 && found[0].is.missing == 0 && found[0].faults.size() == 1);
+    CHECK(found[0].faults[0].file == 2 && found[0].faults[0].fault == RELKVANU_STORE_FILE_CHANGED);
+    CHECK(why_not(ckpt::check_records(state + "/nowhere")) == ckpt::store_error::storage);
+    std::ofstream(file) << "state";
+    CHECK(checked(state)[0].faults.empty());
+}
+
 /* Manifests: a job that lost its file is made again, and a record is carried elsewhere. */
 static void portable(const std::string &folder) {
     const std::string state = folder + "/state", path = folder + "/y.db", out = folder + "/out";
-    auto given = options(RELKVANU_STORE_CREATE | RELKVANU_STORE_MANIFESTS);
+    auto given = options(RELKVANU_STORE_CREATE | RELKVANU_STORE_MANIFESTS | RELKVANU_STORE_CHECKSUMS);
     given.storage = state.c_str();
     CHECK(mkdir(folder.c_str(), 0700) == 0 && mkdir(state.c_str(), 0700) == 0);
     {
@@ -435,6 +453,7 @@ static void portable(const std::string &folder) {
     CHECK(
         found.size() == 1 && found[0].id == 1 && found[0].is_next && found[0].files == 2 && found[0].bytes == 10 && found[0].missing == 0);
     CHECK(why_not(ckpt::records(folder + "/nowhere")) == ckpt::store_error::storage);
+    check_files(state);
     CHECK(why_not(ckpt::recover(path, state)) == ckpt::store_error::present && unlink(path.c_str()) == 0);
     CHECK(why_not(ckpt::recover(path, state, 9)) == ckpt::store_error::absent);
     CHECK(std::get<relkvanu_store_recovered>(ckpt::recover(path, state)).record == 1);

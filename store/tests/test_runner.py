@@ -1,14 +1,17 @@
 """The module relkvanu.runner: the order of what an engine is asked to do, over checkpoints, failures, stops, commands of an operator and ends."""
+import itertools
+import json
 import os
 import pathlib
 import tempfile
 import threading
+import time
 import unittest
 from unittest import mock
 
-from relkvanu import Fenced, Kind, Refused, Settings
+from relkvanu import Fenced, Kind, OutOfMemory, Refused, Settings
 from relkvanu.runner import Ended, FileLost, Record, Runner
-from relkvanu.store import Store
+from relkvanu.store import Store, StoreError
 
 TASKS = 2
 LONGEST = 600  # seconds that a busy machine may take for a step
@@ -60,11 +63,24 @@ class Words:
     def complete(self, id):
         self.note("complete", id)
 
+    def stopped(self, record):
+        assert isinstance(record, Record)
+        self.note("stopped", record.id, len([it for part in record.parts for it in part.files]))
+
     def go_on(self):
         self.note("go on")
 
     def end(self):
         self.note("end")
+
+
+class Untold(Words):
+    """An engine that has no stopped()."""
+
+    def __getattribute__(self, name):
+        if name == "stopped":
+            raise AttributeError(name)
+        return super().__getattribute__(name)
 
 
 class Failing(Words):
@@ -95,6 +111,61 @@ class Failing(Words):
         self.asked("aborted")
 
 
+class Sink(Words):
+    """Its first task is a sink, whose state is the list of what it prepared and has not published. The target outlives a process. It dies before it
+    publishes a savepoint."""
+
+    def __init__(self, prepared, published):
+        super().__init__()
+        self.prepared, self.published = prepared, published
+
+    def take_part(self, it):
+        self.prepared.append(it.id)
+        for index, state in enumerate([json.dumps(self.prepared).encode(), b""]):
+            self.runner.ack(it.term, it.id, 0, index, payload=state)
+
+    def publish(self, ids):
+        self.published.extend(it for it in ids if it not in self.published)
+        self.prepared[:] = [it for it in self.prepared if it not in ids]
+
+    def start(self, term, record):
+        super().start(term, record)
+        self.publish(json.loads(record.payload_of(0, 0)) if record else [])
+
+    def complete(self, id):
+        super().complete(id)
+        if self.said[-2][:3] == ("barrier", id, Kind.SAVEPOINT):
+            raise KeyboardInterrupt  # as a kill
+        self.publish([it for it in self.prepared if it <= id])
+
+    def stopped(self, record):
+        super().stopped(record)
+        self.publish(json.loads(record.payload_of(0, 0)))
+
+
+class Acknowledging(Words):
+    """It tries to acknowledge or decline inside complete() or aborted()."""
+
+    def __init__(self):
+        super().__init__()
+        self.faults = []
+
+    def try_both(self, id):
+        for call in (self.runner.ack, self.runner.decline):
+            try:
+                call(1, id, 0, 0)
+            except StoreError as why:
+                self.faults.append(why.name)
+
+    def complete(self, id):
+        self.try_both(id)
+        super().complete(id)
+
+    def aborted(self, ids):
+        self.try_both(ids[0])
+        self.note("aborted", ids)
+
+
 class Running(unittest.TestCase):
     def setUp(self):
         self.work = tempfile.TemporaryDirectory()
@@ -102,11 +173,11 @@ class Running(unittest.TestCase):
         self.folder = pathlib.Path(self.work.name)
         (self.folder / "state").mkdir()
 
-    def begin(self, engine=None, **settings):
+    def begin(self, engine=None, sweep_interval=None, **settings):
         """Runs an engine in a thread."""
         store = Store(self.folder / "job.db", Settings(**{"interval": 20, "retained": 3, **settings}), [TASKS], storage=self.folder / "state", create=True)
         engine, ended = engine or Words(), []
-        engine.runner = Runner(store, engine)
+        engine.runner = Runner(store, engine) if sweep_interval is None else Runner(store, engine, sweep_interval=sweep_interval)
 
         def run():
             try:
@@ -138,8 +209,9 @@ class Running(unittest.TestCase):
         engine.await_more("complete", 2)
         engine.runner.close()
         self.assertEqual(await_end(), Ended.CLOSED)
-        # the old tasks are told to end, the sinks are told again, and the tasks start from the record's files
-        self.assertEqual(engine.said[:3], [("end",), ("complete", last), ("start", 2, last, TASKS)])
+        # the old tasks are told to end, and the tasks start from the record's files; nobody is told by its number that it is complete
+        self.assertEqual(engine.said[:2], [("end",), ("start", 2, last, TASKS)])
+        self.assertGreater(next(it[1] for it in engine.said if it[0] == "complete"), last)
 
     def test_a_task_that_died(self):
         store, engine, await_end = self.begin()
@@ -179,11 +251,12 @@ class Running(unittest.TestCase):
         engine.await_more("complete")
         savepoint = store.stop_job().reply.id
         self.assertEqual(await_end(), Ended.STOPPED)
-        self.assertEqual(engine.said[-3:], [("barrier", savepoint, Kind.SAVEPOINT, True), ("complete", savepoint), ("end",)])
+        stop = [("barrier", savepoint, Kind.SAVEPOINT, True), ("complete", savepoint), ("end",), ("stopped", savepoint, TASKS)]
+        self.assertEqual(engine.said[-4:], stop)
         left = self.files()
         store, engine, await_end = self.begin()
         self.assertEqual(await_end(), Ended.STOPPED)
-        self.assertEqual((engine.said, self.files()), ([("complete", savepoint), ("end",)], left))
+        self.assertEqual((engine.said, self.files()), ([("end",), ("stopped", savepoint, TASKS)], left))
         store = Store(self.folder / "job.db", Settings(interval=20), [TASKS], storage=self.folder / "state")
         self.assertGreater(store.begin_job().term, 2)
         store.close()
@@ -215,7 +288,216 @@ class Running(unittest.TestCase):
         self.assertEqual(await_end(), Ended.STOPPED)
         [second] = again
         said = engine.said[engine.said.index(("barrier", first, Kind.SAVEPOINT, True)) + 1:]
-        self.assertEqual(said, [("go on",), ("barrier", second, Kind.SAVEPOINT, True), ("complete", second), ("end",)])
+        self.assertEqual(said, [("go on",), ("barrier", second, Kind.SAVEPOINT, True), ("complete", second), ("end",), ("stopped", second, TASKS)])
+
+    def test_a_process_that_dies_between_a_stop_and_its_publication(self):
+        """Until the next start nothing of the last interval is published. It tells the sinks, once more if it is made once more, and no task runs."""
+        prepared, published = [], []
+        store, engine, await_end = self.begin(Sink(prepared, published))
+        engine.await_more("complete")
+        savepoint = store.stop_job().reply.id
+        self.assertIsInstance(await_end(), KeyboardInterrupt)
+        self.assertEqual((published, prepared), (list(range(1, savepoint)), [savepoint]))
+        for _ in range(2):
+            store, engine, await_end = self.begin(Sink(prepared, published))
+            self.assertEqual(await_end(), Ended.STOPPED)
+            self.assertEqual(engine.said, [("end",), ("stopped", savepoint, 0)])
+            self.assertEqual((published, prepared), (list(range(1, savepoint + 1)), []))
+
+    def test_an_engine_that_is_not_told_of_a_stop(self):
+        store, engine, await_end = self.begin(Untold())
+        engine.await_more("complete")
+        store.stop_job()
+        self.assertEqual(await_end(), Ended.STOPPED)
+        self.assertEqual(engine.said[-1], ("end",))
+        _, engine, await_end = self.begin(Untold())
+        self.assertEqual(await_end(), Ended.STOPPED)
+        self.assertEqual(engine.said, [("end",)])
+
+    def test_a_stopped_job_whose_file_is_lost(self):
+        store, engine, await_end = self.begin()
+        engine.await_more("complete")
+        store.stop_job()
+        self.assertEqual(await_end(), Ended.STOPPED)
+        lost, *left = self.files()
+        os.unlink(self.folder / "state" / lost)
+        _, engine, await_end = self.begin()
+        self.assertIsInstance(await_end(), FileLost)
+        self.assertEqual((engine.said, self.files()), ([("end",)], left))
+
+    def forfeited(self, store):
+        """Puts a file that no record will have."""
+        [name] = store.reserve(1, 1)
+        store.put(name, b"state")
+        store.forfeit(1, [name])
+        return str(name)
+
+    def test_a_sweep_now_and_then(self):
+        store, engine, await_end = self.begin(sweep_interval=1)
+        engine.await_more("complete")
+        name = self.forfeited(store)
+        until = time.monotonic() + LONGEST
+        while name in self.files():
+            self.assertLess(time.monotonic(), until)
+            time.sleep(0.01)
+        engine.runner.close()
+        self.assertEqual(await_end(), Ended.CLOSED)
+        self.assertEqual(sum(it[0] == "start" for it in engine.said), 1)
+
+    def test_a_sweep_that_is_not_due(self):
+        store, engine, await_end = self.begin()
+        engine.await_more("complete")
+        name = self.forfeited(store)
+        engine.await_more("complete", 5)
+        self.assertIn(name, self.files())
+        engine.runner.close()
+        await_end()
+
+    def fails_once(self, fault):
+        """A sweep that fails the second time: the first one is that of the begin."""
+        sweep, times = Store.sweep, itertools.count(1)
+
+        def swept(store):
+            if next(times) == 2:
+                raise fault
+            return sweep(store)
+        return mock.patch.object(Store, "sweep", swept)
+
+    def test_a_sweep_that_fails_is_tried_at_the_next_time(self):
+        for fault in (StoreError("NotDone", "not now", False), OutOfMemory()):
+            with self.fails_once(fault):
+                self.test_a_sweep_now_and_then()
+            self.setUp()
+
+    def test_a_sweep_of_another_folder_ends_the_run(self):
+        with self.fails_once(StoreError("Storage", "another's", False)):
+            _, _, await_end = self.begin(sweep_interval=1)
+            fault = await_end()
+        self.assertIsInstance(fault, StoreError)
+        self.assertEqual(fault.name, "Storage")
+
+    def test_reports_of_a_term(self):
+        """Each task reports its death, also those that were fenced by the restart that the first report has brought: the tasks start twice, and not thrice."""
+        store, engine, await_end = self.begin()
+        engine.await_more("complete")
+        engine.runner.restart(1)
+        engine.await_more("start")
+        for _ in range(10):
+            engine.runner.restart(1)
+        engine.await_more("complete", 10)
+        self.assertEqual([it[1] for it in engine.said if it[0] == "start"], [1, 2])
+        engine.runner.restart(2)
+        engine.await_more("start")
+        self.assertEqual([it[1] for it in engine.said if it[0] == "start"], [1, 2, 3])
+        engine.runner.close()
+        self.assertEqual(await_end(), Ended.CLOSED)
+
+    def restarts_after(self, command):
+        """A task that dies by a command of an operator, and reports it before the loop looks."""
+        engine = Words()
+        store, engine, await_end = self.begin(engine)
+        engine.await_more("complete")
+        take_part = engine.take_part
+
+        def dies(it):
+            if not command(store, it, take_part):
+                return
+            engine.runner.restart(it.term)
+        engine.take_part = dies
+        ended = await_end()
+        return ended, engine
+
+    def test_a_task_that_died_of_a_cancel(self):
+        ended, engine = self.restarts_after(lambda store, it, take_part: store.cancel())
+        self.assertEqual(ended, Ended.CANCELLED)
+        self.assertEqual((engine.said[-1], sum(it[0] == "start" for it in engine.said)), (("end",), 1))
+        self.assertEqual(self.files(), [])
+
+    def test_a_task_that_died_of_a_stop(self):
+        def stop(store, it, take_part):
+            if it.kind == Kind.CHECKPOINT:
+                take_part(it)
+                store.stop_job()
+                return False
+            take_part(it)
+            return True
+        ended, engine = self.restarts_after(stop)
+        self.assertEqual(ended, Ended.STOPPED)
+        self.assertEqual(sum(it[0] == "start" for it in engine.said), 1)
+        self.assertEqual([it[0] for it in engine.said[-3:]], ["barrier", "end", "stopped"])
+
+    def test_a_stopped_job_that_is_restored_elsewhere(self):
+        """No number says what to publish then: the record has the list."""
+        store, engine, await_end = self.begin(interval=1 << 39)
+        engine.await_word("start", 1, None, None)
+        earlier = store.savepoint().reply.id  # nobody sends its barrier
+        for index in range(TASKS):
+            engine.runner.ack(1, earlier, 0, index)
+        take_part = engine.take_part
+
+        def is_restored(it):
+            take_part(it)
+            store.restore(savepoint=earlier)
+        engine.take_part = is_restored
+        store.stop_job()
+        self.assertEqual(await_end(), Ended.STOPPED)
+        self.assertEqual((earlier, engine.said[1:]), (1, [("barrier", 2, Kind.SAVEPOINT, True), ("end",), ("stopped", 1, 0)]))
+
+    def test_a_cancel_between_a_look_and_a_restore(self):
+        store, engine, await_end = self.begin()
+        engine.await_more("complete")
+        end, once = engine.end, iter([store.cancel])
+
+        def ends():
+            end()
+            next(once, lambda: None)()
+        engine.end = ends
+        engine.runner.restart()
+        self.assertEqual(await_end(), Ended.CANCELLED)
+        self.assertEqual(sum(it[0] == "start" for it in engine.said), 1)
+
+    def test_calls_from_inside_complete_and_aborted(self):
+        store, engine, await_end = self.begin(Acknowledging(), tolerable=10)
+        engine.await_more("complete")
+        engine.declined = Kind.CHECKPOINT
+        engine.await_more("aborted")
+        engine.runner.close()
+        self.assertEqual(await_end(), Ended.CLOSED)
+        told = sum(it[0] in ("complete", "aborted") for it in engine.said)
+        self.assertEqual(engine.faults, ["NotNow"] * (2 * told))
+
+    def test_an_acknowledgement_that_waits_for_no_sink(self):
+        """The sinks publish for long; meanwhile a task acknowledges, and completes nothing."""
+        engine, is_slow = Words(), threading.Event()
+        engine.complete = lambda id: (engine.note("complete", id), id == 2 and is_slow.wait(LONGEST))
+        store, engine, await_end = self.begin(engine, interval=1 << 39)
+        engine.await_word("start", 1, None, None)
+        for id in (1, 2):
+            self.assertEqual(store.trigger().reply.id, id)
+            engine.await_word("complete", id)
+        third = store.trigger().reply.id
+        with self.assertRaises(Refused):
+            engine.runner.ack(1, third, 0, TASKS)  # there is no such task
+        engine.runner.ack(1, third, 0, 0, payload=b"state")
+        self.assertNotIn(("complete", 3), engine.said)
+        is_slow.set()
+        engine.runner.close()
+        self.assertEqual(await_end(), Ended.CLOSED)
+
+    def test_memory_that_runs_out(self):
+        for name in ("load", "sweep", "restore"):
+            call, times = getattr(Store, name), itertools.count(1)
+
+            def refuses(store, *words, call=call, times=times):
+                if next(times) == 1:
+                    raise OutOfMemory
+                return call(store, *words)
+            with mock.patch.object(Store, name, refuses):
+                store, engine, await_end = self.begin()
+                engine.await_more("complete")
+                engine.runner.close()
+                self.assertEqual(await_end(), Ended.CLOSED, name)
+            self.assertGreater(next(times), 1)
 
     def test_commands_of_an_operator(self):
         store, engine, await_end = self.begin(interval=1 << 39)

@@ -18,7 +18,8 @@ from relkvanu import (
     AckCompleted, AckLate, AckPending, BadArgument, Chosen, Closed, Configured, Fenced, Forfeited, Kind, Mode, OutOfRange, Refused, Reserved,
     RestoredCheckpoint, RestoredSavepoint, SavepointTriggered, Settings, Taken, Triggered, header,
 )
-from relkvanu.store import Call, JobPhase, Made, Phase, Step, StopFailed, Store, StoreError
+from relkvanu.manifest import members, sealed, sums_in
+from relkvanu.store import Call, FileFault, JobPhase, Made, Phase, Step, StopFailed, Store, StoreError
 from relkvanu.whole import Ending, Part, Whole
 
 SETTINGS = Settings(interval=10, timeout=1 << 30)
@@ -556,7 +557,8 @@ class Threads(Folder):
         """A call of the thread that reads would wait for itself."""
         with self.open() as job:
             with job.read() as reads:
-                for call in (lambda: job.reserve(1, 1), job.term, lambda: job.await_tick(0), lambda: job.read().__enter__(), job.sweep):
+                for call in (lambda: job.reserve(1, 1), job.term, lambda: job.await_tick(0), lambda: job.read().__enter__(), job.sweep,
+                             job.discard, lambda: job.discard(lambda file: True), lambda: job.discard_lists(list)):
                     self.raises("InRead", call)
                 self.assertEqual(job.now(), job.now())
                 token = job.submit([Call.reserve(1, 5)])
@@ -729,6 +731,33 @@ class Threads(Folder):
         damaged = self.storage / "record-1.manifest"
         damaged.write_bytes(damaged.read_bytes()[:-1])
         self.assertEqual([(it.id, it.damage) for it in Store.records(self.storage)], [(1, "Damaged")])
+
+    def test_checksums(self):
+        """A file that changed is found by who reads it. A manifest whose checksums are no list of its files is damaged."""
+        self.raises("BadArgument", lambda: self.open(storage=self.storage, checksums=True))
+        with self.open(storage=self.storage, manifests=True, checksums=True) as job:
+            id = job.savepoint().reply.id
+            for index, file in enumerate(job.reserve(job.report.term, 2)):
+                job.put(file, b"123456789")
+                job.ack_in(job.report.term, id, 0, index, [file])
+        manifest = self.storage / f"record-{id}.manifest"
+        text = manifest.read_bytes()
+        self.assertEqual(sums_in(text), {1: 0xcbf43926, 2: 0xcbf43926})  # the check value of CRC-32
+        ((record, faults),) = Store.check_records(self.storage)
+        self.assertEqual((record.unknown, record.changed, record.missing, faults), (0, 0, 0, {}))
+        (self.storage / "2").write_bytes(b"123456780")
+        ((record, faults),) = Store.check_records(self.storage)
+        self.assertEqual((record.changed, faults, Store.records(self.storage)[0].changed), (1, {2: FileFault.CHANGED}, 0))
+        (self.storage / "2").write_bytes(b"12345678")
+        self.assertEqual([faults for _, faults in Store.check_records(self.storage)], [{2: FileFault.LENGTH}])
+        for sums, damage in ((["cbf43926"], None), ([None], None), ([], "Damaged"), (["cbf4392"], "Damaged"), (["CBF43926"], "Damaged"), ("x", "Damaged"),
+                             (["-0000001"], "Damaged"), ([1], "Damaged")):
+            found = members(text)
+            del found["sum"]
+            found["subtasks"][0]["sums"] = sums
+            manifest.write_bytes(sealed(found))
+            self.assertEqual((Store.records(self.storage)[0].damage, sums), (damage, sums))
+        self.raises("Storage", Store.check_records, self.folder / "nowhere")
 
     def test_a_backup_that_is_put_back(self):
         with self.open(storage=self.storage, manifests=True) as job:
