@@ -33,7 +33,7 @@ static char *guarded(void) {
 }
 
 /* The answer to these bytes, after which nothing may be read. */
-static relkvanu_answer said(const char *line, size_t len) {
+static relkvanu_answer line_answer(const char *line, size_t len) {
     static char *end;
     end = end != NULL ? end : guarded();
     memcpy(end - len, line, len);
@@ -42,7 +42,7 @@ static relkvanu_answer said(const char *line, size_t len) {
 
 static relkvanu_answer text(const char *line) {
     now_at = line;
-    return said(line, strlen(line));
+    return line_answer(line, strlen(line));
 }
 
 static void done(const char *line, uint32_t what) {
@@ -82,7 +82,7 @@ static relkvanu_answer tried(const char *line, size_t len) {
     begin();
     state(before);
     now_at = line;
-    relkvanu_answer answer = said(line, len);
+    relkvanu_answer answer = line_answer(line, len);
     state(after);
     bool may_change = answer.code == RELKVANU_DONE && answer.what != RELKVANU_SKIPPED && answer.what != RELKVANU_OPENED;
     CHECK(may_change || strcmp(before, after) == 0);
@@ -212,7 +212,7 @@ static void large_takes(void) {
         for (size_t file = 0; file < OF_AN_ACK; file++) {
             len += (size_t)sprintf(line + len, " +%zu", 1 + ack * OF_AN_ACK + file);
         }
-        CHECK(said(line, len).code == RELKVANU_DONE);
+        CHECK(line_answer(line, len).code == RELKVANU_DONE);
     }
     done("cancel 2000", RELKVANU_CANCELLED);
     CHECK(text("take 65537").a == 65537 && script.taken[0] != script.taken[65536]);

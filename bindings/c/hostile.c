@@ -27,7 +27,7 @@ static void fail(const char *what) {
 }
 
 /* The answer's first number, if the call was made with this reply. */
-static uint64_t made(relkvanu_answer answer, uint32_t what) {
+static uint64_t number_of(relkvanu_answer answer, uint32_t what) {
     if (answer.code != RELKVANU_DONE || answer.what != what) {
         fprintf(stderr, "hostile: code %" PRIu32 ", what %" PRIu32 " in place of what %" PRIu32 "\n", answer.code, answer.what, what);
         exit(2);
@@ -55,7 +55,7 @@ static void complete(relkvanu *job, uint64_t now, uint64_t id, uint16_t tasks, c
         size_t len = left < OF_ONE_ACKNOWLEDGEMENT ? left : OF_ONE_ACKNOWLEDGEMENT;
         const uint64_t *fresh = files == NULL ? NULL : files->items + first;
         relkvanu_answer answer = relkvanu_ack(job, now, id, 0, task, fresh, len, NULL, 0);
-        made(answer, task + 1 == tasks ? RELKVANU_ACK_COMPLETED : RELKVANU_ACK_PENDING);
+        number_of(answer, task + 1 == tasks ? RELKVANU_ACK_COMPLETED : RELKVANU_ACK_PENDING);
     }
 }
 
@@ -65,9 +65,9 @@ static uint64_t report_all(relkvanu *job, relkvanu_answer (*report)(relkvanu *, 
     uint64_t waiting = relkvanu_file_counts(job).waiting, told = 0;
     while (told < waiting) {
         size_t most = waiting - told < AT_ONCE ? (size_t)(waiting - told) : AT_ONCE;
-        uint64_t fetched = made(relkvanu_take(job, files, most), RELKVANU_TAKEN);
+        uint64_t fetched = number_of(relkvanu_take(job, files, most), RELKVANU_TAKEN);
         for (uint64_t place = 0; place < fetched; place++) {
-            made(report(job, files[place]), what);
+            number_of(report(job, files[place]), what);
         }
         told += fetched;
     }
@@ -86,15 +86,15 @@ static void reopen(relkvanu *job, const struct secrets *secrets) {
     if (image == NULL) {
         fail("no memory for an image");
     }
-    made(relkvanu_save(job, image, len), RELKVANU_SAVED);
+    number_of(relkvanu_save(job, image, len), RELKVANU_SAVED);
     relkvanu_close(job);
-    made(relkvanu_open_saved(job, image, len, secrets->saved[0], secrets->saved[1]), RELKVANU_OPENED);
+    number_of(relkvanu_open_saved(job, image, len, secrets->saved[0], secrets->saved[1]), RELKVANU_OPENED);
     free(image);
 }
 
 static void count_all(relkvanu *job, const struct numbers *files) {
     for (size_t place = 0; place < files->len; place++) {
-        made(relkvanu_count(job, files->items[place]), RELKVANU_COUNTED);
+        number_of(relkvanu_count(job, files->items[place]), RELKVANU_COUNTED);
     }
 }
 
@@ -104,13 +104,13 @@ static void run(const struct numbers *files, const struct secrets *secrets) {
     relkvanu job = {NULL};
     relkvanu_settings settings = {1000, 0, 1, 1000000, 0, 1, false};
     uint64_t shape[] = {(files->len + OF_ONE_ACKNOWLEDGEMENT - 1) / OF_ONE_ACKNOWLEDGEMENT};
-    made(relkvanu_open(&job, &settings, shape, 1, 0, 1, secrets->opening[0], secrets->opening[1]), RELKVANU_OPENED);
-    made(relkvanu_tick(&job, 1000), RELKVANU_TICK_TRIGGERED);
+    number_of(relkvanu_open(&job, &settings, shape, 1, 0, 1, secrets->opening[0], secrets->opening[1]), RELKVANU_OPENED);
+    number_of(relkvanu_tick(&job, 1000), RELKVANU_TICK_TRIGGERED);
     complete(&job, 1001, 1, (uint16_t)shape[0], files);
     count_all(&job, files);
     reopen(&job, secrets);
     count_all(&job, files);
-    made(relkvanu_tick(&job, 2000), RELKVANU_TICK_TRIGGERED);
+    number_of(relkvanu_tick(&job, 2000), RELKVANU_TICK_TRIGGERED);
     complete(&job, 2001, 2, (uint16_t)shape[0], NULL);
     reopen(&job, secrets);
     if (report_all(&job, relkvanu_undeleted, RELKVANU_UNDELETED) != files->len) {

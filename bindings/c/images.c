@@ -116,7 +116,7 @@ static struct call next_call(struct world *world) {
 }
 
 /* The call through the lines of a script: its answer, and the files that it fetches. */
-static struct told made(relkvanu *job, const struct call *call) {
+static struct told make_by_line(relkvanu *job, const struct call *call) {
     struct told told = {0};
     uint8_t line[512];
     relkvanu_answer written =
@@ -161,7 +161,7 @@ static void script(void) {
             reopen(&cut);
         }
         struct call call = next_call(&world);
-        struct told one = made(&whole, &call), other = made(&cut, &call);
+        struct told one = make_by_line(&whole, &call), other = make_by_line(&cut, &call);
         CHECK(memcmp(&one, &other, sizeof one) == 0);
         bool is_triggered = one.answer.code == RELKVANU_DONE &&
                             (one.answer.what == RELKVANU_TICK_TRIGGERED || one.answer.what == RELKVANU_SAVEPOINT_TRIGGERED);

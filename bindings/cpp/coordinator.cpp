@@ -209,7 +209,7 @@ static void lines() {
 }
 
 /* A line says the call that it was written for. */
-static void said() {
+static void line_says_its_call() {
     ckpt::line_call_answer ack = ckpt::line_call("ack 5 1 1.2 +12 =7 +11");
     const ckpt::said_call &it = std::get<ckpt::said_call>(ack);
     CHECK(it.call.kind == RELKVANU_CALL_ACK && it.call.vertex == 1 && it.call.index == 2 && it.call.now == 5 && it.call.number == 1);
@@ -306,6 +306,8 @@ static void names() {
           std::get<ckpt::decline_failed>(job.decline_in(2, 4100, 4, 0, 0)).released == 0);
     Coordinator moved = std::move(job);
     CHECK(is(job.term(), ckpt::error::closed) && is(job.garbage(files), ckpt::error::closed) && runs(moved, 2, 10));
+    CHECK(is(moved.advance(4200, 6, 0), ckpt::error::bad_name) && runs(moved, 2, 10));
+    CHECK(std::get<ckpt::checkpoint>(std::get<ckpt::restored>(moved.advance(4200, 6, 50)).from).id == 3 && runs(moved, 7, 50));
 }
 
 /* What a coordinator with names, or one without, refuses. */
@@ -318,7 +320,7 @@ static void fences() {
     CHECK(is(job.term(), ckpt::error::fenced_no_names) && is(job.reserve(0, 0), ckpt::error::fenced_no_names));
     CHECK(is(job.forfeit(0, file), ckpt::error::fenced_no_names) && is(job.garbage(file), ckpt::error::fenced_no_names));
     CHECK(is(job.ack_in(0, 0, 1, 0, 0, file), ckpt::error::fenced_no_names) &&
-          is(job.decline_in(0, 0, 1, 0, 0), ckpt::error::fenced_no_names));
+          is(job.decline_in(0, 0, 1, 0, 0), ckpt::error::fenced_no_names) && is(job.advance(0, 1, 1), ckpt::error::fenced_no_names));
     CHECK(std::get<ckpt::triggered>(job.tick(1000)).id == 1 && std::holds_alternative<ckpt::ack_completed>(job.ack(1000, 1, 0, 0, file)));
     CHECK(is(job.fence(0), ckpt::error::bad_name) && is(job.fence(5), ckpt::error::fenced_name_in_use) &&
           is(job.fence(4), ckpt::error::fenced_name_in_use));
@@ -338,7 +340,7 @@ int main(int argc, char **argv) {
         calls += said_in(argv[at]);
     }
     CHECK(argc == 1 || calls > 0);
-    said();
+    line_says_its_call();
     ahead();
     reads();
     recovers();

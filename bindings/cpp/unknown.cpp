@@ -48,6 +48,7 @@ relkvanu_answer relkvanu_fence(relkvanu *, uint64_t) { return answer(); }
 relkvanu_answer relkvanu_term(relkvanu *) { return answer(); }
 relkvanu_answer relkvanu_reserve(relkvanu *, uint64_t, uint64_t) { return answer(); }
 relkvanu_answer relkvanu_forfeit(relkvanu *, uint64_t, const uint64_t *, size_t) { return answer(); }
+relkvanu_answer relkvanu_advance(relkvanu *, uint64_t, uint64_t, uint64_t) { return answer(); }
 relkvanu_answer relkvanu_ack_in(relkvanu *, uint64_t, uint64_t, uint64_t, uint16_t, uint16_t, const uint64_t *, size_t, const uint64_t *, size_t) { return answer(); }
 relkvanu_answer relkvanu_decline_in(relkvanu *, uint64_t, uint64_t, uint64_t, uint16_t, uint16_t) { return answer(); }
 relkvanu_answer relkvanu_garbage(relkvanu *, const uint64_t *, size_t, uint64_t *, size_t, uint64_t *, size_t) { return answer(); }
@@ -77,12 +78,12 @@ static int unknown(ckpt::Coordinator &job) {
     int refused = is_unknown(job.ack(0, 1, 0, 0, {})) + is_unknown(job.decline(0, 1, 0, 0)) + is_unknown(job.restore(0)) +
                   is_unknown(job.take(places)) + is_unknown(job.fence(1)) + is_unknown(job.term()) + is_unknown(job.reserve(1, 1)) +
                   is_unknown(job.forfeit(1, {})) + is_unknown(job.ack_in(1, 0, 1, 0, 0, {})) + is_unknown(job.decline_in(1, 0, 1, 0, 0)) +
-                  is_unknown(job.garbage({}));
+                  is_unknown(job.garbage({})) + is_unknown(job.advance(0, 1, 1));
     int said = (job.mode() == ckpt::mode::unknown) + (job.standing(1) == ckpt::standing::unknown);
     int aborted = aborts([&] { return job.choice(); }) + aborts([&] { return job.live(0); }) + aborts([&] { return job.live_from(0); });
     int more = others(job);
     std::printf(
-        "%d of 11 calls are refused, %d of one number are not, %d of 2 reads say it, %d of 3 abort\n", refused, more, said, aborted);
+        "%d of 12 calls are refused, %d of one number are not, %d of 2 reads say it, %d of 3 abort\n", refused, more, said, aborted);
     return more == 0 ? refused + said + aborted : 0;
 }
 
@@ -107,5 +108,5 @@ int main() {
     bool is_known = std::holds_alternative<ckpt::failed>(job.tick(0));
     int found = unknown(job), codes = other_codes(job);
     std::printf("%d of 5 unknown codes are error values, a known answer %s\n", codes, is_known ? "is itself" : "is another one");
-    return is_known && found == 16 && codes == 5 ? 0 : 1;
+    return is_known && found == 17 && codes == 5 ? 0 : 1;
 }

@@ -116,6 +116,6 @@ def of_their_own(found: List[Call]) -> List[Call]:
     return [it for it in found if it.reply() is not None]
 
 
-def said(call: Call, own: Dict[str, str]) -> str:
+def words_of(call: Call, own: Dict[str, str]) -> str:
     """What a language says of a call: in its own words, or in those of the header."""
     return own.get(call.name, call.comment)

@@ -102,7 +102,7 @@ def synopsis(functions: Dict[str, Any]) -> str:
     return text
 
 
-def made() -> Dict[str, str]:
+def generated() -> Dict[str, str]:
     found = texts()
     text = "".join(function(code, of) for code, of, _ in found if of)
     text += "static const char *text_of(uint32_t code, uint32_t what) {\n    switch (code) {\n"

@@ -125,7 +125,7 @@ def enum(kind: str, prefix: str) -> str:
     return text + "".join(f"    case RELKVANU_{it.name}: return {kind}::{member};\n" for member, it in members) + f"    default: return {kind}::unknown;\n    }}\n}}\n"
 
 
-def made() -> Dict[str, Dict[str, str]]:
+def generated() -> Dict[str, Dict[str, str]]:
     """What is made, by file and place."""
     return {
         "relkvanu.hpp": {**kinds(), "the calls of one number": "\n".join(method(it) for it in calls.plain())},

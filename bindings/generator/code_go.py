@@ -179,7 +179,7 @@ def listed(declarations: Iterable[str]) -> str:
     return "".join(f"\n{it}" for it in declarations) + "\n"
 
 
-def made() -> Dict[str, Dict[str, str]]:
+def generated() -> Dict[str, Dict[str, str]]:
     """What is made, by file and place."""
     modes, standings, faults, arguments = replies("MODE_", "MODE_"), replies("STANDS_", "STANDS_"), of("line_fault", "Line"), of("argument")
     ticks = replies("TICK_", "TICK_")

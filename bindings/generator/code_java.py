@@ -7,7 +7,8 @@ from generator.calls import Call
 from generator.header import MADE, Enum, Number, macros, parameters, pointed
 
 # What Java has no native method for: the two buffers of the first have lengths of two kinds, and no class of Java writes a log of its own, for
-# which the groups are. Of each step of an alignment Java would copy the bytes of all inputs.
+# which the groups are. Of each step of an alignment Java would copy the bytes of all inputs. No class calls
+# the function for the text of an answer's numbers. It brings that function into the native library, in which the store's looks for it.
 GROUPS = [f"relkvanu_group_{it}" for it in ("make", "hold", "synced", "failed", "answer")]
 LEFT_OUT = {"relkvanu_make", *GROUPS, *(f"relkvanu_align_{it}" for it in ("open", "element", "barrier", "end", "give_up"))}
 
@@ -234,7 +235,7 @@ public enum {name} {{
      * {{@return the name in scripts, such as "{header.camel(members[0][0])}"}}
      */
     public String text() {{
-        return Names.inScripts(this);
+        return ScriptNames.of(this);
     }}
 {names_file(members)}}}
 """
@@ -331,7 +332,7 @@ def param(call: Call) -> str:
     return f"     * @param {java_name(call.number)} {NUMBERS.get(call.name, f'the {call.what()}')}\n" if call.number else ""
 
 
-def told(call: Call) -> str:
+def result_of(call: Call) -> str:
     """What a call returns, in words."""
     it = call.reply()
     fields = ", ".join(what for _, _, what in it.fields()) if it else ""
@@ -350,7 +351,7 @@ def lines_of(text: str) -> str:
 def method(call: Call) -> str:
     """A method of the coordinator, of which threads that wait for a call know unless the call is quiet."""
     given, passed = (f"long {java_name(call.number)}", f", {java_name(call.number)}") if call.number else ("", "")
-    text = f"    /**\n{lines_of(calls.said(call, SAID))}     *\n{param(call)}     * @return {told(call)}\n     */\n"
+    text = f"    /**\n{lines_of(calls.words_of(call, SAID))}     *\n{param(call)}     * @return {result_of(call)}\n     */\n"
     text += "    @Override\n" if call.name in calls.REPORTS else ""
     text += f"    public {reply_type(call)} {java_name(call.name)}({given}) {{\n"
     native = f"(at, out) -> Native.{java_name(call.name)}(at{passed}, out)"
@@ -383,12 +384,12 @@ def of_store(call: Call) -> str:
 
 def store_method(call: Call) -> str:
     number = java_name(call.number) if call.number and not call.has_moment() else ""
-    text = f"    /**\n{lines_of(calls.said(call, SAID_OF_STORE))}     *\n{param(call) if number else ''}     * @return {told(call)}\n     */\n"
+    text = f"    /**\n{lines_of(calls.words_of(call, SAID_OF_STORE))}     *\n{param(call) if number else ''}     * @return {result_of(call)}\n     */\n"
     text += f"    public {reply_type(call)} {java_name(call.name)}({f'long {number}' if number else ''}) {{\n"
     return text + f"        return ({reply_type(call)}) call(StoreCall.{java_name(call.name)}({number})).reply();\n    }}\n"
 
 
-def made() -> Dict[str, Dict[str, str]]:
+def generated() -> Dict[str, Dict[str, str]]:
     """What is made, by file and place."""
     return {
         "Reply.java": {"the replies": replies()}, "Answers.java": {"what tells the replies": cases()},

@@ -161,7 +161,7 @@ def words() -> str:
     return f'_CALLS = "{"|".join(found)}"\n'
 
 
-def made() -> Dict[str, Dict[str, str]]:
+def generated() -> Dict[str, Dict[str, str]]:
     """What is made, by file and place."""
     return {
         "__init__.py": {"the import of replies": imports(), "the names of replies": exports()},

@@ -58,7 +58,8 @@ def rust_function(name: str, function: Any, comment: Optional[str]) -> str:
 
 
 def formatted(text: str) -> str:
-    return subprocess.run(["rustfmt", "--edition", "2021"], input=text, capture_output=True, text=True, check=True).stdout
+    command = ["rustfmt", "--edition", "2021", "--config-path", str(header.TOP / "rustfmt.toml")]
+    return subprocess.run(command, input=text, capture_output=True, text=True, check=True).stdout
 
 
 def bindings(structs: Dict[str, Any], functions: Dict[str, Any]) -> str:
@@ -185,7 +186,7 @@ def method(call: Call) -> str:
     given = f", {call.number}: u64" if call.number else ""
     passed = f", {call.number}" if call.number else ""
     check = "        self.check_moment(now)?;\n" if call.has_moment() else ""
-    text = f"{wrapped(calls.said(call, SAID), '    ')}    pub fn {call.name}(&mut self{given}) -> Called {{\n{check}"
+    text = f"{wrapped(calls.words_of(call, SAID), '    ')}    pub fn {call.name}(&mut self{given}) -> Called {{\n{check}"
     text += f"        // SAFETY: {SAFE if call.name == 'tick' else 'as in `tick`.'}\n"
     return text + f"        called(unsafe {{ sys::relkvanu_{call.name}(self.handle(){passed}) }})\n    }}\n"
 
@@ -218,7 +219,7 @@ def to_fields(call: Call) -> str:
     return f"            Call::{variant(call)} => of(CallKind::{camel(call.name)}, {given}),\n"
 
 
-def made() -> Dict[str, Dict[str, str]]:
+def generated() -> Dict[str, Dict[str, str]]:
     """What is made, by file and place."""
     kinds = header.enums()["call_kind"]
     return {

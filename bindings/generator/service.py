@@ -1,6 +1,5 @@
 """What the service and its clients know of the calls that take one number or none: kinds, lines, the forms of requests and of answers."""
 import json
-import subprocess
 import textwrap
 from typing import Any, Dict, List, Tuple
 
@@ -8,7 +7,6 @@ from generator import calls, code_python, code_rust, header
 from generator.calls import Call
 from generator.header import Number, camel
 
-RUSTFMT = header.TOP / "service/rustfmt.toml"
 # The members of requests that have a check of their own. Any other number is at most 2^53.
 CHECKED = {"id": "members.id()?", "file": "members.file()?"}
 SCHEMAS = {"id": {"$ref": "#/components/schemas/Id"}, "file": {"$ref": "#/components/schemas/File"}}
@@ -16,11 +14,6 @@ SCHEMAS = {"id": {"$ref": "#/components/schemas/Id"}, "file": {"$ref": "#/compon
 SAID = {**calls.SHORT, "dispose": "A user disposes of a savepoint."}
 PARAMETERS = {"id": "record"}
 TICK = "tick"
-
-
-def formatted(text: str) -> str:
-    command = ["rustfmt", "--edition", "2021", "--config-path", str(RUSTFMT)]
-    return subprocess.run(command, input=text, capture_output=True, text=True, check=True).stdout
 
 
 def number_of(call: Call) -> str:
@@ -94,7 +87,7 @@ def in_python(call: Call) -> str:
     given = PARAMETERS.get(number, number)
     value = f"str({given})" if number == "file" else given
     body = f'{{"call": "{call.name}"{f", {chr(34)}{number}{chr(34)}: {value}" if number else ""}}}'
-    told = code_python.wrapped(f'"""{calls.said(call, SAID)}"""', "    ")
+    told = code_python.wrapped(f'"""{calls.words_of(call, SAID)}"""', "    ")
     return f'def {call.name}({given}):\n{told}    return {body}\n'
 
 

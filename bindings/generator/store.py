@@ -19,7 +19,7 @@ OUTCOMES = {"UNDELETED", "DELETED", "MISSING"}
 MOST_DERIVED = 32
 
 
-class Said(NamedTuple):
+class Declarations(NamedTuple):
     """What one header declares: its numbers, structs, functions, types of functions, and structs that nobody looks into."""
 
     numbers: List[Number]
@@ -29,10 +29,10 @@ class Said(NamedTuple):
     opaque: List[str]
 
 
-def said(path: Any, below: Iterable[Any]) -> Said:
+def declarations_of(path: Any, below: Iterable[Any]) -> Declarations:
     tree = header.parsed(header.preprocessed("-P", of=[*below, path]))
     own = path.read_text()
-    found = Said(header.macros(path), {}, {}, {}, [])
+    found = Declarations(header.macros(path), {}, {}, {}, [])
     for it in tree.ext:
         if not re.search(rf"\b{getattr(it, 'name', None)}\b", own):
             continue
@@ -48,12 +48,12 @@ def said(path: Any, below: Iterable[Any]) -> Said:
     return found
 
 
-def of_store() -> Said:
-    return said(STORE, [header.HEADER, STORAGE])
+def of_store() -> Declarations:
+    return declarations_of(STORE, [header.HEADER, STORAGE])
 
 
-def of_storage() -> Said:
-    return said(STORAGE, [])
+def of_storage() -> Declarations:
+    return declarations_of(STORAGE, [])
 
 
 def is_function(node: Any) -> bool:
@@ -174,7 +174,7 @@ def rust_struct(name: str, fields: List[Any]) -> str:
     return f"#[repr(C)]\n#[derive({derived})]\npub struct {name} {{\n{lines}}}\n\n"
 
 
-def rust(path: Any, it: Said, uses: str) -> str:
+def rust(path: Any, it: Declarations, uses: str) -> str:
     of_status = statuses(path)
     text = f"// {MADE.format(path.name)}\n{uses}\n"
     text += "".join(rust_number(number, of_status) for number in it.numbers) + "\n"

@@ -21,12 +21,12 @@ const (
 	CallUndeleted CallKind = C.RELKVANU_CALL_UNDELETED
 	CallShow      CallKind = C.RELKVANU_CALL_SHOW
 	CallCount     CallKind = C.RELKVANU_CALL_COUNT
-	CallFence     CallKind = C.RELKVANU_CALL_FENCE   // Relkvanu_fence.
-	CallReserve   CallKind = C.RELKVANU_CALL_RESERVE // Relkvanu_reserve.
-	CallForfeit   CallKind = C.RELKVANU_CALL_FORFEIT // Relkvanu_forfeit.
+	CallFence     CallKind = C.RELKVANU_CALL_FENCE   // The job gives out names from here on.
+	CallReserve   CallKind = C.RELKVANU_CALL_RESERVE // A task reserves names.
+	CallForfeit   CallKind = C.RELKVANU_CALL_FORFEIT // A task gives up names.
 	CallTrigger   CallKind = C.RELKVANU_CALL_TRIGGER
 	CallConfigure CallKind = C.RELKVANU_CALL_CONFIGURE
-	CallAdvance   CallKind = C.RELKVANU_CALL_ADVANCE // Relkvanu_advance.
+	CallAdvance   CallKind = C.RELKVANU_CALL_ADVANCE // The job goes on above the terms and names that were told.
 	// bindings/generate: end
 )
 

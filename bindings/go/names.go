@@ -85,6 +85,23 @@ func (c *Coordinator) Forfeit(term uint64, names []uint64) error {
 	})
 }
 
+// Advance restores a job that goes on from an older image, from its latest record, in a term above term, the greatest that any task was told, and
+// with names from firstName on, above each that was given out. It is the first call of such a job.
+func (c *Coordinator) Advance(now, term, firstName uint64) (Restored, error) {
+	o, err := c.enter()
+	if err != nil {
+		return Restored{}, err
+	}
+	defer c.leave()
+	answer, err := o.timed(now, func(handle *C.relkvanu) C.relkvanu_answer {
+		return C.relkvanu_advance(handle, C.uint64_t(now), C.uint64_t(term), C.uint64_t(firstName))
+	})
+	if err != nil {
+		return Restored{}, err
+	}
+	return restored(answer)
+}
+
 // AckIn is the Ack of a task of this term. If it is accepted, it spends the names of the fresh files. The same acknowledgement once more returns
 // FencedSpent, if it has fresh files: a task deletes no file for that answer.
 func (c *Coordinator) AckIn(term, now, id uint64, subtask Subtask, fresh, reused []uint64) (Acked, error) {

@@ -23,10 +23,11 @@ type StoreOptions struct {
 	Storage  string // the folder of the state files, which has to exist. Empty: the engine looks after it
 
 	Create       bool // makes a job if there is none
-	CreateOnly   bool // makes a job, and there may be none
+	CreateOnly   bool // makes a job, and fails if there is one
 	Adopt        bool // makes a job also if the storage has files. The next sweep deletes them all, if their names are numbers
 	EarlierImage bool // begins with the image before the last one, which is damaged. The log after it is whole
 	Manifests    bool // the storage gets a manifest of each complete record, of which relkvanu-store recover makes the job again if its file is lost
+	Checksums    bool // with Manifests: these have a checksum of each file, for which the store reads it once
 	Backup       bool // it is a backup, which is opened so once, after all processes and tasks of the job have ended: see Store.Backup. Makes no job
 
 	Patience   time.Duration // for which a commit tries again if the disk is full, SQLite has no memory or a lock is held
@@ -130,7 +131,7 @@ func (o *StoreOptions) inC() C.relkvanu_store_options {
 	for flag, is := range map[C.uint32_t]bool{
 		C.RELKVANU_STORE_CREATE: o.Create, C.RELKVANU_STORE_CREATE_ONLY: o.CreateOnly, C.RELKVANU_STORE_ADOPT: o.Adopt,
 		C.RELKVANU_STORE_EARLIER_IMAGE: o.EarlierImage, C.RELKVANU_STORE_BACKUP: o.Backup,
-		C.RELKVANU_STORE_MANIFESTS: o.Manifests,
+		C.RELKVANU_STORE_MANIFESTS: o.Manifests, C.RELKVANU_STORE_CHECKSUMS: o.Checksums,
 	} {
 		if is {
 			flags |= flag

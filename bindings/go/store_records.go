@@ -5,6 +5,8 @@ package relkvanu
 // #include <relkvanu_store.h>
 // #include <stdlib.h>
 // bool relkvanu_go_record(void *with, relkvanu_store_record *record);
+// bool relkvanu_go_checked(void *with, relkvanu_store_record *record);
+// bool relkvanu_go_fault(void *with, uint64_t record, uint64_t file, uint32_t fault);
 import "C"
 
 import (
@@ -70,10 +72,72 @@ func Records(folder string) ([]StoredRecord, error) {
 //export relkvanu_go_record
 func relkvanu_go_record(with unsafe.Pointer, it *C.relkvanu_store_record) C.bool {
 	found := (*(*cgo.Handle)(with)).Value().(*[]StoredRecord)
-	*found = append(*found, StoredRecord{
+	*found = append(*found, storedRecord(it))
+	return true
+}
+
+func storedRecord(it *C.relkvanu_store_record) StoredRecord {
+	return StoredRecord{
 		ID: uint64(it.id), Damage: StoreFault(it.status), IsSavepoint: bool(it.is_savepoint), IsOfJob: bool(it.is_of_job), IsNext: bool(it.is_next),
 		Written: uint64(it.written), Files: uint64(it.files), Bytes: uint64(it.bytes), Missing: uint64(it.missing),
-	})
+	}
+}
+
+// FileFault is what is wrong with a file of a record.
+type FileFault uint32
+
+// What CheckRecords finds.
+const (
+	FileMissing    FileFault = C.RELKVANU_STORE_FILE_MISSING
+	FileLength     FileFault = C.RELKVANU_STORE_FILE_LENGTH  // it has another length than the manifest says
+	FileChanged    FileFault = C.RELKVANU_STORE_FILE_CHANGED // it has another checksum
+	FileUnreadable FileFault = C.RELKVANU_STORE_FILE_UNREADABLE
+)
+
+// CheckedRecord is a record whose files were read.
+type CheckedRecord struct {
+	StoredRecord
+	Unknown uint64               // files of which the manifest has no checksum
+	Faults  map[uint64]FileFault // of its files
+}
+
+// checking is what CheckRecords has been told: the records, and what is wrong with the files of the one that comes next.
+type checking struct {
+	found  []CheckedRecord
+	faults map[uint64]FileFault
+}
+
+// CheckRecords are Records, and the files are read: each one of which a manifest has a checksum, once.
+func CheckRecords(folder string) ([]CheckedRecord, error) {
+	name := C.CString(folder)
+	defer C.free(unsafe.Pointer(name))
+	told := checking{faults: map[uint64]FileFault{}}
+	var message [C.RELKVANU_STORE_MESSAGE]C.char
+	with := cgo.NewHandle(&told)
+	defer with.Delete()
+	each, fault := C.relkvanu_store_each_record(C.relkvanu_go_checked), C.relkvanu_store_each_fault(C.relkvanu_go_fault)
+	status := C.relkvanu_store_check_records(name, each, fault, unsafe.Pointer(&with), &message[0], C.size_t(len(message)))
+	if status != C.RELKVANU_STORE_OK {
+		return nil, storeError(status, C.GoString(&message[0]))
+	}
+	return told.found, nil
+}
+
+// relkvanu_go_checked notes a record for CheckRecords.
+//
+//export relkvanu_go_checked
+func relkvanu_go_checked(with unsafe.Pointer, it *C.relkvanu_store_record) C.bool {
+	told := (*(*cgo.Handle)(with)).Value().(*checking)
+	told.found = append(told.found, CheckedRecord{storedRecord(it), uint64(it.unknown), told.faults})
+	told.faults = map[uint64]FileFault{}
+	return true
+}
+
+// relkvanu_go_fault notes a fault for CheckRecords.
+//
+//export relkvanu_go_fault
+func relkvanu_go_fault(with unsafe.Pointer, _, file C.uint64_t, fault C.uint32_t) C.bool {
+	(*(*cgo.Handle)(with)).Value().(*checking).faults[uint64(file)] = FileFault(fault)
 	return true
 }
 

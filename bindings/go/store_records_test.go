@@ -4,8 +4,10 @@ package relkvanu_test
 
 import (
 	"errors"
+	"fmt"
 	"os"
 	"path/filepath"
+	"strings"
 	"testing"
 
 	"relkvanu"
@@ -16,7 +18,7 @@ import (
 // keptStore opens a job whose folder gets manifests.
 func keptStore(job, storage string) *relkvanu.Store {
 	options := storeOptions()
-	options.Storage, options.Manifests = storage, true
+	options.Storage, options.Manifests, options.Checksums = storage, true, true
 	options.Settings.Interval = 1 << 30
 	return must(relkvanu.OpenStore(job, options))
 }
@@ -44,6 +46,23 @@ func goesOn(t *testing.T, job, storage string, record uint64) {
 	}
 }
 
+// checksFiles changes a file of a record, which who reads it finds, and changes it back.
+func checksFiles(t *testing.T, storage string) {
+	t.Helper()
+	file := filepath.Join(storage, "2")
+	for _, it := range []struct {
+		contents string
+		fault    relkvanu.FileFault
+	}{{"state", 0}, {"stats", relkvanu.FileChanged}, {"stat", relkvanu.FileLength}, {"state", 0}} {
+		must(0, os.WriteFile(file, []byte(it.contents), 0o600))
+		found := must(relkvanu.CheckRecords(storage))
+		equal(t, len(found), 1)
+		equal(t, found[0].Unknown, uint64(0))
+		equal(t, found[0].Faults[2], it.fault)
+	}
+	fails(t, errorOf(relkvanu.CheckRecords(filepath.Join(storage, "nowhere"))), relkvanu.StoreStorage)
+}
+
 func TestStoreRecords(t *testing.T) {
 	folder := newStoreFolder(t)
 	beside := filepath.Dir(folder.job)
@@ -51,6 +70,9 @@ func TestStoreRecords(t *testing.T) {
 	store := keptStore(folder.job, folder.storage)
 	record := takes(t, store, 1)
 	store.Close()
+	manifest := must(os.ReadFile(filepath.Join(folder.storage, fmt.Sprintf("record-%d.manifest", record))))
+	equal(t, strings.Count(string(manifest), `"sums":["`), 2)
+	checksFiles(t, folder.storage)
 	found := must(relkvanu.Records(folder.storage))
 	equal(t, len(found), 1)
 	equal(t, found[0].Written != 0, true)

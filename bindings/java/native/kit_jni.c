@@ -91,7 +91,7 @@ static void tell_call(jlong *told, const relkvanu_store_call *it, const relkvanu
 }
 
 /* Makes calls, and writes their outcomes over their numbers. */
-static int made(relkvanu_store *store, struct calls *calls, jlong *given, uint64_t *words, const char *bytes) {
+static int make_calls(relkvanu_store *store, struct calls *calls, jlong *given, uint64_t *words, const char *bytes) {
     calls->at = malloc((calls->len + 1) * sizeof *calls->at);
     calls->more = malloc((calls->len + 1) * sizeof *calls->more);
     int status = RELKVANU_STORE_NO_MEMORY;
@@ -115,7 +115,7 @@ JNIEXPORT jint JNICALL Java_relkvanu_KitNative_calls(
     char *bytes_copy = bytes_of(env, bytes);
     struct calls calls = {.len = given_len / GIVEN};
     bool has_memory = given_copy != NULL && words_copy != NULL && bytes_copy != NULL;
-    int status = has_memory ? made(store_at(store), &calls, (jlong *)given_copy, words_copy, bytes_copy) : RELKVANU_STORE_NO_MEMORY;
+    int status = has_memory ? make_calls(store_at(store), &calls, (jlong *)given_copy, words_copy, bytes_copy) : RELKVANU_STORE_NO_MEMORY;
     if (status == RELKVANU_STORE_OK) {
         tell(env, given, (const jlong *)given_copy, given_len);
         tell(env, words, (const jlong *)words_copy, words_len);

@@ -291,7 +291,7 @@ struct turn {
 };
 
 /* StorageCalls throws nothing but an error of the JVM, such as one for a full stack. That ends what calls it. */
-static int asked(struct engine *it, int status) {
+static int status_after(struct engine *it, int status) {
     jthrowable thrown = (*it->env)->ExceptionOccurred(it->env);
     errno = 0;
     if (thrown == NULL) {
@@ -305,7 +305,7 @@ static int asked(struct engine *it, int status) {
 
 static int check(void *with) {
     struct engine *it = with;
-    return it->thrown != NULL ? RELKVANU_STORAGE_FAILED : asked(it, (*it->env)->CallIntMethod(it->env, it->calls, it->check));
+    return it->thrown != NULL ? RELKVANU_STORAGE_FAILED : status_after(it, (*it->env)->CallIntMethod(it->env, it->calls, it->check));
 }
 
 static int delete_files(void *with, const uint64_t *files, size_t len, uint8_t *outcomes) {
@@ -313,7 +313,7 @@ static int delete_files(void *with, const uint64_t *files, size_t len, uint8_t *
     JNIEnv *env = it->env;
     memset(outcomes, RELKVANU_STORAGE_UNDELETED, len);
     if (it->thrown != NULL || (*env)->PushLocalFrame(env, 8) != 0) {
-        return asked(it, RELKVANU_STORAGE_FAILED);
+        return status_after(it, RELKVANU_STORAGE_FAILED);
     }
     jlongArray numbers = (*env)->NewLongArray(env, (jsize)len);
     jbyteArray told = numbers == NULL ? NULL : (*env)->NewByteArray(env, (jsize)len);
@@ -331,7 +331,7 @@ static int delete_files(void *with, const uint64_t *files, size_t len, uint8_t *
     if (thrown != NULL) {
         (*env)->Throw(env, thrown);
     }
-    return asked(it, status);
+    return status_after(it, status);
 }
 
 static int list(void *with, size_t most, relkvanu_storage_page page, void *with_page) {
@@ -340,7 +340,7 @@ static int list(void *with, size_t most, relkvanu_storage_page page, void *with_
     if (it->thrown != NULL) {
         return RELKVANU_STORAGE_FAILED;
     }
-    return asked(it, (*it->env)->CallIntMethod(it->env, it->calls, it->list, (jlong)most, (jlong)(uintptr_t)&turn));
+    return status_after(it, (*it->env)->CallIntMethod(it->env, it->calls, it->list, (jlong)most, (jlong)(uintptr_t)&turn));
 }
 
 /* Gives files of the engine's listing to the library. */

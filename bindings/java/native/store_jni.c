@@ -88,7 +88,7 @@ static void tell_call(jlong *told, const relkvanu_store_call *it) {
 }
 
 /* Makes calls, and writes their outcomes over their numbers. */
-static int made(relkvanu_store *store, jlong *given, size_t len, uint64_t *words) {
+static int make_calls(relkvanu_store *store, jlong *given, size_t len, uint64_t *words) {
     relkvanu_store_call *calls = malloc((len + 1) * sizeof *calls);
     if (calls == NULL) {
         return RELKVANU_STORE_NO_MEMORY;
@@ -109,7 +109,7 @@ JNIEXPORT jint JNICALL Java_relkvanu_StoreNative_calls(
     uint64_t *given_copy = longs_of(env, given, &given_len), *words_copy = longs_of(env, words, &words_len);
     int status = RELKVANU_STORE_NO_MEMORY;
     if (given_copy != NULL && words_copy != NULL) {
-        status = made(store_at(store), (jlong *)given_copy, given_len / GIVEN, words_copy);
+        status = make_calls(store_at(store), (jlong *)given_copy, given_len / GIVEN, words_copy);
         tell_why(env, why);
     }
     if (status == RELKVANU_STORE_OK) {
@@ -243,51 +243,86 @@ JNIEXPORT jint JNICALL Java_relkvanu_StoreNative_backup(JNIEnv *env, jclass of, 
     return status;
 }
 
-/* The records of a folder, as numbers. */
-enum { RECORD = 9, RECOVERED = 9 };
-struct records {
+/* Numbers of the records of a folder, and of what is wrong with their files. */
+enum { RECORD = 10, FAULT = 3, RECOVERED = 9, SOME = 160 };
+struct numbers {
     jlong *at;
     size_t len, room;
+    bool lacks_memory;
 };
+struct records {
+    struct numbers records, faults;
+};
+
+static bool append(struct numbers *to, const jlong *some, size_t len) {
+    if (to->room - to->len < len) {
+        size_t room = 2 * to->room + SOME;
+        jlong *at = realloc(to->at, room * sizeof *at);
+        to->lacks_memory = at == NULL;
+        to->at = at == NULL ? to->at : at;
+        to->room = at == NULL ? to->room : room;
+    }
+    if (!to->lacks_memory) {
+        memcpy(to->at + to->len, some, len * sizeof *some);
+        to->len += len;
+    }
+    return !to->lacks_memory;
+}
 
 static bool note_record(void *with, const relkvanu_store_record *it) {
     struct records *found = with;
-    if (found->len == found->room) {
-        size_t room = 2 * found->room + 16 * RECORD;
-        jlong *at = realloc(found->at, room * sizeof *at);
-        if (at == NULL) {
-            found->room = 0;
-            return false;
-        }
-        found->at = at;
-        found->room = room;
-    }
     const jlong numbers[RECORD] = {(jlong)it->id, it->status, it->is_savepoint, it->is_of_job, it->is_next, (jlong)it->written,
-        (jlong)it->files, (jlong)it->bytes, (jlong)it->missing};
-    memcpy(found->at + found->len, numbers, sizeof numbers);
-    found->len += RECORD;
-    return true;
+        (jlong)it->files, (jlong)it->bytes, (jlong)it->missing, (jlong)it->unknown};
+    return append(&found->records, numbers, RECORD);
+}
+
+static bool note_fault(void *with, uint64_t record, uint64_t file, uint32_t fault) {
+    struct records *found = with;
+    const jlong numbers[FAULT] = {(jlong)record, (jlong)file, fault};
+    return append(&found->faults, numbers, FAULT);
+}
+
+/* Gives the numbers to Java. Returns false without memory: an exception of the JVM is pending. */
+static bool give(JNIEnv *env, jobjectArray told, jsize place, const struct numbers *some) {
+    jlongArray numbers = (*env)->NewLongArray(env, (jsize)some->len);
+    if (numbers != NULL) {
+        tell(env, numbers, some->at, some->len);
+        (*env)->SetObjectArrayElement(env, told, place, numbers);
+    }
+    return numbers != NULL;
+}
+
+/* With or without a look into the files. */
+static int list_records(JNIEnv *env, jbyteArray folder, jobjectArray told, jbyteArray message, bool is_check) {
+    char *name = text_of(env, folder), text[RELKVANU_STORE_MESSAGE] = "";
+    struct records found = {.records = {.room = SOME, .at = malloc(SOME * sizeof(jlong))}};
+    int status = RELKVANU_STORE_NO_MEMORY;
+    if (name != NULL && found.records.at != NULL) {
+        status = is_check ? relkvanu_store_check_records(name, note_record, note_fault, &found, text, sizeof text)
+                          : relkvanu_store_records(name, note_record, &found, text, sizeof text);
+    }
+    status = found.records.lacks_memory || found.faults.lacks_memory ? RELKVANU_STORE_NO_MEMORY : status;
+    if (status == RELKVANU_STORE_OK) {
+        bool has_memory = give(env, told, 0, &found.records) && (!is_check || give(env, told, 1, &found.faults));
+        status = has_memory ? status : RELKVANU_STORE_NO_MEMORY;
+    } else {
+        (*env)->SetByteArrayRegion(env, message, 0, sizeof text, (const jbyte *)text);
+    }
+    free(found.records.at);
+    free(found.faults.at);
+    free(name);
+    return status;
 }
 
 JNIEXPORT jint JNICALL Java_relkvanu_StoreNative_records(JNIEnv *env, jclass of, jbyteArray folder, jobjectArray told, jbyteArray message) {
     (void)of;
-    char *name = text_of(env, folder), text[RELKVANU_STORE_MESSAGE] = "";
-    struct records found = {.room = 16 * RECORD, .at = malloc(16 * RECORD * sizeof *found.at)};
-    bool has_memory = name != NULL && found.at != NULL;
-    int status = has_memory ? relkvanu_store_records(name, note_record, &found, text, sizeof text) : RELKVANU_STORE_NO_MEMORY;
-    status = found.room == 0 ? RELKVANU_STORE_NO_MEMORY : status;
-    jlongArray numbers = status == RELKVANU_STORE_OK ? (*env)->NewLongArray(env, (jsize)found.len) : NULL;
-    if (numbers != NULL) {
-        tell(env, numbers, found.at, found.len);
-        (*env)->SetObjectArrayElement(env, told, 0, numbers);
-    } else if (status == RELKVANU_STORE_OK) {
-        status = RELKVANU_STORE_NO_MEMORY; /* an exception of the JVM is pending */
-    } else {
-        (*env)->SetByteArrayRegion(env, message, 0, sizeof text, (const jbyte *)text);
-    }
-    free(found.at);
-    free(name);
-    return status;
+    return list_records(env, folder, told, message, false);
+}
+
+JNIEXPORT jint JNICALL Java_relkvanu_StoreNative_checkRecords(
+    JNIEnv *env, jclass of, jbyteArray folder, jobjectArray told, jbyteArray message) {
+    (void)of;
+    return list_records(env, folder, told, message, true);
 }
 
 static int exported(const char *from, uint64_t record, const char *to, relkvanu_store_recovered *made) {

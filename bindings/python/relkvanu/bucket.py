@@ -7,10 +7,10 @@ from typing import Any, Callable, Dict, Iterator, Optional
 
 from relkvanu.storage import KeepsVersions, Marker, NotThere, OtherJob, StorageError
 
-Asked = Dict[str, Any]
+Request = Dict[str, Any]
 
 
-def opened(asked: Asked) -> Any:
+def opened(asked: Request) -> Any:
     """The bucket. Until its marker is held it may have none."""
     from relkvanu.s3 import Bucket, client
 
@@ -30,7 +30,7 @@ class Helper:
         self.bucket: Any = None
         self.listing: Iterator[Dict[int, int]] = iter(())
 
-    def open(self, asked: Asked) -> Asked:
+    def open(self, asked: Request) -> Request:
         try:
             self.bucket = opened(asked)
         except ImportError as error:
@@ -39,48 +39,48 @@ class Helper:
             return {"error": f"--endpoint, --region: {error}"}
         return {}
 
-    def beside(self, asked: Asked) -> Asked:
+    def beside(self, asked: Request) -> Request:
         return {"names": self.bucket.beside(asked["start"])}
 
-    def read(self, asked: Asked) -> Asked:
+    def read(self, asked: Request) -> Request:
         found: Optional[bytes] = self.bucket.read_beside(asked["name"])
         return {"text": None if found is None else found.decode(errors="replace")}
 
-    def write(self, asked: Asked) -> Asked:
+    def write(self, asked: Request) -> Request:
         self.bucket.write_beside(asked["name"], asked["text"].encode())
         return {}
 
-    def remove(self, asked: Asked) -> Asked:
+    def remove(self, asked: Request) -> Request:
         self.bucket.remove_beside(asked["name"])
         return {}
 
-    def hold(self, _: Asked) -> Asked:
+    def hold(self, _: Request) -> Request:
         self.bucket.is_held = True
         return {}
 
-    def is_marked(self, _: Asked) -> Asked:
+    def is_marked(self, _: Request) -> Request:
         try:
             self.bucket.check()
         except (NotThere, OtherJob):
             return {"is": False}
         return {"is": True}
 
-    def has_any(self, asked: Asked) -> Asked:
+    def has_any(self, asked: Request) -> Request:
         return {"has": any(map(self.bucket.has, asked["files"]))}
 
-    def delete(self, asked: Asked) -> Asked:
+    def delete(self, asked: Request) -> Request:
         return {"failed": self.bucket.delete(asked["files"])}
 
-    def sizes(self, _: Asked) -> Asked:
+    def sizes(self, _: Request) -> Request:
         self.listing = self.bucket.sizes()
         return {}
 
-    def page(self, _: Asked) -> Asked:
+    def page(self, _: Request) -> Request:
         return {"files": list(next(self.listing, {}).items())}
 
-    def answer(self, line: str) -> Asked:
+    def answer(self, line: str) -> Request:
         asked = json.loads(line)
-        do: Callable[[Asked], Asked] = getattr(self, asked["do"].replace(" ", "_"))
+        do: Callable[[Request], Request] = getattr(self, asked["do"].replace(" ", "_"))
         try:
             return do(asked)
         except (NotThere, OtherJob, KeepsVersions) as error:

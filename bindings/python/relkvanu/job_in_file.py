@@ -3,7 +3,7 @@ import contextlib
 from typing import Dict, Iterable, Optional, Sequence, Tuple
 
 from relkvanu.coordinator import Error, Settings
-from relkvanu.jobs import LONGEST, MOST_DELETED, SUBTASKS, TOLERABLE, Ack, Asked, Delete, Held, Stopped, lists_of
+from relkvanu.jobs import LONGEST, MOST_DELETED, SUBTASKS, TOLERABLE, Ack, Delete, Held, PendingRecord, Stopped, lists_of
 from relkvanu.parts import Failed, Place
 from relkvanu.reads import Garbage, Kind
 from relkvanu.replies import AckCompleted, SavepointTriggered, Taken, Triggered
@@ -54,13 +54,13 @@ class FileJob:
     def reserve(self, count: int) -> Sequence[int]:
         return self._store.reserve(self._term, count)
 
-    def trigger(self, last: int, stops: bool = False) -> Asked:
+    def trigger(self, last: int, stops: bool = False) -> PendingRecord:
         made = self._store.stop_job() if stops else self._store.trigger()
         if not isinstance(made.reply, (Triggered, SavepointTriggered)):
             raise Failed(f"no record is triggered: {made.reply!r}")
         if (made.choice.id if made.choice else 0) != last:
             raise Failed("another record is the last one")
-        return Asked(made.reply.id, stops)
+        return PendingRecord(made.reply.id, stops)
 
     def complete(self, id: int, acks: Sequence[Ack], spare: Sequence[int]) -> None:
         calls = [Call.forfeit(self._term, some) for some in lists_of(spare)]

@@ -6,7 +6,7 @@ import threading
 from typing import Any, Dict, Iterator, List, Optional, Sequence, Tuple
 
 from relkvanu.errors import Error
-from relkvanu.jobs import LONGEST, MOST_DELETED, SUBTASKS, TOLERABLE, Ack, Asked, Delete, Held, Stopped, Superseded, lists_of
+from relkvanu.jobs import LONGEST, MOST_DELETED, SUBTASKS, TOLERABLE, Ack, Delete, Held, PendingRecord, Stopped, Superseded, lists_of
 from relkvanu.parts import Failed, Place, digest_of
 from relkvanu.reads import Garbage
 from relkvanu.storage import NotThere
@@ -113,7 +113,7 @@ class ServiceJob:
             told = self._job.call(service.reserve(self._term, count))
         return range(int(told["first"]), int(told["first"]) + told["count"])
 
-    def trigger(self, last: int, stops: bool = False) -> Asked:
+    def trigger(self, last: int, stops: bool = False) -> PendingRecord:
         """A checkpoint that somebody else has triggered, as a driver that should have ended, is this one, and so is the savepoint with which somebody
         stops the job. The service does not look at the term here, but in complete()."""
         asked = self._asked(stops)
@@ -128,10 +128,10 @@ class ServiceJob:
         self._calls([service.decline(it, "0.0", term=self._term) for it in savepoints])  # its outputs could not be taken back
         found: List[int] = [it["id"] for it in pending if it["kind"] == "checkpoint" and asked in (None, it["id"])]
         if stop is not None:
-            return Asked(stop, True)
+            return PendingRecord(stop, True)
         if stops or not found:
             raise Failed("the record that was triggered has ended")
-        return Asked(found[0], False)
+        return PendingRecord(found[0], False)
 
     def _asked(self, stops: bool) -> Optional[int]:
         """Asks for a record. Its number, or None if it is the one that somebody else has asked for, or the savepoint of a stop."""

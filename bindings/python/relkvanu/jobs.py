@@ -37,7 +37,7 @@ class Held(NamedTuple):
     files: List[Sequence[int]]
 
 
-class Asked(NamedTuple):
+class PendingRecord(NamedTuple):
     """A record that is pending. With `stops` it is the savepoint of a stop: once it is complete the job has stopped, in the same commit."""
 
     id: int
@@ -72,7 +72,7 @@ class Job(Protocol):
     def reserve(self, count: int) -> Sequence[int]:
         """Names for files that no file ever had."""
 
-    def trigger(self, last: int, stops: bool = False) -> Asked:
+    def trigger(self, last: int, stops: bool = False) -> PendingRecord:
         """Begins a record after the one that this process knows as the last, 0 for none. It is the savepoint of a stop if `stops` says so, or if
         somebody else stops the job."""
 

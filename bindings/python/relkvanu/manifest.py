@@ -1,9 +1,12 @@
 """The text of a manifest, as docs/DURABLE-RECOVERY.md (The format) has it: one of a job of the service, or one that is made anew for another job. It needs
 no library. Those of a durable coordinator are written by the library, which also says which ones are whole (relkvanu.store.Store.records)."""
 import contextlib
+import functools
 import json
 import zlib
-from typing import Any, Dict, List, Optional, Tuple
+from typing import Any, Dict, Iterable, List, Optional, Tuple
+
+PIECE = 1 << 20  # bytes of a file that are read at once
 
 
 def name_of(record: int) -> str:
@@ -38,6 +41,19 @@ def parts_in(manifest: bytes) -> Dict[str, Tuple[List[int], str]]:
         found = json.loads(manifest)["subtasks"]
         return {f"{it['vertex']}.{it['index']}": ([int(file) for file in it["files"]], it.get("payload", "")) for it in found}
     return {}
+
+
+def sums_in(manifest: bytes) -> Dict[int, int]:
+    """The checksums of files that a manifest has."""
+    with contextlib.suppress(ValueError, KeyError, TypeError):
+        subtasks = json.loads(manifest)["subtasks"]
+        return {int(file): int(it, 16) for part in subtasks for file, it in zip(part["files"], part.get("sums", ())) if it is not None}
+    return {}
+
+
+def sum_of(pieces: Iterable[bytes]) -> int:
+    """The checksum that a manifest has of a file: CRC-32."""
+    return functools.reduce(lambda sum, it: zlib.crc32(it, sum), pieces, 0)
 
 
 def files_in(manifest: bytes) -> Dict[int, Optional[int]]:

@@ -22,15 +22,14 @@ import time
 from typing import Any, Dict, Iterator, List, Optional
 
 from relkvanu.errors import Error
-from relkvanu.manifest import files_in, members, name_of, of_job
-from relkvanu.places import MARKER, PLAIN, Gone, InBucket, InFolder, Owner, Path, Place, ended, make_file, place, sync
+from relkvanu.manifest import PIECE, files_in, members, name_of, of_job, sum_of, sums_in
+from relkvanu.places import MARKER, PLAIN, Gone, InBucket, InFolder, Owner, Path, Place, gone_if_absent, make_file, place, sync
 from relkvanu.store import Carried, Record, Recovered, Store, StoreError
 
 PART = ".relkvanu-part"
 OPENINGS = 1024  # that a marker may lack, as in relkvanu_store_recover
 TRIES = 100  # a record may end while it is carried
 THREADS = 16  # requests at once
-PIECE = 1 << 20
 
 
 @contextlib.contextmanager
@@ -107,14 +106,28 @@ def recover(job: Path, source: Place, record: int = 0) -> Recovered:
 # To carry a record.
 
 
-def carry_file(source: Place, target: Place, part: pathlib.Path, file: int, size: Optional[int]) -> None:
-    """Into a bucket, or into the folder `part`. From bucket to bucket the server copies. A file that two folders can have is linked."""
+def pieces_of(contents: Any) -> Iterator[bytes]:
+    return iter(functools.partial(contents.read, PIECE), b"")
+
+
+def check_sum(source: Place, file: int, contents: Any, wanted: Optional[int]) -> None:
+    """Reads the contents, if the manifest has a checksum of them, and goes back to where they begin."""
+    if wanted is not None:
+        if sum_of(pieces_of(contents)) != wanted:
+            raise StoreError("Damaged", f"{source.url}: file {file} has another checksum than its manifest says", False)
+        contents.seek(0)
+
+
+def carry_file(source: Place, target: Place, part: pathlib.Path, file: int, size: Optional[int], checksum: Optional[int] = None) -> None:
+    """Into a bucket, or into the folder `part`. From bucket to bucket the server copies. A file that two folders can have is linked. What is copied here has to
+    have its checksum."""
     if isinstance(source, InBucket) and isinstance(target, InBucket):
-        with ended():
+        with gone_if_absent():
             target.copy(file, source)
         return
     if isinstance(target, InBucket):
         with contextlib.closing(source.opened(file)) as contents:
+            check_sum(source, file, contents, checksum)
             target.put(file, contents)
         return
     to = part / target.form.of(file)
@@ -122,7 +135,9 @@ def carry_file(source: Place, target: Place, part: pathlib.Path, file: int, size
         length = to.stat().st_size
     else:
         with contextlib.closing(source.opened(file)) as contents:
-            length = make_file(to, iter(functools.partial(contents.read, PIECE), b""))
+            length = make_file(to, pieces_of(contents))
+        with open(to, "rb") as made:
+            check_sum(source, file, made, checksum)
     if size is not None and length != size:
         raise StoreError("Damaged", f"{source.url}: file {file} is not as long as its manifest says", False)
 
@@ -133,9 +148,10 @@ def cancel(tasks: List["concurrent.futures.Future[None]"]) -> None:
         it.cancel()
 
 
-def carry_files(source: Place, target: Place, part: pathlib.Path, files: Dict[int, Optional[int]]) -> None:
+def carry_files(source: Place, target: Place, part: pathlib.Path, manifest: bytes) -> None:
+    checksums = sums_in(manifest)
     with concurrent.futures.ThreadPoolExecutor(THREADS) as pool:
-        tasks = [pool.submit(carry_file, source, target, part, file, size) for file, size in files.items()]
+        tasks = [pool.submit(carry_file, source, target, part, file, size, checksums.get(file)) for file, size in files_in(manifest).items()]
         for it in concurrent.futures.as_completed(tasks):
             if it.exception() is not None:
                 cancel(tasks)
@@ -195,7 +211,7 @@ def into_folder(source: Place, target: InFolder, record: int, manifest: bytes, j
     """The folder gets its name once all is on the disk. Returns the bytes."""
     files = files_in(manifest)
     with part_folder(target) as part:
-        carry_files(source, target, part, files)
+        carry_files(source, target, part, manifest)
         size = sum((part / target.form.of(file)).stat().st_size for file in files)
         whole = target.moved(part)
         whole.write(whole.manifest(record), manifest if job is None else of_job(manifest, job))
@@ -229,7 +245,7 @@ def into_bucket(source: Place, target: InBucket, record: int, manifest: bytes, j
     """The manifest comes last: with it the record is there. What another record has left there goes before."""
     part = begun(target, json.loads(manifest)["job"], job)
     files = files_in(manifest)
-    carry_files(source, target, pathlib.Path(), files)
+    carry_files(source, target, pathlib.Path(), manifest)
     sizes = target.sizes()
     drop(target, [file for file in sizes if file not in files])
     if target.read(PART) is None:
@@ -385,16 +401,74 @@ def state_of(it: Record) -> str:
     return "whole; a recovery or an import begins from it" if it.is_next else "whole"
 
 
+def show_record(it: Record, state: str) -> None:
+    written = "?" if it.damage else time.strftime("%Y-%m-%dT%H:%M:%SZ", time.gmtime(it.written // 1000))
+    kind = "?" if it.damage else "savepoint" if it.is_savepoint else "checkpoint"
+    print(f"{it.id:<12} {kind:<10} {written:<20} {it.files:>10} {it.bytes:>16}  {state}")
+
+
+def show_head(found: List[Record]) -> None:
+    print(f"{'record':<12} {'kind':<10} {'written':<20} {'files':>10} {'bytes':>16}  state" if found else "no record has a manifest")
+
+
 def show(source: Place) -> None:
     found = records(source)
-    print(f"{'record':<12} {'kind':<10} {'written':<20} {'files':>10} {'bytes':>16}  state" if found else "no record has a manifest")
+    show_head(found)
     for it in found:
-        written = "?" if it.damage else time.strftime("%Y-%m-%dT%H:%M:%SZ", time.gmtime(it.written // 1000))
-        kind = "?" if it.damage else "savepoint" if it.is_savepoint else "checkpoint"
-        print(f"{it.id:<12} {kind:<10} {written:<20} {it.files:>10} {it.bytes:>16}  {state_of(it)}")
+        show_record(it, state_of(it))
 
 
-def tell(job: str, made: Recovered) -> None:
+class Reads:
+    """What the files of a place have, each of which is read once: records share them."""
+
+    def __init__(self, source: Place) -> None:
+        self.source, self.sizes = source, source.sizes()
+        self.sums: Dict[int, int] = {}
+
+    def fault_of(self, file: int, size: Optional[int], checksum: Optional[int]) -> Optional[str]:
+        if file not in self.sizes:
+            return "is missing"
+        if size is not None and size != self.sizes[file]:
+            return "has another length"
+        if checksum is not None and file not in self.sums:
+            try:
+                with contextlib.closing(self.source.opened(file)) as contents:
+                    self.sums[file] = sum_of(pieces_of(contents))
+            except Gone:
+                return "is missing"
+            except OSError:
+                return "can't be read"
+        return "has another checksum" if checksum is not None and self.sums[file] != checksum else None
+
+    def faults(self, manifest: bytes) -> Dict[int, str]:
+        sums = sums_in(manifest)
+        told = {file: self.fault_of(file, size, sums.get(file)) for file, size in files_in(manifest).items()}
+        return {file: it for file, it in told.items() if it is not None}
+
+
+def state_of_sums(it: Record, faults: Dict[int, str]) -> str:
+    if it.damage is None and it.is_of_job and not it.missing and faults:
+        return f"{len(faults)} files have another checksum or can't be read" + ("; a recovery or an import begins from it" if it.is_next else "")
+    if it.damage is None and not it.missing:
+        return f"{state_of(it)}; " + (f"checksums of {it.unknown} files are not known" if it.unknown else "each checksum is right")
+    return state_of(it)
+
+
+def show_whole(source: Place) -> bool:
+    """show(), which reads the files too. Returns whether all are as the manifests say."""
+    found, reads, texts, is_right = records(source), Reads(source), manifests_of(source), True
+    show_head(found)
+    for it in found:
+        faults = {} if it.damage else reads.faults(texts.get(it.id, b""))
+        show_record(it, state_of_sums(it, faults))
+        for file, words in faults.items():
+            print(f"  record {it.id}: file {file} {words}")
+        is_right = is_right and not faults and it.damage is None
+    return is_right
+
+
+def tell(job: str, made: Any) -> None:
+    """Says what a job goes on from: a Recovered, or the like of a job of the service."""
     kind = "savepoint" if made.is_savepoint else "checkpoint"
     print(f"{job} goes on from {kind} {made.record}, which has {made.files} files of {made.bytes} bytes")
     print(f"later records have numbers from {made.next_number} on")
@@ -414,16 +488,21 @@ def parser() -> argparse.ArgumentParser:
         command = commands.add_parser(name, parents=[server])
         for word in words:
             command.add_argument(word)
-        if name != "show":
+        if name == "show":
+            command.add_argument("--whole", action="store_true", help="reads the files, and compares them with the checksums of the manifests")
+        else:
             command.add_argument("record", nargs="?", type=int, default=0)
         if name == "import":
             command.add_argument("--claim", action="store_true", help="the files leave SOURCE, whose job is refused from then on")
     return it
 
 
-def run(given: argparse.Namespace) -> None:
+def run(given: argparse.Namespace) -> bool:
+    """Returns whether all is right."""
     s3 = importlib.import_module("relkvanu.s3").client(getattr(given, "endpoint", os.environ.get("AWS_ENDPOINT_URL")), getattr(given, "region", None))
     at = functools.partial(place, s3=s3)
+    if given.command == "show" and given.whole:
+        return show_whole(at(given.place))
     if given.command == "show":
         show(at(given.place))
     elif given.command == "recover":
@@ -434,17 +513,18 @@ def run(given: argparse.Namespace) -> None:
     else:
         begins = claim if given.claim else import_job
         tell(given.job, begins(at(given.source), given.job, at(given.target), given.record))
+    return True
 
 
 def main(words: Optional[List[str]] = None) -> int:
     given = parser().parse_args(words)
     try:
-        run(given)
+        is_right = run(given)
         sys.stdout.flush()
     except (Error, OSError, ValueError) as error:
         print(f"relkvanu-store: {error}", file=sys.stderr)
         return 1
-    return 0
+    return 0 if is_right else 1
 
 
 if __name__ == "__main__":

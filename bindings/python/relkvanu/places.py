@@ -9,11 +9,11 @@ import re
 from typing import Any, Dict, Iterator, List, NamedTuple, Optional, Union
 
 from relkvanu.manifest import name_of
-from relkvanu.storage import Marker, Names, NotThere, StorageError, bucket_and_prefix
+from relkvanu.storage import FileNames, Marker, NotThere, StorageError, bucket_and_prefix
 
 MARKER = ".relkvanu-job"
 OWNER = re.compile(rb"relkvanu job ([0-9a-f]{32})\nepoch ([1-9][0-9]{0,18})\n")  # a marker of a store
-PLAIN = Names("", "")  # a file has its number as its name
+PLAIN = FileNames("", "")  # a file has its number as its name
 Path = Union[str, "os.PathLike[str]"]
 
 
@@ -32,7 +32,7 @@ class Gone(Exception):
 
 
 @contextlib.contextmanager
-def ended() -> Iterator[None]:
+def gone_if_absent() -> Iterator[None]:
     """An object that is not there was one of a record that has ended."""
     try:
         yield
@@ -76,10 +76,10 @@ class InBucket:
     """Manifests and files below s3://BUCKET/PREFIX. Files are named by `form`, whose prefix may go on behind PREFIX. `at` comes before the names of
     manifests."""
 
-    def __init__(self, url: str, s3: Any, form: Names = PLAIN, at: str = "", marker: str = MARKER) -> None:
+    def __init__(self, url: str, s3: Any, form: FileNames = PLAIN, at: str = "", marker: str = MARKER) -> None:
         self.url, self.s3, self.at, self.marker = url, s3, at, marker
         self.bucket, self.prefix = bucket_and_prefix(url)
-        self.form = Names(self.prefix + form.prefix, form.suffix)
+        self.form = FileNames(self.prefix + form.prefix, form.suffix)
         unchecked = importlib.import_module("relkvanu.s3").UncheckedBucket
         self._bucket = unchecked(self.bucket, "any", prefix=self.form.prefix, suffix=form.suffix, s3=s3, keeps_versions=True, marker=Marker(marker, "any"))
 
@@ -131,7 +131,7 @@ class InBucket:
 
     def opened(self, file: int) -> Any:
         """The contents of a file, to be read."""
-        with ended():
+        with gone_if_absent():
             return self._bucket.opened(self.form.of(file))
 
 
@@ -140,7 +140,7 @@ class InFolder:
 
     new = ".new"  # behind the name of a file that is not whole yet
 
-    def __init__(self, path: Path, form: Names = PLAIN, at: str = "", marker: str = MARKER) -> None:
+    def __init__(self, path: Path, form: FileNames = PLAIN, at: str = "", marker: str = MARKER) -> None:
         self.url, self.path, self.form, self.at, self.marker = os.fspath(path), pathlib.Path(path), form, at, marker
 
     def owner(self) -> Optional[Owner]:

@@ -70,7 +70,7 @@ class _Plan:
 
 
 def _unpacked(data: bytes, what: str) -> Optional[Origin]:
-    """What a list says, or None if the file is none."""
+    """What a list says, or None if the file is not one."""
     head, _, body = data.partition(b"\n")
     if not head.startswith(HEAD):
         return None

@@ -10,7 +10,7 @@ from botocore.config import Config  # type: ignore[import]
 from botocore.exceptions import BotoCoreError, ClientError  # type: ignore[import]
 
 from relkvanu.places import OWNER
-from relkvanu.storage import PAGE, Contents, Exists, KeepsVersions, Marker, Names, NotThere, OtherJob, StorageError, check_marker
+from relkvanu.storage import PAGE, Contents, Exists, FileNames, KeepsVersions, Marker, NotThere, OtherJob, StorageError, check_marker
 
 if TYPE_CHECKING:
     from relkvanu.store import Store
@@ -43,7 +43,7 @@ class Bucket:
 
     def __init__(self, bucket: str, job: str, is_new: bool = False, prefix: str = "", suffix: str = "", s3: Any = None,
                  keeps_versions: bool = False, marker: Optional[Marker] = None) -> None:
-        self.bucket, self.job, self.names = bucket, job, Names(prefix, suffix)
+        self.bucket, self.job, self.names = bucket, job, FileNames(prefix, suffix)
         self.marker = self.names.marker(job) if marker is None else Marker(posixpath.join(posixpath.dirname(prefix), marker.name), marker.text)
         self._s3 = client() if s3 is None else s3
         self._keeps_versions = keeps_versions

@@ -5,15 +5,17 @@ writes one for each record before anybody is told that the record is complete:
     manifests.keep()  # after begin(), before tasks start; after each completed checkpoint, before sinks are told
 
 It needs the client of the service, and no library. docs/SERVICE-RECOVERY.md has the rest."""
+import contextlib
+import functools
 import hashlib
 import posixpath
 import time
-from typing import Any, Dict, Iterator, List, NamedTuple, Optional, Tuple
+from typing import Any, Container, Dict, Iterator, List, NamedTuple, Optional, Tuple
 
 from relkvanu.errors import Error
-from relkvanu.manifest import parts_in, sealed
+from relkvanu.manifest import PIECE, files_in, parts_in, sealed, sum_of, sums_in
 from relkvanu.places import Gone, InBucket, InFolder, Owner, Path
-from relkvanu.storage import Names, NotThere, OtherJob
+from relkvanu.storage import FileNames, NotThere, OtherJob
 
 MARK = ".relkvanu-"  # before the name of a job: its marker
 RECORDS = ".relkvanu.records"  # no marker has this name
@@ -72,13 +74,13 @@ class ServiceBucket(_OfService, InBucket):
 
 def service_folder(job: str, path: Path, prefix: str = "", suffix: str = "") -> ServiceFolder:
     """The files PREFIX, number, SUFFIX in a folder."""
-    return ServiceFolder(path, Names(prefix, suffix), marker=MARK + job)
+    return ServiceFolder(path, FileNames(prefix, suffix), marker=MARK + job)
 
 
 def service_bucket(job: str, bucket: str, prefix: str, suffix: str, s3: Any) -> ServiceBucket:
     """The objects of a bucket with keys PREFIX, number, SUFFIX. The marker is behind the last slash of the prefix."""
     folder, name = posixpath.split(prefix)
-    return ServiceBucket(f"s3://{bucket}/{folder}", s3, Names(name, suffix), marker=MARK + job)
+    return ServiceBucket(f"s3://{bucket}/{folder}", s3, FileNames(name, suffix), marker=MARK + job)
 
 
 class Below(NamedTuple):
@@ -89,12 +91,53 @@ class Below(NamedTuple):
     name: int
 
 
+class Sums:
+    """The checksums of a job's files, as the manifests of its records have them. The number of a file is given out once, so each file is read once, or not at
+    all."""
+
+    def __init__(self, place: Any, *, reads: bool) -> None:
+        self._place, self._reads = place, reads
+        self._known: Dict[int, Dict[int, int]] = {}  # of each record
+
+    def note(self, record: int, manifest: bytes) -> None:
+        self._known[record] = sums_in(manifest)
+
+    def note_all(self) -> None:
+        """What the place has from before."""
+        for it in self._place.names():
+            self.note(_record_of(it), self._place.read(it) or b"")
+
+    def keep(self, records: Container[int]) -> None:
+        """The others have ended."""
+        self._known = {record: it for record, it in self._known.items() if record in records}
+
+    def of(self, file: int) -> Optional[int]:
+        """Raises Gone if it is read, and is not there."""
+        known = next((it[file] for it in self._known.values() if file in it), None)
+        if known is not None or not self._reads:
+            return known
+        with contextlib.closing(self._place.opened(file)) as contents:
+            return sum_of(iter(functools.partial(contents.read, PIECE), b""))
+
+    def member(self, files: List[int]) -> Dict[str, Any]:
+        """That of a subtask with these files."""
+        found = [self.of(file) for file in files]
+        is_known = any(it is not None for it in found)
+        return {"sums": [None if it is None else f"{it:08x}" for it in found]} if is_known else {}
+
+
+def _record_of(name: str) -> int:
+    return int(posixpath.basename(name)[len("record-"):-len(".manifest")])
+
+
 class Manifests:
     """Those of a job of the service (relkvanu_service.Job) in a place of service_folder() or service_bucket(). Raises NotThere or OtherJob if the place
     does not have the job's marker, and NotKept if the job may lose the files of the record before a manifest is there."""
 
-    def __init__(self, job: Any, place: Any) -> None:
+    def __init__(self, job: Any, place: Any, checksums: bool = False) -> None:
+        """With `checksums` manifests have one of each file, which is read for it once. Otherwise they keep those that are there."""
         self._job, self._place, self._is_first = job, place, True
+        self._sums, self._has_sums = Sums(place, reads=checksums), checksums
         self._marker = job.marker()[1].encode()
         place.of(identity_of(self._marker))
         self.check()
@@ -129,21 +172,28 @@ class Manifests:
     def _keep(self, state: Dict[str, Any]) -> Optional[int]:
         choice: Optional[int] = state["choice"].get("id")
         live = {int(it["id"]): it["kind"] for it in state["live"] if it["done"]}
-        there = {int(posixpath.basename(it)[len("record-"):-len(".manifest")]) for it in self._place.names()}
+        there = {_record_of(it) for it in self._place.names()}
+        if self._is_first:
+            self._sums.note_all()
         missing = [it for it in live if it == choice or it not in there or (self._is_first and self._differs(it))]
         missing.sort(key=lambda it: (it == choice, it))
         for nth, record in enumerate(missing, 1):
             # a checkpoint that is retained was the choice once, and before those behind it
             place, chosen = state["seq"] - len(missing) + nth, record == choice or live[record] == "checkpoint"
-            self._place.write(self._place.manifest(record), manifest_of(self._job, self._place, state, record, place=place, chosen=chosen))
+            text = manifest_of(self._job, self._place, state, record, sums=self._sums, place=place, chosen=chosen)
+            self._place.write(self._place.manifest(record), text)
+            self._sums.note(record, text)
+        self._sums.keep(live)
         for record in there.difference(live):
             self._place.remove(self._place.manifest(record))
         return choice
 
     def _differs(self, record: int) -> bool:
         """Whether a manifest that an earlier process has left is of a history that the service has lost since, or lacks payloads."""
-        left = parts_in(self._place.read(self._place.manifest(record)) or b"")
-        return left != {name: (it["files"], it["payload"].hex()) for name, it in _whole(self._job, record)["subtasks"].items()}
+        text = self._place.read(self._place.manifest(record)) or b""
+        left = parts_in(text)
+        lacks_sums = self._has_sums and len(sums_in(text)) != len(files_in(text))
+        return lacks_sums or left != {name: (it["files"], it["payload"].hex()) for name, it in _whole(self._job, record)["subtasks"].items()}
 
 
 def _whole(job: Any, record: int) -> Dict[str, Any]:
@@ -158,11 +208,11 @@ def _whole(job: Any, record: int) -> Dict[str, Any]:
     raise Gone
 
 
-def manifest_of(job: Any, storage: Any, state: Dict[str, Any], record: int, **more: Any) -> bytes:
+def manifest_of(job: Any, storage: Any, state: Dict[str, Any], record: int, *, sums: Optional[Sums] = None, **more: Any) -> bytes:
     """The text of the manifest of a complete record of a job, whose state was asked for before. `more` are members that differ. Raises Gone if the record or
     a file of it is not there any more."""
     whole = _whole(job, record)
-    subtasks = [_part(storage, vertex, index, whole["subtasks"][f"{vertex}.{index}"]) for vertex, index in _subtasks(whole["shape"])]
+    subtasks = [_part(storage, vertex, index, whole["subtasks"][f"{vertex}.{index}"], sums) for vertex, index in _subtasks(whole["shape"])]
     sizes = [size for it in subtasks for size in it["files"].values()]
     term, below = told_by(job, state)
     found = {
@@ -174,9 +224,11 @@ def manifest_of(job: Any, storage: Any, state: Dict[str, Any], record: int, **mo
     return sealed(found)
 
 
-def _part(storage: Any, vertex: int, index: int, state: Dict[str, Any]) -> Dict[str, Any]:
+def _part(storage: Any, vertex: int, index: int, state: Dict[str, Any], sums: Optional[Sums]) -> Dict[str, Any]:
     payload = {"payload": state["payload"].hex()} if state["payload"] else {}
-    return {"vertex": vertex, "index": index, "files": {str(file): storage.size(file) for file in state["files"]}, **payload}
+    files = {str(file): storage.size(file) for file in state["files"]}
+    checksums = {} if sums is None else sums.member(state["files"])
+    return {"vertex": vertex, "index": index, "files": files, **checksums, **payload}
 
 
 def _subtasks(shape: List[int]) -> Iterator[Tuple[int, int]]:

@@ -18,7 +18,9 @@ from relkvanu.errors import Error
 from relkvanu.jobs import LONGEST, lists_of
 from relkvanu.manifest import members
 from relkvanu.places import Gone, InBucket, Place, place
-from relkvanu.service_manifests import MARK, Below, Manifests, ServiceFolder, identity_of, imported_marker, manifest_of, service_bucket, service_folder
+from relkvanu.service_manifests import (
+    MARK, Below, Manifests, ServiceFolder, Sums, identity_of, imported_marker, manifest_of, service_bucket, service_folder,
+)
 from relkvanu.storage import NotThere, OtherJob
 from relkvanu.store import Carried, Store, StoreError
 
@@ -50,7 +52,7 @@ class Refused(Error):
 
 
 @dataclass(frozen=True)
-class Made:
+class Imported:
     """What a job goes on from."""
 
     record: int
@@ -82,7 +84,7 @@ def is_used(state: Dict[str, Any]) -> bool:
     return "id" in state["choice"] or any(state["files"][it] for it in ("in_use", "waiting", "taken")) or state["next_name"] not in (None, "1")
 
 
-def made(job: Any, calls: Sequence[Dict[str, Any]]) -> List[Dict[str, Any]]:
+def make_calls(job: Any, calls: Sequence[Dict[str, Any]]) -> List[Dict[str, Any]]:
     """Makes calls of which none may be refused."""
     answers: List[Dict[str, Any]] = []
     for some in lists_of(calls, MOST_CALLS):
@@ -109,7 +111,7 @@ class Making:
         """Uses up numbers of records that somebody was told."""
         for begin in range(next, end, MOST_CALLS // 2):
             numbers = range(begin, min(begin + MOST_CALLS // 2, end))
-            made(self.job, [call for it in numbers for call in (self.client.savepoint(), self.client.decline(it, "0.0"))])
+            make_calls(self.job, [call for it in numbers for call in (self.client.savepoint(), self.client.decline(it, "0.0"))])
 
     def acks(self, record: int, manifest: Dict[str, Any]) -> Iterator[Dict[str, Any]]:
         for it in manifest["subtasks"]:
@@ -132,11 +134,11 @@ class Making:
 
     def complete(self, record: int, manifest: Dict[str, Any]) -> None:
         """The subtasks of a record acknowledge one that was triggered, with their files in the manifest's order: if need be a savepoint has the files before."""
-        before = made(self.job, [self.client.savepoint()]) if self.is_mixed(manifest) else []
+        before = make_calls(self.job, [self.client.savepoint()]) if self.is_mixed(manifest) else []
         for it in before:
             self.acknowledge(it["id"], manifest)
         self.acknowledge(record, manifest)
-        made(self.job, [self.client.dispose(it["id"]) for it in before])
+        make_calls(self.job, [self.client.dispose(it["id"]) for it in before])
 
     def acknowledge(self, record: int, manifest: Dict[str, Any]) -> None:
         some: List[Dict[str, Any]] = []
@@ -145,8 +147,8 @@ class Making:
             some.append(ack)
             weight += len(ack["fresh"]) + len(ack["reused"]) + len(ack.get("payload", "")) // OF_FILE
             if weight >= MOST_FILES or len(some) == MOST_CALLS:
-                last, some, weight = made(self.job, some)[-1], [], 0
-        last = made(self.job, some)[-1] if some else last
+                last, some, weight = make_calls(self.job, some)[-1], [], 0
+        last = make_calls(self.job, some)[-1] if some else last
         if last.get("ack") != "completed":
             raise Refused(f"the manifest of record {record} lacks a subtask of its shape")
 
@@ -154,17 +156,17 @@ class Making:
         """The record that the job goes on from, under its own number."""
         is_savepoint = manifest["kind"] == "savepoint"
         self.pass_numbers(1, record)
-        (told,) = made(self.job, [self.client.savepoint() if is_savepoint else self.client.trigger()])
+        (told,) = make_calls(self.job, [self.client.savepoint() if is_savepoint else self.client.trigger()])
         if told["id"] != record:
             raise Refused(f"the next record is {told['id']}, not {record}: another program calls")
         self.pass_numbers(record + 1, below)
         self.complete(record, manifest)
         if is_savepoint:
-            made(self.job, [self.client.restore(record)])
+            make_calls(self.job, [self.client.restore(record)])
 
     def savepoint(self, manifest: Dict[str, Any]) -> None:
         """Another savepoint lives on, with its own shape."""
-        _, told = made(self.job, [self.client.restore("latest", manifest["shape"]), self.client.savepoint()])
+        _, told = make_calls(self.job, [self.client.restore("latest", manifest["shape"]), self.client.savepoint()])
         self.complete(told["id"], manifest)
 
     def names(self, below: Below) -> None:
@@ -250,7 +252,7 @@ class Recovery:
         self.client, self.service, self.name, self.source = client, service, name, source
         self.job = service.job(name)
 
-    def run(self, record: int) -> Made:
+    def run(self, record: int) -> Imported:
         with locked(self.source):
             marker = self.source.text()
             if marker is None:
@@ -283,7 +285,7 @@ class Recovery:
         if is_making(state):
             forget(self.source, self.identity())
         if state["mode"] != "cancelled":
-            made(self.job, [self.client.cancel()])
+            make_calls(self.job, [self.client.cancel()])
         self.service.delete(self.name, abandon=True)
 
     def make(self, found: Found) -> None:
@@ -295,27 +297,28 @@ class Recovery:
         for it in found.savepoints:
             making.savepoint(it)
         if found.savepoints:
-            made(self.job, [self.client.restore("latest", choice["shape"])])
+            make_calls(self.job, [self.client.restore("latest", choice["shape"])])
         making.names(found.below)
         self.keep(found)
         self.source.write(self.source.marker, self.job.marker()[1].encode())
 
     def keep(self, found: Found) -> None:
         """The manifests of the new job, beside those of the old one."""
-        state = self.job.state()
+        state, sums = self.job.state(), Sums(self.source, reads=False)
+        sums.note_all()
         self.source.of(self.identity())
         more = {"settings": found.choice["settings"], "origin": found.choice.get("origin", found.choice["job"])}
         for record in [it["id"] for it in state["live"] if it["done"]]:
-            self.source.write(self.source.manifest(record), manifest_of(self.job, self.source, state, record, **more))
+            self.source.write(self.source.manifest(record), manifest_of(self.job, self.source, state, record, sums=sums, **more))
 
-    def end(self, found: Found) -> Made:
+    def end(self, found: Found) -> Imported:
         """The manifests of the old job go. With its settings the new one is whole."""
         choice, owner = found.choice, self.identity()
         for it in {choice["job"], choice.get("origin", owner), identity_of(imported_marker(self.source.marker))} - {owner}:
             forget(self.source, it)
         self.job.set(**choice["settings"])
-        return Made(found.record, choice["kind"] == "savepoint", choice["files"], choice["bytes"], len(found.savepoints), found.passed,
-                    max(found.below.number, found.record + 1))
+        return Imported(found.record, choice["kind"] == "savepoint", choice["files"], choice["bytes"], len(found.savepoints), found.passed,
+                        max(found.below.number, found.record + 1))
 
 
 # To carry a record out of a job of the service, and into one.
@@ -326,13 +329,16 @@ def export(job: Any, source: Any, target: Place, record: int) -> Carried:
     check_owner(job, source)
     if not target.is_empty():
         raise StoreError("Present", f"{target.url}: it is there, and is not empty", False)
+    source.of(identity_of(job.marker()[1].encode()))
+    sums = Sums(source, reads=False)
+    sums.note_all()
     for _ in range(1 if record else TRIES):
         state = job.state()
         id = record or state["choice"].get("id")
         if id is None:
             raise StoreError("Absent", f"{job.name}: no record is complete", False)
         with contextlib.suppress(Gone):
-            text = manifest_of(job, source, state, id)
+            text = manifest_of(job, source, state, id, sums=sums)
             size = manifests.carry_to(source, target, id, text, None)
             return Carried(id, members(text)["kind"] == "savepoint", members(text)["files"], size)
     raise StoreError("Absent", f"{job.name}: record {record} has ended, or is not complete" if record else f"{job.name}: its records end too soon", False)
@@ -346,7 +352,7 @@ def check_owner(job: Any, source: Any) -> None:
         raise OtherJob(17, "it names another job, or this one as another database has it", f"{source.url}/{source.marker}")
 
 
-def import_job(recovery: Recovery, source: Place, record: int, claim: bool) -> Made:
+def import_job(recovery: Recovery, source: Place, record: int, claim: bool) -> Imported:
     """Makes a job of a record in `source`, which an export has made, or which is the storage of a durable job. A claim fences that one before it chooses the
     record, whose files leave `source` last of all."""
     target = recovery.source
@@ -380,7 +386,7 @@ def carry_in(recovery: Recovery, source: Place, record: int, claim: bool) -> Non
     manifests.carry(source, target, record, owner)
 
 
-def goes_on(recovery: Recovery, source: Place) -> Made:
+def goes_on(recovery: Recovery, source: Place) -> Imported:
     """A claim whose job may be there already, as the same call has left it."""
     try:
         return recovery.run(0)
@@ -393,7 +399,7 @@ def goes_on(recovery: Recovery, source: Place) -> Made:
         if record is None or recovery.identity() != identity_of(marker):
             raise
         it = members(manifests.manifests_of(recovery.source)[record])
-        return Made(record, it["kind"] == "savepoint", it["files"], it["bytes"], 0, 0, it["below"]["number"])
+        return Imported(record, it["kind"] == "savepoint", it["files"], it["bytes"], 0, 0, it["below"]["number"])
 
 
 # The commands.
@@ -420,19 +426,11 @@ def parser() -> argparse.ArgumentParser:
             command.add_argument(word)
         if name in ("import", "recover"):
             command.add_argument("--record", type=int, default=0, help="another record than the last one")
+        if name == "keep":
+            command.add_argument("--checksums", action="store_true", help="manifests have a checksum of each file, which is read once")
         if name == "import":
             command.add_argument("--claim", action="store_true", help="the files leave SOURCE, whose job is refused from then on")
     return it
-
-
-def tell(job: str, found: Made) -> None:
-    kind = "savepoint" if found.is_savepoint else "checkpoint"
-    print(f"{job} goes on from {kind} {found.record}, which has {found.files} files of {found.bytes} bytes")
-    print(f"later records have numbers from {found.next_number} on")
-    if found.savepoints:
-        print(f"{found.savepoints} other savepoints live on, under new numbers")
-    if found.passed:
-        print(f"{found.passed} manifests were passed over, since they are damaged or lack files")
 
 
 def module(name: str, what: str) -> Any:
@@ -483,7 +481,7 @@ class Given:
         return place(url, self.s3() if url.startswith("s3://") else None)
 
     def keep(self) -> None:
-        kept = Manifests(self.job, self.files()).keep()
+        kept = Manifests(self.job, self.files(), self.given.checksums).keep()
         print("no record is complete" if kept is None else f"record {kept} has a manifest")
 
     def export(self) -> None:
@@ -501,9 +499,9 @@ class Given:
         elif it.command == "export":
             self.export()
         elif it.command == "recover":
-            tell(it.job, self.recovery().run(it.record))
+            manifests.tell(it.job, self.recovery().run(it.record))
         else:
-            tell(it.job, import_job(self.recovery(), self.place(it.source), it.record, it.claim))
+            manifests.tell(it.job, import_job(self.recovery(), self.place(it.source), it.record, it.claim))
 
 
 def run(given: argparse.Namespace) -> None:

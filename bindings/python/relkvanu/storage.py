@@ -89,7 +89,7 @@ class Marker(NamedTuple):
     text: str
 
 
-class Names:
+class FileNames:
     """The names of files: a number between a prefix and a suffix."""
 
     def __init__(self, prefix: str, suffix: str) -> None:
@@ -144,9 +144,9 @@ class Folder:
 
     def __init__(self, path: Union[str, "os.PathLike[str]"], job: str, is_new: bool = False, prefix: str = "", suffix: str = "",
                  marker: Optional[Marker] = None) -> None:
-        self.path, self.job, self.names = os.fspath(path), job, Names(prefix, suffix)
+        self.path, self.job, self.names = os.fspath(path), job, FileNames(prefix, suffix)
         self.marker = self.names.marker(job) if marker is None else marker
-        self._part = Names(prefix, suffix + PART)
+        self._part = FileNames(prefix, suffix + PART)
         try:
             self._folder = os.open(self.path, os.O_RDONLY | os.O_DIRECTORY | os.O_CLOEXEC)
         except OSError as error:

@@ -4,6 +4,7 @@ librelkvanu-store.so.0 comes from where the package finds librelkvanu.so.0. Othe
 each of them may call, and the calls of all that wait are committed together. The handler of a signal runs while the main thread waits; if it raises,
 the call goes on to its end, and nobody is told its outcome. docs/DURABLE.md has an engine.
 """
+import collections
 import contextlib
 import ctypes
 import enum
@@ -12,7 +13,7 @@ import pathlib
 import threading
 import time
 from dataclasses import dataclass, field
-from typing import Any, Callable, Container, ContextManager, Dict, Iterable, List, NoReturn, Optional, Protocol, Sequence, Set, Tuple, Union
+from typing import Any, Callable, Container, ContextManager, DefaultDict, Dict, Iterable, List, NoReturn, Optional, Protocol, Sequence, Set, Tuple, Union
 
 from relkvanu import header, store_header
 from relkvanu.coordinator import (
@@ -123,6 +124,17 @@ class Record:
     bytes: int
     missing: int  # files that are not there, or have another length
     damage: Optional[str] = None
+    unknown: int = 0  # files of which the manifest has no checksum
+    changed: int = 0  # of check_records(): files that have another checksum, or can't be read
+
+
+class FileFault(enum.IntEnum):
+    """What is wrong with a file of a record."""
+
+    MISSING = store_header.FILE_MISSING
+    LENGTH = store_header.FILE_LENGTH  # another one than the manifest says
+    CHANGED = store_header.FILE_CHANGED  # it has another checksum
+    UNREADABLE = store_header.FILE_UNREADABLE
 
 
 class Manifests(Protocol):
@@ -311,6 +323,11 @@ def _check(status: int, message: bytes) -> None:
         raise StoreError(store_header.STATUSES[status], message.decode(errors="replace"), False, ctypes.get_errno())
 
 
+def _record(it: Any) -> Record:
+    damage = None if it.status == store_header.OK else store_header.STATUSES[it.status]
+    return Record(it.id, it.is_savepoint, it.is_of_job, it.is_next, it.written, it.files, it.bytes, it.missing, damage, it.unknown, it.changed)
+
+
 def _why() -> str:
     text = ctypes.create_string_buffer(512)
     _library.relkvanu_store_why(text, len(text))
@@ -494,6 +511,7 @@ class Store:
         earlier_image: bool = False,
         backup: bool = False,
         manifests: bool = False,
+        checksums: bool = False,
         patience: int = 0,
         image_calls: Optional[int] = 10_000,
         most_ahead: int = 0,
@@ -501,7 +519,8 @@ class Store:
         """Recovers the job at `path`, or makes one if `create` says so. `storage` is the folder of the state files, which has to exist.
         `image_calls` is None for no images. The settings are those of a new job; `report.settings_differ` compares them.
         `backup` opens a backup, once: see backup().
-        With `manifests` the storage folder gets a manifest of each complete record, of which recover() makes the job again if its file is lost."""
+        With `manifests` the storage folder gets a manifest of each complete record, of which recover() makes the job again if its file is lost.
+        With `checksums` too the manifests have a checksum of each file, for which the store reads it once: see check_records()."""
         self._store = ctypes.c_void_p()
         self._process = os.getpid()
         self._used: Set[object] = set()  # who is in the library; add and discard are one step each, so an interrupt leaves nobody here
@@ -518,7 +537,7 @@ class Store:
         words, found = _words(shape), store_header.relkvanu_store_report()
         options = store_header.relkvanu_store_options(
             flags | earlier_image * store_header.EARLIER_IMAGE | backup * store_header.BACKUP
-            | manifests * store_header.MANIFESTS, _within(patience, 32),
+            | manifests * store_header.MANIFESTS | checksums * store_header.CHECKSUMS, _within(patience, 32),
             store_header.NO_IMAGES if image_calls is None else _u64(image_calls), _u64(most_ahead),
             None if storage is None else _bytes(storage), _settings(settings), ctypes.cast(words, ctypes.POINTER(U64)), len(shape))
         status = _library.relkvanu_store_open(ctypes.byref(self._store), _bytes(path), ctypes.byref(options), ctypes.byref(found))
@@ -1062,14 +1081,30 @@ class Store:
         message, records = ctypes.create_string_buffer(512), []
 
         def note(_: object, found: Any) -> bool:
-            it = found.contents
-            damage = None if it.status == store_header.OK else store_header.STATUSES[it.status]
-            records.append(Record(it.id, it.is_savepoint, it.is_of_job, it.is_next, it.written, it.files, it.bytes, it.missing, damage))
+            records.append(_record(found.contents))
             return True
 
         each = store_header.relkvanu_store_each_record(note)
         _check(_library.relkvanu_store_records(_bytes(storage), each, None, message, len(message)), message.value)
         return records
+
+    @staticmethod
+    def check_records(storage: Path) -> List[Tuple[Record, Dict[int, FileFault]]]:
+        """The same, and reads the files: each one of which a manifest has a checksum, once. Returns for each record what is wrong with its files."""
+        message, records = ctypes.create_string_buffer(512), []
+        faults: DefaultDict[int, Dict[int, FileFault]] = collections.defaultdict(dict)
+
+        def note(_: object, found: Any) -> bool:
+            records.append(_record(found.contents))
+            return True
+
+        def note_fault(_: object, record: int, file: int, fault: int) -> bool:
+            faults[record][file] = FileFault(fault)
+            return True
+
+        each, each_fault = store_header.relkvanu_store_each_record(note), store_header.relkvanu_store_each_fault(note_fault)
+        _check(_library.relkvanu_store_check_records(_bytes(storage), each, each_fault, None, message, len(message)), message.value)
+        return [(it, faults.get(it.id, {})) for it in records]
 
     def job(self) -> Tuple[Settings, Tuple[int, ...]]:
         """The settings and the shape that the job has now: for after an opening whose report says `settings_differ`, or before configure(). Makes an image."""

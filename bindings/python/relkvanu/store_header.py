@@ -38,6 +38,7 @@ ADOPT = 4
 EARLIER_IMAGE = 8
 BACKUP = 32
 MANIFESTS = 64
+CHECKSUMS = 128
 NOW = (1 << 64) - 1
 NO_IMAGES = (1 << 64) - 1
 MOST_CALLS = 4096
@@ -68,6 +69,10 @@ STOP_RESTORED = 3
 STOP_CANCELLED = 4
 STOP_FAILED = 5
 ACCEPT_PUBLISHED = 1
+FILE_MISSING = 1
+FILE_LENGTH = 2
+FILE_CHANGED = 3
+FILE_UNREADABLE = 4
 
 # The names of the statuses.
 STATUSES: Dict[int, str] = {
@@ -242,7 +247,9 @@ class relkvanu_store_record(Structure):
         ("files", c_uint64),
         ("bytes", c_uint64),
         ("missing", c_uint64),
-        ("reserved", c_uint64 * 4),
+        ("unknown", c_uint64),
+        ("changed", c_uint64),
+        ("reserved", c_uint64 * 2),
     ]
 
 
@@ -310,6 +317,7 @@ relkvanu_store_put_named = CFUNCTYPE(c_int, c_void_p, c_char_p, c_void_p, c_size
 relkvanu_store_remove_named = CFUNCTYPE(c_int, c_void_p, c_char_p)
 relkvanu_store_list_named = CFUNCTYPE(c_int, c_void_p, relkvanu_store_each_name, c_void_p)
 relkvanu_store_each_record = CFUNCTYPE(c_bool, c_void_p, POINTER(relkvanu_store_record))
+relkvanu_store_each_fault = CFUNCTYPE(c_bool, c_void_p, c_uint64, c_uint64, c_uint32)
 
 # Of each function, its result and its parameters. A store is a pointer that nobody looks into.
 FUNCTIONS: Dict[str, Tuple[Any, List[Any]]] = {
@@ -383,6 +391,7 @@ FUNCTIONS: Dict[str, Tuple[Any, List[Any]]] = {
     "relkvanu_store_backup": (c_int, [c_void_p, c_char_p, c_char_p, c_size_t]),
     "relkvanu_store_keep_manifests": (c_int, [c_void_p, relkvanu_store_check_place, relkvanu_store_put_named, relkvanu_store_remove_named, relkvanu_store_list_named, c_void_p]),
     "relkvanu_store_records": (c_int, [c_char_p, relkvanu_store_each_record, c_void_p, c_char_p, c_size_t]),
+    "relkvanu_store_check_records": (c_int, [c_char_p, relkvanu_store_each_record, relkvanu_store_each_fault, c_void_p, c_char_p, c_size_t]),
     "relkvanu_store_recover": (c_int, [c_char_p, c_char_p, c_uint64, POINTER(relkvanu_store_recovered)]),
     "relkvanu_store_recover_listed": (c_int, [c_char_p, c_char_p, c_uint64, POINTER(relkvanu_store_recovered)]),
     "relkvanu_store_export": (c_int, [c_char_p, c_uint64, c_char_p, POINTER(relkvanu_store_carried)]),

@@ -23,6 +23,7 @@ import streamz.core
 from relkvanu.coordinator import Error, Fenced, OutOfMemory, Refused, Settings
 from relkvanu.graphs import GraphError as GraphError  # also under this name
 from relkvanu.graphs import nodes_of, stateful_here
+from relkvanu.places import sync
 from relkvanu.replies import AckCompleted, DeclineFailed, Failed, RestoredCheckpoint, RestoredSavepoint, SavepointTriggered, Triggered
 from relkvanu.store import Call, Made, Step, Store, StoreError
 
@@ -49,18 +50,10 @@ def _make_folders(path: pathlib.Path) -> None:
     path = pathlib.Path(os.path.abspath(path))
     missing = list(itertools.takewhile(lambda it: not it.is_dir(), (path, *path.parents)))
     with contextlib.suppress(PermissionError):
-        _sync((missing[-1].parent if missing else path).parent)
+        sync((missing[-1].parent if missing else path).parent)
     for folder in reversed(missing):
         folder.mkdir(exist_ok=True)
-        _sync(folder.parent)
-
-
-def _sync(folder: pathlib.Path) -> None:
-    to = os.open(folder, os.O_RDONLY | os.O_DIRECTORY)
-    try:
-        os.fsync(to)
-    finally:
-        os.close(to)
+        sync(folder.parent)
 
 
 class Checkpoints:

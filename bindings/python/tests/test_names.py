@@ -2,11 +2,14 @@
 import pathlib
 import unittest
 
+import test_rows
+
 from relkvanu import (
-    AckCompleted, AckLate, BadArgument, Cancelled, Closed, Coordinator, DeclineFailed, Fenced, Forfeited, Named, Refused, Reserved, RestoredCheckpoint,
-    Settings, Taken, Triggered, calls, lines,
+    AckCompleted, AckLate, BadArgument, Cancelled, Closed, Coordinator, DeclineFailed, Fenced, Refused, RestoredCheckpoint, Settings, Taken, Triggered,
+    calls, lines,
 )
 
+TOP = pathlib.Path(__file__).resolve().parents[3]
 SETTINGS = Settings(interval=1000)
 NAMES_END = 1 << 62
 
@@ -43,25 +46,13 @@ class Names(unittest.TestCase):
         with Coordinator.open_fenced(SETTINGS, [1], 0, 7, 5) as job:
             self.assertEqual((job.term().term, job.term().next_name, job.tick(1000).id), (1, 5, 7))
 
-    def test_an_acknowledgement_spends_its_names(self):
-        with self.with_checkpoint_1() as job:
-            self.fenced("Spent", lambda: job.ack_in(1, 1000, 1, 0, 0, [6, 5]), 5)
-            self.fenced("NeverReserved", lambda: job.ack_in(1, 2000, 2, 0, 0, [7, 8]), 8)
-            self.fenced("OldTerm", lambda: job.ack(2000, 2, 0, 0, [7]))
-            self.fenced("OldTerm", lambda: job.decline(2000, 2, 0, 0))
-            self.fenced("OldTerm", lambda: job.ack_in(2, 2000, 2, 0, 0, [7]))
-            self.assertEqual(job.ack_in(1, 2000, 2, 0, 0, [7], [5]), AckCompleted(dropped=1, released=1))
-
     def test_a_restore_ends_the_term(self):
         files = [9, 7, 4, 5, 6, 8, 7]
         with self.with_checkpoint_1() as job:
             self.assertEqual(job.garbage(files), ((4,), (9, 8)))
             self.assertEqual(job.restore(2100), RestoredCheckpoint(id=1, released=0))
             self.assertEqual(job.term(), (2, 8))
-            for call in (
-                lambda: job.ack_in(1, 2200, 2, 0, 0, [7]), lambda: job.ack_in(1, 2200, 2, 0, 0, []), lambda: job.decline_in(1, 2200, 2, 0, 0),
-                lambda: job.reserve(1, 1), lambda: job.forfeit(1, files),
-            ):
+            for call in (lambda: job.ack_in(1, 2200, 2, 0, 0, [7]), lambda: job.decline_in(1, 2200, 2, 0, 0), lambda: job.forfeit(1, files)):
                 self.fenced("OldTerm", call)
             self.fenced("Spent", lambda: job.ack_in(2, 2200, 2, 0, 0, [7]), 7)
             self.assertEqual((job.term(), job.moment(), job.file_counts().in_use), ((2, 8), 2100, 2))
@@ -100,21 +91,12 @@ class Names(unittest.TestCase):
             self.assertEqual(job.term(), (2, 8))
             self.fenced("Ended", lambda: job.reserve(2, 1))
 
-    def test_how_many_names_are_reserved(self):
-        with Coordinator.open_fenced(SETTINGS, [1], 0, 1, NAMES_END - 1) as job:
-            self.fenced("BadCount", lambda: job.reserve(1, 0))
-            self.fenced("BadCount", lambda: job.reserve(1, 65537))
-            self.fenced("NamesUsedUp", lambda: job.reserve(1, 65536))
-            self.assertEqual(list(job.reserve(1, 1)), [NAMES_END - 1])
-            self.fenced("NamesUsedUp", lambda: job.reserve(1, 1))
-
     def test_a_fence_is_above_each_known_file(self):
         with Coordinator(SETTINGS, [1], 0) as job:
             job.tick(1000)
             job.ack(1000, 1, 0, 0, [5])
             self.bad("BadName", lambda: job.fence(0))
             self.fenced("NameInUse", lambda: job.fence(5))
-            self.fenced("NameInUse", lambda: job.fence(4))
             self.fenced("NoNames", job.term)
             job.fence(6)
             self.assertEqual(job.term(), (1, 6))
@@ -165,35 +147,37 @@ class Names(unittest.TestCase):
 
 
 class Logs(unittest.TestCase):
-    """The example of docs/LOGS.md, whose answers stand beside its lines."""
+    """The example of docs/LOGS.md and the logs of examples/logs, whose answers stand beside their lines."""
 
     @staticmethod
-    def told(job, line):
+    def printed(job, line):
+        """What a line prints: a second line has the term that began."""
         try:
-            reply = job.line(line.encode())
+            told = test_rows.told(job, 0, line.encode())
         except Fenced as error:
-            return [f"refused {error}" if line.startswith("fence") else f"fenced {error}"]
-        texts = {
-            Triggered: "tick expired {0.expired} triggered {0.id}", AckCompleted: "ack completed {0.dropped} {0.released}", AckLate: "ack late {0.handed_out}",
-            Reserved: "reserved {0.first}", Forfeited: "forfeited", RestoredCheckpoint: "restored checkpoint {0.id} {0.released}",
-            Cancelled: "cancelled {0.dropped} {0.released}",
-        }
-        if isinstance(reply, Taken):
-            return [" ".join(["take", *map(str, reply.files)])]
-        told = [] if isinstance(reply, Named) else [texts[type(reply)].format(reply)]
-        return told + ([f"term {job.term().term}"] if isinstance(reply, (Named, RestoredCheckpoint, Cancelled)) else [])
+            return [f"refused {error}" if error.name in ("NoNames", "HasNames", "NameInUse") else f"fenced {error}"]
+        return told + [f"term {job.term().term}" for text in told if text.startswith(("restored ", "cancelled "))]
 
-    def test_the_example(self):
-        page = (pathlib.Path(__file__).resolve().parents[3] / "docs/LOGS.md").read_text()
-        example = page.partition("## 5. An example")[2].split("```")[1].strip().split("\n")
-        settings, shape, start = (lines.line_says(line.encode()) for line in example[:3])
+    def replay(self, log):
+        calls_of_log = [it for it in log.strip().split("\n") if not it.startswith("#")]
+        settings, shape, start = (lines.line_says(line.encode()) for line in calls_of_log[:3])
         wanted, found = [], []
         with Coordinator(settings, shape.shape, start.now) as job:
-            for line, _, answer in (it.partition("->") for it in example[3:]):
+            for line, _, answer in (it.partition("->") for it in calls_of_log[3:]):
                 wanted.append(answer.strip())
-                found += self.told(job, line.strip()) if line.strip() else []
+                found += self.printed(job, line.strip()) if line.strip() else []
         self.assertEqual(found, wanted)
-        self.assertGreater(len(found), 15)
+        self.assertGreater(len(found), 7)
+
+    def test_the_example_of_the_page(self):
+        self.replay((TOP / "docs/LOGS.md").read_text().partition("## 5. An example")[2].split("```")[1])
+
+    def test_logs(self):
+        logs = sorted((TOP / "examples/logs").glob("*.log"))
+        self.assertGreater(len(logs), 5)
+        for log in logs:
+            with self.subTest(log.stem):
+                self.replay(log.read_text())
 
 
 if __name__ == "__main__":

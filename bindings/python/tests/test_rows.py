@@ -10,7 +10,7 @@ import unittest
 
 from relkvanu import (
     AckCompleted, AckLate, AckPending, BadArgument, BadLine, Cancelled, Coordinator, Counted, DeclineAborted, DeclineFailed,
-    DeclineLate, Deleted, Disposed, Failed, FileCounts, HeldAtOnce, HeldInterval, HeldPause, Refused, RestoredCheckpoint,
+    DeclineLate, Deleted, Disposed, Failed, FileCounts, HeldAtOnce, HeldInterval, HeldPause, Named, Refused, Reserved, RestoredCheckpoint,
     RestoredFresh, RestoredSavepoint, SavepointTriggered, Settings, Shown, Taken, TooShort, Triggered, Undeleted, calls, lines,
 )
 
@@ -39,6 +39,8 @@ TEXTS = {
     Undeleted: "undeleted {0.file}",
     Shown: "{0.json}",
     Counted: "count {0.file} {0.uses}",
+    Named: "term 1",
+    Reserved: "reserved {0.first}",
 }
 
 

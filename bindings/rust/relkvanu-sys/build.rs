@@ -5,10 +5,7 @@ use std::path::{Path, PathBuf};
 use std::process::Command;
 
 fn installed() -> Option<PathBuf> {
-    let told = Command::new("pkg-config")
-        .args(["--variable=libdir", "relkvanu"])
-        .output()
-        .ok()?;
+    let told = Command::new("pkg-config").args(["--variable=libdir", "relkvanu"]).output().ok()?;
     let text = String::from_utf8(told.stdout).ok()?;
     told.status.success().then(|| PathBuf::from(text.trim()))
 }
@@ -17,10 +14,7 @@ fn folder() -> Option<PathBuf> {
     let built = Path::new(env!("CARGO_MANIFEST_DIR")).join("../../../build");
     let named = env::var_os("RELKVANU_LIB").map(PathBuf::from);
     let own = built.join("librelkvanu.a").is_file().then_some(built);
-    named
-        .or(own)
-        .or_else(installed)
-        .filter(|folder| folder.join("librelkvanu.a").is_file())
+    named.or(own).or_else(installed).filter(|folder| folder.join("librelkvanu.a").is_file())
 }
 
 fn main() {
@@ -29,10 +23,7 @@ fn main() {
         eprintln!("librelkvanu.a is not found: run make, or set RELKVANU_LIB to its folder");
         std::process::exit(1);
     };
-    println!(
-        "cargo:rerun-if-changed={}",
-        folder.join("librelkvanu.a").display()
-    );
+    println!("cargo:rerun-if-changed={}", folder.join("librelkvanu.a").display());
     println!("cargo:rustc-link-search=native={}", folder.display());
     if env::var_os("CARGO_FEATURE_STORE").is_some() {
         println!("cargo:rustc-link-lib=static=relkvanu-store");

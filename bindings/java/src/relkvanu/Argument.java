@@ -43,6 +43,6 @@ public enum Argument {
      * {@return the name in scripts, such as "AlreadyOpen"}
      */
     public String text() {
-        return Names.inScripts(this);
+        return ScriptNames.of(this);
     }
 }

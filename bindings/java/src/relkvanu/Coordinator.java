@@ -362,6 +362,19 @@ public final class Coordinator extends Reads implements AutoCloseable, Outbox {
     }
 
     /**
+     * Restores a job that goes on from an older image, from its latest record. It is the first call of such a job. Throws {@code Fenced}
+     * with {@code NO_NAMES} or {@code TERMS_USED_UP}, and {@code BadArgument} with {@code BAD_NAME}.
+     *
+     * @param now the moment
+     * @param term the greatest term that any task was told: the next one is above it
+     * @param firstName the first name that it gives out from now on, above each that was given out
+     * @return the record
+     */
+    public Reply.Restore advance(long now, long term, long firstName) {
+        return (Reply.Restore) timed(now, (at, out) -> Native.advance(at, now, term, firstName, out));
+    }
+
+    /**
      * {@link #ack} of a task of a term. If it is accepted, it spends the names of the fresh files. The same acknowledgement once more throws
      * {@code Fenced} with {@code SPENT}, if it has fresh files: a task deletes no file for that answer.
      *

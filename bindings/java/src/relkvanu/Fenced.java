@@ -43,7 +43,7 @@ public enum Fenced {
      * {@return the name in scripts, such as "OldTerm"}
      */
     public String text() {
-        return Names.inScripts(this);
+        return ScriptNames.of(this);
     }
 
     /** Whether an answer names the file that is to blame. */

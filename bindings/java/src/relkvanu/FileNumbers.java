@@ -30,7 +30,7 @@ public final class FileNumbers {
      *
      * @param text the digits
      * @return the number
-     * @throws NumberFormatException if it is none, or is above 2<sup>64</sup> - 1
+     * @throws NumberFormatException if it is no number, or is above 2<sup>64</sup> - 1
      */
     public static long parse(String text) {
         return Long.parseUnsignedLong(text);

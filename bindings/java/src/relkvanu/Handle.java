@@ -159,7 +159,7 @@ final class Handle implements Runnable {
             calls++;
             called.signalAll();
             Native.line(open(), line, NONE, out);
-            return out[0] == Header.TOO_SHORT ? Optional.of(withRoom(line, most, out[2])) : told(NONE);
+            return out[0] == Header.TOO_SHORT ? Optional.of(withRoom(line, most, out[2])) : replyOf(NONE);
         } finally {
             lock.unlock();
         }
@@ -175,10 +175,10 @@ final class Handle implements Runnable {
         }
         long[] files = new long[(int) places];
         Native.line(open(), line, files, out);
-        return told(files).orElseThrow();
+        return replyOf(files).orElseThrow();
     }
 
-    private Optional<Reply> told(long[] files) {
+    private Optional<Reply> replyOf(long[] files) {
         Answers.check(out);
         return switch ((int) out[1]) {
             case Header.SKIPPED -> Optional.empty();

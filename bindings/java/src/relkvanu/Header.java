@@ -245,15 +245,15 @@ final class Header {
     static final int CALL_UNDELETED = 10;
     static final int CALL_SHOW = 11;
     static final int CALL_COUNT = 12;
-    /** relkvanu_fence */
+    /** the job gives out names from here on */
     static final int CALL_FENCE = 13;
-    /** relkvanu_reserve */
+    /** a task reserves names */
     static final int CALL_RESERVE = 14;
-    /** relkvanu_forfeit */
+    /** a task gives up names */
     static final int CALL_FORFEIT = 15;
     static final int CALL_TRIGGER = 16;
     static final int CALL_CONFIGURE = 17;
-    /** relkvanu_advance */
+    /** the job goes on above the terms and names that were told */
     static final int CALL_ADVANCE = 18;
     /** process the element now */
     static final int STEP_PROCESS = 1;

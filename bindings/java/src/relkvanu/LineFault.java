@@ -35,6 +35,6 @@ public enum LineFault {
      * {@return the name in scripts, such as "TooLong"}
      */
     public String text() {
-        return Names.inScripts(this);
+        return ScriptNames.of(this);
     }
 }

@@ -3,7 +3,9 @@ package relkvanu;
 import java.nio.file.Path;
 import java.util.ArrayList;
 import java.util.List;
+import java.util.Map;
 import java.util.Optional;
+import java.util.TreeMap;
 
 /**
  * What an operator does with manifests ({@link StoreOptions#withManifests}): a job that lost its file is made again from its storage folder, and a record is
@@ -27,6 +29,33 @@ public final class Manifests {
             records.add(record(found[0], at));
         }
         return records;
+    }
+
+    /**
+     * {@return the same, with what is wrong with their files} Each file of which a manifest has a checksum is read, once.
+     *
+     * @param folder the storage folder, or an exported one
+     */
+    public static List<CheckedRecord> checkRecords(Path folder) {
+        StoreLibrary.need();
+        long[][] found = new long[2][];
+        byte[] message = new byte[StoreNative.MESSAGE];
+        check(StoreNative.checkRecords(Store.bytes(folder), found, message), message);
+        List<CheckedRecord> records = new ArrayList<>();
+        for (int at = 0; at < found[0].length; at += StoreNative.RECORD) {
+            records.add(new CheckedRecord(record(found[0], at), found[0][at + StoreNative.RECORD - 1], faultsOf(found[1], found[0][at])));
+        }
+        return records;
+    }
+
+    private static Map<Long, FileFault> faultsOf(long[] faults, long record) {
+        Map<Long, FileFault> found = new TreeMap<>();
+        for (int at = 0; at < faults.length; at += StoreNative.FAULT) {
+            if (faults[at] == record) {
+                found.put(faults[at + 1], FileFault.of((int) faults[at + 2]));
+            }
+        }
+        return found;
     }
 
     private static StoredRecord record(long[] it, int at) {

@@ -55,7 +55,7 @@ public enum Refusal {
      * {@return the name in scripts, such as "MomentTooLarge"}
      */
     public String text() {
-        return Names.inScripts(this);
+        return ScriptNames.of(this);
     }
 
     /** Whether an answer names the file that is to blame. */

@@ -19,11 +19,11 @@ final class StorageCalls {
     }
 
     int check() {
-        return asked(storage::check);
+        return statusOf(storage::check);
     }
 
     int delete(long[] files, byte[] told) {
-        return asked(() -> {
+        return statusOf(() -> {
             Storage.Deletion[] found = storage.delete(files);
             for (int place = 0; place < told.length; place++) {
                 told[place] = (byte) found[place].ordinal();
@@ -34,7 +34,7 @@ final class StorageCalls {
     /** A listing, whose pages go to the library by a turn. */
     int list(long most, long turn) {
         boolean[] isEnded = {false};
-        int status = asked(() -> storage.list((int) most, page -> {
+        int status = statusOf(() -> storage.list((int) most, page -> {
             isEnded[0] = !given(page, turn);
             return !isEnded[0];
         }));
@@ -52,7 +52,7 @@ final class StorageCalls {
     }
 
     /** The status of what the storage says. After an exception that is none of a storage it is asked nothing more. */
-    private int asked(Ask it) {
+    private int statusOf(Ask it) {
         if (thrown != null) {
             return StorageHeader.FAILED;
         }

@@ -236,7 +236,7 @@ public final class Store implements AutoCloseable {
     }
 
     /** The status of a function, of which this thread knows why it was not done. */
-    private void said(ToIntFunction<byte[]> call) {
+    private void checked(ToIntFunction<byte[]> call) {
         byte[] why = new byte[StoreNative.MESSAGE];
         outsideRead();
         enter();
@@ -263,20 +263,20 @@ public final class Store implements AutoCloseable {
         long[] numbers = StoreCall.numbersWithMore(own);
         long[] words = StoreCall.wordsWithMore(own);
         byte[] bytes = StoreCall.bytesOf(own);
-        said(why -> KitNative.calls(address, numbers, words, bytes, why));
+        checked(why -> KitNative.calls(address, numbers, words, bytes, why));
         List<StoreTold> told = new ArrayList<>();
         int at = 0;
         for (StoreCall it : own) {
             int place = told.size() * KitNative.CALL;
             StoreOutcome outcome = outcome(numbers, place, words, it.buffer(at));
             at = it.after(at);
-            told.add(told(outcome, numbers, place, words, at));
+            told.add(toldOf(outcome, numbers, place, words, at));
             at += it.endsAtMost();
         }
         return told;
     }
 
-    private static StoreTold told(StoreOutcome outcome, long[] numbers, int place, long[] words, int at) {
+    private static StoreTold toldOf(StoreOutcome outcome, long[] numbers, int place, long[] words, int at) {
         if (outcome instanceof StoreOutcome.NotMade) {
             return new StoreTold(outcome, Optional.empty(), List.of());
         }
@@ -317,7 +317,7 @@ public final class Store implements AutoCloseable {
         } finally {
             leave();
         }
-        StoreTold told = told(outcome(outcome, 0, outcome, 0), outcome, 0, ended, 0);
+        StoreTold told = toldOf(outcome(outcome, 0, outcome, 0), outcome, 0, ended, 0);
         told.made();
         return Optional.of(told);
     }
@@ -336,7 +336,7 @@ public final class Store implements AutoCloseable {
         long[] head = new long[KitNative.HEAD + StoreHeader.MOST_VERTICES];
         long[][] parts = new long[1][];
         byte[][] payloads = new byte[1][];
-        said(why -> KitNative.load(address, id, head, parts, payloads, why));
+        checked(why -> KitNative.load(address, id, head, parts, payloads, why));
         return WholeRecord.of(head, parts[0], payloads[0]);
     }
 
@@ -350,7 +350,7 @@ public final class Store implements AutoCloseable {
         long[] numbers = new long[room * KitNative.PAST];
         byte[] reasons = new byte[room * KitNative.REASON];
         long[] length = new long[1];
-        said(why -> KitNative.history(address, numbers, reasons, length, why));
+        checked(why -> KitNative.history(address, numbers, reasons, length, why));
         List<PastRecord> past = new ArrayList<>();
         for (int place = 0; place < length[0]; place++) {
             byte[] reason = Arrays.copyOfRange(reasons, place * KitNative.REASON, (place + 1) * KitNative.REASON);

@@ -38,6 +38,7 @@ final class StoreHeader {
     static final int EARLIER_IMAGE = 8;
     static final int BACKUP = 32;
     static final int MANIFESTS = 64;
+    static final int CHECKSUMS = 128;
     static final long NOW = -1;
     static final long NO_IMAGES = -1;
     static final int MOST_CALLS = 4096;
@@ -68,6 +69,10 @@ final class StoreHeader {
     static final int STOP_CANCELLED = 4;
     static final int STOP_FAILED = 5;
     static final int ACCEPT_PUBLISHED = 1;
+    static final int FILE_MISSING = 1;
+    static final int FILE_LENGTH = 2;
+    static final int FILE_CHANGED = 3;
+    static final int FILE_UNREADABLE = 4;
     /** All statuses. */
     static final int[] STATUSES = {OK, BAD_ARGUMENT, NO_MEMORY, IN_USE, ABSENT, PRESENT, NOT_A_STORE, DIFFERS, DAMAGED, STORAGE, CLOSED, FORKED, TIMED_OUT, NOT_NOW, STOPPED, NOT_PUT, NOT_RUNNING, NOT_DONE, JOB_STOPPED, NOT_STOPPED, FILE_LOST, FAILED, FULL, READ_ONLY, BUSY, OUT_OF_MEMORY};
 }

@@ -9,7 +9,8 @@ final class StoreNative {
     static final int MOST_STEPS = StoreHeader.MOST_STEPS;
     static final int MESSAGE = StoreHeader.MESSAGE;
     static final int COUNTS = 10;
-    static final int RECORD = 9;
+    static final int RECORD = 10;
+    static final int FAULT = 3;
     static final int RECOVERED = 9;
     /** What {@link #carry} does. */
     static final int RECOVER = 0;
@@ -84,6 +85,9 @@ final class StoreNative {
     static native int backup(long store, byte[] path, byte[] message);
 
     static native int records(byte[] folder, long[][] found, byte[] message);
+
+    /** The numbers of the records, and those of the faults of their files. */
+    static native int checkRecords(byte[] folder, long[][] found, byte[] message);
 
     static native int carry(int what, byte[] from, long record, byte[] path, byte[] folder, long[] made, byte[] message);
 

@@ -19,9 +19,28 @@ import java.util.function.Consumer;
  *     no job is made
  * @param hasManifests whether the storage gets a manifest of each complete record, of which the command relkvanu-store makes the job again if its file is
  *     lost
+ * @param hasChecksums whether manifests have a checksum of each file, for which the store reads it once
  */
 public record StoreOptions(Opening opening, Optional<Path> storage, boolean adopts, boolean fromEarlierImage, Duration patience, long imageCalls, long mostAhead,
-    boolean isBackup, boolean hasManifests) {
+    boolean isBackup, boolean hasManifests, boolean hasChecksums) {
+    /**
+     * Options of a job whose manifests have no checksums.
+     *
+     * @param opening whether it may make a job
+     * @param storage the folder of the state files
+     * @param adopts whether a new job may have a storage with files
+     * @param fromEarlierImage whether to begin with the image before the last one
+     * @param patience for how long a commit is tried again
+     * @param imageCalls after how many calls an image is written
+     * @param mostAhead how many milliseconds a moment may be ahead
+     * @param isBackup whether it is a backup
+     * @param hasManifests whether the storage gets manifests
+     */
+    public StoreOptions(Opening opening, Optional<Path> storage, boolean adopts, boolean fromEarlierImage, Duration patience, long imageCalls, long mostAhead,
+        boolean isBackup, boolean hasManifests) {
+        this(opening, storage, adopts, fromEarlierImage, patience, imageCalls, mostAhead, isBackup, hasManifests, false);
+    }
+
     /**
      * Options of a job that is no backup and has no manifests.
      *
@@ -43,7 +62,7 @@ public record StoreOptions(Opening opening, Optional<Path> storage, boolean adop
         RECOVER,
         /** Makes a job if there is none. */
         CREATE,
-        /** Makes a job, and there may be none. */
+        /** Makes a job, and fails if there is one. */
         CREATE_ONLY
     }
 
@@ -129,6 +148,18 @@ public record StoreOptions(Opening opening, Optional<Path> storage, boolean adop
         return with(it -> it.hasManifests = hasSome);
     }
 
+    /**
+     * {@return these options, whose manifests have checksums of files, or have none}
+     *
+     * @param hasSome whether they have some; then the storage gets manifests too
+     */
+    public StoreOptions withChecksums(boolean hasSome) {
+        return with(it -> {
+            it.hasChecksums = hasSome;
+            it.hasManifests = it.hasManifests || hasSome;
+        });
+    }
+
     /** Options while one of them changes. */
     private static final class Draft {
         Opening opening;
@@ -140,6 +171,7 @@ public record StoreOptions(Opening opening, Optional<Path> storage, boolean adop
         long mostAhead;
         boolean isBackup;
         boolean hasManifests;
+        boolean hasChecksums;
     }
 
     private StoreOptions with(Consumer<Draft> change) {
@@ -153,14 +185,16 @@ public record StoreOptions(Opening opening, Optional<Path> storage, boolean adop
         it.mostAhead = mostAhead;
         it.isBackup = isBackup;
         it.hasManifests = hasManifests;
+        it.hasChecksums = hasChecksums;
         change.accept(it);
-        return new StoreOptions(it.opening, it.storage, it.adopts, it.fromEarlierImage, it.patience, it.imageCalls, it.mostAhead, it.isBackup, it.hasManifests);
+        return new StoreOptions(it.opening, it.storage, it.adopts, it.fromEarlierImage, it.patience, it.imageCalls, it.mostAhead, it.isBackup, it.hasManifests,
+            it.hasChecksums);
     }
 
     /** In the order of store_jni.c. */
     long[] numbers() {
         long flags = opening.ordinal() | (adopts ? StoreHeader.ADOPT : 0) | (fromEarlierImage ? StoreHeader.EARLIER_IMAGE : 0) | (isBackup ? StoreHeader.BACKUP : 0)
-            | (hasManifests ? StoreHeader.MANIFESTS : 0);
+            | (hasManifests ? StoreHeader.MANIFESTS : 0) | (hasChecksums ? StoreHeader.CHECKSUMS : 0);
         return new long[] {flags, Math.min(Math.max(patience.toMillis(), 0), 0xffff_ffffL), imageCalls, Checks.natural(mostAhead, "a time")};
     }
 }

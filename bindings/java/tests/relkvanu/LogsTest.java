@@ -4,6 +4,7 @@ import static org.junit.jupiter.api.Assertions.assertArrayEquals;
 import static org.junit.jupiter.api.Assertions.assertEquals;
 import static org.junit.jupiter.api.Assertions.assertSame;
 import static org.junit.jupiter.api.Assertions.assertThrows;
+import static org.junit.jupiter.api.Assertions.assertTrue;
 
 import java.io.IOException;
 import java.nio.file.Files;
@@ -22,29 +23,31 @@ import org.junit.jupiter.api.TestFactory;
 /** Lines of a log with names, with the values of docs/LOGS.md. */
 class LogsTest {
     private static final Path PAGE = Path.of(System.getProperty("logs"));
+    private static final Path FOLDER = Path.of(System.getProperty("rows")).resolveSibling("logs");
+    private static final Map<String, BiFunction<Coordinator, byte[], Optional<Reply>>> WAYS =
+        Map.of("lines", Coordinator::line, "methods", Words::byMethod, "lines that are written again", Words::writtenAgain);
 
-    /** The lines of the page's example, with the answers beside each and below it. */
-    private static Map<Integer, List<String>> example(List<byte[]> lines) throws IOException {
+    /** The lines of a log, with the answers beside each and below it. */
+    private static Map<Integer, List<String>> answers(String log, List<byte[]> lines) {
         Map<Integer, List<String>> answers = new java.util.TreeMap<>();
-        String section = Files.readString(PAGE).split("\n## 5\\. An example\n")[1];
-        for (String it : section.split("\n```\n")[1].split("\n")) {
+        for (String it : log.split("\n")) {
             String[] halves = it.split("-> ", 2);
             if (!halves[0].isBlank()) {
                 answers.put(lines.size(), new ArrayList<>());
                 lines.add(Jobs.line(halves[0].stripTrailing()));
             }
             if (halves.length > 1) {
-                // the program has a word of its own for a fence that is refused
-                answers.get(lines.size() - 1).add(halves[1].equals("refused NameInUse") ? "fenced NameInUse" : halves[1]);
+                // a log has other words than the package for a call that needs names, or that there are none
+                answers.get(lines.size() - 1).add(halves[1].replaceFirst("^refused (NoNames|HasNames|NameInUse)$", "fenced $1"));
             }
         }
         return answers;
     }
 
-    private static void printsThePage(BiFunction<Coordinator, byte[], Optional<Reply>> make) throws IOException {
+    /** Makes the calls of a log, and compares what each prints. A line with two answers began a term. */
+    private static void makes(String log, BiFunction<Coordinator, byte[], Optional<Reply>> make) {
         List<byte[]> lines = new ArrayList<>();
-        Map<Integer, List<String>> answers = example(lines);
-        assertEquals(19, lines.size());
+        Map<Integer, List<String>> answers = answers(log, lines);
         Script script = new Script(lines);
         try (Coordinator job = script.opened().orElseThrow()) {
             answers.forEach((place, told) -> {
@@ -57,10 +60,27 @@ class LogsTest {
         }
     }
 
+    private static Stream<DynamicTest> each(String name, String log) {
+        return WAYS.entrySet().stream().map(way -> DynamicTest.dynamicTest(name + " by " + way.getKey(), () -> makes(log, way.getValue())));
+    }
+
     @TestFactory
-    Stream<DynamicTest> theExampleOfThePage() {
-        return Stream.of(DynamicTest.dynamicTest("by lines", () -> printsThePage(Coordinator::line)), DynamicTest.dynamicTest("by methods", () -> printsThePage(Words::byMethod)),
-            DynamicTest.dynamicTest("by lines that are written again", () -> printsThePage(Words::writtenAgain)));
+    Stream<DynamicTest> theExampleOfThePage() throws IOException {
+        String example = Files.readString(PAGE).split("\n## 5\\. An example\n")[1].split("\n```\n")[1];
+        assertEquals(19, answers(example, new ArrayList<>()).size());
+        return each("the page", example);
+    }
+
+    @TestFactory
+    Stream<DynamicTest> logsOfTermsAndNames() throws IOException {
+        Map<String, String> logs = new java.util.TreeMap<>();
+        try (Stream<Path> found = Files.list(FOLDER)) {
+            for (Path log : found.toList()) {
+                logs.put(log.getFileName().toString(), Files.readString(log));
+            }
+        }
+        assertTrue(logs.size() >= 6, logs.keySet().toString());
+        return logs.entrySet().stream().flatMap(log -> each(log.getKey(), log.getValue()));
     }
 
     @Test

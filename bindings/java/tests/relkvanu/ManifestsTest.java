@@ -9,6 +9,7 @@ import java.io.IOException;
 import java.nio.file.Files;
 import java.nio.file.Path;
 import java.util.List;
+import java.util.Map;
 import java.util.Optional;
 import java.util.concurrent.TimeUnit;
 import org.junit.jupiter.api.BeforeEach;
@@ -36,7 +37,7 @@ class ManifestsTest {
     }
 
     private static Store open(Path job, Path storage) {
-        StoreOptions options = StoreOptions.of(StoreOptions.Opening.CREATE).withStorage(storage).withManifests(true);
+        StoreOptions options = StoreOptions.of(StoreOptions.Opening.CREATE).withStorage(storage).withChecksums(true);
         return Store.open(job, SETTINGS, new long[] {2}, options);
     }
 
@@ -74,6 +75,18 @@ class ManifestsTest {
         try (Store it = open(job, storage)) {
             id = completed(it, 1);
         }
+        for (String contents : List.of("state", "stats", "stat", "state")) {
+            Files.writeString(storage.resolve("2"), contents);
+            Map<Long, FileFault> wanted = switch (contents) {
+                case "stats" -> Map.of(2L, FileFault.CHANGED);
+                case "stat" -> Map.of(2L, FileFault.LENGTH);
+                default -> Map.of();
+            };
+            CheckedRecord checked = Manifests.checkRecords(storage).get(0);
+            assertEquals(List.of(id, 0L, wanted), List.of(checked.record().id(), checked.unknown(), checked.faults()));
+        }
+        refused(StoreFault.STORAGE, () -> Manifests.checkRecords(folder.resolve("nowhere")));
+        assertEquals(3, Files.readString(storage.resolve("record-" + id + ".manifest")).split("\"sums\":\\[\"").length);
         StoredRecord found = Manifests.records(storage).get(0);
         assertEquals(List.of(new StoredRecord(id, Optional.empty(), false, true, true, found.written(), 2, 10, 0)), Manifests.records(storage));
         assertTrue(found.written() != 0);

@@ -18,7 +18,7 @@ import java.util.stream.LongStream;
 import org.junit.jupiter.api.Test;
 import org.junit.jupiter.api.function.Executable;
 
-/** Terms and names, with values that are worked out from the rules (docs/RULES.md, docs/LOGS.md). */
+/** Terms and names beside what the logs of examples/logs say of them, with values that are worked out from the rules (docs/RULES.md, docs/LOGS.md). */
 class NamesTest {
     private static final long DAY = 24 * 60 * 60 * 1000;
     private static final long END = 1L << 62;
@@ -91,7 +91,7 @@ class NamesTest {
     void noNames() {
         try (Coordinator job = Jobs.opened(SETTINGS, 1)) {
             byte[] image = job.save();
-            List<Executable> calls = List.of(job::term, () -> job.reserve(0, 0), () -> job.forfeit(0, 5), () -> ack(job, 0, END, 1, 5), () -> job.declineIn(0, END, 1, 0, 0), () -> job.garbage(5));
+            List<Executable> calls = List.of(job::term, () -> job.reserve(0, 0), () -> job.forfeit(0, 5), () -> ack(job, 0, END, 1, 5), () -> job.declineIn(0, END, 1, 0, 0), () -> job.garbage(5), () -> job.advance(0, 1, 1));
             calls.forEach(it -> fenced(Fenced.NO_NAMES, it));
             assertArrayEquals(image, job.save());
             job.tick(1000);
@@ -100,157 +100,31 @@ class NamesTest {
         }
     }
 
-    /** The first refusal of the table decides, and none changes anything. */
+    /** What is garbage follows what a term holds: files before the first name are, and those that were not given out are not. */
     @Test
-    void refusals() {
-        long last = END - 1;
-        try (Coordinator job = named(last)) {
-            List<Object> before = seen(job);
-            fenced(Fenced.OLD_TERM, () -> job.reserve(0, 0));
-            fenced(Fenced.OLD_TERM, () -> job.reserve(2, 0));
-            fenced(Fenced.BAD_COUNT, () -> job.reserve(1, 0));
-            fenced(Fenced.BAD_COUNT, () -> job.reserve(1, 65537));
-            fenced(Fenced.BAD_COUNT, () -> job.reserve(1, -1));
-            fenced(Fenced.NAMES_USED_UP, () -> job.reserve(1, 65536));
-            fenced(Fenced.NAMES_USED_UP, () -> job.reserve(1, 2));
-            assertEquals(before, seen(job));
-            assertArrayEquals(new long[] {last}, job.reserve(1, 1).names());
-            fenced(Fenced.NAMES_USED_UP, () -> job.reserve(1, 1));
-            fenced(Fenced.OLD_TERM, () -> job.forfeit(2, last));
-            fenced(Fenced.OLD_TERM, () -> ack(job, 2, END, 1, 7));
-            fenced(Fenced.SPENT, 7, () -> ack(job, 1, END, 1, 7));
-            fenced(Fenced.OLD_TERM, () -> job.declineIn(2, END, 1, 0, 0));
-            refused(Refusal.MOMENT_TOO_LARGE, () -> ack(job, 1, END, 1, last));
-            refused(Refusal.UNKNOWN_CHECKPOINT, () -> job.declineIn(1, 0, 9, 0, 0));
-            assertEquals(new Reply.Triggered(0, 1), job.tick(1000));
-            assertEquals(new Reply.DeclineFailed(0), job.declineIn(1, 1000, 1, 0, 0));
-            assertEquals(new Reply.Cancelled(0, 0), job.cancel(2000));
-            assertEquals(new RunningTerm(2, END), job.term());
-            fenced(Fenced.OLD_TERM, () -> job.reserve(1, 0));
-            fenced(Fenced.ENDED, () -> job.reserve(2, 0));
-            refused(Refusal.NOT_RUNNING, () -> job.cancel(2000));
-            assertEquals(new RunningTerm(2, END), job.term());
-        }
-    }
-
-    /** The old task can do nothing more after the restore, and its third file is garbage: from the restore on, and for good. */
-    @Test
-    void tasksThatShouldBeDead() {
+    void garbage() {
         try (Coordinator job = withCheckpoint1()) {
-            fenced(Fenced.NEVER_RESERVED, 8, () -> ack(job, 1, 2000, 2, 7, 8));
-            fenced(Fenced.SPENT, 5, () -> ack(job, 1, 1000, 1, 6, 5));
-            assertEquals(new Garbage(new long[] {4}, new long[] {9, 8}), job.garbage(FILES));
+            Garbage before = new Garbage(new long[] {4}, new long[] {9, 8});
+            assertEquals(before, job.garbage(FILES));
             assertArrayEquals(new long[] {4}, job.garbage(FILES).garbage());
             assertArrayEquals(new long[] {9, 8}, job.garbage(FILES).unissued());
+            assertEquals(new Reply.Forfeited(), job.forfeit(1, 6, 9));
+            assertEquals(before, job.garbage(FILES));
             assertEquals(new Reply.RestoredCheckpoint(1, 0), job.restoreLatest(2100));
             assertEquals(new RunningTerm(2, 8), job.term());
-            List<Object> before = seen(job);
-            List<Executable> calls = List.of(() -> ack(job, 1, 2200, 2, 7), () -> ack(job, 1, 2200, 2), () -> job.declineIn(1, 2200, 2, 0, 0), () -> job.reserve(1, 1), () -> job.forfeit(1, FILES),
-                () -> job.ack(2200, 2, 0, 0, Jobs.files(7)), () -> job.decline(2200, 2, 0, 0), () -> job.line(Jobs.line("ack 2200 2 0.0 +7")));
-            calls.forEach(it -> fenced(Fenced.OLD_TERM, it));
+            List<Object> seen = seen(job);
+            fenced(Fenced.OLD_TERM, () -> ack(job, 1, 2200, 2, 7));
             fenced(Fenced.SPENT, 7, () -> ack(job, 2, 2200, 2, 7));
-            assertEquals(before, seen(job));
+            fenced(Fenced.BAD_COUNT, () -> job.reserve(2, -1));
+            assertEquals(seen, seen(job));
             assertEquals(new Reply.Reserved(8, 1), job.reserve(2, 1));
             assertEquals(new Reply.AckLate(1), ack(job, 2, 2300, 2, 8));
             assertEquals(new Reply.Taken(Jobs.files(8)), job.take(2));
             assertEquals(new Garbage(new long[] {7, 4, 7}, new long[] {9}), job.garbage(FILES));
-        }
-    }
-
-    /** Each of the two lists reaches its place: a name is reused only if it is in use. */
-    @Test
-    void freshAndReusedFiles() {
-        try (Coordinator job = withCheckpoint1()) {
-            CoordinatorException.Refused gone = assertThrows(CoordinatorException.Refused.class, () -> job.ackIn(1, 2000, 2, 0, 0, Jobs.files(7), 4));
-            assertEquals(List.of(Refusal.FILE_GONE, 4L), List.of(gone.refusal(), gone.file()));
-            assertEquals(new Reply.AckCompleted(1, 1), job.ackIn(1, 2000, 2, 0, 0, Jobs.files(7), 5));
-            assertArrayEquals(Jobs.files(5, 7), job.filesOf(2, 0, 0).orElseThrow());
-        }
-    }
-
-    /** Each argument reaches its place: the subtask, and the record. */
-    @Test
-    void theSubtaskAndTheRecord() {
-        try (Coordinator job = Coordinator.openFenced(SETTINGS.withAtOnce(2).withTolerable(5), new long[] {1, 3}, 0, 1, 1)) {
-            job.reserve(1, 100);
-            job.tick(1000);
-            job.tick(2000);
-            assertEquals(new Reply.AckPending(3), job.ackIn(1, 2100, 2, 1, 2, Jobs.files(10)));
-            assertArrayEquals(Jobs.files(10), job.filesOf(2, 1, 2).orElseThrow());
-            refused(Refusal.UNKNOWN_SUBTASK, () -> job.ackIn(1, 2100, 2, 2, 1, Jobs.files(11)));
-            refused(Refusal.UNKNOWN_SUBTASK, () -> job.declineIn(1, 2100, 1, 2, 1));
-            assertEquals(2100, job.moment());
-            assertEquals(new Reply.DeclineAborted(0), job.declineIn(1, 2200, 1, 1, 2));
-            assertEquals(2200, job.moment());
-            assertEquals(List.of(Standing.ENDED, Standing.PENDING), List.of(job.standing(1), job.standing(2)));
-        }
-    }
-
-    @Test
-    void namesThatAreGivenUp() {
-        try (Coordinator job = named(1)) {
-            assertEquals(new Reply.Reserved(1, 3), job.reserve(1, 3));
-            assertEquals(new Garbage(new long[] {}, new long[] {}), job.garbage(2, 3));
-            for (int time = 0; time < 2; time++) {
-                assertEquals(new Reply.Forfeited(), job.forfeit(1, 7, 2, 9, 2));
-                assertEquals(new Garbage(new long[] {2}, new long[] {}), job.garbage(2, 3));
-            }
-            assertEquals(new Reply.Forfeited(), job.forfeit(1));
             assertEquals(new Garbage(new long[] {}, new long[] {}), job.garbage());
-            job.tick(1000);
-            fenced(Fenced.SPENT, 2, () -> ack(job, 1, 1000, 1, 2));
-            assertEquals(new Reply.AckCompleted(0, 0), ack(job, 1, 1000, 1, 3));
-        }
-    }
-
-    /** A job that is older than its names gets them above each file that it knows: in use, waiting for deletion, or fetched for it. */
-    @Test
-    void namesThatComeLater() {
-        try (Coordinator job = Jobs.opened(SETTINGS, 1)) {
-            job.tick(1000);
-            job.ack(1000, 1, 0, 0, Jobs.files(3, 9));
-            bad(Argument.BAD_NAME, () -> job.fence(0));
-            bad(Argument.BAD_NAME, () -> job.fence(END + 1));
-            fenced(Fenced.NAME_IN_USE, () -> job.fence(9));
-            job.tick(2000);
-            job.ack(2000, 2, 0, 0, Jobs.files(4), 3);
-            fenced(Fenced.NAME_IN_USE, () -> job.fence(9));
-            assertEquals(new Reply.Taken(Jobs.files(9)), job.take(1));
-            fenced(Fenced.NAME_IN_USE, () -> job.fence(9));
-            job.deleted(9);
-            fenced(Fenced.NAME_IN_USE, () -> job.fence(4));
-            fenced(Fenced.NO_NAMES, job::term);
-            assertEquals(new Reply.Named(), job.fence(5));
-            assertEquals(new RunningTerm(1, 5), job.term());
-            fenced(Fenced.HAS_NAMES, () -> job.fence(0));
-            assertEquals(new Reply.Reserved(5, 2), job.reserve(1, 2));
-            assertEquals(new Garbage(new long[] {2}, new long[] {8}), job.garbage(2, 3, 4, 5, 6, 8));
-        }
-    }
-
-    /** The example of docs/LOGS.md. */
-    @Test
-    void theExampleOfThePage() {
-        try (Coordinator job = Coordinator.open(SETTINGS, ONE, 0)) {
-            assertEquals(new Reply.Triggered(0, 1), job.tick(1000));
-            assertEquals(new Reply.AckCompleted(0, 0), job.ack(1000, 1, 0, 0, Jobs.files(11, 12)));
-            fenced(Fenced.NAME_IN_USE, () -> job.fence(12));
-            job.fence(20);
-            assertEquals(1, job.term().term());
-            assertEquals(20, job.reserve(1, 3).first());
-            assertEquals(new Reply.Triggered(0, 2), job.tick(2000));
-            assertEquals(new Reply.AckCompleted(1, 1), job.ackIn(1, 2000, 2, 0, 0, Jobs.files(20), 11));
-            fenced(Fenced.SPENT, 20, () -> job.ackIn(1, 2000, 2, 0, 0, Jobs.files(20), 11));
-            assertEquals(new Reply.Triggered(0, 3), job.tick(3000));
-            assertEquals(new Reply.RestoredCheckpoint(2, 0), job.restoreLatest(3100));
-            assertEquals(2, job.term().term());
-            fenced(Fenced.OLD_TERM, () -> ack(job, 1, 3200, 3, 21));
-            assertEquals(23, job.reserve(2, 2).first());
-            assertEquals(new Reply.AckLate(1), ack(job, 2, 3200, 3, 23));
-            job.forfeit(2, 24);
-            assertEquals(new Reply.Taken(Jobs.files(12, 23)), job.take(9));
-            assertEquals(new Reply.Cancelled(1, 2), job.cancel(4000));
-            assertEquals(3, job.term().term());
+            bad(Argument.BAD_NAME, () -> job.advance(2400, 6, 0));
+            assertEquals(new Reply.RestoredCheckpoint(1, 0), job.advance(2400, 6, 50));
+            assertEquals(new RunningTerm(7, 50), job.term());
         }
     }
 
@@ -349,44 +223,6 @@ class NamesTest {
                 assertEquals(new RunningTerm(3, 15), it.term());
             }
             assertEquals(seen(job), seen(again));
-        }
-    }
-
-    @Test
-    void imagesWithDamagedNames() {
-        byte[] image;
-        try (Coordinator job = busy()) {
-            image = job.save();
-        }
-        String text = Lines.text(image);
-        for (String[] it : new String[][] {{"\"term\":2", "\"term\":0"}, {"\"next\":14,\"term\"", "\"next\":13,\"term\""}, {"[10,11]", "[11,10]"}, {"[12,13]", "[12,14]"},
-            {",\"unspent\":[[10,11],[12,13]]", ""}, {"\"names\":{", "\"named\":{"}, {"\"version\":2", "\"version\":3"}}) {
-            String damaged = text.replace(it[0], it[1]);
-            assertFalse(damaged.equals(text), it[0]);
-            bad(Argument.BAD_IMAGE, () -> Coordinator.openSaved(Jobs.line(damaged)));
-        }
-        for (int end = 0; end < image.length; end++) {
-            byte[] cut = Arrays.copyOf(image, end);
-            bad(Argument.BAD_IMAGE, () -> Coordinator.openSaved(cut));
-        }
-        try (Coordinator job = Coordinator.openSaved(Jobs.line(text.replace("\"version\":2", "\"version\":1")))) {
-            fenced(Fenced.NO_NAMES, job::term);
-        }
-    }
-
-    @Test
-    void theLastTerm() {
-        String text;
-        try (Coordinator job = busy()) {
-            text = Lines.text(job.save()).replace("\"term\":2", "\"term\":" + END);
-        }
-        try (Coordinator job = Coordinator.openSaved(Jobs.line(text))) {
-            List<Object> before = seen(job);
-            fenced(Fenced.TERMS_USED_UP, () -> job.restoreLatest(4000));
-            fenced(Fenced.TERMS_USED_UP, () -> job.cancel(4000));
-            assertEquals(before, seen(job));
-            assertEquals(new RunningTerm(END, 14), job.term());
-            assertEquals(new Reply.AckCompleted(1, 2), ack(job, END, 4000, 3, 12));
         }
     }
 

@@ -451,6 +451,8 @@ class StoreTest {
         assertEquals(StoreHeader.STOP_FAILED, JobPhase.StopFailed.values().length);
         assertArrayEquals(new long[] {1 | 4 | 8 | 32 | 64, 5000, -1, 7},
             creates().withManifests(true).withBackup(true).withAdopts(true).withFromEarlierImage(true).withPatience(Duration.ofSeconds(5)).withImageCalls(-1).withMostAhead(7).numbers());
+        assertArrayEquals(new long[] {1 | 64 | 128, 0, 0, 0}, creates().withChecksums(true).numbers());
+        assertEquals(creates().withManifests(true), new StoreOptions(StoreOptions.Opening.CREATE, Optional.empty(), false, false, Duration.ZERO, 0, 0, false, true));
         assertEquals(2, StoreOptions.of(StoreOptions.Opening.CREATE_ONLY).numbers()[0]);
         assertEquals(creates(), new StoreOptions(StoreOptions.Opening.CREATE, Optional.empty(), false, false, Duration.ZERO, 0, 0));
         assertEquals(Optional.of(storage), creates().withStorage(storage).storage());

@@ -90,6 +90,7 @@ final class Words {
             case "fence" -> job.fence(number(1));
             case "reserve" -> job.reserve(number(1), number(2));
             case "forfeit" -> job.forfeit(number(1), numbers(2).toArray());
+            case "advance" -> job.line(Jobs.line(String.join(" ", words))).orElseThrow(); // no method makes it
             case "in" -> inTerm().callIn(job, number(1));
             default -> (Reply) byName(Coordinator.class, job);
         };
@@ -120,6 +121,7 @@ final class Words {
             case "fence" -> Lines.fence(number(1));
             case "reserve" -> Lines.reserve(number(1), number(2));
             case "forfeit" -> Lines.forfeit(number(1), numbers(2).toArray());
+            case "advance" -> String.join(" ", words);
             case "in" -> inTerm().writtenIn(number(1));
             default -> (String) byName(Lines.class, null);
         };

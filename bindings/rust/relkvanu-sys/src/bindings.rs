@@ -242,15 +242,15 @@ pub const RELKVANU_CALL_DELETED: u32 = 9;
 pub const RELKVANU_CALL_UNDELETED: u32 = 10;
 pub const RELKVANU_CALL_SHOW: u32 = 11;
 pub const RELKVANU_CALL_COUNT: u32 = 12;
-/// relkvanu_fence
+/// the job gives out names from here on
 pub const RELKVANU_CALL_FENCE: u32 = 13;
-/// relkvanu_reserve
+/// a task reserves names
 pub const RELKVANU_CALL_RESERVE: u32 = 14;
-/// relkvanu_forfeit
+/// a task gives up names
 pub const RELKVANU_CALL_FORFEIT: u32 = 15;
 pub const RELKVANU_CALL_TRIGGER: u32 = 16;
 pub const RELKVANU_CALL_CONFIGURE: u32 = 17;
-/// relkvanu_advance
+/// the job goes on above the terms and names that were told
 pub const RELKVANU_CALL_ADVANCE: u32 = 18;
 /// process the element now
 pub const RELKVANU_STEP_PROCESS: u32 = 1;
@@ -399,13 +399,7 @@ extern "C" {
     ) -> relkvanu_answer;
 
     /// The subtask vertex.index could not take its part of record id. RELKVANU_DECLINE_ABORTED, RELKVANU_DECLINE_FAILED (too many checkpoints failed in a row) or RELKVANU_DECLINE_LATE. Refused: RELKVANU_MOMENT_TOO_LARGE, RELKVANU_UNKNOWN_CHECKPOINT, RELKVANU_UNKNOWN_SUBTASK. Takes no memory.
-    pub fn relkvanu_decline(
-        handle: *mut relkvanu,
-        now: u64,
-        id: u64,
-        vertex: u16,
-        index: u16,
-    ) -> relkvanu_answer;
+    pub fn relkvanu_decline(handle: *mut relkvanu, now: u64, id: u64, vertex: u16, index: u16) -> relkvanu_answer;
 
     /// A user disposes of the completed savepoint id. RELKVANU_DISPOSED. Refused: RELKVANU_NO_SUCH_SAVEPOINT, RELKVANU_IN_USE. Takes no memory.
     pub fn relkvanu_dispose(handle: *mut relkvanu, id: u64) -> relkvanu_answer;
@@ -423,18 +417,10 @@ extern "C" {
     pub fn relkvanu_cancel(handle: *mut relkvanu, now: u64) -> relkvanu_answer;
 
     /// The job has these settings from now on, until the next call of this kind. A job that has failed may have others too. It deletes: done checkpoints above the new number retained, the oldest first, are dropped at once, and their files wait for deletion. The next checkpoint is due when it was, and at the latest one new interval from now. Nothing expires before the next tick, and the failures in a row count on, as many as are tolerated now. RELKVANU_CONFIGURED. RELKVANU_BAD_ARGUMENT with RELKVANU_BAD_CONFIG is checked first. Refused: RELKVANU_MOMENT_TOO_LARGE, RELKVANU_NOT_RUNNING (cancelled), RELKVANU_AT_ONCE. Takes no memory.
-    pub fn relkvanu_configure(
-        handle: *mut relkvanu,
-        now: u64,
-        settings: *const relkvanu_settings,
-    ) -> relkvanu_answer;
+    pub fn relkvanu_configure(handle: *mut relkvanu, now: u64, settings: *const relkvanu_settings) -> relkvanu_answer;
 
     /// Fetches at most files_len files that wait for deletion, the longest waiting first, and writes them to the start of files. Report each one by relkvanu_deleted or relkvanu_undeleted. RELKVANU_TAKEN; a is 0 if no file waits. Never refused. Takes memory: after RELKVANU_NO_MEMORY the files still wait, and the buffer has not changed.
-    pub fn relkvanu_take(
-        handle: *mut relkvanu,
-        files: *mut u64,
-        files_len: usize,
-    ) -> relkvanu_answer;
+    pub fn relkvanu_take(handle: *mut relkvanu, files: *mut u64, files_len: usize) -> relkvanu_answer;
 
     /// A fetched file is deleted: the coordinator forgets it. RELKVANU_DELETED. Refused: RELKVANU_NOT_TAKEN. Takes no memory.
     pub fn relkvanu_deleted(handle: *mut relkvanu, file: u64) -> relkvanu_answer;
@@ -443,12 +429,7 @@ extern "C" {
     pub fn relkvanu_undeleted(handle: *mut relkvanu, file: u64) -> relkvanu_answer;
 
     /// Writes the metadata of a live record as JSON, without a zero at its end. RELKVANU_SHOWN; or RELKVANU_TOO_SHORT, and a is its number of bytes: call again with a buffer of that many. Refused: RELKVANU_NO_SUCH_RECORD. Takes memory, even if the buffer is too short. Only RELKVANU_SHOWN changes the buffer.
-    pub fn relkvanu_show(
-        handle: *mut relkvanu,
-        id: u64,
-        json: *mut u8,
-        json_len: usize,
-    ) -> relkvanu_answer;
+    pub fn relkvanu_show(handle: *mut relkvanu, id: u64, json: *mut u8, json_len: usize) -> relkvanu_answer;
 
     /// The number of uses of a file, by acknowledgements and pins of live records. RELKVANU_COUNTED. Never refused. Takes no memory.
     pub fn relkvanu_count(handle: *mut relkvanu, file: u64) -> relkvanu_answer;
@@ -481,11 +462,7 @@ extern "C" {
     pub fn relkvanu_refusal_text(what: u32, text: *mut u8, text_len: usize) -> usize;
 
     /// Returns the length of the text of an answer, such as "tick expired 0 triggered 1", "refused NameTaken 7", "no memory" or, for an answer that this version does not have, "unknown code 9, what 3, a 0, b 0". No text is longer than RELKVANU_ANSWER_TEXT. Writes the text, without a zero at its end, if text_len is at least the length. The reply to a call has the text that a script prints (docs/SCRIPT.md); that to a take or show has the count alone, as "taken 3". Takes no memory.
-    pub fn relkvanu_answer_text(
-        answer: *const relkvanu_answer,
-        text: *mut u8,
-        text_len: usize,
-    ) -> usize;
+    pub fn relkvanu_answer_text(answer: *const relkvanu_answer, text: *mut u8, text_len: usize) -> usize;
 
     /// Makes the call of a line, and returns what the function of that call returns. A take line writes the files that it fetches to the start of files. If it would fetch more than files_len, the answer is RELKVANU_TOO_SHORT, a is how many places it needs, and nothing has changed. A show line returns what relkvanu_show returns with an empty buffer. A restore line with a bad shape returns RELKVANU_BAD_ARGUMENT with RELKVANU_BAD_SHAPE. A line that has no words or is a comment returns RELKVANU_SKIPPED. A line that can't be read, or makes no call, returns RELKVANU_BAD_LINE. Only RELKVANU_TAKEN changes the buffer. The call takes memory as its own function does, and for the lists of an ack, job, restore or forfeit line. So such a line may return RELKVANU_NO_MEMORY instead of a refusal. A line with fence, reserve, forfeit or advance returns what relkvanu_fence and so on returns. An ack or a decline line after in and a term returns what relkvanu_ack_in or relkvanu_decline_in returns. Each other call after in and a term returns what it returns alone, but RELKVANU_FENCED with RELKVANU_NO_NAMES on a handle without names. After in and the term 0 a call is the one without a term.
     pub fn relkvanu_line(
@@ -592,11 +569,7 @@ extern "C" {
     ) -> relkvanu_answer;
 
     /// Writes the image of the coordinator, all of its state, as JSON without a zero at its end. A handle that is opened with the image answers every list of calls as this one would. The image of a handle with names has its term and its names. RELKVANU_SAVED; RELKVANU_TOO_SHORT, and a is its number of bytes: call again with a buffer of that many. Only RELKVANU_SAVED changes the buffer, and nothing else changes. Takes memory, even if the buffer is too short.
-    pub fn relkvanu_save(
-        handle: *mut relkvanu,
-        image: *mut u8,
-        image_len: usize,
-    ) -> relkvanu_answer;
+    pub fn relkvanu_save(handle: *mut relkvanu, image: *mut u8, image_len: usize) -> relkvanu_answer;
 
     /// Opens the coordinator that an image describes in a closed handle: with names if the image has names, otherwise without. The two words have the meaning that they have in relkvanu_open. They may differ from those of the coordinator that was saved. Condition for the caller: all calls that were made after the save are made again, before any task makes a call. Otherwise names that were given out since then are given out again, and a term that has ended runs again. RELKVANU_OPENED; or RELKVANU_BAD_ARGUMENT, and the handle stays as it was: RELKVANU_ALREADY_OPEN, RELKVANU_BAD_IMAGE. Takes memory: after RELKVANU_NO_MEMORY the handle is closed, as before.
     pub fn relkvanu_open_saved(
@@ -624,22 +597,13 @@ extern "C" {
     ) -> relkvanu_answer;
 
     /// Writes the files that the pending record id pins, in ascending order: the files of the record that a restart would have begun from at its trigger. Writes none if no record with this number is pending. RELKVANU_FILES; RELKVANU_TOO_SHORT. Takes memory only if the record is pending.
-    pub fn relkvanu_pins_of(
-        handle: *mut relkvanu,
-        id: u64,
-        files: *mut u64,
-        files_len: usize,
-    ) -> relkvanu_answer;
+    pub fn relkvanu_pins_of(handle: *mut relkvanu, id: u64, files: *mut u64, files_len: usize) -> relkvanu_answer;
 
     /// The file at this place, from 0, among those that wait for deletion. The next to be fetched is the first. RELKVANU_WAITING; RELKVANU_NONE_WAITS past the last. Takes constant time and no memory.
     pub fn relkvanu_waiting_file(handle: *mut relkvanu, place: usize) -> relkvanu_answer;
 
     /// Writes the files that were fetched for deletion and are not yet reported, in ascending order. RELKVANU_FILES; RELKVANU_TOO_SHORT. Visits each file that waits or was fetched. Takes memory.
-    pub fn relkvanu_taken_files(
-        handle: *mut relkvanu,
-        files: *mut u64,
-        files_len: usize,
-    ) -> relkvanu_answer;
+    pub fn relkvanu_taken_files(handle: *mut relkvanu, files: *mut u64, files_len: usize) -> relkvanu_answer;
 
     /// Opens a coordinator as relkvanu_open does, in term 1. The first name that it gives out is first_name, 1 to 2^62: all numbers of files that were used before are below it. RELKVANU_OPENED; or RELKVANU_BAD_ARGUMENT, and the handle stays as it was: RELKVANU_ALREADY_OPEN, RELKVANU_BAD_CONFIG, RELKVANU_BAD_SHAPE, RELKVANU_BAD_NAME, RELKVANU_BAD_MOMENT, RELKVANU_BAD_FIRST, checked in this order. Takes memory: after RELKVANU_NO_MEMORY the handle is closed, as before.
     pub fn relkvanu_open_fenced(
@@ -664,20 +628,10 @@ extern "C" {
     pub fn relkvanu_reserve(handle: *mut relkvanu, term: u64, count: u64) -> relkvanu_answer;
 
     /// A task of this term gives up names that it will not acknowledge, such as those of a failed upload: their files are garbage then. Names that the term does not hold are passed over, so the call can be repeated. RELKVANU_FORFEITED. RELKVANU_FENCED: RELKVANU_NO_NAMES, RELKVANU_OLD_TERM. The call first copies the list, which takes memory.
-    pub fn relkvanu_forfeit(
-        handle: *mut relkvanu,
-        term: u64,
-        names: *const u64,
-        names_len: usize,
-    ) -> relkvanu_answer;
+    pub fn relkvanu_forfeit(handle: *mut relkvanu, term: u64, names: *const u64, names_len: usize) -> relkvanu_answer;
 
     /// Begins a job again that goes on from an older image or log, such as one that was restored from a backup: relkvanu_restore of the latest, in the shape that the job has, in a term above term, the greatest that any task was told, and with names from first_name on, 1 to 2^62, above each that was given out. A smaller term and a smaller first_name lower nothing. Names that are passed over are garbage, unless the handle's records use them. Make this call before any other of such a job. docs/RULES.md, section 13, says what it is for. RELKVANU_RESTORED, and relkvanu_term tells the new term. RELKVANU_FENCED with RELKVANU_NO_NAMES; RELKVANU_BAD_ARGUMENT with RELKVANU_BAD_NAME; RELKVANU_FENCED with RELKVANU_TERMS_USED_UP, checked in this order; then the refusals of relkvanu_restore. None of these changes anything. Takes no memory.
-    pub fn relkvanu_advance(
-        handle: *mut relkvanu,
-        now: u64,
-        term: u64,
-        first_name: u64,
-    ) -> relkvanu_answer;
+    pub fn relkvanu_advance(handle: *mut relkvanu, now: u64, term: u64, first_name: u64) -> relkvanu_answer;
 
     /// relkvanu_ack of a task of this term. An accepted acknowledgement spends the names of its fresh files. As relkvanu_ack, and before its refusals RELKVANU_FENCED: RELKVANU_NO_NAMES, RELKVANU_OLD_TERM, and for the first fresh file whose name the term does not hold RELKVANU_SPENT or RELKVANU_NEVER_RESERVED. An acknowledgement that is sent twice is RELKVANU_SPENT the second time, if it has fresh files: then an accepted one has named them. So a task does not delete a file for RELKVANU_SPENT.
     pub fn relkvanu_ack_in(
@@ -718,11 +672,7 @@ extern "C" {
     pub fn relkvanu_fenced_text(what: u32, text: *mut u8, text_len: usize) -> usize;
 
     /// Begins the alignment of a task with this many inputs, 1 to RELKVANU_MOST_INPUTS: all are open. A task begins one when it starts, also after a restore. RELKVANU_STEP_NOTHING; or RELKVANU_STEP_BAD_INPUTS.
-    pub fn relkvanu_align_open(
-        aligner: *mut relkvanu_aligner,
-        inputs: *mut u8,
-        inputs_len: usize,
-    ) -> relkvanu_step;
+    pub fn relkvanu_align_open(aligner: *mut relkvanu_aligner, inputs: *mut u8, inputs_len: usize) -> relkvanu_step;
 
     /// An element is next on this input, from 0: whether the task may process it now. Changes nothing. RELKVANU_STEP_PROCESS or RELKVANU_STEP_HOLD; or RELKVANU_STEP_UNKNOWN_INPUT, RELKVANU_STEP_ENDED_INPUT.
     pub fn relkvanu_align_element(

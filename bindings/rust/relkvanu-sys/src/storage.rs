@@ -31,30 +31,12 @@ pub struct relkvanu_storage_file {
 pub struct relkvanu_storage {
     pub with: *mut c_void,
     pub check: Option<unsafe extern "C" fn(with: *mut c_void) -> c_int>,
-    pub put: Option<
-        unsafe extern "C" fn(
-            with: *mut c_void,
-            file: u64,
-            contents: *const c_void,
-            len: usize,
-        ) -> c_int,
-    >,
+    pub put: Option<unsafe extern "C" fn(with: *mut c_void, file: u64, contents: *const c_void, len: usize) -> c_int>,
     pub get: Option<
-        unsafe extern "C" fn(
-            with: *mut c_void,
-            file: u64,
-            contents: *mut c_void,
-            room: usize,
-            len: *mut u64,
-        ) -> c_int,
+        unsafe extern "C" fn(with: *mut c_void, file: u64, contents: *mut c_void, room: usize, len: *mut u64) -> c_int,
     >,
     pub delete_files: Option<
-        unsafe extern "C" fn(
-            with: *mut c_void,
-            files: *const u64,
-            files_len: usize,
-            outcomes: *mut u8,
-        ) -> c_int,
+        unsafe extern "C" fn(with: *mut c_void, files: *const u64, files_len: usize, outcomes: *mut u8) -> c_int,
     >,
     pub list: Option<
         unsafe extern "C" fn(
@@ -80,11 +62,8 @@ pub struct relkvanu_storage_options {
     pub reserved: [u64; 4],
 }
 
-pub type relkvanu_storage_page = unsafe extern "C" fn(
-    with: *mut c_void,
-    files: *const relkvanu_storage_file,
-    files_len: usize,
-) -> bool;
+pub type relkvanu_storage_page =
+    unsafe extern "C" fn(with: *mut c_void, files: *const relkvanu_storage_file, files_len: usize) -> bool;
 
 extern "C" {
     pub fn relkvanu_storage_open_folder(

@@ -37,6 +37,7 @@ pub const RELKVANU_STORE_ADOPT: u32 = 4;
 pub const RELKVANU_STORE_EARLIER_IMAGE: u32 = 8;
 pub const RELKVANU_STORE_BACKUP: u32 = 32;
 pub const RELKVANU_STORE_MANIFESTS: u32 = 64;
+pub const RELKVANU_STORE_CHECKSUMS: u32 = 128;
 pub const RELKVANU_STORE_NOW: u64 = u64::MAX;
 pub const RELKVANU_STORE_NO_IMAGES: u64 = u64::MAX;
 pub const RELKVANU_STORE_MOST_CALLS: usize = 4096;
@@ -67,6 +68,10 @@ pub const RELKVANU_STORE_STOP_RESTORED: u32 = 3;
 pub const RELKVANU_STORE_STOP_CANCELLED: u32 = 4;
 pub const RELKVANU_STORE_STOP_FAILED: u32 = 5;
 pub const RELKVANU_STORE_ACCEPT_PUBLISHED: u32 = 1;
+pub const RELKVANU_STORE_FILE_MISSING: u32 = 1;
+pub const RELKVANU_STORE_FILE_LENGTH: u32 = 2;
+pub const RELKVANU_STORE_FILE_CHANGED: u32 = 3;
+pub const RELKVANU_STORE_FILE_UNREADABLE: u32 = 4;
 
 /// Nobody looks into it.
 #[repr(C)]
@@ -223,7 +228,9 @@ pub struct relkvanu_store_record {
     pub files: u64,
     pub bytes: u64,
     pub missing: u64,
-    pub reserved: [u64; 4],
+    pub unknown: u64,
+    pub changed: u64,
+    pub reserved: [u64; 2],
 }
 
 #[repr(C)]
@@ -280,45 +287,33 @@ pub struct relkvanu_store_measures {
     pub failed_manifests: u64,
 }
 
-pub type relkvanu_store_each_part =
-    unsafe extern "C" fn(with: *mut c_void, part: *const relkvanu_store_part) -> bool;
+pub type relkvanu_store_each_part = unsafe extern "C" fn(with: *mut c_void, part: *const relkvanu_store_part) -> bool;
 
 pub type relkvanu_store_delete =
     unsafe extern "C" fn(with: *mut c_void, files: *const u64, files_len: usize, is_gone: *mut u8);
 
-pub type relkvanu_store_delete_some = unsafe extern "C" fn(
-    with: *mut c_void,
-    files: *const u64,
-    files_len: usize,
-    is_gone: *mut u8,
-) -> bool;
+pub type relkvanu_store_delete_some =
+    unsafe extern "C" fn(with: *mut c_void, files: *const u64, files_len: usize, is_gone: *mut u8) -> bool;
 
-pub type relkvanu_store_source =
-    unsafe extern "C" fn(with: *mut c_void, to: *mut c_void, room: usize) -> i64;
+pub type relkvanu_store_source = unsafe extern "C" fn(with: *mut c_void, to: *mut c_void, room: usize) -> i64;
 
-pub type relkvanu_store_each_name =
-    unsafe extern "C" fn(with: *mut c_void, name: *const c_char) -> bool;
+pub type relkvanu_store_each_name = unsafe extern "C" fn(with: *mut c_void, name: *const c_char) -> bool;
 
 pub type relkvanu_store_check_place = unsafe extern "C" fn(with: *mut c_void) -> c_int;
 
-pub type relkvanu_store_put_named = unsafe extern "C" fn(
-    with: *mut c_void,
-    name: *const c_char,
-    contents: *const c_void,
-    contents_len: usize,
-) -> c_int;
+pub type relkvanu_store_put_named =
+    unsafe extern "C" fn(with: *mut c_void, name: *const c_char, contents: *const c_void, contents_len: usize) -> c_int;
 
-pub type relkvanu_store_remove_named =
-    unsafe extern "C" fn(with: *mut c_void, name: *const c_char) -> c_int;
+pub type relkvanu_store_remove_named = unsafe extern "C" fn(with: *mut c_void, name: *const c_char) -> c_int;
 
-pub type relkvanu_store_list_named = unsafe extern "C" fn(
-    with: *mut c_void,
-    each: relkvanu_store_each_name,
-    with_each: *mut c_void,
-) -> c_int;
+pub type relkvanu_store_list_named =
+    unsafe extern "C" fn(with: *mut c_void, each: relkvanu_store_each_name, with_each: *mut c_void) -> c_int;
 
 pub type relkvanu_store_each_record =
     unsafe extern "C" fn(with: *mut c_void, record: *const relkvanu_store_record) -> bool;
+
+pub type relkvanu_store_each_fault =
+    unsafe extern "C" fn(with: *mut c_void, record: u64, file: u64, fault: u32) -> bool;
 
 extern "C" {
     pub fn relkvanu_store_open(
@@ -334,11 +329,8 @@ extern "C" {
         shape_len: *mut usize,
     ) -> c_int;
     pub fn relkvanu_store_close(store: *mut relkvanu_store);
-    pub fn relkvanu_store_calls(
-        store: *mut relkvanu_store,
-        calls: *mut relkvanu_store_call,
-        calls_len: usize,
-    ) -> c_int;
+    pub fn relkvanu_store_calls(store: *mut relkvanu_store, calls: *mut relkvanu_store_call, calls_len: usize)
+        -> c_int;
     pub fn relkvanu_store_ack_in(
         store: *mut relkvanu_store,
         term: u64,
@@ -413,17 +405,11 @@ extern "C" {
     pub fn relkvanu_store_descriptor(store: *const relkvanu_store) -> c_int;
     pub fn relkvanu_store_read(store: *mut relkvanu_store, handle: *mut *mut relkvanu) -> c_int;
     pub fn relkvanu_store_read_end(store: *mut relkvanu_store);
-    pub fn relkvanu_store_look(
-        store: *mut relkvanu_store,
-        reads: *mut *mut relkvanu_reads,
-    ) -> c_int;
+    pub fn relkvanu_store_look(store: *mut relkvanu_store, reads: *mut *mut relkvanu_reads) -> c_int;
     pub fn relkvanu_store_now(store: *const relkvanu_store) -> u64;
     pub fn relkvanu_store_next_tick(store: *mut relkvanu_store, wait: *mut u64) -> c_int;
-    pub fn relkvanu_store_await_tick(
-        store: *mut relkvanu_store,
-        longest: u64,
-        tick: *mut relkvanu_store_call,
-    ) -> c_int;
+    pub fn relkvanu_store_await_tick(store: *mut relkvanu_store, longest: u64, tick: *mut relkvanu_store_call)
+        -> c_int;
     pub fn relkvanu_store_await_tick_with(
         store: *mut relkvanu_store,
         longest: u64,
@@ -437,32 +423,17 @@ extern "C" {
         each: relkvanu_store_each_part,
         with: *mut c_void,
     ) -> c_int;
-    pub fn relkvanu_store_history(
-        store: *mut relkvanu_store,
-        past: *mut relkvanu_store_past,
-        len: *mut usize,
-    ) -> c_int;
-    pub fn relkvanu_store_trigger(
-        store: *mut relkvanu_store,
-        call: *mut relkvanu_store_call,
-    ) -> c_int;
+    pub fn relkvanu_store_history(store: *mut relkvanu_store, past: *mut relkvanu_store_past, len: *mut usize)
+        -> c_int;
+    pub fn relkvanu_store_trigger(store: *mut relkvanu_store, call: *mut relkvanu_store_call) -> c_int;
     pub fn relkvanu_store_configure(
         store: *mut relkvanu_store,
         settings: *const relkvanu_settings,
         call: *mut relkvanu_store_call,
     ) -> c_int;
-    pub fn relkvanu_store_stop_job(
-        store: *mut relkvanu_store,
-        call: *mut relkvanu_store_call,
-    ) -> c_int;
-    pub fn relkvanu_store_begin_job(
-        store: *mut relkvanu_store,
-        call: *mut relkvanu_store_call,
-    ) -> c_int;
-    pub fn relkvanu_store_phase(
-        store: *mut relkvanu_store,
-        phase: *mut relkvanu_store_job_phase,
-    ) -> c_int;
+    pub fn relkvanu_store_stop_job(store: *mut relkvanu_store, call: *mut relkvanu_store_call) -> c_int;
+    pub fn relkvanu_store_begin_job(store: *mut relkvanu_store, call: *mut relkvanu_store_call) -> c_int;
+    pub fn relkvanu_store_phase(store: *mut relkvanu_store, phase: *mut relkvanu_store_job_phase) -> c_int;
     pub fn relkvanu_store_go_back(
         store: *mut relkvanu_store,
         checkpoint: u64,
@@ -498,36 +469,18 @@ extern "C" {
         delete_files: relkvanu_store_delete_some,
         with: *mut c_void,
     ) -> c_int;
-    pub fn relkvanu_store_put(
-        store: *mut relkvanu_store,
-        file: u64,
-        contents: *const c_void,
-        len: usize,
-    ) -> c_int;
+    pub fn relkvanu_store_put(store: *mut relkvanu_store, file: u64, contents: *const c_void, len: usize) -> c_int;
     pub fn relkvanu_store_put_from(
         store: *mut relkvanu_store,
         file: u64,
         source: relkvanu_store_source,
         with: *mut c_void,
     ) -> c_int;
-    pub fn relkvanu_store_put_link(
-        store: *mut relkvanu_store,
-        file: u64,
-        from: c_int,
-        name: *const c_char,
-    ) -> c_int;
+    pub fn relkvanu_store_put_link(store: *mut relkvanu_store, file: u64, from: c_int, name: *const c_char) -> c_int;
     pub fn relkvanu_store_why(text: *mut c_char, text_len: usize) -> usize;
-    pub fn relkvanu_store_delete_files(
-        store: *mut c_void,
-        files: *const u64,
-        files_len: usize,
-        is_gone: *mut u8,
-    );
+    pub fn relkvanu_store_delete_files(store: *mut c_void, files: *const u64, files_len: usize, is_gone: *mut u8);
     pub fn relkvanu_store_sweep(store: *mut relkvanu_store, left: *mut usize) -> c_int;
-    pub fn relkvanu_store_storage(
-        store: *mut relkvanu_store,
-        storage: *mut relkvanu_storage,
-    ) -> c_int;
+    pub fn relkvanu_store_storage(store: *mut relkvanu_store, storage: *mut relkvanu_storage) -> c_int;
     pub fn relkvanu_store_discard_storage(
         store: *mut relkvanu_store,
         batch: usize,
@@ -556,6 +509,14 @@ extern "C" {
     pub fn relkvanu_store_records(
         folder: *const c_char,
         each: relkvanu_store_each_record,
+        with: *mut c_void,
+        message: *mut c_char,
+        message_len: usize,
+    ) -> c_int;
+    pub fn relkvanu_store_check_records(
+        folder: *const c_char,
+        each: relkvanu_store_each_record,
+        each_fault: relkvanu_store_each_fault,
         with: *mut c_void,
         message: *mut c_char,
         message_len: usize,
@@ -604,9 +565,5 @@ extern "C" {
         measures: *mut relkvanu_store_measures,
         measures_len: usize,
     );
-    pub fn relkvanu_store_message(
-        store: *mut relkvanu_store,
-        text: *mut c_char,
-        text_len: usize,
-    ) -> usize;
+    pub fn relkvanu_store_message(store: *mut relkvanu_store, text: *mut c_char, text_len: usize) -> usize;
 }

@@ -64,10 +64,7 @@ fn task(job: &Job, index: u16, checkpoints: Receiver<u64>) {
         let file = job.next_file.fetch_add(1, SeqCst);
         make(&job.folder, file).unwrap();
         let reused: Vec<u64> = last.into_iter().collect();
-        let answer = job
-            .coordinator
-            .ack(job.now(), id, (0, index), &[file], &reused)
-            .unwrap();
+        let answer = job.coordinator.ack(job.now(), id, (0, index), &[file], &reused).unwrap();
         if let Answer::AckCompleted { .. } = answer {
             job.completed.fetch_add(1, SeqCst);
         }
@@ -103,10 +100,7 @@ fn run(folder: &Path) {
         completed: AtomicU64::new(0),
     };
     let storage = folder.to_path_buf();
-    let patience = Patience {
-        idle: Duration::from_millis(1),
-        ..Patience::default()
-    };
+    let patience = Patience { idle: Duration::from_millis(1), ..Patience::default() };
     let delete = move |file| {
         fs::remove_file(path(&storage, file))?;
         File::open(&storage)?.sync_all()
@@ -121,10 +115,7 @@ fn run(folder: &Path) {
     let written = job.next_file.load(SeqCst);
     assert_eq!(told.deleted, written, "files deleted, and files written");
     assert_eq!(fs::read_dir(folder).unwrap().count(), 0, "a file is left");
-    println!(
-        "{} checkpoints, {written} files written and deleted",
-        job.completed.load(SeqCst)
-    );
+    println!("{} checkpoints, {written} files written and deleted", job.completed.load(SeqCst));
 }
 
 fn main() {

@@ -132,17 +132,11 @@ impl Aligner {
         if inputs > MOST_INPUTS {
             return Err(AlignFault::BadInputs);
         }
-        let mut made = Aligner {
-            aligner: sys::relkvanu_aligner { latest: 0 },
-            inputs: vec![0; inputs].into_boxed_slice(),
-        };
+        let mut made =
+            Aligner { aligner: sys::relkvanu_aligner { latest: 0 }, inputs: vec![0; inputs].into_boxed_slice() };
         // SAFETY: both are memory of this value, and the slice has as many places as is said.
         let _ = step_of(unsafe {
-            sys::relkvanu_align_open(
-                &mut made.aligner,
-                made.inputs.as_mut_ptr(),
-                made.inputs.len(),
-            )
+            sys::relkvanu_align_open(&mut made.aligner, made.inputs.as_mut_ptr(), made.inputs.len())
         })?;
         Ok(made)
     }
@@ -155,14 +149,7 @@ impl Aligner {
     /// An element is next on this input, from 0: [`Step::Process`] or [`Step::Hold`].
     pub fn element(&self, input: u32) -> Stepped {
         // SAFETY: as in `new`; the call changes nothing.
-        step_of(unsafe {
-            sys::relkvanu_align_element(
-                &self.aligner,
-                self.inputs.as_ptr(),
-                self.inputs.len(),
-                input,
-            )
-        })
+        step_of(unsafe { sys::relkvanu_align_element(&self.aligner, self.inputs.as_ptr(), self.inputs.len(), input) })
     }
 
     /// The barrier of this record is next on this input: [`Step::Wait`], [`Step::Late`], [`Step::Cut`], or [`Step::Abandon`] of an earlier
@@ -170,13 +157,7 @@ impl Aligner {
     pub fn barrier(&mut self, input: u32, id: u64) -> Stepped {
         // SAFETY: as in `new`.
         step_of(unsafe {
-            sys::relkvanu_align_barrier(
-                &mut self.aligner,
-                self.inputs.as_mut_ptr(),
-                self.inputs.len(),
-                input,
-                id,
-            )
+            sys::relkvanu_align_barrier(&mut self.aligner, self.inputs.as_mut_ptr(), self.inputs.len(), input, id)
         })
     }
 
@@ -184,12 +165,7 @@ impl Aligner {
     pub fn end(&mut self, input: u32) -> Stepped {
         // SAFETY: as in `new`.
         step_of(unsafe {
-            sys::relkvanu_align_end(
-                &mut self.aligner,
-                self.inputs.as_mut_ptr(),
-                self.inputs.len(),
-                input,
-            )
+            sys::relkvanu_align_end(&mut self.aligner, self.inputs.as_mut_ptr(), self.inputs.len(), input)
         })
     }
 
@@ -197,12 +173,7 @@ impl Aligner {
     pub fn give_up(&mut self, id: u64) -> Stepped {
         // SAFETY: as in `new`.
         step_of(unsafe {
-            sys::relkvanu_align_give_up(
-                &mut self.aligner,
-                self.inputs.as_mut_ptr(),
-                self.inputs.len(),
-                id,
-            )
+            sys::relkvanu_align_give_up(&mut self.aligner, self.inputs.as_mut_ptr(), self.inputs.len(), id)
         })
     }
 }

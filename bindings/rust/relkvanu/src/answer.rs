@@ -222,38 +222,20 @@ pub(crate) fn answer(told: sys::relkvanu_answer) -> Result<Answer, Fault> {
         sys::RELKVANU_TICK_FAILED => Answer::Failed { expired: a },
         sys::RELKVANU_SAVEPOINT_TRIGGERED => Answer::SavepointTriggered(a),
         sys::RELKVANU_ACK_PENDING => Answer::AckPending { missing: a },
-        sys::RELKVANU_ACK_COMPLETED => Answer::AckCompleted {
-            dropped: a,
-            released: b,
-        },
+        sys::RELKVANU_ACK_COMPLETED => Answer::AckCompleted { dropped: a, released: b },
         sys::RELKVANU_ACK_LATE => Answer::AckLate { handed_out: a },
         sys::RELKVANU_DECLINE_ABORTED => Answer::DeclineAborted { released: a },
         sys::RELKVANU_DECLINE_FAILED => Answer::DeclineFailed { released: a },
         sys::RELKVANU_DECLINE_LATE => Answer::DeclineLate,
         sys::RELKVANU_DISPOSED => Answer::Disposed { released: a },
-        sys::RELKVANU_RESTORED_CHECKPOINT => Answer::Restored {
-            from: Choice::Checkpoint(b),
-            released: a,
-        },
-        sys::RELKVANU_RESTORED_SAVEPOINT => Answer::Restored {
-            from: Choice::Savepoint(b),
-            released: a,
-        },
-        sys::RELKVANU_RESTORED_FRESH => Answer::Restored {
-            from: Choice::Fresh,
-            released: a,
-        },
-        sys::RELKVANU_CANCELLED => Answer::Cancelled {
-            dropped: a,
-            released: b,
-        },
+        sys::RELKVANU_RESTORED_CHECKPOINT => Answer::Restored { from: Choice::Checkpoint(b), released: a },
+        sys::RELKVANU_RESTORED_SAVEPOINT => Answer::Restored { from: Choice::Savepoint(b), released: a },
+        sys::RELKVANU_RESTORED_FRESH => Answer::Restored { from: Choice::Fresh, released: a },
+        sys::RELKVANU_CANCELLED => Answer::Cancelled { dropped: a, released: b },
         sys::RELKVANU_DELETED => Answer::Deleted(a),
         sys::RELKVANU_UNDELETED => Answer::Undeleted(a),
         sys::RELKVANU_COUNTED => Answer::Counted { file: a, uses: b },
-        sys::RELKVANU_CONFIGURED => Answer::Configured {
-            checkpoints: a,
-            released: b,
-        },
+        sys::RELKVANU_CONFIGURED => Answer::Configured { checkpoints: a, released: b },
         sys::RELKVANU_FORFEITED => Answer::Forfeited,
         sys::RELKVANU_NAMED => Answer::Named,
         sys::RELKVANU_RESERVED => Answer::Reserved(a),
@@ -271,62 +253,32 @@ pub(crate) fn numbers_of(answer: &Answer) -> (u32, u64, u64) {
         Answer::Failed { expired: a } => (sys::RELKVANU_TICK_FAILED, a, 0),
         Answer::SavepointTriggered(a) => (sys::RELKVANU_SAVEPOINT_TRIGGERED, a, 0),
         Answer::AckPending { missing: a } => (sys::RELKVANU_ACK_PENDING, a, 0),
-        Answer::AckCompleted {
-            dropped: a,
-            released: b,
-        } => (sys::RELKVANU_ACK_COMPLETED, a, b),
+        Answer::AckCompleted { dropped: a, released: b } => (sys::RELKVANU_ACK_COMPLETED, a, b),
         Answer::AckLate { handed_out: a } => (sys::RELKVANU_ACK_LATE, a, 0),
         Answer::DeclineAborted { released: a } => (sys::RELKVANU_DECLINE_ABORTED, a, 0),
         Answer::DeclineFailed { released: a } => (sys::RELKVANU_DECLINE_FAILED, a, 0),
         Answer::DeclineLate => (sys::RELKVANU_DECLINE_LATE, 0, 0),
         Answer::Disposed { released: a } => (sys::RELKVANU_DISPOSED, a, 0),
-        Answer::Restored {
-            from: Choice::Checkpoint(b),
-            released: a,
-        } => (sys::RELKVANU_RESTORED_CHECKPOINT, a, b),
-        Answer::Restored {
-            from: Choice::Savepoint(b),
-            released: a,
-        } => (sys::RELKVANU_RESTORED_SAVEPOINT, a, b),
-        Answer::Restored {
-            from: Choice::Fresh,
-            released: a,
-        } => (sys::RELKVANU_RESTORED_FRESH, a, 0),
-        Answer::Cancelled {
-            dropped: a,
-            released: b,
-        } => (sys::RELKVANU_CANCELLED, a, b),
+        Answer::Restored { from: Choice::Checkpoint(b), released: a } => (sys::RELKVANU_RESTORED_CHECKPOINT, a, b),
+        Answer::Restored { from: Choice::Savepoint(b), released: a } => (sys::RELKVANU_RESTORED_SAVEPOINT, a, b),
+        Answer::Restored { from: Choice::Fresh, released: a } => (sys::RELKVANU_RESTORED_FRESH, a, 0),
+        Answer::Cancelled { dropped: a, released: b } => (sys::RELKVANU_CANCELLED, a, b),
         Answer::Deleted(a) => (sys::RELKVANU_DELETED, a, 0),
         Answer::Undeleted(a) => (sys::RELKVANU_UNDELETED, a, 0),
         Answer::Counted { file: a, uses: b } => (sys::RELKVANU_COUNTED, a, b),
-        Answer::Configured {
-            checkpoints: a,
-            released: b,
-        } => (sys::RELKVANU_CONFIGURED, a, b),
+        Answer::Configured { checkpoints: a, released: b } => (sys::RELKVANU_CONFIGURED, a, b),
         Answer::Forfeited => (sys::RELKVANU_FORFEITED, 0, 0),
         Answer::Named => (sys::RELKVANU_NAMED, 0, 0),
         Answer::Reserved(a) => (sys::RELKVANU_RESERVED, a, 0),
-        Answer::Restored {
-            from: Choice::Unknown(what),
-            released,
-        } => (what, released, 0),
+        Answer::Restored { from: Choice::Unknown(what), released } => (what, released, 0),
     }
 }
 
 /// The text of each answer in scripts (`docs/SCRIPT.md`) and logs (`docs/LOGS.md`), in which {a} and {b} stand for its numbers.
 pub(crate) const TEXTS: [(u32, &str); 24] = [
-    (
-        sys::RELKVANU_TICK_TRIGGERED,
-        "tick expired {a} triggered {b}",
-    ),
-    (
-        sys::RELKVANU_TICK_HELD_INTERVAL,
-        "tick expired {a} held interval",
-    ),
-    (
-        sys::RELKVANU_TICK_HELD_AT_ONCE,
-        "tick expired {a} held at-once",
-    ),
+    (sys::RELKVANU_TICK_TRIGGERED, "tick expired {a} triggered {b}"),
+    (sys::RELKVANU_TICK_HELD_INTERVAL, "tick expired {a} held interval"),
+    (sys::RELKVANU_TICK_HELD_AT_ONCE, "tick expired {a} held at-once"),
     (sys::RELKVANU_TICK_HELD_PAUSE, "tick expired {a} held pause"),
     (sys::RELKVANU_TICK_FAILED, "tick expired {a} failed"),
     (sys::RELKVANU_SAVEPOINT_TRIGGERED, "savepoint triggered {a}"),
@@ -337,14 +289,8 @@ pub(crate) const TEXTS: [(u32, &str); 24] = [
     (sys::RELKVANU_DECLINE_FAILED, "decline failed {a}"),
     (sys::RELKVANU_DECLINE_LATE, "decline late"),
     (sys::RELKVANU_DISPOSED, "disposed {a}"),
-    (
-        sys::RELKVANU_RESTORED_CHECKPOINT,
-        "restored checkpoint {b} {a}",
-    ),
-    (
-        sys::RELKVANU_RESTORED_SAVEPOINT,
-        "restored savepoint {b} {a}",
-    ),
+    (sys::RELKVANU_RESTORED_CHECKPOINT, "restored checkpoint {b} {a}"),
+    (sys::RELKVANU_RESTORED_SAVEPOINT, "restored savepoint {b} {a}"),
     (sys::RELKVANU_RESTORED_FRESH, "restored fresh {a}"),
     (sys::RELKVANU_CANCELLED, "cancelled {a} {b}"),
     (sys::RELKVANU_DELETED, "deleted {a}"),
@@ -381,11 +327,7 @@ impl fmt::Display for Answer {
     fn fmt(&self, f: &mut fmt::Formatter<'_>) -> fmt::Result {
         let (what, a, b) = numbers_of(self);
         match TEXTS.iter().find(|(number, _)| *number == what) {
-            Some((_, form)) => f.write_str(
-                &form
-                    .replace("{a}", &a.to_string())
-                    .replace("{b}", &b.to_string()),
-            ),
+            Some((_, form)) => f.write_str(&form.replace("{a}", &a.to_string()).replace("{b}", &b.to_string())),
             None => write!(f, "unknown {what}"),
         }
     }
@@ -407,11 +349,7 @@ pub(crate) fn live(told: sys::relkvanu_answer) -> Option<Live> {
         sys::RELKVANU_LIVE_NONE => return None,
         other => Kind::Unknown(other),
     };
-    Some(Live {
-        id: told.a,
-        kind,
-        done: told.b == 1,
-    })
+    Some(Live { id: told.a, kind, done: told.b == 1 })
 }
 
 #[cfg(test)]
@@ -458,10 +396,7 @@ mod tests {
     #[test]
     fn each_answer_has_its_numbers_and_its_text() {
         for (answer, (what, a, b), text) in answers() {
-            assert_eq!(
-                (answer.numbers(), answer.to_string().as_str()),
-                ((what, a, b), text)
-            );
+            assert_eq!((answer.numbers(), answer.to_string().as_str()), ((what, a, b), text));
             assert_eq!(Answer::of_numbers(what, a, b), Some(answer), "{text}");
         }
     }
@@ -470,15 +405,8 @@ mod tests {
     fn other_numbers_are_no_answers() {
         let known: Vec<u32> = answers().iter().map(|(_, numbers, _)| numbers.0).collect();
         for what in (0..200).chain([u32::MAX]) {
-            assert_eq!(
-                Answer::of_numbers(what, 1, 2).is_some(),
-                known.contains(&what),
-                "{what}"
-            );
+            assert_eq!(Answer::of_numbers(what, 1, 2).is_some(), known.contains(&what), "{what}");
         }
-        assert_eq!(
-            (Answer::TAKEN, Answer::of_numbers(Answer::TAKEN, 1, 0)),
-            (18, None)
-        );
+        assert_eq!((Answer::TAKEN, Answer::of_numbers(Answer::TAKEN, 1, 0)), (18, None));
     }
 }

@@ -21,15 +21,15 @@ pub(crate) enum CallKind {
     Undeleted,
     Show,
     Count,
-    /// Relkvanu_fence.
+    /// The job gives out names from here on.
     Fence,
-    /// Relkvanu_reserve.
+    /// A task reserves names.
     Reserve,
-    /// Relkvanu_forfeit.
+    /// A task gives up names.
     Forfeit,
     Trigger,
     Configure,
-    /// Relkvanu_advance.
+    /// The job goes on above the terms and names that were told.
     Advance,
     /// A number that this crate does not know: the library is of another version.
     Unknown(u32),
@@ -191,14 +191,10 @@ impl<'a> Call<'a> {
     /// are a [`Fault::BadConfig`]. A restore
     /// to savepoint 0 is refused with [`Refusal::NoSuchSavepoint`](crate::Refusal::NoSuchSavepoint), since no savepoint has this number.
     /// A term before a call that has no use for one, as in `in 3 tick 5`, is [`LineFault::NoCall`]: no `Call` says it.
-    pub fn of(
-        line: &[u8],
-        first: &'a mut Vec<u64>,
-        second: &'a mut Vec<u64>,
-    ) -> Result<Option<Call<'a>>, Fault> {
+    pub fn of(line: &[u8], first: &'a mut Vec<u64>, second: &'a mut Vec<u64>) -> Result<Option<Call<'a>>, Fault> {
         check_library()?;
         let (told, call) = loop {
-            let (told, call) = said(line, first, second);
+            let (told, call) = line_call(line, first, second);
             if told.code != sys::RELKVANU_TOO_SHORT {
                 break (done(told)?, call);
             }
@@ -217,7 +213,7 @@ impl<'a> Call<'a> {
 
     /// The record that a line shows, with a term before it or without one.
     pub(crate) fn shown_by(line: &[u8]) -> Option<u64> {
-        let (told, call) = said(line, &mut [], &mut []);
+        let (told, call) = line_call(line, &mut [], &mut []);
         let is_call = told.code == sys::RELKVANU_DONE && told.what == sys::RELKVANU_LINE_CALL;
         (is_call && call.kind == sys::RELKVANU_CALL_SHOW).then_some(call.number)
     }
@@ -226,43 +222,15 @@ impl<'a> Call<'a> {
     fn of_task(self, term: u64) -> Result<Call<'a>, Fault> {
         Ok(match self {
             call if term == 0 => call,
-            Call::Ack {
-                now,
-                id,
-                subtask,
-                fresh,
-                reused,
-            } => Call::AckIn {
-                term,
-                now,
-                id,
-                subtask,
-                fresh,
-                reused,
-            },
-            Call::Decline { now, id, subtask } => Call::DeclineIn {
-                term,
-                now,
-                id,
-                subtask,
-            },
-            call @ (Call::Reserve { .. }
-            | Call::Forfeit { .. }
-            | Call::Advance { .. }
-            | Call::Fence { .. }) => call,
+            Call::Ack { now, id, subtask, fresh, reused } => Call::AckIn { term, now, id, subtask, fresh, reused },
+            Call::Decline { now, id, subtask } => Call::DeclineIn { term, now, id, subtask },
+            call @ (Call::Reserve { .. } | Call::Forfeit { .. } | Call::Advance { .. } | Call::Fence { .. }) => call,
             _ => return Err(Fault::BadLine(LineFault::NoCall)),
         })
     }
 
     fn with(call: &sys::relkvanu_call, first: &'a [u64], second: &'a [u64]) -> Option<Call<'a>> {
-        let &sys::relkvanu_call {
-            kind,
-            vertex,
-            index,
-            now,
-            number,
-            term,
-        } = call;
+        let &sys::relkvanu_call { kind, vertex, index, now, number, term } = call;
         let subtask = (vertex, index);
         Some(match CallKind::of(kind) {
             // bindings/generate makes what reads the calls of one number
@@ -276,39 +244,17 @@ impl<'a> Call<'a> {
             CallKind::Fence => Call::Fence { first_name: number },
             CallKind::Trigger => Call::Trigger { now },
             // bindings/generate: end
-            CallKind::Ack => Call::Ack {
-                now,
-                id: number,
-                subtask,
-                fresh: first,
-                reused: second,
-            },
-            CallKind::Decline => Call::Decline {
-                now,
-                id: number,
-                subtask,
-            },
-            CallKind::Restore => Call::Restore {
-                now,
-                savepoint: NonZeroU64::new(number),
-                shape: (!first.is_empty()).then_some(first),
-            },
-            CallKind::Configure => Call::Configure {
-                now,
-                settings: first,
-            },
+            CallKind::Ack => Call::Ack { now, id: number, subtask, fresh: first, reused: second },
+            CallKind::Decline => Call::Decline { now, id: number, subtask },
+            CallKind::Restore => {
+                Call::Restore { now, savepoint: NonZeroU64::new(number), shape: (!first.is_empty()).then_some(first) }
+            }
+            CallKind::Configure => Call::Configure { now, settings: first },
             CallKind::Take => Call::Take { most: number },
             CallKind::Show => Call::Show { id: number },
-            CallKind::Reserve => Call::Reserve {
-                term,
-                count: number,
-            },
+            CallKind::Reserve => Call::Reserve { term, count: number },
             CallKind::Forfeit => Call::Forfeit { term, names: first },
-            CallKind::Advance => Call::Advance {
-                now,
-                term,
-                first_name: number,
-            },
+            CallKind::Advance => Call::Advance { now, term, first_name: number },
             CallKind::Unknown(_) => return None,
         })
     }
@@ -338,9 +284,7 @@ impl<'a> Call<'a> {
     /// An empty shape is a bad one: the library takes it for none.
     pub(crate) fn check_shape(&self) -> Result<(), Fault> {
         match self {
-            Call::Restore {
-                shape: Some([]), ..
-            } => Err(Fault::BadShape),
+            Call::Restore { shape: Some([]), .. } => Err(Fault::BadShape),
             _ => Ok(()),
         }
     }
@@ -382,54 +326,24 @@ impl<'a> Call<'a> {
             Call::Fence { first_name } => of(CallKind::Fence, 0, first_name),
             Call::Trigger { now } => of(CallKind::Trigger, now, 0),
             // bindings/generate: end
-            Call::Ack {
-                now, id, subtask, ..
-            } => part(CallKind::Ack, now, id, subtask),
+            Call::Ack { now, id, subtask, .. } => part(CallKind::Ack, now, id, subtask),
             Call::Decline { now, id, subtask } => part(CallKind::Decline, now, id, subtask),
-            Call::Restore { now, savepoint, .. } => {
-                of(CallKind::Restore, now, savepoint.map_or(0, NonZeroU64::get))
-            }
+            Call::Restore { now, savepoint, .. } => of(CallKind::Restore, now, savepoint.map_or(0, NonZeroU64::get)),
             Call::Configure { now, .. } => of(CallKind::Configure, now, 0),
             Call::Take { most } => of(CallKind::Take, 0, most),
             Call::Show { id } => of(CallKind::Show, 0, id),
             Call::Reserve { term, count } => in_term(term, of(CallKind::Reserve, 0, count)),
             Call::Forfeit { term, .. } => in_term(term, of(CallKind::Forfeit, 0, 0)),
-            Call::Advance {
-                now,
-                term,
-                first_name,
-            } => in_term(term, of(CallKind::Advance, now, first_name)),
-            Call::AckIn {
-                term,
-                now,
-                id,
-                subtask,
-                ..
-            } => in_term(term, part(CallKind::Ack, now, id, subtask)),
-            Call::DeclineIn {
-                term,
-                now,
-                id,
-                subtask,
-            } => in_term(term, part(CallKind::Decline, now, id, subtask)),
+            Call::Advance { now, term, first_name } => in_term(term, of(CallKind::Advance, now, first_name)),
+            Call::AckIn { term, now, id, subtask, .. } => in_term(term, part(CallKind::Ack, now, id, subtask)),
+            Call::DeclineIn { term, now, id, subtask } => in_term(term, part(CallKind::Decline, now, id, subtask)),
         }
     }
 }
 
 /// What the library says of a line, and the call. Its lists are at the start of these.
-fn said(
-    line: &[u8],
-    first: &mut [u64],
-    second: &mut [u64],
-) -> (sys::relkvanu_answer, sys::relkvanu_call) {
-    let mut call = sys::relkvanu_call {
-        kind: 0,
-        vertex: 0,
-        index: 0,
-        now: 0,
-        number: 0,
-        term: 0,
-    };
+fn line_call(line: &[u8], first: &mut [u64], second: &mut [u64]) -> (sys::relkvanu_answer, sys::relkvanu_call) {
+    let mut call = sys::relkvanu_call { kind: 0, vertex: 0, index: 0, now: 0, number: 0, term: 0 };
     // SAFETY: the slices and the fields outlive the call, and have as many elements as is said.
     let told = unsafe {
         sys::relkvanu_line_call(

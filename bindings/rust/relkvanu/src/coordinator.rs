@@ -143,24 +143,10 @@ impl Coordinator {
     /// numbers.
     ///
     /// Checks the settings first, then the shape, the moment and the first number. Takes memory for the coordinator.
-    pub fn open(
-        settings: &Settings,
-        shape: &[u64],
-        now: u64,
-        first: u64,
-    ) -> Result<Coordinator, Fault> {
+    pub fn open(settings: &Settings, shape: &[u64], now: u64, first: u64) -> Result<Coordinator, Fault> {
         // SAFETY: the handle is all zero; the settings and the slice outlive the call, which keeps none of them.
         Coordinator::opened(|handle, word, other| unsafe {
-            sys::relkvanu_open(
-                handle,
-                &settings.into(),
-                shape.as_ptr(),
-                shape.len(),
-                now,
-                first,
-                word,
-                other,
-            )
+            sys::relkvanu_open(handle, &settings.into(), shape.as_ptr(), shape.len(), now, first, word, other)
         })
     }
 
@@ -203,14 +189,10 @@ impl Coordinator {
     }
 
     /// The coordinator whose handle, which is all zero, is opened so, with two random words.
-    fn opened(
-        open: impl FnOnce(*mut sys::relkvanu, u64, u64) -> sys::relkvanu_answer,
-    ) -> Result<Coordinator, Fault> {
+    fn opened(open: impl FnOnce(*mut sys::relkvanu, u64, u64) -> sys::relkvanu_answer) -> Result<Coordinator, Fault> {
         check_library()?;
         let opened = Coordinator {
-            handle: UnsafeCell::new(sys::relkvanu {
-                state: std::ptr::null_mut(),
-            }),
+            handle: UnsafeCell::new(sys::relkvanu { state: std::ptr::null_mut() }),
             image_room: Cell::new(256),
             most_ahead: DAY,
             seen: Cell::new(0),
@@ -224,12 +206,7 @@ impl Coordinator {
     /// A coordinator for the reads of a handle that stays another owner's.
     #[cfg(feature = "store")]
     pub(crate) fn over(handle: sys::relkvanu) -> Coordinator {
-        Coordinator {
-            handle: UnsafeCell::new(handle),
-            image_room: Cell::new(256),
-            most_ahead: DAY,
-            seen: Cell::new(0),
-        }
+        Coordinator { handle: UnsafeCell::new(handle), image_room: Cell::new(256), most_ahead: DAY, seen: Cell::new(0) }
     }
 
     /// The handle for its owner, as the reads left it.
@@ -259,9 +236,7 @@ impl Coordinator {
             return Ok(());
         }
         self.seen.set(self.moment());
-        let is_ahead = past > self.seen.get()
-            && past > self.due()
-            && past > self.oldest_expiry().unwrap_or_default();
+        let is_ahead = past > self.seen.get() && past > self.due() && past > self.oldest_expiry().unwrap_or_default();
         match is_ahead && now <= LAST_MOMENT {
             true => Err(Refusal::MomentTooLarge.into()),
             false => Ok(()),
@@ -324,14 +299,7 @@ impl Coordinator {
     /// accepted acknowledgement ever named it. So it deletes none after
     /// [`AlreadyAcknowledged`](crate::Refusal::AlreadyAcknowledged), the answer to a repeat. After
     /// [`NameTaken`](crate::Refusal::NameTaken) it deletes no file that it named before.
-    pub fn ack(
-        &mut self,
-        now: u64,
-        id: u64,
-        subtask: (u16, u16),
-        fresh: &[u64],
-        reused: &[u64],
-    ) -> Called {
+    pub fn ack(&mut self, now: u64, id: u64, subtask: (u16, u16), fresh: &[u64], reused: &[u64]) -> Called {
         self.check_moment(now)?;
         // SAFETY: as in `tick`; the slices outlive the call, which keeps none of them.
         called(unsafe {
@@ -350,14 +318,7 @@ impl Coordinator {
     }
 
     /// [`ack`](Self::ack) of the record that a task has [cut](crate::Aligner).
-    pub fn ack_cut(
-        &mut self,
-        now: u64,
-        cut: &Cut,
-        subtask: (u16, u16),
-        fresh: &[u64],
-        reused: &[u64],
-    ) -> Called {
+    pub fn ack_cut(&mut self, now: u64, cut: &Cut, subtask: (u16, u16), fresh: &[u64], reused: &[u64]) -> Called {
         self.ack(now, cut.id(), subtask, fresh, reused)
     }
 
@@ -370,12 +331,7 @@ impl Coordinator {
 
     /// Restores the job from a savepoint, or from the latest record if `None` is given. `shape` may give a new shape.
     /// An empty shape is a bad one. A bad shape is reported before any refusal.
-    pub fn restore(
-        &mut self,
-        now: u64,
-        savepoint: Option<NonZeroU64>,
-        shape: Option<&[u64]>,
-    ) -> Called {
+    pub fn restore(&mut self, now: u64, savepoint: Option<NonZeroU64>, shape: Option<&[u64]>) -> Called {
         if shape.is_some_and(<[u64]>::is_empty) {
             return Err(Fault::BadShape);
         }
@@ -383,13 +339,7 @@ impl Coordinator {
         let shape = shape.unwrap_or(&[]);
         // SAFETY: as in `tick`; the slice outlives the call, which does not keep it.
         called(unsafe {
-            sys::relkvanu_restore(
-                self.handle(),
-                now,
-                savepoint.map_or(0, NonZeroU64::get),
-                shape.as_ptr(),
-                shape.len(),
-            )
+            sys::relkvanu_restore(self.handle(), now, savepoint.map_or(0, NonZeroU64::get), shape.as_ptr(), shape.len())
         })
     }
 
@@ -430,10 +380,7 @@ impl Coordinator {
     pub fn term(&self) -> Result<RunningTerm, Fault> {
         // SAFETY: as in `count`.
         let told = unsafe { sys::relkvanu_term(self.read_handle()) };
-        reply(told, sys::RELKVANU_TERM).map(|told| RunningTerm {
-            term: told.a,
-            next_name: told.b,
-        })
+        reply(told, sys::RELKVANU_TERM).map(|told| RunningTerm { term: told.a, next_name: told.b })
     }
 
     /// A task of this term reserves 1 to 65536 names for files that it will write. The reservation is in the durable log
@@ -448,8 +395,7 @@ impl Coordinator {
     /// garbage then. Names that the term does not hold are passed over, so the call can be repeated.
     pub fn forfeit(&mut self, term: u64, names: &[u64]) -> Result<(), Fault> {
         // SAFETY: as in `tick`; the slice outlives the call, which does not keep it.
-        let told =
-            unsafe { sys::relkvanu_forfeit(self.handle(), term, names.as_ptr(), names.len()) };
+        let told = unsafe { sys::relkvanu_forfeit(self.handle(), term, names.as_ptr(), names.len()) };
         reply(told, sys::RELKVANU_FORFEITED).map(|_| ())
     }
 
@@ -510,9 +456,7 @@ impl Coordinator {
     pub fn decline_in(&mut self, term: u64, now: u64, id: u64, subtask: (u16, u16)) -> Called {
         self.check_moment(now)?;
         // SAFETY: as in `tick`.
-        called(unsafe {
-            sys::relkvanu_decline_in(self.handle(), term, now, id, subtask.0, subtask.1)
-        })
+        called(unsafe { sys::relkvanu_decline_in(self.handle(), term, now, id, subtask.0, subtask.1) })
     }
 
     /// Of these files, in their order: those that are garbage, which may be deleted at any time, also while tasks run; and those
@@ -551,9 +495,7 @@ impl Coordinator {
     pub fn show(&self, id: u64) -> Result<String, Fault> {
         // SAFETY: the handle is as the library last left it; `Coordinator` is not `Sync`, so no other call runs. The
         // buffer has as many bytes as is said.
-        text(|json| unsafe {
-            sys::relkvanu_show(self.read_handle(), id, json.as_mut_ptr(), json.len())
-        })
+        text(|json| unsafe { sys::relkvanu_show(self.read_handle(), id, json.as_mut_ptr(), json.len()) })
     }
 
     /// The image of the coordinator, as JSON (`docs/IMAGE.md`): all of its state.
@@ -626,17 +568,13 @@ impl Coordinator {
     /// the place.
     pub fn live(&self, place: usize) -> Option<Live> {
         // SAFETY: as in `count`.
-        answer::live(read(unsafe {
-            sys::relkvanu_live(self.read_handle(), place)
-        }))
+        answer::live(read(unsafe { sys::relkvanu_live(self.read_handle(), place) }))
     }
 
     /// The live record with the least number that is at least `id`, or `None`. Makes a binary search.
     pub fn live_from(&self, id: u64) -> Option<Live> {
         // SAFETY: as in `count`.
-        answer::live(read(unsafe {
-            sys::relkvanu_live_from(self.read_handle(), id)
-        }))
+        answer::live(read(unsafe { sys::relkvanu_live_from(self.read_handle(), id) }))
     }
 
     /// Whether the record with this number is pending, done or ended, or no record has had the number. Makes a binary
@@ -650,14 +588,7 @@ impl Coordinator {
     pub fn files_of(&self, id: u64, subtask: (u16, u16)) -> Option<Vec<u64>> {
         // SAFETY: as in `count`; the buffer has as many places as is said.
         let told = files(|buffer| unsafe {
-            sys::relkvanu_files_of(
-                self.read_handle(),
-                id,
-                subtask.0,
-                subtask.1,
-                buffer.as_mut_ptr(),
-                buffer.len(),
-            )
+            sys::relkvanu_files_of(self.read_handle(), id, subtask.0, subtask.1, buffer.as_mut_ptr(), buffer.len())
         });
         told.expect("a read that takes no memory")
     }
@@ -665,9 +596,8 @@ impl Coordinator {
     /// The files that a pending record pins, ascending. Takes memory in the library.
     pub fn pins_of(&self, id: u64) -> Result<Vec<u64>, Fault> {
         // SAFETY: as in `files_of`.
-        let told = files(|buffer| unsafe {
-            sys::relkvanu_pins_of(self.read_handle(), id, buffer.as_mut_ptr(), buffer.len())
-        });
+        let told =
+            files(|buffer| unsafe { sys::relkvanu_pins_of(self.read_handle(), id, buffer.as_mut_ptr(), buffer.len()) });
         told.map(Option::unwrap_or_default)
     }
 
@@ -681,9 +611,8 @@ impl Coordinator {
     /// The files that were fetched and are not yet reported, ascending. Takes memory in the library.
     pub fn taken_files(&self) -> Result<Vec<u64>, Fault> {
         // SAFETY: as in `files_of`.
-        let told = files(|buffer| unsafe {
-            sys::relkvanu_taken_files(self.read_handle(), buffer.as_mut_ptr(), buffer.len())
-        });
+        let told =
+            files(|buffer| unsafe { sys::relkvanu_taken_files(self.read_handle(), buffer.as_mut_ptr(), buffer.len()) });
         told.map(Option::unwrap_or_default)
     }
 
@@ -699,11 +628,7 @@ impl Coordinator {
         // SAFETY: as in `count`.
         let told = unsafe { sys::relkvanu_file_counts(self.read_handle()) };
         assert_eq!(told.code, sys::RELKVANU_DONE, "the handle is open");
-        FileCounts {
-            in_use: told.in_use,
-            waiting: told.waiting,
-            taken: told.taken,
-        }
+        FileCounts { in_use: told.in_use, waiting: told.waiting, taken: told.taken }
     }
 }
 

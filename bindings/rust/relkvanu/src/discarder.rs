@@ -124,25 +124,14 @@ impl Discarder {
     /// each with another file. If it panics, its thread ends, and the files that the thread had fetched wait again.
     ///
     /// Fails if the system can't start a thread. Then none runs.
-    pub fn start<D>(
-        coordinator: impl Outbox,
-        patience: Patience,
-        delete: D,
-    ) -> io::Result<Discarder>
+    pub fn start<D>(coordinator: impl Outbox, patience: Patience, delete: D) -> io::Result<Discarder>
     where
         D: Fn(u64) -> io::Result<()> + Send + Sync + 'static,
     {
-        let shared = Arc::new(Shared {
-            outbox: Box::new(coordinator),
-            patience,
-            state: Mutex::default(),
-            over: Condvar::new(),
-        });
+        let shared =
+            Arc::new(Shared { outbox: Box::new(coordinator), patience, state: Mutex::default(), over: Condvar::new() });
         let delete = Arc::new(delete);
-        let mut discarder = Discarder {
-            shared: Arc::clone(&shared),
-            threads: Vec::new(),
-        };
+        let mut discarder = Discarder { shared: Arc::clone(&shared), threads: Vec::new() };
         for _ in 0..patience.threads.get() {
             let (shared, delete) = (Arc::clone(&shared), Arc::clone(&delete));
             let builder = Builder::new().name("relkvanu-discarder".into());
@@ -225,10 +214,7 @@ impl Shared {
     /// A thread: fetches and tries files until it is stopped.
     fn run(&self, delete: &dyn Fn(u64) -> io::Result<()>) {
         let mut buffer = vec![0; self.patience.batch.get() as usize];
-        let mut batch = Batch {
-            shared: self,
-            files: Vec::new(),
-        };
+        let mut batch = Batch { shared: self, files: Vec::new() };
         let mut wait = Duration::ZERO;
         while !self.is_over_after(wait) {
             let room = buffer.len() - batch.files.len();
@@ -272,11 +258,7 @@ impl Shared {
             self.lock().told.given_up.push(it.file);
             return true;
         }
-        let Patience {
-            first_wait,
-            longest_wait,
-            ..
-        } = self.patience;
+        let Patience { first_wait, longest_wait, .. } = self.patience;
         if self.patience.attempts == NonZeroU32::MAX && it.attempts > 1 && it.wait >= longest_wait {
             self.report(it.file, false);
             return true;
@@ -308,9 +290,6 @@ impl Shared {
             true => self.outbox.deleted(file),
             false => self.outbox.undeleted(file),
         };
-        debug_assert!(matches!(
-            told,
-            Ok(_) | Err(Fault::Refused(Refusal::NotTaken))
-        ));
+        debug_assert!(matches!(told, Ok(_) | Err(Fault::Refused(Refusal::NotTaken))));
     }
 }

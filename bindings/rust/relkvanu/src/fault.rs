@@ -298,10 +298,7 @@ fn fault_of(told: sys::relkvanu_answer) -> Fault {
 
 impl Fault {
     pub(crate) fn unknown(told: sys::relkvanu_answer) -> Fault {
-        Fault::Unknown {
-            code: told.code,
-            what: told.what,
-        }
+        Fault::Unknown { code: told.code, what: told.what }
     }
 }
 
@@ -386,10 +383,7 @@ pub(crate) fn text(write: impl Fn(&mut [u8]) -> sys::relkvanu_answer) -> Result<
 }
 
 /// The same, if the text probably fits so many bytes.
-pub(crate) fn text_in(
-    room: usize,
-    write: impl Fn(&mut [u8]) -> sys::relkvanu_answer,
-) -> Result<String, Fault> {
+pub(crate) fn text_in(room: usize, write: impl Fn(&mut [u8]) -> sys::relkvanu_answer) -> Result<String, Fault> {
     let mut bytes = vec![0; room];
     loop {
         let told = write(&mut bytes);

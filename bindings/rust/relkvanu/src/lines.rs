@@ -115,14 +115,8 @@ impl Line {
         let mut numbers = vec![0; 8];
         let says = loop {
             // SAFETY: the slice and the buffer outlive the call, and have as many elements as is said.
-            let told = unsafe {
-                sys::relkvanu_line_says(
-                    line.as_ptr(),
-                    line.len(),
-                    numbers.as_mut_ptr(),
-                    numbers.len(),
-                )
-            };
+            let told =
+                unsafe { sys::relkvanu_line_says(line.as_ptr(), line.len(), numbers.as_mut_ptr(), numbers.len()) };
             match told.code {
                 sys::RELKVANU_TOO_SHORT => numbers.resize(told.a as usize, 0),
                 _ => break done(told)?,
@@ -137,12 +131,9 @@ impl Line {
             (sys::RELKVANU_LINE_CONFIG, of) => {
                 Line::Config(Settings::of_numbers(of).ok_or_else(|| Fault::unknown(says))?)
             }
-            (sys::RELKVANU_LINE_ALL, [now, id, threads, first]) => Line::All {
-                now: *now,
-                id: *id,
-                threads: *threads,
-                first: *first,
-            },
+            (sys::RELKVANU_LINE_ALL, [now, id, threads, first]) => {
+                Line::All { now: *now, id: *id, threads: *threads, first: *first }
+            }
             _ => return Err(Fault::unknown(says)),
         })
     }
@@ -155,14 +146,7 @@ pub fn opening_lines(settings: &Settings, shape: &[u64], now: u64) -> Result<Str
     text(|bytes| {
         // SAFETY: the settings, the slice and the buffer outlive the call, and have as many elements as is said.
         unsafe {
-            sys::relkvanu_opening_lines(
-                &settings,
-                shape.as_ptr(),
-                shape.len(),
-                now,
-                bytes.as_mut_ptr(),
-                bytes.len(),
-            )
+            sys::relkvanu_opening_lines(&settings, shape.as_ptr(), shape.len(), now, bytes.as_mut_ptr(), bytes.len())
         }
     })
 }
@@ -196,18 +180,9 @@ impl Coordinator {
                 sys::RELKVANU_TAKEN => Said::Taken(&files[..told.a as usize]),
                 _ => Said::Called(answer::answer(told)?),
             };
-            let counts = FileCounts {
-                in_use: made.in_use,
-                waiting: made.waiting,
-                taken: made.taken,
-            };
+            let counts = FileCounts { in_use: made.in_use, waiting: made.waiting, taken: made.taken };
             let (line, waited) = (text_of(line, made.written as usize), made.waited);
-            return Ok(Made {
-                said,
-                line,
-                waited,
-                counts,
-            });
+            return Ok(Made { said, line, waited, counts });
         }
     }
 
@@ -218,13 +193,7 @@ impl Coordinator {
         files: &mut [u64],
         mut line: Vec<u8>,
     ) -> (sys::relkvanu_answer, Vec<u8>, sys::relkvanu_made) {
-        let mut made = sys::relkvanu_made {
-            written: 0,
-            waited: 0,
-            in_use: 0,
-            waiting: 0,
-            taken: 0,
-        };
+        let mut made = sys::relkvanu_made { written: 0, waited: 0, in_use: 0, waiting: 0, taken: 0 };
         let (fields, (first, second)) = (call.fields(), call.lists());
         // SAFETY: the handle is as the library last left it, and `&mut self` keeps other calls away; the fields, the slices and the
         // buffers outlive the call, none overlaps another, and each has as many elements as is said.
@@ -248,18 +217,9 @@ impl Coordinator {
 
     /// A show, whose metadata is written into a buffer of its own.
     fn shown<'a>(&mut self, call: &Call<'_>, id: u64) -> Result<Made<'a>, Fault> {
-        let (said, line, counts) = (
-            Said::Shown(self.show(id)?),
-            call.line()?,
-            self.file_counts(),
-        );
+        let (said, line, counts) = (Said::Shown(self.show(id)?), call.line()?, self.file_counts());
         let waited = counts.waiting;
-        Ok(Made {
-            said,
-            line,
-            waited,
-            counts,
-        })
+        Ok(Made { said, line, waited, counts })
     }
 
     /// Makes the call of a line: the bytes before its newline. A carriage return at the end is dropped.
@@ -269,15 +229,8 @@ impl Coordinator {
     pub fn line<'a>(&mut self, line: &[u8], files: &'a mut [u64]) -> Result<Said<'a>, Fault> {
         // SAFETY: the handle is as the library last left it, and `&mut self` keeps other calls away; the slice and the
         // buffer outlive the call, and have as many elements as is said.
-        let told = unsafe {
-            sys::relkvanu_line(
-                self.handle(),
-                line.as_ptr(),
-                line.len(),
-                files.as_mut_ptr(),
-                files.len(),
-            )
-        };
+        let told =
+            unsafe { sys::relkvanu_line(self.handle(), line.as_ptr(), line.len(), files.as_mut_ptr(), files.len()) };
         if told.code == sys::RELKVANU_TOO_SHORT {
             return match Call::shown_by(line) {
                 Some(id) => self.show(id).map(Said::Shown),

@@ -1,23 +1,23 @@
 //! The loop of an engine over a durable coordinator: what an opening, a tick, a failure, a stop and an end ask of it, in the right order. An engine says how
 //! its tasks start, how a barrier reaches them, and what its sinks are told. `docs/RUNNER.md` has one.
-use crate::answer::{Answer, Choice, Kind};
+use crate::answer::{Answer, Choice, Kind, Mode};
 use crate::call::Call;
-use crate::fault::Fault;
-use crate::store::{
-    CallError, Made, More, Next, Phase, Step, Store, StoreError, StoreErrorKind, NOW,
-};
+use crate::fault::{Fault, Refusal};
+use crate::store::{CallError, Made, More, Next, Phase, Step, Store, StoreError, StoreErrorKind, NOW};
 use std::collections::BTreeSet;
 use std::error::Error;
 use std::fmt;
-use std::sync::atomic::{AtomicBool, Ordering::SeqCst};
+use std::sync::atomic::{AtomicBool, AtomicU64, Ordering::SeqCst};
 use std::sync::{Arc, Mutex, MutexGuard, PoisonError};
-use std::thread::{self, JoinHandle};
-use std::time::Duration;
+use std::thread::{self, JoinHandle, ThreadId};
+use std::time::{Duration, Instant};
 
 pub use crate::store::{Part, Whole as Record};
 
 /// Milliseconds after which the loop looks whether it shall end or restart.
 const LOOKS_AGAIN: u64 = 200;
+/// Milliseconds between two sweeps.
+const SWEEP_INTERVAL: u64 = 600_000;
 const SECOND: Duration = Duration::from_secs(1);
 
 /// A barrier of the record `id`. What has changed since `base` is in fresh files, and those of `base` may be reused. If it `holds`, the job is being
@@ -87,11 +87,16 @@ pub trait Engine: Sized + Send + Sync + 'static {
     /// Sends a barrier to the sources.
     fn barrier(&self, barrier: Barrier) -> Told;
 
-    /// Says that the job would begin again from this record. Called by a thread that acknowledges: sinks publish what they prepared for it and for
-    /// records before it; or by [`Runner::run`] once the job is stopped. The numbers rise within a term. Also called while no task runs, for the record
-    /// that the job begins from: before [`start`](Engine::start), and where a stopped job is opened. Nothing may be published by that number then: after
-    /// a way back it may be greater than those of records whose output comes again.
+    /// Says, while tasks run, that the job would begin again from this record: sinks publish what they prepared for it and for records before it. The
+    /// numbers rise within a term. Called by a thread that acknowledges, or by [`Runner::run`] once the job is stopped and tasks hold. It makes no
+    /// [`ack`](Runner::ack) and no [`decline`](Runner::decline), and waits for none.
     fn complete(&self, id: u64) -> Told;
+
+    /// Says, while no task runs, that the job is stopped with this record: when a stop has ended, after [`end`](Engine::end), and when [`Runner::run`]
+    /// finds the job stopped. Its sinks publish what the record's state lists, as at a start: the process may have died before they did.
+    fn stopped(&self, _record: &Record) -> Told {
+        Ok(())
+    }
 
     /// Tells tasks that these records have ended and are not complete: they drop what they keep for them alone. Sinks keep what they prepared for them:
     /// the next checkpoint publishes it. Called by a thread that acknowledges or declines, or by that of [`Runner::run`]; not for what a restore ends.
@@ -104,15 +109,21 @@ pub trait Engine: Sized + Send + Sync + 'static {
         Err("a stop of the job has failed, and this engine's tasks can't go on".into())
     }
 
-    /// Tells all tasks to end. What they send afterwards is refused, for their term has ended or ends now.
+    /// Tells all tasks to end, and waits for none that hangs. What they send after a restore, a stop or a cancel is refused. After [`Runner::close`]
+    /// their term goes on: until the store is closed they may still acknowledge, and [`complete`](Engine::complete) may be called.
     fn end(&self) -> Told;
 }
 
-/// What the tasks were told in this term: which record is complete, and which ones are pending.
-struct Sinks {
-    term: u64,
-    told: u64,
-    pending: BTreeSet<u64>,
+/// The turn of a thread that tells tasks something. It would wait for itself if it acknowledged meanwhile.
+struct Turn<'a> {
+    told: MutexGuard<'a, u64>, // the greatest record that was complete in this term
+    teller: &'a Mutex<Option<ThreadId>>,
+}
+
+impl Drop for Turn<'_> {
+    fn drop(&mut self) {
+        *locked(self.teller) = None;
+    }
 }
 
 /// Runs an engine over a store with names and a storage folder. Tasks call [`ack`](Self::ack) and [`decline`](Self::decline) of the runner, and `reserve`, `put`
@@ -121,9 +132,13 @@ struct Sinks {
 pub struct Runner<E> {
     store: Store,
     engine: E,
-    sinks: Mutex<Sinks>,
+    sweep_interval: Duration,
+    term: AtomicU64, // of the tasks
+    told: Mutex<u64>,
+    teller: Mutex<Option<ThreadId>>,
+    pending: Mutex<BTreeSet<u64>>, // records whose barriers were sent
+    lost: AtomicU64,               // the last term of which a task has died
     closes: AtomicBool,
-    restarts: AtomicBool,
     failed: Mutex<Option<RunFault>>, // by another thread
 }
 
@@ -142,28 +157,31 @@ fn with_memory<T>(call: impl Fn() -> Result<T, CallError>) -> Result<T, CallErro
     loop {
         match call() {
             Err(CallError::Fault(Fault::Memory)) => thread::sleep(SECOND),
-            Err(CallError::Store(why)) if why.kind == StoreErrorKind::NoMemory => {
-                thread::sleep(SECOND)
-            }
+            Err(CallError::Store(why)) if why.kind == StoreErrorKind::NoMemory => thread::sleep(SECOND),
             told => return told,
         }
     }
 }
 
 impl<E: Engine> Runner<E> {
+    /// It sweeps each ten minutes: files whose names tasks have forfeited go.
     pub fn new(store: Store, engine: E) -> Arc<Runner<E>> {
+        Self::with_sweeps(store, engine, SWEEP_INTERVAL)
+    }
+
+    /// The same, with another number of milliseconds between two sweeps.
+    pub fn with_sweeps(store: Store, engine: E, sweep_interval: u64) -> Arc<Runner<E>> {
         let term = store.report().names.term;
-        let sinks = Sinks {
-            term,
-            told: 0,
-            pending: BTreeSet::new(),
-        };
         Arc::new(Runner {
             store,
             engine,
-            sinks: Mutex::new(sinks),
+            sweep_interval: Duration::from_millis(sweep_interval),
+            term: AtomicU64::new(term),
+            told: Mutex::new(0),
+            teller: Mutex::new(None),
+            pending: Mutex::new(BTreeSet::new()),
+            lost: AtomicU64::new(0),
             closes: AtomicBool::new(false),
-            restarts: AtomicBool::new(false),
             failed: Mutex::new(None),
         })
     }
@@ -176,7 +194,8 @@ impl<E: Engine> Runner<E> {
         &self.engine
     }
 
-    /// Acknowledges, with a payload if the task's state is small, and tells the sinks if the record of a checkpoint is complete.
+    /// Acknowledges, with a payload if the task's state is small, and tells the sinks if the record of a checkpoint is complete. `NotNow` inside
+    /// [`complete`](Engine::complete) and [`aborted`](Engine::aborted).
     pub fn ack(
         &self,
         term: u64,
@@ -186,18 +205,12 @@ impl<E: Engine> Runner<E> {
         reused: &[u64],
         more: More<'_>,
     ) -> Result<Made, CallError> {
-        let ack = Call::AckIn {
-            term,
-            now: NOW,
-            id,
-            subtask,
-            fresh,
-            reused,
-        };
+        self.outside()?;
+        let ack = Call::AckIn { term, now: NOW, id, subtask, fresh, reused };
         let made = self.store.call_with(ack, more)?;
         let is_complete = matches!(made.called(), Some(Answer::AckCompleted { .. }));
         if is_complete {
-            locked(&self.sinks).pending.remove(&id);
+            locked(&self.pending).remove(&id);
         }
         if is_complete && made.kind == Some(Kind::Checkpoint) {
             self.note(self.tell(term, id));
@@ -206,32 +219,27 @@ impl<E: Engine> Runner<E> {
         Ok(made)
     }
 
-    /// Declines, with a reason for the history. If the job has failed by that, the loop restarts it.
-    pub fn decline(
-        &self,
-        term: u64,
-        id: u64,
-        subtask: (u16, u16),
-        reason: &str,
-    ) -> Result<Made, CallError> {
-        let decline = Call::DeclineIn {
-            term,
-            now: NOW,
-            id,
-            subtask,
-        };
-        let more = More {
-            reason,
-            ..More::default()
-        };
+    /// Declines, with a reason for the history. If the job has failed by that, the loop restarts it. `NotNow` as of [`ack`](Self::ack).
+    pub fn decline(&self, term: u64, id: u64, subtask: (u16, u16), reason: &str) -> Result<Made, CallError> {
+        self.outside()?;
+        let decline = Call::DeclineIn { term, now: NOW, id, subtask };
+        let more = More { reason, ..More::default() };
         let made = self.store.call_with(decline, more)?;
         self.abort(term, &made.ended);
         Ok(made)
     }
 
-    /// A task has died or was lost: the loop ends all tasks, restores the job and starts them again. Any thread may call it.
+    /// A task has died or was lost: the loop ends all tasks, restores the job and starts them again, unless it was stopped or cancelled. Any thread may
+    /// call it.
     pub fn restart(&self) {
-        self.restarts.store(true, SeqCst);
+        self.restart_of(self.term.load(SeqCst));
+    }
+
+    /// The same for a task of this term. A report about an earlier term is ignored.
+    pub fn restart_of(&self, term: u64) {
+        if term == self.term.load(SeqCst) {
+            self.lost.fetch_max(term, SeqCst);
+        }
     }
 
     /// Lets [`run`](Self::run) return once all tasks were told to end. Any thread may call it.
@@ -241,11 +249,7 @@ impl<E: Engine> Runner<E> {
 
     /// Runs the job until it is closed, stopped or cancelled. Afterwards the store's timers and discarders have ended.
     pub fn run(self: &Arc<Self>) -> Result<Ended, RunFault> {
-        let mut running = Running {
-            runner: self,
-            discarder: None,
-            holds: false,
-        };
+        let mut running = Running { runner: self, discarder: None, holds: false, swept: Instant::now() };
         let ended = running.work();
         self.store.stop();
         if let Some(discarder) = running.discarder {
@@ -261,11 +265,35 @@ impl<E: Engine> Runner<E> {
         }
     }
 
+    fn turn(&self) -> Turn<'_> {
+        let told = locked(&self.told);
+        *locked(&self.teller) = Some(thread::current().id());
+        Turn { told, teller: &self.teller }
+    }
+
+    fn outside(&self) -> Result<(), StoreError> {
+        if *locked(&self.teller) != Some(thread::current().id()) {
+            return Ok(());
+        }
+        Err(StoreError {
+            kind: StoreErrorKind::NotNow,
+            message: "this thread is in complete or aborted: acknowledge and decline when it has returned".to_owned(),
+        })
+    }
+
     /// Tells the engine which records have ended whose barriers were sent, and which are not complete.
     fn abort(&self, term: u64, ended: &[u64]) {
-        let mut sinks = locked(&self.sinks);
-        let is_aborted = |id: &u64| term == sinks.term && sinks.pending.remove(id);
-        let aborted: Vec<u64> = ended.iter().copied().filter(is_aborted).collect();
+        if ended.is_empty() {
+            return; // and waits for no sink
+        }
+        let _turn = self.turn();
+        if term != self.term.load(SeqCst) {
+            return;
+        }
+        let aborted: Vec<u64> = {
+            let mut pending = locked(&self.pending);
+            ended.iter().copied().filter(|id| pending.remove(id)).collect()
+        };
         if !aborted.is_empty() {
             self.note(self.engine.aborted(&aborted).map_err(RunFault::Engine));
         }
@@ -273,20 +301,33 @@ impl<E: Engine> Runner<E> {
 
     /// Two threads may come here in another order than their records were completed.
     fn tell(&self, term: u64, id: u64) -> Result<(), RunFault> {
-        let mut sinks = locked(&self.sinks);
-        if term != sinks.term || id <= sinks.told {
+        let mut turn = self.turn();
+        if term != self.term.load(SeqCst) || id <= *turn.told {
             return Ok(());
         }
-        sinks.told = id;
+        *turn.told = id;
         self.engine.complete(id).map_err(RunFault::Engine)
     }
 
-    fn tell_choice(&self) -> Result<(), RunFault> {
-        let term = locked(&self.sinks).term;
-        match self.store.read(|job| job.choice())? {
-            Choice::Checkpoint(id) | Choice::Savepoint(id) => self.tell(term, id),
+    /// Tasks hold for this savepoint. Another record may be the choice by now, by a way back: its number says nothing of what is prepared.
+    fn tell_of_stop(&self) -> Result<(), RunFault> {
+        match (self.store.read(|job| job.choice())?, self.store.phase()?.savepoint) {
+            (Choice::Savepoint(id), Some(savepoint)) if id == savepoint => self.tell(self.term.load(SeqCst), id),
             _ => Ok(()),
         }
+    }
+
+    /// Whether the job was stopped or cancelled.
+    fn over(&self) -> Result<Option<Ended>, RunFault> {
+        if self.store.phase()?.phase == Phase::Stopped {
+            return Ok(Some(Ended::Stopped));
+        }
+        let mode = self.store.read(|job| job.mode())?;
+        Ok((mode == Mode::Cancelled).then_some(Ended::Cancelled))
+    }
+
+    fn load(&self) -> Result<Option<Record>, CallError> {
+        with_memory(|| Ok(self.store.load(None)?))
     }
 
     /// What another thread has failed with.
@@ -300,6 +341,7 @@ struct Running<'a, E> {
     runner: &'a Arc<Runner<E>>,
     discarder: Option<JoinHandle<()>>,
     holds: bool, // tasks wait for the end of a stop
+    swept: Instant,
 }
 
 impl<E: Engine> Running<'_, E> {
@@ -307,32 +349,43 @@ impl<E: Engine> Running<'_, E> {
         let runner = self.runner;
         let report = runner.store.report();
         if runner.store.phase()?.phase == Phase::Stopped {
-            runner.tell_choice()?;
-            return self.ended(Ended::Stopped);
+            return self.end_tasks(Ended::Stopped);
         }
         if !report.steps.contains(&Step::StartTasks) {
-            return self.ended(Ended::Cancelled);
+            return self.end_tasks(Ended::Cancelled);
         }
+        let mut ended = None;
         if report.steps.contains(&Step::Restore) {
-            self.restore()?;
+            ended = self.restore()?;
         } else {
             self.begin(report.names.term)?;
         }
         loop {
-            runner.look_at_faults()?;
-            if runner.closes.load(SeqCst) {
-                return self.ended(Ended::Closed);
+            if let Some(ended) = ended {
+                return self.end_tasks(ended);
             }
-            if runner.restarts.swap(false, SeqCst) {
-                self.restore()?;
-            }
-            let awaited = with_memory(|| runner.store.await_next(LOOKS_AGAIN))?;
-            let term = locked(&runner.sinks).term;
-            runner.abort(term, &awaited.ended);
-            if let Some(ended) = self.act(awaited.next)? {
-                return self.ended(ended);
-            }
+            ended = self.turn_once()?;
         }
+    }
+
+    /// A turn of the loop. Returns why it is the last one.
+    fn turn_once(&mut self) -> Result<Option<Ended>, RunFault> {
+        let runner = self.runner;
+        runner.look_at_faults()?;
+        if runner.closes.load(SeqCst) {
+            return Ok(Some(Ended::Closed));
+        }
+        let term = runner.term.load(SeqCst);
+        if runner.lost.load(SeqCst) == term {
+            return match runner.over()? {
+                None => self.restore(),
+                ended => Ok(ended),
+            };
+        }
+        self.sweep_again()?;
+        let awaited = with_memory(|| runner.store.await_next(LOOKS_AGAIN))?;
+        runner.abort(term, &awaited.ended);
+        self.act(awaited.next)
     }
 
     fn act(&mut self, next: Next) -> Result<Option<Ended>, RunFault> {
@@ -342,10 +395,10 @@ impl<E: Engine> Running<'_, E> {
                 self.runner.engine.end().map_err(RunFault::Engine)?;
                 self.begin(term)?;
             }
-            Next::Failed => self.restore()?,
+            Next::Failed => return self.restore(),
             Next::Cancelled => return Ok(Some(Ended::Cancelled)),
             Next::Stopped => {
-                self.runner.tell_choice()?;
+                self.runner.tell_of_stop()?;
                 return Ok(Some(Ended::Stopped));
             }
             Next::NotStopped => self.go_on()?,
@@ -362,19 +415,10 @@ impl<E: Engine> Running<'_, E> {
     fn send(&mut self, id: u64, kind: Kind, base: Choice) -> Result<(), RunFault> {
         self.go_on()?; // nobody may have said that the stop has failed for which tasks hold
         let runner = self.runner;
-        let term = {
-            let mut sinks = locked(&runner.sinks);
-            sinks.pending.insert(id);
-            sinks.term
-        };
+        let term = runner.term.load(SeqCst);
+        locked(&runner.pending).insert(id);
         self.holds = kind == Kind::Savepoint && runner.store.phase()?.phase != Phase::Running;
-        let barrier = Barrier {
-            id,
-            kind,
-            base,
-            term,
-            holds: self.holds,
-        };
+        let barrier = Barrier { id, kind, base, term, holds: self.holds };
         runner.engine.barrier(barrier).map_err(RunFault::Engine)
     }
 
@@ -385,51 +429,82 @@ impl<E: Engine> Running<'_, E> {
         self.runner.engine.go_on().map_err(RunFault::Engine)
     }
 
-    fn restore(&mut self) -> Result<(), RunFault> {
+    /// Ends all tasks and starts them again, unless the job was stopped or cancelled: somebody else may be faster.
+    fn restore(&mut self) -> Result<Option<Ended>, RunFault> {
         let runner = self.runner;
-        runner.restarts.store(false, SeqCst);
         runner.engine.end().map_err(RunFault::Engine)?;
-        let restore = || {
-            runner.store.call(Call::Restore {
-                now: NOW,
-                savepoint: None,
-                shape: None,
-            })
-        };
-        let made = with_memory(restore)?;
-        self.begin(made.term.unwrap_or(0))
+        let restore = || runner.store.call(Call::Restore { now: NOW, savepoint: None, shape: None });
+        let restored = with_memory(restore);
+        let ended = runner.over()?;
+        if ended.is_some() && matches!(restored, Ok(_) | Err(CallError::Fault(Fault::Refused(Refusal::NotRunning)))) {
+            return Ok(ended);
+        }
+        self.begin(restored?.term.unwrap_or(0))?;
+        Ok(None)
     }
 
-    /// Looks that the record is whole, sweeps, tells the sinks, and starts the tasks.
+    /// Looks that the record is whole, sweeps, and starts the tasks.
     fn begin(&mut self, term: u64) -> Result<(), RunFault> {
         let runner = self.runner;
-        let record = with_memory(|| Ok(runner.store.load(None)?))?;
-        with_memory(|| Ok(runner.store.sweep()?))?;
+        let record = runner.load()?;
+        self.sweep()?;
         self.holds = false;
-        *locked(&runner.sinks) = Sinks {
-            term,
-            told: 0,
-            pending: BTreeSet::new(),
-        };
-        runner.tell_choice()?;
+        {
+            let mut told = locked(&runner.told);
+            *told = 0;
+            runner.term.store(term, SeqCst);
+            locked(&runner.pending).clear();
+        }
         self.discard();
         let told = runner.engine.start(runner, term, record.as_ref());
         told.map_err(RunFault::Engine)
     }
 
-    /// Ends the tasks. Then one sweep, and all deletions that are due: a task that still writes may leave a file, which a later sweep deletes.
-    fn ended(&mut self, ended: Ended) -> Result<Ended, RunFault> {
+    fn sweep(&mut self) -> Result<(), CallError> {
+        self.swept = Instant::now();
+        with_memory(|| Ok(self.runner.store.sweep()?)).map(drop)
+    }
+
+    /// Now and then. What could not be read or synced now is tried at the next time.
+    fn sweep_again(&mut self) -> Result<(), CallError> {
+        if self.swept.elapsed() < self.runner.sweep_interval {
+            return Ok(());
+        }
+        match self.sweep() {
+            Err(CallError::Store(why)) if why.kind == StoreErrorKind::NotDone => Ok(()),
+            told => told,
+        }
+    }
+
+    /// Ends the tasks, and publishes what a stop has. Then one sweep, and all deletions that are due: a task that still writes may leave a file, which a
+    /// later sweep deletes.
+    fn end_tasks(&mut self, ended: Ended) -> Result<Ended, RunFault> {
         let runner = self.runner;
         runner.engine.end().map_err(RunFault::Engine)?;
+        if ended == Ended::Stopped {
+            self.stopped()?;
+        }
         if ended != Ended::Closed {
             self.discard();
-            with_memory(|| Ok(runner.store.sweep()?))?;
+            self.sweep()?;
             while self.has_files()? && !runner.closes.load(SeqCst) {
                 runner.look_at_faults()?;
                 thread::sleep(Duration::from_millis(LOOKS_AGAIN));
             }
         }
         Ok(ended)
+    }
+
+    fn stopped(&self) -> Result<(), RunFault> {
+        let runner = self.runner;
+        {
+            let _told = locked(&runner.told);
+            runner.term.store(0, SeqCst); // `complete` is not called any more, by whatever comes late
+        }
+        match runner.load()? {
+            Some(record) => runner.engine.stopped(&record).map_err(RunFault::Engine),
+            None => Ok(()),
+        }
     }
 
     fn has_files(&self) -> Result<bool, RunFault> {

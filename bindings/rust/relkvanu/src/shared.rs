@@ -35,27 +35,14 @@ pub struct SharedCoordinator {
 
 impl From<Coordinator> for SharedCoordinator {
     fn from(coordinator: Coordinator) -> SharedCoordinator {
-        let inner = Mutex::new(Inner {
-            coordinator,
-            calls: 0,
-        });
-        SharedCoordinator {
-            shared: Arc::new(Shared {
-                inner,
-                called: Condvar::new(),
-            }),
-        }
+        let inner = Mutex::new(Inner { coordinator, calls: 0 });
+        SharedCoordinator { shared: Arc::new(Shared { inner, called: Condvar::new() }) }
     }
 }
 
 impl SharedCoordinator {
     /// Opens a coordinator, as [`Coordinator::open`].
-    pub fn open(
-        settings: &Settings,
-        shape: &[u64],
-        now: u64,
-        first: u64,
-    ) -> Result<SharedCoordinator, Fault> {
+    pub fn open(settings: &Settings, shape: &[u64], now: u64, first: u64) -> Result<SharedCoordinator, Fault> {
         Coordinator::open(settings, shape, now, first).map(SharedCoordinator::from)
     }
 
@@ -67,8 +54,7 @@ impl SharedCoordinator {
         first: u64,
         first_name: u64,
     ) -> Result<SharedCoordinator, Fault> {
-        Coordinator::open_fenced(settings, shape, now, first, first_name)
-            .map(SharedCoordinator::from)
+        Coordinator::open_fenced(settings, shape, now, first, first_name).map(SharedCoordinator::from)
     }
 
     /// Opens the coordinator that an image describes, as [`Coordinator::open_saved`].
@@ -78,10 +64,7 @@ impl SharedCoordinator {
 
     /// The lock. A thread that panics under it leaves the coordinator between two calls, so its state is sound.
     fn lock(&self) -> MutexGuard<'_, Inner> {
-        self.shared
-            .inner
-            .lock()
-            .unwrap_or_else(PoisonError::into_inner)
+        self.shared.inner.lock().unwrap_or_else(PoisonError::into_inner)
     }
 
     /// Runs a closure under one lock, and wakes threads that wait for a call. Delete, send and wait outside of it.
@@ -114,11 +97,7 @@ impl SharedCoordinator {
         let is_unseen = |inner: &mut Inner| inner.calls <= seen;
         let inner = self.lock();
         match longest {
-            Some(longest) => drop(
-                self.shared
-                    .called
-                    .wait_timeout_while(inner, longest, is_unseen),
-            ),
+            Some(longest) => drop(self.shared.called.wait_timeout_while(inner, longest, is_unseen)),
             None => drop(self.shared.called.wait_while(inner, is_unseen)),
         }
     }
@@ -158,14 +137,7 @@ impl SharedCoordinator {
     // bindings/generate: end
 
     /// [`Coordinator::ack`] says who may then delete the files.
-    pub fn ack(
-        &self,
-        now: u64,
-        id: u64,
-        subtask: (u16, u16),
-        fresh: &[u64],
-        reused: &[u64],
-    ) -> Called {
+    pub fn ack(&self, now: u64, id: u64, subtask: (u16, u16), fresh: &[u64], reused: &[u64]) -> Called {
         self.with(|it| it.ack(now, id, subtask, fresh, reused))
     }
 
@@ -194,15 +166,7 @@ impl SharedCoordinator {
     }
 
     /// [`Coordinator::ack_in`] says who may then delete the files.
-    pub fn ack_in(
-        &self,
-        term: u64,
-        now: u64,
-        id: u64,
-        subtask: (u16, u16),
-        fresh: &[u64],
-        reused: &[u64],
-    ) -> Called {
+    pub fn ack_in(&self, term: u64, now: u64, id: u64, subtask: (u16, u16), fresh: &[u64], reused: &[u64]) -> Called {
         self.with(|it| it.ack_in(term, now, id, subtask, fresh, reused))
     }
 
@@ -215,12 +179,7 @@ impl SharedCoordinator {
         self.read(|it| it.garbage(files))
     }
 
-    pub fn restore(
-        &self,
-        now: u64,
-        savepoint: Option<NonZeroU64>,
-        shape: Option<&[u64]>,
-    ) -> Called {
+    pub fn restore(&self, now: u64, savepoint: Option<NonZeroU64>, shape: Option<&[u64]>) -> Called {
         self.with(|it| it.restore(now, savepoint, shape))
     }
 

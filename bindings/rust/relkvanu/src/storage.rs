@@ -188,21 +188,14 @@ fn c_text(bytes: &[u8]) -> Result<CString, StorageError> {
 impl Folder {
     /// Opens the folder of a job, which has its marker, or makes the marker.
     pub fn open(path: &Path, job: &str, how: &FolderOptions) -> Result<Folder, StorageError> {
-        let (path, job) = (
-            c_text(path.as_os_str().as_bytes())?,
-            c_text(job.as_bytes())?,
-        );
+        let (path, job) = (c_text(path.as_os_str().as_bytes())?, c_text(job.as_bytes())?);
         let (prefix, suffix) = (c_text(&how.prefix)?, c_text(&how.suffix)?);
         let marker = how.marker.as_ref();
         let name = marker.map(|(name, _)| c_text(name)).transpose()?;
         let text = marker.map(|(_, text)| c_text(text)).transpose()?;
         let at = |it: &Option<CString>| it.as_ref().map_or(ptr::null(), |it| it.as_ptr());
         let options = sys::relkvanu_storage_options {
-            flags: if how.is_new {
-                sys::RELKVANU_STORAGE_NEW
-            } else {
-                0
-            },
+            flags: if how.is_new { sys::RELKVANU_STORAGE_NEW } else { 0 },
             path: path.as_ptr(),
             job: job.as_ptr(),
             prefix: prefix.as_ptr(),
@@ -241,27 +234,16 @@ impl Storage for Folder {
         result(unsafe { get(self.it.with, file, ptr::null_mut(), 0, &mut len) })?;
         let room = usize::try_from(len).map_err(|_| StorageError::NoMemory)?;
         let mut contents = Vec::new();
-        contents
-            .try_reserve_exact(room)
-            .map_err(|_| StorageError::NoMemory)?;
+        contents.try_reserve_exact(room).map_err(|_| StorageError::NoMemory)?;
         contents.resize(room, 0);
         // SAFETY: the buffer has as many bytes as is said.
-        result(unsafe {
-            get(
-                self.it.with,
-                file,
-                contents.as_mut_ptr().cast(),
-                room,
-                &mut len,
-            )
-        })?;
+        result(unsafe { get(self.it.with, file, contents.as_mut_ptr().cast(), room, &mut len) })?;
         Ok(contents)
     }
 
     fn delete(&self, files: &[u64]) -> Result<Vec<Deletion>, StorageError> {
         let mut told = Vec::new();
-        told.try_reserve_exact(files.len())
-            .map_err(|_| StorageError::NoMemory)?;
+        told.try_reserve_exact(files.len()).map_err(|_| StorageError::NoMemory)?;
         told.resize(files.len(), 0);
         let delete = self.it.delete_files.expect(OPEN);
         // SAFETY: both lists have as many elements as is said.
@@ -273,14 +255,7 @@ impl Storage for Folder {
         let list = self.it.list.expect(OPEN);
         let mut turn = Turn { page, panic: None };
         // SAFETY: the folder is open, and the turn outlives the call.
-        let status = unsafe {
-            list(
-                self.it.with,
-                most,
-                take_page,
-                (&mut turn as *mut Turn<'_, '_>).cast(),
-            )
-        };
+        let status = unsafe { list(self.it.with, most, take_page, (&mut turn as *mut Turn<'_, '_>).cast()) };
         if let Some(panic) = turn.panic {
             resume_unwind(panic);
         }
@@ -305,25 +280,10 @@ struct Turn<'a, 'b> {
     panic: Option<Box<dyn std::any::Any + Send>>,
 }
 
-unsafe extern "C" fn take_page(
-    with: *mut c_void,
-    files: *const sys::relkvanu_storage_file,
-    len: usize,
-) -> bool {
+unsafe extern "C" fn take_page(with: *mut c_void, files: *const sys::relkvanu_storage_file, len: usize) -> bool {
     // SAFETY: `with` is the turn of the listing, and the page has so many files.
-    let (turn, found) = unsafe {
-        (
-            &mut *with.cast::<Turn<'_, '_>>(),
-            slice::from_raw_parts(files, len),
-        )
-    };
-    let page: Vec<StoredFile> = found
-        .iter()
-        .map(|it| StoredFile {
-            file: it.file,
-            bytes: it.bytes,
-        })
-        .collect();
+    let (turn, found) = unsafe { (&mut *with.cast::<Turn<'_, '_>>(), slice::from_raw_parts(files, len)) };
+    let page: Vec<StoredFile> = found.iter().map(|it| StoredFile { file: it.file, bytes: it.bytes }).collect();
     match catch_unwind(AssertUnwindSafe(|| (turn.page)(&page))) {
         Ok(flow) => flow.is_continue(),
         Err(panic) => {
@@ -350,10 +310,7 @@ impl<'a> Functions<'a> {
             list: Some(list),
             reserved: [0; 4],
         };
-        Functions {
-            it,
-            storage: PhantomData,
-        }
+        Functions { it, storage: PhantomData }
     }
 
     pub(crate) fn at(&self) -> *const sys::relkvanu_storage {
@@ -379,10 +336,7 @@ unsafe fn elements<'a, T>(first: *const T, len: usize) -> &'a [T] {
 /// # Safety
 ///
 /// `with` is the pointer of [`Functions`] that is still borrowed.
-unsafe fn tried(
-    with: *mut c_void,
-    make: impl FnOnce(&dyn Storage) -> Result<c_int, StorageError>,
-) -> c_int {
+unsafe fn tried(with: *mut c_void, make: impl FnOnce(&dyn Storage) -> Result<c_int, StorageError>) -> c_int {
     // SAFETY: the caller's condition.
     let storage = unsafe { *with.cast_const().cast::<&dyn Storage>() };
     match catch_unwind(AssertUnwindSafe(|| make(storage))) {
@@ -394,38 +348,17 @@ unsafe fn tried(
 
 unsafe extern "C" fn check(with: *mut c_void) -> c_int {
     // SAFETY: the pointer is that of the functions.
-    unsafe {
-        tried(with, |storage| {
-            storage.check().map(|()| sys::RELKVANU_STORAGE_OK)
-        })
-    }
+    unsafe { tried(with, |storage| storage.check().map(|()| sys::RELKVANU_STORAGE_OK)) }
 }
 
-unsafe extern "C" fn put(
-    with: *mut c_void,
-    file: u64,
-    contents: *const c_void,
-    len: usize,
-) -> c_int {
+unsafe extern "C" fn put(with: *mut c_void, file: u64, contents: *const c_void, len: usize) -> c_int {
     // SAFETY: the contents have as many bytes as is said.
     let contents = unsafe { elements(contents.cast::<u8>(), len) };
     // SAFETY: the pointer is that of the functions.
-    unsafe {
-        tried(with, |storage| {
-            storage
-                .put(file, contents)
-                .map(|()| sys::RELKVANU_STORAGE_OK)
-        })
-    }
+    unsafe { tried(with, |storage| storage.put(file, contents).map(|()| sys::RELKVANU_STORAGE_OK)) }
 }
 
-unsafe extern "C" fn get(
-    with: *mut c_void,
-    file: u64,
-    contents: *mut c_void,
-    room: usize,
-    len: *mut u64,
-) -> c_int {
+unsafe extern "C" fn get(with: *mut c_void, file: u64, contents: *mut c_void, room: usize, len: *mut u64) -> c_int {
     let make = |storage: &dyn Storage| {
         let found = storage.get(file)?;
         // SAFETY: the buffer has as many bytes as is said, and the place of the length is the caller's.
@@ -441,12 +374,7 @@ unsafe extern "C" fn get(
     unsafe { tried(with, make) }
 }
 
-unsafe extern "C" fn delete_files(
-    with: *mut c_void,
-    files: *const u64,
-    len: usize,
-    outcomes: *mut u8,
-) -> c_int {
+unsafe extern "C" fn delete_files(with: *mut c_void, files: *const u64, len: usize, outcomes: *mut u8) -> c_int {
     // SAFETY: the outcomes have as many places. Zero is RELKVANU_STORAGE_UNDELETED.
     unsafe { ptr::write_bytes(outcomes, sys::RELKVANU_STORAGE_UNDELETED, len) };
     let make = |storage: &dyn Storage| {
@@ -474,13 +402,8 @@ unsafe extern "C" fn list(
     with_page: *mut c_void,
 ) -> c_int {
     let mut each = |files: &[StoredFile]| {
-        let found: Vec<_> = files
-            .iter()
-            .map(|it| sys::relkvanu_storage_file {
-                file: it.file,
-                bytes: it.bytes,
-            })
-            .collect();
+        let found: Vec<_> =
+            files.iter().map(|it| sys::relkvanu_storage_file { file: it.file, bytes: it.bytes }).collect();
         // SAFETY: the page has as many files as is said, and the pointer is the caller's own.
         match unsafe { page(with_page, found.as_ptr(), found.len()) } {
             true => ControlFlow::Continue(()),

@@ -37,10 +37,7 @@ fn made(task: &mut Option<Aligner>, event: &str, numbers: &[u64]) -> String {
 
 #[test]
 fn steps_are_those_of_the_rows() {
-    let path = concat!(
-        env!("CARGO_MANIFEST_DIR"),
-        "/../../../examples/alignment.rows"
-    );
+    let path = concat!(env!("CARGO_MANIFEST_DIR"), "/../../../examples/alignment.rows");
     let rows = std::fs::read_to_string(path).unwrap();
     let mut task = None;
     let mut count = 0;
@@ -63,10 +60,7 @@ fn an_acknowledgement_takes_a_cut() {
     let Ok(Step::Cut(cut)) = task.barrier(0, 1) else {
         panic!("no cut");
     };
-    let completed = Answer::AckCompleted {
-        dropped: 0,
-        released: 0,
-    };
+    let completed = Answer::AckCompleted { dropped: 0, released: 0 };
     assert_eq!(job.ack_cut(1100, &cut, (0, 0), &[7], &[]), Ok(completed));
     assert_eq!(job.file_counts().in_use, 1);
 }
@@ -79,12 +73,8 @@ fn an_acknowledgement_of_a_term_takes_a_cut() {
     let Ok(Step::Cut(cut)) = Aligner::new(1).unwrap().barrier(0, 1) else {
         panic!("no cut");
     };
-    assert!(job
-        .ack_cut_in(2, 1100, &cut, (0, 0), &[names.start], &[])
-        .is_err());
-    assert!(job
-        .ack_cut_in(1, 1100, &cut, (0, 0), &[names.start], &[])
-        .is_ok());
+    assert!(job.ack_cut_in(2, 1100, &cut, (0, 0), &[names.start], &[]).is_err());
+    assert!(job.ack_cut_in(1, 1100, &cut, (0, 0), &[names.start], &[]).is_ok());
 }
 
 #[test]

@@ -48,10 +48,7 @@ fn a_file_of_a_reader() {
     assert_eq!(present.kind, StoreErrorKind::Present);
     let failed = Source(parts(), || Err(io::Error::other("no source")));
     let told = store.put_from(3, failed).unwrap_err();
-    assert_eq!(
-        (told.kind, &*told.message),
-        (StoreErrorKind::NotPut, "no source")
-    );
+    assert_eq!((told.kind, &*told.message), (StoreErrorKind::NotPut, "no source"));
     let panics = Source(parts(), || panic!("a source"));
     assert!(catch_unwind(AssertUnwindSafe(|| store.put_from(4, panics))).is_err());
     for name in ["3", "3.part", "4", "4.part"] {
@@ -83,36 +80,19 @@ fn why_a_call_was_refused() {
     let place = Place::new("why");
     let store = store(&place);
     let ack = |term| {
-        let refused = store.call(Call::AckIn {
-            now: NOW,
-            term,
-            id: 6,
-            subtask: (1, 0),
-            fresh: &[],
-            reused: &[],
-        });
+        let refused = store.call(Call::AckIn { now: NOW, term, id: 6, subtask: (1, 0), fresh: &[], reused: &[] });
         assert!(refused.is_err());
         why()
     };
-    assert_eq!(
-        ack(1),
-        "record 6, subtask 1.0, term 1: refused UnknownCheckpoint"
-    );
-    assert_eq!(
-        ack(7),
-        "record 6, subtask 1.0, term 7: fenced OldTerm; term 1 runs"
-    );
+    assert_eq!(ack(1), "record 6, subtask 1.0, term 1: refused UnknownCheckpoint");
+    assert_eq!(ack(7), "record 6, subtask 1.0, term 7: fenced OldTerm; term 1 runs");
 }
 
 #[test]
 fn the_job_of_an_opening() {
     let place = Place::new("opening");
     drop(store(&place));
-    let other = Settings {
-        interval: 99,
-        keep_on_cancel: true,
-        ..SETTINGS
-    };
+    let other = Settings { interval: 99, keep_on_cancel: true, ..SETTINGS };
     let mut options = Options::new(other, &[3]);
     options.storage = Some(place.state());
     let again = Store::open(&place.job(), &options).unwrap();

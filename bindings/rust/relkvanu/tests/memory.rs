@@ -91,28 +91,12 @@ const PENDING: Answer = Answer::AckPending { missing: 1 };
 /// Checkpoint 1 is completed, savepoint 2 is pending, and checkpoint 3 replaces checkpoint 1.
 fn make_checkpoint_3(job: &mut Coordinator) {
     told(job, true, |it| it.tick(1000), triggered(1));
-    told(
-        job,
-        true,
-        |it| it.ack(1100, 1, (0, 0), &[1, 2], &[]),
-        PENDING,
-    );
+    told(job, true, |it| it.ack(1100, 1, (0, 0), &[1, 2], &[]), PENDING);
     job.savepoint(1200).unwrap();
-    told(
-        job,
-        true,
-        |it| it.ack(1300, 1, (0, 1), &[3], &[]),
-        completed(0, 0),
-    );
+    told(job, true, |it| it.ack(1300, 1, (0, 1), &[3], &[]), completed(0, 0));
     told(job, true, |it| it.tick(2000), triggered(3));
     told(job, true, |it| it.ack(2100, 3, (0, 0), &[4], &[1]), PENDING);
-    let last = Call::Ack {
-        now: 2100,
-        id: 3,
-        subtask: (0, 1),
-        fresh: &[5],
-        reused: &[],
-    };
+    let last = Call::Ack { now: 2100, id: 3, subtask: (0, 1), fresh: &[5], reused: &[] };
     let line = String::from("ack 2100 3 0.1 +5");
     told(
         job,
@@ -123,40 +107,14 @@ fn make_checkpoint_3(job: &mut Coordinator) {
 }
 
 fn calls(job: &mut Coordinator) {
-    let restored = Answer::Restored {
-        from: Choice::Checkpoint(3),
-        released: 0,
-    };
-    let cancelled = Answer::Cancelled {
-        dropped: 1,
-        released: 3,
-    };
-    told(
-        job,
-        true,
-        |it| it.restore(2200, None, Some(&[1, 3])),
-        restored,
-    );
-    told(
-        job,
-        true,
-        |it| it.take(&mut [0]).map(<[u64]>::to_vec),
-        vec![2],
-    );
-    told(
-        job,
-        true,
-        |it| it.line(b"tick 3300", &mut []).map(called),
-        triggered(4),
-    );
+    let restored = Answer::Restored { from: Choice::Checkpoint(3), released: 0 };
+    let cancelled = Answer::Cancelled { dropped: 1, released: 3 };
+    told(job, true, |it| it.restore(2200, None, Some(&[1, 3])), restored);
+    told(job, true, |it| it.take(&mut [0]).map(<[u64]>::to_vec), vec![2]);
+    told(job, true, |it| it.line(b"tick 3300", &mut []).map(called), triggered(4));
     told(job, true, |it| it.pins_of(4), vec![1, 4, 5]);
     told(job, true, |it| it.taken_files(), vec![2]);
-    told(
-        job,
-        false,
-        |it| it.decline(3300, 4, (0, 0)),
-        Answer::DeclineFailed { released: 0 },
-    );
+    told(job, false, |it| it.decline(3300, 4, (0, 0)), Answer::DeclineFailed { released: 0 });
     told(job, false, |it| it.cancel(3400), cancelled);
     told(job, false, |it| it.deleted(2), Answer::Deleted(2));
 }
@@ -175,19 +133,8 @@ fn texts(job: &mut Coordinator) {
         Said::Shown(json) => json,
         other => panic!("{other:?}"),
     };
-    told(
-        job,
-        true,
-        |it| it.line(b"show 3", &mut []).map(shown),
-        wanted,
-    );
-    let ack = Call::Ack {
-        now: 5,
-        id: 1,
-        subtask: (0, 0),
-        fresh: &[2],
-        reused: &[1],
-    };
+    told(job, true, |it| it.line(b"show 3", &mut []).map(shown), wanted);
+    let ack = Call::Ack { now: 5, id: 1, subtask: (0, 0), fresh: &[2], reused: &[1] };
     told(job, true, |_| ack.line(), "ack 5 1 0.0 +2 =1".to_string());
     let said = |line: &[u8]| {
         let (mut first, mut second) = (Vec::new(), Vec::new());
@@ -235,15 +182,8 @@ fn told_with_names<T: PartialEq + std::fmt::Debug>(
 fn names() {
     told_with_names(0, |it| it.reserve(1, 3), 5..8);
     told_with_names(3, |it| it.forfeit(1, &[6]), ());
-    let completed = Answer::AckCompleted {
-        dropped: 0,
-        released: 0,
-    };
-    told_with_names(
-        3,
-        |it| it.ack_in(1, 1000, 1, (0, 0), &[7, 5], &[]),
-        completed,
-    );
+    let completed = Answer::AckCompleted { dropped: 0, released: 0 };
+    told_with_names(3, |it| it.ack_in(1, 1000, 1, (0, 0), &[7, 5], &[]), completed);
     let mut job = Coordinator::open(&SETTINGS, &[1], 0, 1).unwrap();
     job.tick(1000).unwrap();
     job.ack(1000, 1, (0, 0), &[4], &[]).unwrap();
@@ -254,10 +194,7 @@ fn names() {
 
 #[test]
 fn each_request_for_memory_is_refused() {
-    let settings = Settings {
-        at_once: 2,
-        ..SETTINGS
-    };
+    let settings = Settings { at_once: 2, ..SETTINGS };
     let mut job = opened(|| Coordinator::open(&settings, &[2], 0, 1));
     make_checkpoint_3(&mut job);
     let image = job.save().unwrap();

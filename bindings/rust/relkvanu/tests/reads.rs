@@ -1,15 +1,10 @@
 //! The reads after calls, with values that are worked out from the rules (`docs/RULES.md`).
 mod settings;
 
-use relkvanu::{
-    Answer, Choice, Coordinator, Fault, FileCounts, Kind, Live, Mode, Settings, Standing,
-};
+use relkvanu::{Answer, Choice, Coordinator, Fault, FileCounts, Kind, Live, Mode, Settings, Standing};
 
 /// Two checkpoints may be pending.
-const SETTINGS: Settings = Settings {
-    at_once: 2,
-    ..settings::SETTINGS
-};
+const SETTINGS: Settings = Settings { at_once: 2, ..settings::SETTINGS };
 
 fn opened(settings: &Settings) -> Coordinator {
     Coordinator::open(settings, &[2], 0, 1).unwrap()
@@ -24,11 +19,7 @@ fn records(job: &Coordinator) -> Vec<Live> {
 }
 
 fn counts(in_use: u64, waiting: u64, taken: u64) -> FileCounts {
-    FileCounts {
-        in_use,
-        waiting,
-        taken,
-    }
+    FileCounts { in_use, waiting, taken }
 }
 
 /// Checkpoint 1 is completed, savepoint 2 is pending, and checkpoint 3 replaces checkpoint 1.
@@ -75,10 +66,7 @@ fn a_moment_that_is_far_ahead_is_refused() {
     ];
     for now in [late, (1 << 62) - 1, 1 << 62] {
         for call in calls {
-            assert_eq!(
-                call(&mut job, now),
-                Err(relkvanu::Refusal::MomentTooLarge.into())
-            );
+            assert_eq!(call(&mut job, now), Err(relkvanu::Refusal::MomentTooLarge.into()));
         }
     }
     assert_eq!(job.save(), image);
@@ -92,11 +80,7 @@ fn a_moment_that_is_far_ahead_is_refused() {
 
 #[test]
 fn a_timer_that_waits_for_long_is_not_ahead() {
-    let mut job = opened(&Settings {
-        interval: 1 << 40,
-        timeout: 1 << 40,
-        ..SETTINGS
-    });
+    let mut job = opened(&Settings { interval: 1 << 40, timeout: 1 << 40, ..SETTINGS });
     job.tick(1 << 40).unwrap();
     assert_eq!(job.tick(1 << 41).unwrap(), Answer::Failed { expired: 1 });
 }
@@ -124,26 +108,14 @@ fn a_pending_record_expires_and_misses_subtasks() {
     assert_eq!(job.missing(1), Some(1));
     assert_eq!(job.file_counts(), counts(2, 0, 0));
     job.savepoint(1200).unwrap();
-    assert_eq!(
-        records(&job),
-        [
-            live(1, Kind::Checkpoint, false),
-            live(2, Kind::Savepoint, false)
-        ]
-    );
+    assert_eq!(records(&job), [live(1, Kind::Checkpoint, false), live(2, Kind::Savepoint, false)]);
 }
 
 #[test]
 fn a_completed_checkpoint_is_the_choice() {
     let job = with_checkpoint_3();
     assert_eq!(job.choice(), Choice::Checkpoint(3));
-    assert_eq!(
-        records(&job),
-        [
-            live(2, Kind::Savepoint, false),
-            live(3, Kind::Checkpoint, true)
-        ]
-    );
+    assert_eq!(records(&job), [live(2, Kind::Savepoint, false), live(3, Kind::Checkpoint, true)]);
     assert_eq!(job.missing(3), None);
     assert_eq!(job.oldest_expiry(), Some(6200));
 }
@@ -187,19 +159,13 @@ fn a_job_fails_is_restored_and_is_cancelled() {
 
 #[test]
 fn a_pause_after_a_completion_is_due_later() {
-    let mut job = opened(&Settings {
-        pause: 500,
-        ..SETTINGS
-    });
+    let mut job = opened(&Settings { pause: 500, ..SETTINGS });
     job.tick(1000).unwrap();
     job.ack(1900, 1, (0, 0), &[], &[]).unwrap();
     job.ack(1900, 1, (0, 1), &[], &[]).unwrap();
     assert_eq!(job.due(), 2400);
     assert_eq!(job.tick(2399).unwrap(), Answer::HeldPause { expired: 0 });
-    assert_eq!(
-        job.tick(2400).unwrap(),
-        Answer::Triggered { expired: 0, id: 2 }
-    );
+    assert_eq!(job.tick(2400).unwrap(), Answer::Triggered { expired: 0, id: 2 });
 }
 
 #[test]
@@ -207,8 +173,7 @@ fn a_job_rolled_back_to_a_savepoint_begins_from_it() {
     let mut job = with_checkpoint_3();
     job.ack(2200, 2, (0, 0), &[6], &[]).unwrap();
     job.ack(2200, 2, (0, 1), &[], &[]).unwrap();
-    job.restore(2300, std::num::NonZeroU64::new(2), None)
-        .unwrap();
+    job.restore(2300, std::num::NonZeroU64::new(2), None).unwrap();
     assert_eq!(job.choice(), Choice::Savepoint(2));
     assert_eq!(records(&job), [live(2, Kind::Savepoint, true)]);
 }
@@ -220,16 +185,7 @@ fn an_engine_reads_what_it_recovers_with() {
     assert_eq!(job.live_from(3), Some(live(3, Kind::Checkpoint, true)));
     assert_eq!(job.live_from(4), None);
     let standings: Vec<Standing> = (0..5).map(|id| job.standing(id)).collect();
-    assert_eq!(
-        standings,
-        [
-            Standing::Never,
-            Standing::Ended,
-            Standing::Pending,
-            Standing::Done,
-            Standing::NotYet
-        ]
-    );
+    assert_eq!(standings, [Standing::Never, Standing::Ended, Standing::Pending, Standing::Done, Standing::NotYet]);
     assert_eq!(job.files_of(3, (0, 0)), Some(vec![1, 4]));
     assert_eq!(job.files_of(3, (0, 1)), Some(vec![5]));
     assert_eq!(job.files_of(2, (0, 0)), None);
@@ -267,10 +223,7 @@ fn bytes_that_are_no_image_open_nothing() {
         assert!(is_bad(&image.as_bytes()[..end]), "cut after {end} bytes");
     }
     // a record whose number was not given yet, and a file that is in use and waits
-    for (old, new) in [
-        (r#""next":4"#, r#""next":3"#),
-        (r#""waiting":[2,3]"#, r#""waiting":[1,3]"#),
-    ] {
+    for (old, new) in [(r#""next":4"#, r#""next":3"#), (r#""waiting":[2,3]"#, r#""waiting":[1,3]"#)] {
         assert!(image.contains(old), "{image}");
         assert!(is_bad(image.replace(old, new).as_bytes()), "{new}");
     }

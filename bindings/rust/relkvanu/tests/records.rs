@@ -4,7 +4,7 @@ mod common;
 
 use common::{new_job, triggered, Place};
 use relkvanu::store::records::{
-    claim, export, import, put_back, records, recover, Carried, Record,
+    check_records, claim, export, import, put_back, records, recover, Carried, FileFault, Record,
 };
 use relkvanu::store::{Store, StoreErrorKind};
 use relkvanu::{Answer, Call, Choice};
@@ -16,6 +16,7 @@ fn kept(job: &Path, state: &Path) -> Store {
     let mut options = new_job(&[2]);
     options.storage = Some(state.into());
     options.manifests = true;
+    options.checksums = true;
     Store::open(job, &options).unwrap()
 }
 
@@ -24,14 +25,8 @@ fn complete(store: &Store, term: u64, id: u64) {
     let names = store.reserve(term, 2).unwrap();
     for (index, file) in (0..).zip(names) {
         store.put(file, b"state").unwrap();
-        let call = Call::AckIn {
-            term,
-            now: relkvanu::store::NOW,
-            id,
-            subtask: (0, index),
-            fresh: &[file],
-            reused: &[],
-        };
+        let call =
+            Call::AckIn { term, now: relkvanu::store::NOW, id, subtask: (0, index), fresh: &[file], reused: &[] };
         store.call(call).unwrap();
     }
 }
@@ -46,13 +41,25 @@ fn checkpoint(store: &Store, term: u64) -> u64 {
 fn goes_on(job: &Path, state: &Path, record: u64) {
     let store = kept(job, state);
     assert_eq!(store.report().choice, Choice::Checkpoint(record));
-    let restore = Call::Restore {
-        now: relkvanu::store::NOW,
-        savepoint: None,
-        shape: None,
-    };
+    let restore = Call::Restore { now: relkvanu::store::NOW, savepoint: None, shape: None };
     let term = store.call(restore).unwrap().term.unwrap();
     assert!(checkpoint(&store, term) > record);
+}
+
+/// A file that changed is found by who reads it.
+fn check_files(state: &Path) {
+    for (contents, faults) in [
+        ("state", vec![]),
+        ("stats", vec![(2, FileFault::Changed)]),
+        ("stat", vec![(2, FileFault::Length)]),
+        ("state", vec![]),
+    ] {
+        std::fs::write(state.join("2"), contents).unwrap();
+        let found = check_records(state).unwrap();
+        assert_eq!((found.len(), found[0].unknown), (1, 0));
+        assert_eq!(found[0].faults, faults);
+    }
+    assert!(check_records(&state.join("nowhere")).is_err());
 }
 
 #[test]
@@ -62,6 +69,9 @@ fn a_record_that_is_carried() {
     let store = kept(&folder.job(), &folder.state());
     let id = checkpoint(&store, 1);
     drop(store);
+    let manifest = std::fs::read_to_string(folder.state().join(format!("record-{id}.manifest"))).unwrap();
+    assert_eq!(manifest.matches("\"sums\":[\"").count(), 2);
+    check_files(&folder.state());
     let mut found = records(&folder.state()).unwrap();
     assert!(found[0].written != 0);
     found[0].written = 0;
@@ -91,12 +101,7 @@ fn a_record_that_is_carried() {
     assert!(made.term > 1 && made.next_number > id);
 
     let carried = export(&folder.state(), 0, &at("out")).unwrap();
-    let wanted = Carried {
-        record: id,
-        is_savepoint: false,
-        files: 2,
-        bytes: 10,
-    };
+    let wanted = Carried { record: id, is_savepoint: false, files: 2, bytes: 10 };
     assert_eq!(carried, wanted);
     let again = export(&folder.state(), 0, &at("out")).unwrap_err();
     assert_eq!(again.kind, StoreErrorKind::Present);
@@ -117,12 +122,8 @@ fn a_backup_that_is_put_back() {
     let folder = Place::new("put-back");
     let copy = folder.0.join("copy.db");
     let store = kept(&folder.job(), &folder.state());
-    let Some(Answer::SavepointTriggered(id)) = store
-        .call(Call::Savepoint {
-            now: relkvanu::store::NOW,
-        })
-        .unwrap()
-        .called()
+    let Some(Answer::SavepointTriggered(id)) =
+        store.call(Call::Savepoint { now: relkvanu::store::NOW }).unwrap().called()
     else {
         panic!("no savepoint");
     };

@@ -4,14 +4,13 @@ mod common;
 
 use common::{new_job, triggered, Place, SETTINGS};
 use relkvanu::runner::{Barrier, Ended, Engine, Record, RunFault, Runner, Told};
-use relkvanu::store::{
-    Awaited, CallError, Ending, More, Next, Options, Store, StoreError, StoreErrorKind, NOW,
-};
+use relkvanu::store::{Awaited, CallError, Ending, More, Next, Options, Store, StoreError, StoreErrorKind, NOW};
 use relkvanu::{Answer, Call, Choice, Fault, Fenced, Kind, Refusal, Settings};
 use std::fs;
+use std::num::NonZeroU64;
 use std::sync::{Arc, Condvar, Mutex};
 use std::thread::{self, JoinHandle};
-use std::time::Duration;
+use std::time::{Duration, Instant};
 
 const TASKS: u16 = 2;
 const LONGEST: Duration = Duration::from_secs(600); // that a busy machine may take for a step
@@ -22,10 +21,14 @@ enum Word {
     Barrier(u64, Kind, bool),
     Complete(u64),
     Aborted(Vec<u64>),
+    Stopped(u64, usize), // the record, and how many payloads
     GoOn,
     End,
 }
 use Word::*;
+
+/// With the term of the tasks.
+type After = fn(&Runner<Words>, u64);
 
 /// An engine whose tasks acknowledge in the thread of the barrier, with a payload each. It notes what it is asked.
 #[derive(Default)]
@@ -33,7 +36,18 @@ struct Words {
     said: Mutex<Vec<Word>>,
     changed: Condvar,
     job: Mutex<Option<Arc<Runner<Words>>>>,
-    declines: Mutex<Option<Kind>>, // the next record of this kind
+    declines: Mutex<Option<Kind>>,                    // the next record of this kind
+    dies_at: Mutex<Option<u64>>,                      // at the completion of this record
+    published: Mutex<Vec<u64>>,                       // by its first task, which is a sink
+    calls_inside: Mutex<Option<Vec<StoreErrorKind>>>, // what calls inside complete and aborted got, if they are made
+    after: Mutex<Option<After>>,                      // what happens when each task has acknowledged
+    then: Mutex<Option<Call<'static>>>,               // what an operator calls while the tasks are told to end
+}
+
+/// The payloads that are those of the tasks.
+fn payloads(record: &Record) -> usize {
+    let has_its = |index: &u16| record.part(0, *index).unwrap().payload == format!("state {index}").as_bytes();
+    (0..TASKS).filter(has_its).count()
 }
 
 impl Words {
@@ -51,15 +65,28 @@ impl Words {
     fn await_words(&self, count: usize, is_such: impl Fn(&Word) -> bool) {
         let lacks = |said: &mut Vec<Word>| said.iter().filter(|it| is_such(it)).count() < count;
         let said = self.said.lock().unwrap();
-        let (said, waited) = self
-            .changed
-            .wait_timeout_while(said, LONGEST, lacks)
-            .unwrap();
+        let (said, waited) = self.changed.wait_timeout_while(said, LONGEST, lacks).unwrap();
         assert!(!waited.timed_out(), "{said:?}");
     }
 
     fn await_word(&self, word: Word) {
         self.await_words(1, |it| *it == word);
+    }
+
+    fn calls_inside(&self, id: u64) {
+        let mut faults = self.calls_inside.lock().unwrap();
+        let Some(faults) = faults.as_mut() else { return };
+        let job = self.job.lock().unwrap().clone().unwrap();
+        let made = [job.ack(1, id, (0, 0), &[], &[], More::default()), job.decline(1, id, (0, 0), "")];
+        for told in made {
+            let Err(CallError::Store(why)) = told else { panic!("{told:?}") };
+            faults.push(why.kind);
+        }
+    }
+
+    fn starts(&self) -> Vec<u64> {
+        let term = |it: &Word| if let Start(term, ..) = it { Some(*term) } else { None };
+        self.said().iter().filter_map(term).collect()
     }
 
     fn completions(&self) -> usize {
@@ -75,18 +102,11 @@ impl Words {
             is_meant
         };
         if declines {
-            return job
-                .decline(it.term, it.id, (0, index), "as it was told")
-                .map(|_| ());
+            return job.decline(it.term, it.id, (0, index), "as it was told").map(|_| ());
         }
         let state = format!("state {index}");
-        let more = More {
-            payload: state.as_bytes(),
-            bytes: 10,
-            ..More::default()
-        };
-        job.ack(it.term, it.id, (0, index), &[], &[], more)
-            .map(|_| ())
+        let more = More { payload: state.as_bytes(), bytes: 10, ..More::default() };
+        job.ack(it.term, it.id, (0, index), &[], &[], more).map(|_| ())
     }
 }
 
@@ -101,13 +121,7 @@ fn is_start(word: &Word) -> bool {
 impl Engine for Words {
     fn start(&self, job: &Arc<Runner<Words>>, term: u64, record: Option<&Record>) -> Told {
         *self.job.lock().unwrap() = Some(job.clone());
-        let payloads = record.map_or(0, |it| {
-            let has_its = |index: &u16| {
-                it.part(0, *index).unwrap().payload == format!("state {index}").as_bytes()
-            };
-            (0..TASKS).filter(has_its).count()
-        });
-        self.note(Start(term, record.map(|it| it.id), payloads))
+        self.note(Start(term, record.map(|it| it.id), record.map_or(0, payloads)))
     }
 
     fn barrier(&self, it: Barrier) -> Told {
@@ -118,15 +132,29 @@ impl Engine for Words {
                 told => told?,
             }
         }
+        if let Some(after) = *self.after.lock().unwrap() {
+            after(&self.job.lock().unwrap().clone().unwrap(), it.term);
+        }
         Ok(())
     }
 
     fn complete(&self, id: u64) -> Told {
+        if *self.dies_at.lock().unwrap() == Some(id) {
+            return Err("as a kill".into());
+        }
+        self.calls_inside(id);
+        self.published.lock().unwrap().push(id);
         self.note(Complete(id))
     }
 
     fn aborted(&self, ids: &[u64]) -> Told {
+        self.calls_inside(ids[0]);
         self.note(Aborted(ids.to_vec()))
+    }
+
+    fn stopped(&self, record: &Record) -> Told {
+        self.published.lock().unwrap().push(record.id);
+        self.note(Stopped(record.id, payloads(record)))
     }
 
     fn go_on(&self) -> Told {
@@ -134,31 +162,30 @@ impl Engine for Words {
     }
 
     fn end(&self) -> Told {
-        self.note(End)
+        self.note(End)?;
+        let (then, job) = (self.then.lock().unwrap().take(), self.job.lock().unwrap().clone());
+        if let (Some(call), Some(job)) = (then, job) {
+            job.store().call(call)?;
+        }
+        Ok(())
     }
 }
 
 type Run = JoinHandle<Result<Ended, RunFault>>;
 
+fn opened(place: &Place, settings: Settings) -> Store {
+    let options = Options { settings, storage: Some(place.state()), ..new_job(&[TASKS.into()]) };
+    Store::open(&place.job(), &options).unwrap()
+}
+
 /// Runs an engine in a thread.
 fn begin(place: &Place, settings: Settings) -> (Arc<Runner<Words>>, Run) {
-    let options = Options {
-        settings,
-        storage: Some(place.state()),
-        ..new_job(&[TASKS.into()])
-    };
-    let store = Store::open(&place.job(), &options).unwrap();
-    let job = Runner::new(store, Words::default());
+    let job = Runner::new(opened(place, settings), Words::default());
     let runs = job.clone();
     (job, thread::spawn(move || runs.run()))
 }
 
-const QUICK: Settings = Settings {
-    interval: 20,
-    retained: 3,
-    tolerable: 0,
-    ..SETTINGS
-};
+const QUICK: Settings = Settings { interval: 20, retained: 3, tolerable: 0, ..SETTINGS };
 
 /// Ends the run, and closes the store.
 fn close(job: Arc<Runner<Words>>, run: Run) -> Vec<Word> {
@@ -180,11 +207,7 @@ fn checkpoints_and_a_next_process() {
     let (job, run) = begin(&place, QUICK);
     job.engine().await_word(Complete(3));
     let said = close(job, run);
-    let first = [
-        Start(1, None, 0),
-        Barrier(1, Kind::Checkpoint, false),
-        Complete(1),
-    ];
+    let first = [Start(1, None, 0), Barrier(1, Kind::Checkpoint, false), Complete(1)];
     assert_eq!(said[..3], first);
     assert_eq!(said.last(), Some(&End));
     let last = said.iter().rev().find(|it| is_complete(it)).unwrap();
@@ -192,11 +215,9 @@ fn checkpoints_and_a_next_process() {
     let (job, run) = begin(&place, QUICK);
     job.engine().await_words(3, is_complete);
     let said = close(job, run);
-    // the old tasks are told to end, the sinks are told again, and the tasks start from the record's payloads
-    assert_eq!(
-        said[..3],
-        [End, Complete(id), Start(2, Some(id), TASKS.into())]
-    );
+    // the old tasks are told to end, and the tasks start from the record's payloads; nobody is told by its number that it is complete
+    assert_eq!(said[..2], [End, Start(2, Some(id), TASKS.into())]);
+    assert!(said.iter().all(|it| *it != Complete(id)), "{said:?}");
     assert_eq!(fs::read_dir(place.state()).unwrap().count(), 1); // its marker
 }
 
@@ -210,10 +231,7 @@ fn a_task_that_died() {
     let more = job.engine().completions() + 1;
     job.engine().await_words(more, is_complete);
     let old = job.ack(1, 1, (0, 0), &[], &[], More::default());
-    assert_eq!(
-        old.unwrap_err(),
-        CallError::Fault(Fault::Fenced(Fenced::OldTerm))
-    );
+    assert_eq!(old.unwrap_err(), CallError::Fault(Fault::Fenced(Fenced::OldTerm)));
     close(job, run);
 }
 
@@ -241,24 +259,17 @@ fn a_stop_and_a_begin() {
     let (job, run) = begin(&place, QUICK);
     job.engine().await_words(1, is_complete);
     let made = job.store().stop_job().unwrap();
-    let Some(Answer::SavepointTriggered(id)) = made.called() else {
-        unreachable!()
-    };
+    let Some(Answer::SavepointTriggered(id)) = made.called() else { unreachable!() };
     assert_eq!(run.join().unwrap().unwrap(), Ended::Stopped);
     let said = ended(job);
-    let last = [Barrier(id, Kind::Savepoint, true), Complete(id), End];
-    assert_eq!(said[said.len() - 3..], last);
+    let stopped = Stopped(id, TASKS.into());
+    let last = [Barrier(id, Kind::Savepoint, true), Complete(id), End, stopped.clone()];
+    assert_eq!(said[said.len() - 4..], last);
     let (job, run) = begin(&place, QUICK);
     assert_eq!(run.join().unwrap().unwrap(), Ended::Stopped);
-    assert_eq!(ended(job), [Complete(id), End]);
-    let options = Options {
-        storage: Some(place.state()),
-        ..Options::new(QUICK, &[TASKS.into()])
-    };
-    Store::open(&place.job(), &options)
-        .unwrap()
-        .begin_job()
-        .unwrap();
+    assert_eq!(ended(job), [End, stopped]);
+    let options = Options { storage: Some(place.state()), ..Options::new(QUICK, &[TASKS.into()]) };
+    Store::open(&place.job(), &options).unwrap().begin_job().unwrap();
     let (job, run) = begin(&place, QUICK);
     job.engine().await_words(2, is_complete);
     let said = close(job, run);
@@ -266,13 +277,189 @@ fn a_stop_and_a_begin() {
     assert!(said.iter().any(is_begun), "{said:?}");
 }
 
+fn stops(job: &Arc<Runner<Words>>) -> u64 {
+    let made = job.store().stop_job().unwrap();
+    let Some(Answer::SavepointTriggered(id)) = made.called() else { unreachable!() };
+    id
+}
+
+#[test]
+fn a_process_that_dies_between_a_stop_and_its_publication() {
+    let place = Place::new("runner-dies");
+    let settings = Settings { interval: 1 << 39, ..QUICK };
+    let (job, run) = begin(&place, settings);
+    job.engine().await_words(1, is_start);
+    *job.engine().dies_at.lock().unwrap() = Some(2);
+    job.store().trigger().unwrap();
+    job.engine().await_word(Complete(1));
+    assert_eq!(stops(&job), 2);
+    assert!(matches!(run.join().unwrap(), Err(RunFault::Engine(_))));
+    assert_eq!(*job.engine().published.lock().unwrap(), [1]);
+    assert!(!ended(job).contains(&Stopped(2, TASKS.into())));
+    for _ in 0..2 {
+        let (job, run) = begin(&place, settings);
+        assert_eq!(run.join().unwrap().unwrap(), Ended::Stopped);
+        assert_eq!(*job.engine().published.lock().unwrap(), [2]);
+        assert_eq!(ended(job), [End, Stopped(2, TASKS.into())]);
+    }
+}
+
+/// An engine with the functions that every engine has.
+struct Untold;
+
+impl Engine for Untold {
+    fn start(&self, _: &Arc<Runner<Untold>>, _: u64, _: Option<&Record>) -> Told {
+        Err("no task runs".into())
+    }
+
+    fn barrier(&self, _: Barrier) -> Told {
+        Err("no task runs".into())
+    }
+
+    fn complete(&self, _: u64) -> Told {
+        Err("no task runs".into())
+    }
+
+    fn end(&self) -> Told {
+        Ok(())
+    }
+}
+
+#[test]
+fn an_engine_that_is_not_told_of_a_stop() {
+    let place = Place::new("runner-untold");
+    let (job, run) = begin(&place, QUICK);
+    job.engine().await_words(1, is_complete);
+    stops(&job);
+    assert_eq!(run.join().unwrap().unwrap(), Ended::Stopped);
+    ended(job);
+    assert_eq!(Runner::new(opened(&place, QUICK), Untold).run().unwrap(), Ended::Stopped);
+}
+
+#[test]
+fn a_sweep_now_and_then() {
+    for (interval, goes) in [(1, true), (600_000, false)] {
+        let place = Place::new(&format!("runner-sweeps-{interval}"));
+        let job = Runner::with_sweeps(opened(&place, QUICK), Words::default(), interval);
+        let runs = job.clone();
+        let run = thread::spawn(move || runs.run());
+        job.engine().await_words(1, is_complete);
+        let name = job.store().reserve(1, 1).unwrap().start;
+        job.store().put(name, b"x").unwrap();
+        job.store().forfeit(1, &[name]).unwrap();
+        let more = job.engine().completions() + 5;
+        job.engine().await_words(more, is_complete);
+        let path = place.state().join(name.to_string());
+        let until = Instant::now() + LONGEST;
+        while goes && path.exists() && Instant::now() < until {
+            thread::sleep(Duration::from_millis(10));
+        }
+        assert_eq!(path.exists(), !goes);
+        assert_eq!(job.engine().starts(), [1]);
+        close(job, run);
+    }
+}
+
+#[test]
+fn reports_of_a_term() {
+    let place = Place::new("runner-reports");
+    let (job, run) = begin(&place, QUICK);
+    job.engine().await_words(1, is_complete);
+    job.restart_of(1);
+    job.engine().await_words(2, is_start);
+    for _ in 0..10 {
+        job.restart_of(1); // each task reports its death, also those that were fenced by the restart
+    }
+    let more = job.engine().completions() + 10;
+    job.engine().await_words(more, is_complete);
+    assert_eq!(job.engine().starts(), [1, 2]);
+    job.restart_of(2);
+    job.engine().await_words(3, is_start);
+    assert_eq!(job.engine().starts(), [1, 2, 3]);
+    close(job, run);
+}
+
+#[test]
+fn a_cancel_between_a_look_and_a_restore() {
+    let place = Place::new("runner-faster");
+    let (job, run) = begin(&place, QUICK);
+    job.engine().await_words(1, is_complete);
+    *job.engine().then.lock().unwrap() = Some(Call::Cancel { now: NOW });
+    job.restart();
+    assert_eq!(run.join().unwrap().unwrap(), Ended::Cancelled);
+    assert_eq!(job.engine().starts(), [1]);
+    ended(job);
+}
+
+/// A task that dies by a command of an operator, and reports it before the loop looks.
+fn restarts_after(name: &str, after: After) -> (Ended, Vec<Word>) {
+    let place = Place::new(name);
+    let (job, run) = begin(&place, Settings { interval: 1 << 39, ..QUICK });
+    job.engine().await_words(1, is_start);
+    *job.engine().after.lock().unwrap() = Some(after);
+    job.store().stop_job().unwrap();
+    let by = run.join().unwrap().unwrap();
+    (by, ended(job))
+}
+
+#[test]
+fn a_task_that_died_of_a_cancel() {
+    let cancel: After = |job, term| {
+        job.store().call(Call::Cancel { now: NOW }).unwrap();
+        job.restart_of(term);
+    };
+    let (by, said) = restarts_after("runner-died-cancelled", cancel);
+    let stopped = [Start(1, None, 0), Barrier(1, Kind::Savepoint, true), End];
+    assert_eq!((by, said), (Ended::Cancelled, stopped.to_vec()));
+}
+
+#[test]
+fn a_task_that_died_of_a_stop() {
+    let (by, said) = restarts_after("runner-died-stopped", |job, term| job.restart_of(term));
+    let stopped = [Start(1, None, 0), Barrier(1, Kind::Savepoint, true), End, Stopped(1, TASKS.into())];
+    assert_eq!((by, said), (Ended::Stopped, stopped.to_vec()));
+}
+
+/// No number says what to publish then: the record has the list.
+#[test]
+fn a_stopped_job_that_is_restored_elsewhere() {
+    let elsewhere: After = |job, _| {
+        let restore = Call::Restore { now: NOW, savepoint: NonZeroU64::new(1), shape: None };
+        job.store().call(restore).unwrap();
+    };
+    let place = Place::new("runner-elsewhere");
+    let (job, run) = begin(&place, Settings { interval: 1 << 39, ..QUICK });
+    job.engine().await_words(1, is_start);
+    let made = job.store().call(Call::Savepoint { now: NOW }).unwrap(); // nobody sends its barrier
+    assert_eq!(made.called(), Some(Answer::SavepointTriggered(1)));
+    for index in 0..TASKS {
+        job.ack(1, 1, (0, index), &[], &[], More::default()).unwrap();
+    }
+    *job.engine().after.lock().unwrap() = Some(elsewhere);
+    assert_eq!(stops(&job), 2);
+    assert_eq!(run.join().unwrap().unwrap(), Ended::Stopped);
+    let said = ended(job);
+    assert_eq!(said[1..], [Barrier(2, Kind::Savepoint, true), End, Stopped(1, 0)]);
+}
+
+#[test]
+fn calls_from_inside_complete_and_aborted() {
+    let place = Place::new("runner-inside");
+    let settings = Settings { tolerable: 10, ..QUICK };
+    let (job, run) = begin(&place, settings);
+    *job.engine().calls_inside.lock().unwrap() = Some(Vec::new());
+    job.engine().await_words(1, is_complete);
+    *job.engine().declines.lock().unwrap() = Some(Kind::Checkpoint);
+    job.engine().await_words(1, |it| matches!(it, Aborted(_)));
+    let faults = job.engine().calls_inside.lock().unwrap().take().unwrap();
+    assert!(faults.len() >= 4 && faults.iter().all(|it| *it == StoreErrorKind::NotNow), "{faults:?}");
+    close(job, run);
+}
+
 #[test]
 fn a_stop_that_fails() {
     let place = Place::new("runner-goes-on");
-    let settings = Settings {
-        tolerable: 10,
-        ..QUICK
-    };
+    let settings = Settings { tolerable: 10, ..QUICK };
     let (job, run) = begin(&place, settings);
     job.engine().await_words(1, is_complete);
     *job.engine().declines.lock().unwrap() = Some(Kind::Savepoint);
@@ -287,17 +474,12 @@ fn a_stop_that_fails() {
 #[test]
 fn commands_of_an_operator() {
     let place = Place::new("runner-commands");
-    let settings = Settings {
-        interval: 1 << 39,
-        ..QUICK
-    };
+    let settings = Settings { interval: 1 << 39, ..QUICK };
     let (job, run) = begin(&place, settings);
     job.engine().await_words(1, is_start);
     let triggers = || {
         let made = job.store().trigger().unwrap();
-        let Some(Answer::Triggered { id, .. }) = made.called() else {
-            unreachable!()
-        };
+        let Some(Answer::Triggered { id, .. }) = made.called() else { unreachable!() };
         job.engine().await_word(Complete(id));
         id
     };
@@ -308,9 +490,7 @@ fn commands_of_an_operator() {
     let third = triggers();
     let said = close(job, run);
     let starts: Vec<&Word> = said.iter().filter(|it| is_start(it)).collect();
-    let &Start(_, Some(from), payloads) = starts[1] else {
-        unreachable!()
-    };
+    let &Start(_, Some(from), payloads) = starts[1] else { unreachable!() };
     // the savepoint that has the payloads of the first
     assert!(starts.len() == 2 && second < from && from < third && payloads == 2);
 }
@@ -331,20 +511,8 @@ fn named(store: &Store, term: u64, id: u64, index: u16, payload: &[u8]) -> u64 {
     let name = store.reserve(term, 2).unwrap().start;
     store.put(name, b"x").unwrap();
     store.put(name + 1, b"x").unwrap();
-    let ack = Call::AckIn {
-        term,
-        now: NOW,
-        id,
-        subtask: (0, index),
-        fresh: &[name + 1, name],
-        reused: &[],
-    };
-    let more = More {
-        payload,
-        bytes: 3,
-        millis: 4,
-        ..More::default()
-    };
+    let ack = Call::AckIn { term, now: NOW, id, subtask: (0, index), fresh: &[name + 1, name], reused: &[] };
+    let more = More { payload, bytes: 3, millis: 4, ..More::default() };
     store.call_with(ack, more).unwrap();
     name
 }
@@ -352,10 +520,7 @@ fn named(store: &Store, term: u64, id: u64, index: u16, payload: &[u8]) -> u64 {
 #[test]
 fn a_record_as_a_whole_and_a_lost_file() {
     let place = Place::new("runner-whole");
-    let options = Options {
-        storage: Some(place.state()),
-        ..new_job(&[TASKS.into()])
-    };
+    let options = Options { storage: Some(place.state()), ..new_job(&[TASKS.into()]) };
     let store = Store::open(&place.job(), &options).unwrap();
     assert_eq!(store.load(None).unwrap(), None);
     assert_eq!(store.history(10).unwrap(), []);
@@ -395,34 +560,13 @@ fn what_a_call_has_wrong() {
     let place = Place::new("runner-misuse");
     let store = Store::open(&place.job(), &new_job(&[TASKS.into()])).unwrap();
     assert_eq!(triggered(&store), 1);
-    let ack = |index| Call::AckIn {
-        term: 1,
-        now: NOW,
-        id: 1,
-        subtask: (0, index),
-        fresh: &[],
-        reused: &[],
-    };
-    let decline = Call::DeclineIn {
-        term: 1,
-        now: NOW,
-        id: 1,
-        subtask: (0, 0),
-    };
+    let ack = |index| Call::AckIn { term: 1, now: NOW, id: 1, subtask: (0, index), fresh: &[], reused: &[] };
+    let decline = Call::DeclineIn { term: 1, now: NOW, id: 1, subtask: (0, 0) };
     let long = vec![0; 4097];
-    let payload = More {
-        payload: &long,
-        ..More::default()
-    };
+    let payload = More { payload: &long, ..More::default() };
     let (words, zero) = ("x".repeat(201), "a\0b");
-    let reason = |reason| More {
-        reason,
-        ..More::default()
-    };
-    let small = More {
-        payload: b"x",
-        ..More::default()
-    };
+    let reason = |reason| More { reason, ..More::default() };
+    let small = More { payload: b"x", ..More::default() };
     for (call, more, words) in [
         (ack(0), payload, "more than 4096 bytes"),
         (ack(0), reason("x"), "no decline"),
@@ -437,10 +581,7 @@ fn what_a_call_has_wrong() {
         assert!(why.message.contains(words), "{why}");
     }
     let refused = store.call_with(ack(TASKS), small).unwrap_err();
-    assert_eq!(
-        refused,
-        CallError::Fault(Fault::Refused(Refusal::UnknownSubtask))
-    );
+    assert_eq!(refused, CallError::Fault(Fault::Refused(Refusal::UnknownSubtask)));
     let made = store.call_with(decline, reason("no disk")).unwrap();
     assert_eq!((made.kind, made.ended), (Some(Kind::Checkpoint), vec![1]));
     let late = store.call_with(ack(1), small).unwrap();
@@ -452,28 +593,15 @@ fn what_a_call_has_wrong() {
 #[test]
 fn what_a_timer_has_for_an_engine() {
     let place = Place::new("runner-next");
-    let settings = Settings {
-        interval: 1 << 39,
-        timeout: 5000,
-        ..QUICK
-    };
-    let options = Options {
-        settings,
-        ..new_job(&[TASKS.into()])
-    };
+    let settings = Settings { interval: 1 << 39, timeout: 5000, ..QUICK };
+    let options = Options { settings, ..new_job(&[TASKS.into()]) };
     let store = Store::open(&place.job(), &options).unwrap();
     assert_eq!(store.await_next(1).unwrap(), Awaited::from(Next::Idle));
     store.trigger().unwrap();
     let Awaited { next, ended } = store.await_next(1).unwrap();
-    let barrier = Next::Barrier {
-        id: 1,
-        kind: Kind::Checkpoint,
-        base: Choice::Fresh,
-    };
+    let barrier = Next::Barrier { id: 1, kind: Kind::Checkpoint, base: Choice::Fresh };
     assert_eq!((next, ended), (barrier, vec![]));
-    let tick = Call::Tick {
-        now: store.now() + 6000,
-    };
+    let tick = Call::Tick { now: store.now() + 6000 };
     assert_eq!(store.call(tick).unwrap().ended, [1]); // it has expired, and the job has failed
     assert_eq!(store.await_next(1).unwrap().next, Next::Failed);
     store.restore_whole(None, None).unwrap();

@@ -3,9 +3,7 @@
 mod common;
 
 use common::{new_job, triggered, Place};
-use relkvanu::storage::{
-    Deletion, Folder, FolderOptions, Page, Storage, StorageError, StoredFile, PAGE,
-};
+use relkvanu::storage::{Deletion, Folder, FolderOptions, Page, Storage, StorageError, StoredFile, PAGE};
 use relkvanu::store::{Store, StoreErrorKind, NOW};
 use relkvanu::{Answer, Call};
 use std::alloc::{GlobalAlloc, Layout, System};
@@ -57,12 +55,7 @@ fn without_memory<T>(make: impl FnOnce() -> T) -> T {
 }
 
 fn opened(place: &Place, prefix: &[u8], suffix: &[u8]) -> Folder {
-    let how = FolderOptions {
-        is_new: true,
-        prefix: prefix.to_vec(),
-        suffix: suffix.to_vec(),
-        marker: None,
-    };
+    let how = FolderOptions { is_new: true, prefix: prefix.to_vec(), suffix: suffix.to_vec(), marker: None };
     Folder::open(&place.state(), "orders", &how).unwrap()
 }
 
@@ -87,39 +80,17 @@ fn file_of(state: &Path, name: &[u8]) -> PathBuf {
 fn whose_folder_it_is() {
     let place = Place::new("whose");
     let state = place.state();
-    let (new, again) = (
-        FolderOptions {
-            is_new: true,
-            ..FolderOptions::new()
-        },
-        FolderOptions::new(),
-    );
+    let (new, again) = (FolderOptions { is_new: true, ..FolderOptions::new() }, FolderOptions::new());
     let open = |job: &str, how: &FolderOptions| Folder::open(&state, job, how);
-    assert!(matches!(
-        open("orders", &again),
-        Err(StorageError::NotThere)
-    ));
-    assert!(matches!(
-        Folder::open(&state.join("none"), "orders", &again),
-        Err(StorageError::NotThere)
-    ));
+    assert!(matches!(open("orders", &again), Err(StorageError::NotThere)));
+    assert!(matches!(Folder::open(&state.join("none"), "orders", &again), Err(StorageError::NotThere)));
     open("orders", &new).unwrap();
     open("orders", &new).unwrap();
     let folder = open("orders", &again).unwrap();
-    assert!(matches!(
-        open("others", &again),
-        Err(StorageError::OtherJob)
-    ));
-    let marker = Some((
-        b".relkvanu-storage".to_vec(),
-        b"relkvanu: state files of the job orders\n".to_vec(),
-    ));
+    assert!(matches!(open("others", &again), Err(StorageError::OtherJob)));
+    let marker = Some((b".relkvanu-storage".to_vec(), b"relkvanu: state files of the job orders\n".to_vec()));
     open("others", &FolderOptions { marker, ..again }).unwrap();
-    fs::write(
-        state.join(".relkvanu-storage"),
-        "relkvanu: state files of the job others\n",
-    )
-    .unwrap();
+    fs::write(state.join(".relkvanu-storage"), "relkvanu: state files of the job others\n").unwrap();
     assert!(matches!(folder.put(7, b""), Err(StorageError::OtherJob)));
     assert!(matches!(folder.delete(&[7]), Err(StorageError::OtherJob)));
     fs::remove_file(state.join(".relkvanu-storage")).unwrap();
@@ -137,9 +108,7 @@ fn numbers_of_the_header() {
     let path = Path::new(env!("CARGO_MANIFEST_DIR")).join("../../../include/relkvanu_storage.h");
     let header = fs::read_to_string(path).unwrap();
     let number = |line: &str| {
-        let (name, rest) = line
-            .strip_prefix("#define RELKVANU_STORAGE_")?
-            .split_once(' ')?;
+        let (name, rest) = line.strip_prefix("#define RELKVANU_STORAGE_")?.split_once(' ')?;
         let digits = rest.split_whitespace().next()?.trim_end_matches('u');
         Some((name.to_string(), digits.parse::<u64>().ok()?))
     };
@@ -170,10 +139,7 @@ fn numbers_of_the_header() {
 #[test]
 fn bad_options() {
     let place = Place::new("options");
-    let with = |prefix: &[u8]| FolderOptions {
-        prefix: prefix.to_vec(),
-        ..FolderOptions::new()
-    };
+    let with = |prefix: &[u8]| FolderOptions { prefix: prefix.to_vec(), ..FolderOptions::new() };
     for (job, how) in [
         ("", with(b"")),
         ("a\nb", with(b"")),
@@ -182,10 +148,7 @@ fn bad_options() {
         ("a", with(b"\0")),
         ("a", with(&[b'x'; 201])),
     ] {
-        assert!(matches!(
-            Folder::open(&place.state(), job, &how),
-            Err(StorageError::BadArgument)
-        ));
+        assert!(matches!(Folder::open(&place.state(), job, &how), Err(StorageError::BadArgument)));
     }
 }
 
@@ -195,45 +158,22 @@ fn files_with_unusual_names() {
     let state = place.state();
     let (prefix, suffix) = (b"a \xff%s-", b"\n\"");
     let folder = opened(&place, prefix, suffix);
-    let name = |file: &str, end: &str| {
-        file_of(
-            &state,
-            &[prefix, file.as_bytes(), suffix, end.as_bytes()].concat(),
-        )
-    };
+    let name = |file: &str, end: &str| file_of(&state, &[prefix, file.as_bytes(), suffix, end.as_bytes()].concat());
     folder.put(7, b"state").unwrap();
     folder.put(u64::MAX, b"").unwrap();
-    assert!(matches!(
-        folder.put(7, b"other"),
-        Err(StorageError::Present)
-    ));
+    assert!(matches!(folder.put(7, b"other"), Err(StorageError::Present)));
     assert_eq!(folder.get(7).unwrap(), b"state");
     assert!(matches!(folder.get(8), Err(StorageError::Absent)));
     fs::write(name("9", ".part"), "st").unwrap();
     fs::create_dir(name("5", "")).unwrap();
-    let others = [
-        name("07", ""),
-        name("+7", ""),
-        name("", ""),
-        name("7", ".part.part"),
-        state.join("7"),
-    ];
+    let others = [name("07", ""), name("+7", ""), name("", ""), name("7", ".part.part"), state.join("7")];
     for other in &others {
         fs::write(other, "").unwrap();
     }
-    assert_eq!(
-        listed(&folder, 0),
-        BTreeMap::from([(7, 5), (9, 2), (u64::MAX, 0)])
-    );
+    assert_eq!(listed(&folder, 0), BTreeMap::from([(7, 5), (9, 2), (u64::MAX, 0)]));
     assert_eq!(
         folder.delete(&[5, 7, 8, 9, u64::MAX]).unwrap(),
-        [
-            Deletion::Undeleted,
-            Deletion::Deleted,
-            Deletion::Missing,
-            Deletion::Deleted,
-            Deletion::Deleted
-        ]
+        [Deletion::Undeleted, Deletion::Deleted, Deletion::Missing, Deletion::Deleted, Deletion::Deleted]
     );
     assert!(listed(&folder, 0).is_empty() && others.iter().all(|it| it.exists()));
     assert!(folder.delete(&[]).unwrap().is_empty());
@@ -251,10 +191,7 @@ fn links_are_not_followed() {
         panic!("a link was read");
     };
     assert!(why.raw_os_error().is_some());
-    assert!(matches!(
-        folder.put(7, b"other"),
-        Err(StorageError::Present)
-    ));
+    assert!(matches!(folder.put(7, b"other"), Err(StorageError::Present)));
     assert_eq!(folder.delete(&[7]).unwrap(), [Deletion::Deleted]);
     assert!(fs::read(&elsewhere).unwrap() == b"state" && link.symlink_metadata().is_err());
 }
@@ -280,11 +217,8 @@ fn a_folder_that_is_removed() {
 fn killed_in_a_put() {
     const AT: &str = "RELKVANU_KILLED_IN_A_PUT";
     if let Some(path) = std::env::var_os(AT) {
-        let folder = Folder::open(
-            Path::new(&std::ffi::OsString::from_vec(path.into_vec())),
-            "orders",
-            &FolderOptions::new(),
-        );
+        let folder =
+            Folder::open(Path::new(&std::ffi::OsString::from_vec(path.into_vec())), "orders", &FolderOptions::new());
         folder.unwrap().put(7, &[b'x'; 2000]).unwrap();
         return;
     }
@@ -300,10 +234,7 @@ fn killed_in_a_put() {
     assert_eq!(child.status.signal(), Some(25), "SIGXFSZ: {child:?}");
     assert_eq!(listed(&folder, 0), BTreeMap::from([(7, 1024)]));
     assert!(!place.state().join("7").exists());
-    assert!(matches!(
-        folder.put(7, b"other"),
-        Err(StorageError::Present)
-    ));
+    assert!(matches!(folder.put(7, b"other"), Err(StorageError::Present)));
     assert_eq!(folder.delete(&[7]).unwrap(), [Deletion::Deleted]);
     folder.put(7, &[b'x'; 2000]).unwrap();
     assert_eq!(listed(&folder, 0), BTreeMap::from([(7, 2000)]));
@@ -332,9 +263,7 @@ fn pages_and_threads() {
         ControlFlow::Break(())
     };
     assert!(folder.pages(10, &mut end).unwrap().is_break() && seen == 10);
-    let told = catch_unwind(AssertUnwindSafe(|| {
-        folder.pages(10, &mut |_: &[StoredFile]| panic!("planted"))
-    }));
+    let told = catch_unwind(AssertUnwindSafe(|| folder.pages(10, &mut |_: &[StoredFile]| panic!("planted"))));
     assert!(told.is_err() && listed(&folder, 0).len() == 1500);
 }
 
@@ -343,14 +272,8 @@ fn memory_that_runs_out() {
     let place = Place::new("memory");
     let folder = opened(&place, b"", b"");
     without_memory(|| folder.put(7, b"state")).unwrap();
-    assert!(matches!(
-        without_memory(|| folder.get(7)),
-        Err(StorageError::NoMemory)
-    ));
-    assert!(matches!(
-        without_memory(|| folder.delete(&[7])),
-        Err(StorageError::NoMemory)
-    ));
+    assert!(matches!(without_memory(|| folder.get(7)), Err(StorageError::NoMemory)));
+    assert!(matches!(without_memory(|| folder.delete(&[7])), Err(StorageError::NoMemory)));
     assert_eq!(folder.get(7).unwrap(), b"state");
     assert_eq!(folder.delete(&[7]).unwrap(), [Deletion::Deleted]);
 }
@@ -393,26 +316,19 @@ impl Storage for Objects {
 
     fn delete(&self, files: &[u64]) -> Result<Vec<Deletion>, StorageError> {
         self.check()?;
-        let (mut objects, undeleted) =
-            (self.objects.lock().unwrap(), self.undeleted.lock().unwrap());
+        let (mut objects, undeleted) = (self.objects.lock().unwrap(), self.undeleted.lock().unwrap());
         Ok(files
             .iter()
             .map(|file| match undeleted.contains(file) {
                 true => Deletion::Undeleted,
-                false => objects
-                    .remove(file)
-                    .map_or(Deletion::Missing, |_| Deletion::Deleted),
+                false => objects.remove(file).map_or(Deletion::Missing, |_| Deletion::Deleted),
             })
             .collect())
     }
 
     fn pages(&self, _: usize, page: &mut Page<'_>) -> Result<ControlFlow<()>, StorageError> {
         self.check()?;
-        let found: Vec<StoredFile> = self
-            .files()
-            .into_iter()
-            .map(|file| StoredFile { file, bytes: 0 })
-            .collect();
+        let found: Vec<StoredFile> = self.files().into_iter().map(|file| StoredFile { file, bytes: 0 }).collect();
         for some in found.chunks(2) {
             if page(some).is_break() {
                 return Ok(ControlFlow::Break(()));
@@ -434,14 +350,7 @@ fn complete(store: &Store, storage: &dyn Storage, term: u64) -> u64 {
     let file = store.reserve(term, 1).unwrap().start;
     storage.put(file, b"state").unwrap();
     let id = triggered(store);
-    let ack = Call::AckIn {
-        term,
-        now: NOW,
-        id,
-        subtask: (0, 0),
-        fresh: &[file],
-        reused: &[],
-    };
+    let ack = Call::AckIn { term, now: NOW, id, subtask: (0, 0), fresh: &[file], reused: &[] };
     let told = store.call(ack).unwrap().called();
     assert!(matches!(told, Some(Answer::AckCompleted { .. })));
     file
@@ -462,17 +371,11 @@ fn a_store_over_a_storage_of_the_engine() {
     objects.put(1000, b"of another job").unwrap();
 
     objects.fails(Some(|| StorageError::NotThere));
-    assert_eq!(
-        store.sweep_storage(&objects).unwrap_err().kind,
-        StoreErrorKind::Storage
-    );
+    assert_eq!(store.sweep_storage(&objects).unwrap_err().kind, StoreErrorKind::Storage);
     objects.fails(None);
     objects.undeleted.lock().unwrap().insert(given_up[0]);
     assert_eq!(store.sweep_storage(&objects).unwrap(), 1);
-    assert_eq!(
-        objects.files(),
-        [first, last, given_up[0], given_up[2], 1000]
-    );
+    assert_eq!(objects.files(), [first, last, given_up[0], given_up[2], 1000]);
     assert_eq!((store.counts().swept, store.counts().unissued), (1, 1));
     objects.undeleted.lock().unwrap().clear();
     assert_eq!(store.sweep_storage(&objects).unwrap(), 0);

@@ -4,8 +4,7 @@ mod common;
 
 use common::{new_job, triggered, Place, SETTINGS};
 use relkvanu::store::{
-    CallError, Made, Options, Outcome, Phase, Step, StopFailed, Store, StoreError, StoreErrorKind,
-    NOW,
+    CallError, Made, Options, Outcome, Phase, Step, StopFailed, Store, StoreError, StoreErrorKind, NOW,
 };
 use relkvanu::{Answer, Call, Choice, Fault, Fenced, Mode, Refusal, Settings};
 use std::collections::BTreeSet;
@@ -33,10 +32,7 @@ fn ack(store: &Store, id: u64, index: u16, file: u64) -> Answer {
 fn complete(store: &Store, file: u64) -> u64 {
     let id = triggered(store);
     assert_eq!(ack(store, id, 0, file), Answer::AckPending { missing: 1 });
-    assert!(matches!(
-        ack(store, id, 1, file + 1),
-        Answer::AckCompleted { .. }
-    ));
+    assert!(matches!(ack(store, id, 1, file + 1), Answer::AckCompleted { .. }));
     id
 }
 
@@ -48,59 +44,28 @@ fn calls_and_a_recovery() {
     assert_eq!(store.report().steps, [Step::StartTasks]);
     complete(&store, 1);
     complete(&store, 11);
-    let calls = [
-        Call::Dispose { id: 9 },
-        Call::Take { most: 1 },
-        Call::Savepoint { now: NOW },
-    ];
+    let calls = [Call::Dispose { id: 9 }, Call::Take { most: 1 }, Call::Savepoint { now: NOW }];
     let outcomes = store.calls(&calls).unwrap();
     assert_eq!(outcomes[0], Err(Fault::Refused(Refusal::NoSuchSavepoint)));
-    assert_eq!(
-        outcomes[1].as_ref().unwrap().answer,
-        Outcome::Taken(vec![1])
-    );
+    assert_eq!(outcomes[1].as_ref().unwrap().answer, Outcome::Taken(vec![1]));
     let savepoint = outcomes[2].as_ref().unwrap();
-    assert_eq!(
-        (savepoint.place, savepoint.choice),
-        (12, Some(Choice::Checkpoint(2)))
-    );
-    assert_eq!(
-        store.calls(&[]).unwrap_err().kind,
-        StoreErrorKind::BadArgument
-    );
+    assert_eq!((savepoint.place, savepoint.choice), (12, Some(Choice::Checkpoint(2))));
+    assert_eq!(store.calls(&[]).unwrap_err().kind, StoreErrorKind::BadArgument);
     let mut options = Options::new(SETTINGS, &[2]);
     let second = Store::open(&folder.job(), &options).unwrap_err();
     assert_eq!(second.kind, StoreErrorKind::InUse);
-    assert!(
-        second.message.contains(&std::process::id().to_string()),
-        "{second}"
-    );
+    assert!(second.message.contains(&std::process::id().to_string()), "{second}");
     let job = store.report().job;
     drop(store);
     options.settings.interval = 20;
     let store = Store::open(&folder.job(), &options).unwrap();
     let report = store.report();
-    assert!(
-        report.is_recovered && report.settings_differ && report.epoch == 2 && report.job == job
-    );
-    assert_eq!(
-        (report.taken, report.mode, report.choice),
-        (1, Mode::Running, Choice::Checkpoint(2))
-    );
-    assert_eq!(
-        report.steps,
-        [Step::EndTasks, Step::Restore, Step::Sweep, Step::StartTasks]
-    );
+    assert!(report.is_recovered && report.settings_differ && report.epoch == 2 && report.job == job);
+    assert_eq!((report.taken, report.mode, report.choice), (1, Mode::Running, Choice::Checkpoint(2)));
+    assert_eq!(report.steps, [Step::EndTasks, Step::Restore, Step::Sweep, Step::StartTasks]);
     assert_eq!(store.garbage(&[1, 3]).unwrap().garbage, []);
-    let restore = Call::Restore {
-        now: NOW,
-        savepoint: None,
-        shape: None,
-    };
-    assert!(matches!(
-        store.call(restore).unwrap().called(),
-        Some(Answer::Restored { .. })
-    ));
+    let restore = Call::Restore { now: NOW, savepoint: None, shape: None };
+    assert!(matches!(store.call(restore).unwrap().called(), Some(Answer::Restored { .. })));
     assert_eq!(store.garbage(&[1, 2, 3, 11, 12]).unwrap().garbage, [3]);
     assert!(store.next_tick().unwrap().is_some());
 }
@@ -110,22 +75,13 @@ fn openings_that_are_refused() {
     let folder = Place::new("refused");
     let path = folder.job();
     let mut options = Options::new(SETTINGS, &[2]);
-    assert_eq!(
-        Store::open(&path, &options).unwrap_err().kind,
-        StoreErrorKind::Absent
-    );
-    assert_eq!(
-        Store::open(Path::new("a\0b"), &options).unwrap_err().kind,
-        StoreErrorKind::BadArgument
-    );
+    assert_eq!(Store::open(&path, &options).unwrap_err().kind, StoreErrorKind::Absent);
+    assert_eq!(Store::open(Path::new("a\0b"), &options).unwrap_err().kind, StoreErrorKind::BadArgument);
     options.create = true;
     options.storage = Some(folder.state());
     fs::write(folder.state().join("5"), "").unwrap();
     let why = Store::open(&path, &options).unwrap_err();
-    assert!(
-        why.kind == StoreErrorKind::Storage && !why.closes(),
-        "{why}"
-    );
+    assert!(why.kind == StoreErrorKind::Storage && !why.closes(), "{why}");
 }
 
 #[test]
@@ -142,10 +98,7 @@ fn threads_share_it() {
         }
     });
     assert_eq!(store.counts().calls, 320);
-    assert_eq!(
-        store.read(|job| job.live(319).map(|it| it.id)).unwrap(),
-        Some(320)
-    );
+    assert_eq!(store.read(|job| job.live(319).map(|it| it.id)).unwrap(), Some(320));
 }
 
 #[test]
@@ -153,9 +106,7 @@ fn a_read_that_panics() {
     let folder = Place::new("panics");
     let store = job(&folder);
     complete(&store, 1);
-    let read = std::panic::catch_unwind(std::panic::AssertUnwindSafe(|| {
-        store.read(|job| panic!("{}", job.due()))
-    }));
+    let read = std::panic::catch_unwind(std::panic::AssertUnwindSafe(|| store.read(|job| panic!("{}", job.due()))));
     assert!(read.is_err());
     complete(&store, 11);
     assert_eq!(store.read(|job| job.file_counts().waiting).unwrap(), 2);
@@ -189,22 +140,11 @@ fn fenced<T: std::fmt::Debug>(told: Result<T, CallError>, why: Fenced) {
 }
 
 fn ack_in(store: &Store, term: u64, id: u64, index: u16, file: u64) -> Result<Answer, CallError> {
-    let call = Call::AckIn {
-        term,
-        now: 0,
-        id,
-        subtask: (0, index),
-        fresh: &[file],
-        reused: &[],
-    };
+    let call = Call::AckIn { term, now: 0, id, subtask: (0, index), fresh: &[file], reused: &[] };
     store.call(call).map(|made| made.called().unwrap())
 }
 
-const RESTORE: Call = Call::Restore {
-    now: NOW,
-    savepoint: None,
-    shape: None,
-};
+const RESTORE: Call = Call::Restore { now: NOW, savepoint: None, shape: None };
 
 #[test]
 fn terms_and_names() {
@@ -218,56 +158,38 @@ fn terms_and_names() {
     for file in [1, 2, 3, 9] {
         store.put(file, b"state").unwrap();
     }
-    assert_eq!(
-        store.put(9, b"other").unwrap_err().kind,
-        StoreErrorKind::Present
-    );
+    assert_eq!(store.put(9, b"other").unwrap_err().kind, StoreErrorKind::Present);
     let id = triggered(&store);
-    assert_eq!(
-        ack_in(&store, 1, id, 0, 1).unwrap(),
-        Answer::AckPending { missing: 1 }
-    );
+    assert_eq!(ack_in(&store, 1, id, 0, 1).unwrap(), Answer::AckPending { missing: 1 });
     fenced(ack_in(&store, 1, id, 0, 1), Fenced::Spent(1));
     fenced(ack_in(&store, 2, id, 1, 2), Fenced::OldTerm);
-    assert!(matches!(
-        ack_in(&store, 1, id, 1, 2).unwrap(),
-        Answer::AckCompleted { .. }
-    ));
+    assert!(matches!(ack_in(&store, 1, id, 1, 2).unwrap(), Answer::AckCompleted { .. }));
     store.forfeit(1, &[3]).unwrap();
     let sorted = store.garbage(&[1, 2, 3, 4, 9]).unwrap();
     assert_eq!((sorted.garbage, sorted.unissued), (vec![3], vec![9]));
     assert_eq!(store.sweep().unwrap(), 0);
     assert_eq!((store.counts().swept, store.counts().unissued), (1, 1));
     assert!(
-        !folder.state().join("3").exists()
-            && folder.state().join("2").exists()
-            && folder.state().join("9").exists()
+        !folder.state().join("3").exists() && folder.state().join("2").exists() && folder.state().join("9").exists()
     );
     assert_eq!(store.call(RESTORE).unwrap().term, Some(2));
     fenced(store.reserve(1, 1), Fenced::OldTerm);
     fenced(store.forfeit(1, &[4]), Fenced::OldTerm);
-    assert_eq!(
-        store.term().map(|it| (it.term, it.next_name)).ok(),
-        Some((2, 6))
-    );
+    assert_eq!(store.term().map(|it| (it.term, it.next_name)).ok(), Some((2, 6)));
 }
 
 #[test]
 fn submits() {
     let folder = Place::new("submits");
     let store = job(&folder);
-    let tokens: Vec<u64> = (0..100)
-        .map(|_| store.submit(&[Call::Savepoint { now: NOW }]).unwrap())
-        .collect();
+    let tokens: Vec<u64> = (0..100).map(|_| store.submit(&[Call::Savepoint { now: NOW }]).unwrap()).collect();
     let mut found = Vec::new();
     while found.len() < 100 {
         found.extend(store.completed());
         thread::sleep(Duration::from_millis(1));
     }
     assert_eq!(found.iter().map(|it| it.0).collect::<Vec<_>>(), tokens);
-    let places = found
-        .iter()
-        .map(|it| it.1.as_ref().unwrap()[0].as_ref().unwrap().place);
+    let places = found.iter().map(|it| it.1.as_ref().unwrap()[0].as_ref().unwrap().place);
     assert!(places.eq(1..=100));
     store.submit(&[Call::Savepoint { now: NOW }]).unwrap(); // the drop waits for it
 }
@@ -313,10 +235,7 @@ fn a_discarder() {
             loop {
                 let discards = std::panic::AssertUnwindSafe(|| {
                     store.discard(4, |file| {
-                        assert!(
-                            file != 2 || tries.fetch_add(1, Ordering::Relaxed) >= 2,
-                            "not yet"
-                        );
+                        assert!(file != 2 || tries.fetch_add(1, Ordering::Relaxed) >= 2, "not yet");
                         gone.insert(file)
                     })
                 });
@@ -328,10 +247,7 @@ fn a_discarder() {
         });
         complete(&store, 1);
         complete(&store, 11);
-        while store
-            .read(|job| job.file_counts())
-            .is_ok_and(|it| it.waiting + it.taken != 0)
-        {
+        while store.read(|job| job.file_counts()).is_ok_and(|it| it.waiting + it.taken != 0) {
             thread::sleep(Duration::from_millis(5));
         }
         store.stop();
@@ -360,30 +276,12 @@ fn limits() {
         settings
     };
     let settings = [
-        (
-            bad(|it| it.interval = 9),
-            "interval is 9, and has to be 10 to 2^40 ms",
-        ),
-        (
-            bad(|it| it.pause = (1 << 40) + 1),
-            "pause is 1099511627777, and has to be 0 to 2^40 ms",
-        ),
-        (
-            bad(|it| it.at_once = 65),
-            "at_once is 65, and has to be 1 to 64",
-        ),
-        (
-            bad(|it| it.timeout = 0),
-            "timeout is 0, and has to be 1 to 2^40 ms",
-        ),
-        (
-            bad(|it| it.tolerable = 1001),
-            "tolerable is 1001, and has to be 0 to 1000",
-        ),
-        (
-            bad(|it| it.retained = 0),
-            "retained is 0, and has to be 1 to 1000",
-        ),
+        (bad(|it| it.interval = 9), "interval is 9, and has to be 10 to 2^40 ms"),
+        (bad(|it| it.pause = (1 << 40) + 1), "pause is 1099511627777, and has to be 0 to 2^40 ms"),
+        (bad(|it| it.at_once = 65), "at_once is 65, and has to be 1 to 64"),
+        (bad(|it| it.timeout = 0), "timeout is 0, and has to be 1 to 2^40 ms"),
+        (bad(|it| it.tolerable = 1001), "tolerable is 1001, and has to be 0 to 1000"),
+        (bad(|it| it.retained = 0), "retained is 0, and has to be 1 to 1000"),
     ];
     for (settings, words) in settings {
         let mut options = new_job(&[2]);
@@ -394,10 +292,7 @@ fn limits() {
     let shapes: [(&[u64], &str); 4] = [
         (&[], "0 vertices, and has to have 1 to 256"),
         (&[1; 257], "257 vertices, and has to have 1 to 256"),
-        (
-            &[1, 0],
-            "0 subtasks in vertex 1, and has to have at least 1 in each",
-        ),
+        (&[1, 0], "0 subtasks in vertex 1, and has to have at least 1 in each"),
         (&[4096, 1], "4097 subtasks, and has to have at most 4096"),
     ];
     for (shape, words) in shapes {
@@ -446,19 +341,11 @@ fn commands_of_an_operator() {
     let folder = Place::new("commands");
     let store = job(&folder);
     complete(&store, 1);
-    let mut other = Settings {
-        interval: 1 << 30,
-        retained: 2,
-        ..SETTINGS
-    };
+    let mut other = Settings { interval: 1 << 30, retained: 2, ..SETTINGS };
     store.configure(&other).unwrap();
     other.interval = 5;
     let why = store.configure(&other).unwrap_err();
-    assert!(
-        why.to_string()
-            .contains("settings.interval is 5, and has to be 10 to 2^40 ms"),
-        "{why}"
-    );
+    assert!(why.to_string().contains("settings.interval is 5, and has to be 10 to 2^40 ms"), "{why}");
     let made = store.trigger().unwrap();
     assert_eq!(store.await_tick(1000).unwrap(), made);
     assert_eq!(made.choice, Some(Choice::Checkpoint(1)));
@@ -469,18 +356,10 @@ fn commands_of_an_operator() {
     let back = store.go_back(1, true).unwrap();
     assert_eq!(store.await_tick(1000).unwrap().called(), back.called());
     assert_eq!(kind(store.begin_job()), StoreErrorKind::NotNow);
-    let Some(Answer::SavepointTriggered(id)) = store.stop_job().unwrap().called() else {
-        panic!("a stop")
-    };
-    assert_eq!(
-        store.await_tick(1000).unwrap().called(),
-        Some(Answer::SavepointTriggered(id))
-    );
+    let Some(Answer::SavepointTriggered(id)) = store.stop_job().unwrap().called() else { panic!("a stop") };
+    assert_eq!(store.await_tick(1000).unwrap().called(), Some(Answer::SavepointTriggered(id)));
     let phase = store.phase().unwrap();
-    assert_eq!(
-        (phase.phase, phase.savepoint, phase.stop_failed),
-        (Phase::Stopping, Some(id), None)
-    );
+    assert_eq!((phase.phase, phase.savepoint, phase.stop_failed), (Phase::Stopping, Some(id), None));
     for index in 0..2 {
         ack(&store, id, index, 21 + u64::from(index));
     }
@@ -488,18 +367,12 @@ fn commands_of_an_operator() {
     drop(store);
     let store = Store::open(&folder.job(), &Options::new(SETTINGS, &[2])).unwrap();
     let report = store.report();
-    assert_eq!(
-        (report.phase.phase, report.steps.as_slice()),
-        (Phase::Stopped, &[Step::EndTasks, Step::Discard][..])
-    );
+    assert_eq!((report.phase.phase, report.steps.as_slice()), (Phase::Stopped, &[Step::EndTasks, Step::Discard][..]));
     let begun = store.begin_job().unwrap();
     assert_eq!(store.await_tick(1000).unwrap().called(), begun.called());
     store.stop_job().unwrap();
     store.call(Call::Cancel { now: NOW }).unwrap();
     let phase = store.phase().unwrap();
-    assert_eq!(
-        (phase.phase, phase.stop_failed),
-        (Phase::Running, Some(StopFailed::Cancelled))
-    );
+    assert_eq!((phase.phase, phase.stop_failed), (Phase::Running, Some(StopFailed::Cancelled)));
     assert_eq!(kind(store.await_tick(1000)), StoreErrorKind::NotStopped);
 }

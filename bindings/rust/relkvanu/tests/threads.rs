@@ -1,10 +1,7 @@
 //! What threads share: a coordinator, and the discarder's threads over it.
 mod settings;
 
-use relkvanu::{
-    Answer, Call, Coordinator, Discarder, Fault, FileCounts, Outbox, Patience, Refusal,
-    SharedCoordinator,
-};
+use relkvanu::{Answer, Call, Coordinator, Discarder, Fault, FileCounts, Outbox, Patience, Refusal, SharedCoordinator};
 use settings::SETTINGS;
 use std::error::Error;
 use std::io;
@@ -31,10 +28,7 @@ fn cancelled() -> SharedCoordinator {
     let files: Vec<u64> = (1..=20).collect();
     job.tick(1000).unwrap();
     job.ack(1000, 1, (0, 0), &files, &[]).unwrap();
-    let told = Answer::Cancelled {
-        dropped: 1,
-        released: 20,
-    };
+    let told = Answer::Cancelled { dropped: 1, released: 20 };
     assert_eq!(job.cancel(1000), Ok(told));
     job
 }
@@ -52,21 +46,14 @@ fn denied(_: u64) -> io::Result<()> {
 }
 
 /// A discarder that has given up all 20 files.
-fn given_up(
-    job: &SharedCoordinator,
-    delete: impl Fn(u64) -> io::Result<()> + Send + Sync + 'static,
-) -> Discarder {
+fn given_up(job: &SharedCoordinator, delete: impl Fn(u64) -> io::Result<()> + Send + Sync + 'static) -> Discarder {
     let discarder = Discarder::start(job.clone(), quick(3), delete).unwrap();
     wait_for(|| discarder.told().given_up.len() == 20);
     discarder
 }
 
 fn counts(waiting: u64, taken: u64) -> FileCounts {
-    FileCounts {
-        in_use: 0,
-        waiting,
-        taken,
-    }
+    FileCounts { in_use: 0, waiting, taken }
 }
 
 #[test]
@@ -179,9 +166,7 @@ fn a_discarder_whose_calls_an_engine_logs() {
     let (job, log) = &*job.0.lock().unwrap();
     let mut replayed = open();
     for call in log {
-        replayed
-            .line(call.line().unwrap().as_bytes(), &mut [0; 64])
-            .unwrap();
+        replayed.line(call.line().unwrap().as_bytes(), &mut [0; 64]).unwrap();
     }
     assert_eq!(replayed.file_counts(), counts(1, 0));
     assert_eq!(replayed.save(), job.save());
@@ -197,9 +182,7 @@ fn a_folder_that_is_gone() {
     assert_eq!(discarder.stop().failed, 0);
     let no_folder = std::env::current_exe().unwrap();
     let job = cancelled();
-    let discarder = given_up(&job, move |file| {
-        std::fs::remove_file(no_folder.join(file.to_string()))
-    });
+    let discarder = given_up(&job, move |file| std::fs::remove_file(no_folder.join(file.to_string())));
     assert_eq!(discarder.stop().deleted, 0);
     assert_eq!(job.file_counts(), counts(20, 0));
 }
@@ -216,11 +199,8 @@ fn a_file_that_somebody_else_reports() {
 #[test]
 fn a_discarder_that_is_stopped_leaves_no_file_taken() {
     let job = cancelled();
-    let patience = Patience {
-        first_wait: Duration::from_secs(3600),
-        longest_wait: Duration::from_secs(3600),
-        ..quick(3)
-    };
+    let patience =
+        Patience { first_wait: Duration::from_secs(3600), longest_wait: Duration::from_secs(3600), ..quick(3) };
     let discarder = Discarder::start(job.clone(), patience, denied).unwrap();
     wait_for(|| discarder.told().failed == 8);
     assert_eq!(job.file_counts(), counts(12, 8));
@@ -251,8 +231,7 @@ fn threads_acknowledge_at_the_same_time() {
             let job = job.clone();
             scope.spawn(move || {
                 for index in first..first + 8 {
-                    job.ack(1000, 1, (0, index), &[u64::from(index)], &[])
-                        .unwrap();
+                    job.ack(1000, 1, (0, index), &[u64::from(index)], &[]).unwrap();
                 }
             });
         }

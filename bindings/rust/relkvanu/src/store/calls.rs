@@ -50,12 +50,7 @@ impl Made {
     }
 }
 
-const NONE: sys::relkvanu_answer = sys::relkvanu_answer {
-    code: 0,
-    what: 0,
-    a: 0,
-    b: 0,
-};
+const NONE: sys::relkvanu_answer = sys::relkvanu_answer { code: 0, what: 0, a: 0, b: 0 };
 
 /// Calls as the library takes them, with all that they point to, at addresses that stay.
 pub(super) struct List {
@@ -146,7 +141,7 @@ impl List {
     pub(super) fn outcomes(self) -> Vec<Result<Made, Fault>> {
         let files = self.files.iter();
         let calls = self.calls.iter().zip(files);
-        calls.map(|(call, files)| made(call, files)).collect()
+        calls.map(|(call, files)| outcome_of(call, files)).collect()
     }
 }
 
@@ -154,14 +149,12 @@ impl List {
 fn begun(what: u32) -> Option<Kind> {
     match what {
         sys::RELKVANU_TICK_TRIGGERED | sys::RELKVANU_RESTORED_CHECKPOINT => Some(Kind::Checkpoint),
-        sys::RELKVANU_SAVEPOINT_TRIGGERED | sys::RELKVANU_RESTORED_SAVEPOINT => {
-            Some(Kind::Savepoint)
-        }
+        sys::RELKVANU_SAVEPOINT_TRIGGERED | sys::RELKVANU_RESTORED_SAVEPOINT => Some(Kind::Savepoint),
         _ => None,
     }
 }
 
-pub(super) fn made(call: &sys::store::relkvanu_store_call, files: &[u64]) -> Result<Made, Fault> {
+pub(super) fn outcome_of(call: &sys::store::relkvanu_store_call, files: &[u64]) -> Result<Made, Fault> {
     if call.answer.code == sys::store::RELKVANU_STORE_NOT_MADE {
         return Err(Fault::Memory);
     }
@@ -174,10 +167,11 @@ pub(super) fn made(call: &sys::store::relkvanu_store_call, files: &[u64]) -> Res
     let has_choice = call.choice.what != 0;
     // SAFETY: what a call has more is in the list of the caller, if it has more.
     let (kind, ended) = match unsafe { call.more.as_ref() } {
-        // SAFETY: the buffer has as many places as it says.
-        Some(more) if more.ended_room != 0 => (more.kind, unsafe {
-            std::slice::from_raw_parts(more.ended, more.ended_len.min(more.ended_room)).to_vec()
-        }),
+        Some(more) if more.ended_room != 0 => {
+            // SAFETY: the buffer has as many places as it says.
+            let ended = unsafe { std::slice::from_raw_parts(more.ended, more.ended_len.min(more.ended_room)) };
+            (more.kind, ended.to_vec())
+        }
         more => (more.map_or(0, |it| it.kind), Vec::new()),
     };
     Ok(Made {

@@ -54,26 +54,17 @@ impl Store {
     /// As [`put`](Self::put), of all that a reader gives: for a file that does not fit into memory. The reader makes no call of the store. If it panics, so
     /// does this; after that as after an error the task forfeits the name.
     pub fn put_from<R: Read>(&self, file: u64, source: R) -> Result<(), StoreError> {
-        let mut with = Reading {
-            source,
-            failed: None,
-            panicked: None,
-        };
+        let mut with = Reading { source, failed: None, panicked: None };
         let at: *mut Reading<R> = &mut with;
         // SAFETY: the reading outlives the call, which calls `next` with it in this thread.
-        let status =
-            unsafe { sys::store::relkvanu_store_put_from(self.at(), file, next::<R>, at.cast()) };
+        let status = unsafe { sys::store::relkvanu_store_put_from(self.at(), file, next::<R>, at.cast()) };
         if let Some(panic) = with.panicked {
             resume_unwind(panic);
         }
-        self.told_of_put(status)
-            .map_err(|why| match (why.kind, with.failed) {
-                (StoreErrorKind::NotPut, Some(failed)) => StoreError {
-                    message: failed.to_string(),
-                    ..why
-                },
-                _ => why,
-            })
+        self.told_of_put(status).map_err(|why| match (why.kind, with.failed) {
+            (StoreErrorKind::NotPut, Some(failed)) => StoreError { message: failed.to_string(), ..why },
+            _ => why,
+        })
     }
 
     /// As [`put`](Self::put), of a file that exists: it is synced, and gets the number as a second name. Both are one file, so nobody writes it afterwards, and
@@ -82,18 +73,13 @@ impl Store {
     pub fn put_link(&self, file: u64, path: &Path) -> Result<(), StoreError> {
         let path = c_path(path)?;
         // SAFETY: the path outlives the call.
-        let status = unsafe {
-            sys::store::relkvanu_store_put_link(self.at(), file, AT_FDCWD, path.as_ptr())
-        };
+        let status = unsafe { sys::store::relkvanu_store_put_link(self.at(), file, AT_FDCWD, path.as_ptr()) };
         self.told_of_put(status)
     }
 
     fn told_of_put(&self, status: c_int) -> Result<(), StoreError> {
         match status {
-            sys::store::RELKVANU_STORE_NOT_PUT => Err(StoreError {
-                kind: StoreErrorKind::NotPut,
-                message: said_why(),
-            }),
+            sys::store::RELKVANU_STORE_NOT_PUT => Err(StoreError { kind: StoreErrorKind::NotPut, message: said_why() }),
             other => self.check(other),
         }
     }
@@ -106,9 +92,7 @@ impl Store {
         let mut shape = vec![0; sys::store::RELKVANU_STORE_MOST_VERTICES];
         let mut len = shape.len();
         // SAFETY: the places are this function's own, and the list has as many as is said.
-        self.check(unsafe {
-            sys::store::relkvanu_store_job(self.at(), &mut settings, shape.as_mut_ptr(), &mut len)
-        })?;
+        self.check(unsafe { sys::store::relkvanu_store_job(self.at(), &mut settings, shape.as_mut_ptr(), &mut len) })?;
         shape.truncate(len);
         Ok(((&settings).into(), shape))
     }

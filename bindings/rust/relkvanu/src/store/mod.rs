@@ -20,7 +20,7 @@ use crate::call::Call;
 use crate::coordinator::Coordinator;
 use crate::fault::{done, Fault};
 use crate::storage::{Functions, Storage};
-use calls::{made, List};
+use calls::{outcome_of, List};
 use opening::step;
 use relkvanu_sys as sys;
 use std::collections::HashMap;
@@ -83,10 +83,8 @@ impl Drop for Store {
 }
 
 fn c_path(path: &Path) -> Result<CString, StoreError> {
-    CString::new(path.as_os_str().as_bytes()).map_err(|why| StoreError {
-        kind: StoreErrorKind::BadArgument,
-        message: why.to_string(),
-    })
+    CString::new(path.as_os_str().as_bytes())
+        .map_err(|why| StoreError { kind: StoreErrorKind::BadArgument, message: why.to_string() })
 }
 
 impl Store {
@@ -97,9 +95,7 @@ impl Store {
         let given = sys::store::relkvanu_store_options {
             flags: options.flags(),
             patience: options.patience,
-            image_calls: options
-                .image_calls
-                .unwrap_or(sys::store::RELKVANU_STORE_NO_IMAGES),
+            image_calls: options.image_calls.unwrap_or(sys::store::RELKVANU_STORE_NO_IMAGES),
             most_ahead: options.most_ahead,
             storage: storage.as_ref().map_or(ptr::null(), |it| it.as_ptr()),
             settings: (&options.settings).into(),
@@ -111,9 +107,7 @@ impl Store {
         // SAFETY: all zero is a report.
         let mut found: sys::store::relkvanu_store_report = unsafe { std::mem::zeroed() };
         // SAFETY: the path, the options and what they point to outlive the call, which keeps none of them.
-        let status = unsafe {
-            sys::store::relkvanu_store_open(&mut store, path.as_ptr(), &given, &mut found)
-        };
+        let status = unsafe { sys::store::relkvanu_store_open(&mut store, path.as_ptr(), &given, &mut found) };
         let Some(store) = NonNull::new(store) else {
             // SAFETY: the message ends with a zero.
             let message = unsafe { CStr::from_ptr(found.message.as_ptr()) };
@@ -134,18 +128,10 @@ impl Store {
             moment: found.moment,
             mode: crate::Mode::of(found.mode.what),
             choice: answer::choice(found.choice),
-            names: RunningTerm {
-                term: found.term,
-                next_name: found.next_name,
-            },
-            phase: phase::told(found.phase, found.savepoint, 0, found.stop_failed),
+            names: RunningTerm { term: found.term, next_name: found.next_name },
+            phase: phase::job_phase(found.phase, found.savepoint, 0, found.stop_failed),
         };
-        Ok(Store {
-            store,
-            report,
-            submits: Mutex::default(),
-            reader: Mutex::default(),
-        })
+        Ok(Store { store, report, submits: Mutex::default(), reader: Mutex::default() })
     }
 
     pub fn report(&self) -> &Report {
@@ -175,10 +161,7 @@ impl Store {
         if status == sys::store::RELKVANU_STORE_OK {
             return Ok(());
         }
-        Err(StoreError {
-            kind: StoreErrorKind::of(status),
-            message: self.message(),
-        })
+        Err(StoreError { kind: StoreErrorKind::of(status), message: self.message() })
     }
 
     fn message(&self) -> String {
@@ -193,23 +176,18 @@ impl Store {
     /// Makes 1 to 4096 calls, with no other in between, and returns once they are committed. After one without memory the later ones
     /// are not made.
     pub fn calls(&self, calls: &[Call<'_>]) -> Result<Vec<Result<Made, Fault>>, StoreError> {
-        self.made(List::of(calls))
+        self.make_list(List::of(calls))
     }
 
     /// As [`calls`](Self::calls), of calls that have more. `BadArgument` says what is wrong with it.
-    pub fn calls_with(
-        &self,
-        calls: &[(Call<'_>, More<'_>)],
-    ) -> Result<Vec<Result<Made, Fault>>, StoreError> {
-        self.made(List::with(calls.iter().copied()))
+    pub fn calls_with(&self, calls: &[(Call<'_>, More<'_>)]) -> Result<Vec<Result<Made, Fault>>, StoreError> {
+        self.make_list(List::with(calls.iter().copied()))
     }
 
-    fn made(&self, mut list: List) -> Result<Vec<Result<Made, Fault>>, StoreError> {
+    fn make_list(&self, mut list: List) -> Result<Vec<Result<Made, Fault>>, StoreError> {
         self.outside()?;
         // SAFETY: the calls and all that they point to stay until the call returns.
-        let status = unsafe {
-            sys::store::relkvanu_store_calls(self.at(), list.calls.as_mut_ptr(), list.calls.len())
-        };
+        let status = unsafe { sys::store::relkvanu_store_calls(self.at(), list.calls.as_mut_ptr(), list.calls.len()) };
         self.check_why(status)?;
         Ok(list.outcomes())
     }
@@ -222,10 +200,7 @@ impl Store {
     /// Makes one call that has more: an acknowledgement with a payload, or a decline with a reason.
     pub fn call_with(&self, call: Call<'_>, more: More<'_>) -> Result<Made, CallError> {
         let mut outcomes = self.calls_with(&[(call, more)])?;
-        outcomes
-            .pop()
-            .unwrap_or(Err(Fault::Memory))
-            .map_err(CallError::Fault)
+        outcomes.pop().unwrap_or(Err(Fault::Memory)).map_err(CallError::Fault)
     }
 
     /// A task of this term gets names for files that it will write, 1 to 65536. They are durable, and are not given out again.
@@ -240,22 +215,10 @@ impl Store {
     /// not hold are passed over.
     pub fn forfeit(&self, term: u64, names: &[u64]) -> Result<(), CallError> {
         self.outside()?;
-        let mut told = sys::relkvanu_answer {
-            code: 0,
-            what: 0,
-            a: 0,
-            b: 0,
-        };
+        let mut told = sys::relkvanu_answer { code: 0, what: 0, a: 0, b: 0 };
         // SAFETY: the names and the place of the answer outlive the call.
-        let status = unsafe {
-            sys::store::relkvanu_store_forfeit(
-                self.at(),
-                term,
-                names.as_ptr(),
-                names.len(),
-                &mut told,
-            )
-        };
+        let status =
+            unsafe { sys::store::relkvanu_store_forfeit(self.at(), term, names.as_ptr(), names.len(), &mut told) };
         self.check(status)?;
         done(told).map(|_| ()).map_err(CallError::Fault)
     }
@@ -267,8 +230,7 @@ impl Store {
 
     /// Of these files those that are garbage, which may be deleted at any time, and those whose names were not given out, which nobody deletes.
     pub fn garbage(&self, files: &[u64]) -> Result<Garbage, CallError> {
-        self.read(|job| job.garbage(files))?
-            .map_err(CallError::Fault)
+        self.read(|job| job.garbage(files))?.map_err(CallError::Fault)
     }
 
     /// For event loops: as [`calls`](Self::calls), but returns a token at once. [`completed`](Self::completed) returns it with the outcomes.
@@ -307,12 +269,7 @@ impl Store {
     fn submitted(
         &self,
         mut list: List,
-        submit: impl Fn(
-            *mut sys::store::relkvanu_store,
-            *mut sys::store::relkvanu_store_call,
-            usize,
-            u64,
-        ) -> c_int,
+        submit: impl Fn(*mut sys::store::relkvanu_store, *mut sys::store::relkvanu_store_call, usize, u64) -> c_int,
     ) -> Result<u64, StoreError> {
         let (at, len) = (list.calls.as_mut_ptr(), list.calls.len());
         let mut submits = self.submits.lock().unwrap_or_else(|it| it.into_inner());
@@ -328,15 +285,10 @@ impl Store {
 
     /// The submits that are committed, or failed, since the last time. Never waits.
     pub fn completed(&self) -> Vec<Completion> {
-        let mut found = [sys::store::relkvanu_store_completion {
-            token: 0,
-            status: 0,
-        }; 64];
+        let mut found = [sys::store::relkvanu_store_completion { token: 0, status: 0 }; 64];
         let mut submits = self.submits.lock().unwrap_or_else(|it| it.into_inner());
         // SAFETY: the buffer has as many places as is said.
-        let len = unsafe {
-            sys::store::relkvanu_store_completed(self.at(), found.as_mut_ptr(), found.len())
-        };
+        let len = unsafe { sys::store::relkvanu_store_completed(self.at(), found.as_mut_ptr(), found.len()) };
         let complete = |it: &sys::store::relkvanu_store_completion| {
             let list = submits.lists.remove(&it.token)?;
             Some((it.token, self.check(it.status).map(|()| list.outcomes())))
@@ -395,26 +347,19 @@ impl Store {
             sys::store::RELKVANU_STORE_NOT_RUNNING => sys::store::RELKVANU_STORE_TIMED_OUT,
             other => other,
         })?;
-        made(&list.calls[0], &[]).map_err(CallError::Fault)
+        outcome_of(&list.calls[0], &[]).map_err(CallError::Fault)
     }
 
     /// Makes a file of the storage folder by its number, whole and durable, so that a task may acknowledge it. After an error the task
     /// forfeits the name and declines: a sweep deletes what is there.
     pub fn put(&self, file: u64, contents: &[u8]) -> Result<(), StoreError> {
         // SAFETY: the contents outlive the call.
-        let status = unsafe {
-            sys::store::relkvanu_store_put(
-                self.at(),
-                file,
-                contents.as_ptr().cast(),
-                contents.len(),
-            )
-        };
+        let status =
+            unsafe { sys::store::relkvanu_store_put(self.at(), file, contents.as_ptr().cast(), contents.len()) };
         match status {
-            sys::store::RELKVANU_STORE_NOT_PUT => Err(StoreError {
-                kind: StoreErrorKind::NotPut,
-                message: std::io::Error::last_os_error().to_string(),
-            }),
+            sys::store::RELKVANU_STORE_NOT_PUT => {
+                Err(StoreError { kind: StoreErrorKind::NotPut, message: std::io::Error::last_os_error().to_string() })
+            }
             other => self.check(other),
         }
     }
@@ -439,23 +384,14 @@ impl Store {
         let path = c_path(path)?;
         let mut message = [0; sys::store::RELKVANU_STORE_MESSAGE];
         // SAFETY: the path and the message outlive the call.
-        let status = unsafe {
-            sys::store::relkvanu_store_backup(
-                self.at(),
-                path.as_ptr(),
-                message.as_mut_ptr(),
-                message.len(),
-            )
-        };
+        let status =
+            unsafe { sys::store::relkvanu_store_backup(self.at(), path.as_ptr(), message.as_mut_ptr(), message.len()) };
         if status == sys::store::RELKVANU_STORE_OK {
             return Ok(());
         }
         // SAFETY: the message ends with a zero.
         let message = unsafe { CStr::from_ptr(message.as_ptr()) };
-        Err(StoreError {
-            kind: StoreErrorKind::of(status),
-            message: message.to_string_lossy().into_owned(),
-        })
+        Err(StoreError { kind: StoreErrorKind::of(status), message: message.to_string_lossy().into_owned() })
     }
 
     /// The descriptor of the storage folder, which stays open until the drop: delete within it.
@@ -518,8 +454,7 @@ impl Store {
     pub fn discard_files(&self, batch: usize) -> Result<(), StoreError> {
         self.outside()?;
         // SAFETY: without a storage the library takes that of the store.
-        let status =
-            unsafe { sys::store::relkvanu_store_discard_storage(self.at(), batch, ptr::null()) };
+        let status = unsafe { sys::store::relkvanu_store_discard_storage(self.at(), batch, ptr::null()) };
         match status {
             sys::store::RELKVANU_STORE_STOPPED => Ok(()),
             other => self.check(other),
@@ -532,8 +467,7 @@ impl Store {
         self.outside()?;
         let functions = Functions::of(&storage);
         // SAFETY: the storage outlives the call, which calls its functions in this thread alone.
-        let status =
-            unsafe { sys::store::relkvanu_store_discard_storage(self.at(), batch, functions.at()) };
+        let status = unsafe { sys::store::relkvanu_store_discard_storage(self.at(), batch, functions.at()) };
         match status {
             sys::store::RELKVANU_STORE_STOPPED => Ok(()),
             other => self.check(other),
@@ -545,9 +479,7 @@ impl Store {
         self.outside()?;
         let (functions, mut left) = (Functions::of(&storage), 0);
         // SAFETY: the storage outlives the call, and the place is this function's own.
-        self.check(unsafe {
-            sys::store::relkvanu_store_sweep_storage(self.at(), functions.at(), &mut left)
-        })?;
+        self.check(unsafe { sys::store::relkvanu_store_sweep_storage(self.at(), functions.at(), &mut left) })?;
         Ok(left)
     }
 

@@ -53,10 +53,7 @@ impl Store {
             Err(CallError::Fault(Fault::Refused(Refusal::NotRunning))) => return self.standstill(),
             told => told?,
         };
-        Ok(Awaited {
-            next: next(&made),
-            ended: made.ended,
-        })
+        Ok(Awaited { next: next(&made), ended: made.ended })
     }
 
     /// Why no tick is due.
@@ -74,19 +71,12 @@ impl Store {
 }
 
 fn next(made: &Made) -> Next {
-    let barrier = |id, kind| Next::Barrier {
-        id,
-        kind,
-        base: made.choice.unwrap_or(Choice::Fresh),
-    };
+    let barrier = |id, kind| Next::Barrier { id, kind, base: made.choice.unwrap_or(Choice::Fresh) };
     match made.called() {
         Some(Answer::Triggered { id, .. }) => barrier(id, Kind::Checkpoint),
         Some(Answer::SavepointTriggered(id)) => barrier(id, Kind::Savepoint),
         Some(Answer::Failed { .. }) => Next::Failed,
-        Some(Answer::Restored { from, .. }) => Next::Begun {
-            from,
-            term: made.term.unwrap_or(0),
-        },
+        Some(Answer::Restored { from, .. }) => Next::Begun { from, term: made.term.unwrap_or(0) },
         _ => Next::Idle,
     }
 }

@@ -38,6 +38,8 @@ pub struct Options {
     /// The folder of the storage gets a manifest of each complete record, of which the command `relkvanu-store recover` makes the job again if
     /// its file is lost.
     pub manifests: bool,
+    /// With `manifests`: these have a checksum of each file, for which the store reads it once.
+    pub checksums: bool,
     /// Milliseconds for which a commit is tried again.
     pub patience: u32,
     /// An image after so many calls; `None`: no images.
@@ -58,6 +60,7 @@ impl Options {
             earlier_image: false,
             backup: false,
             manifests: false,
+            checksums: false,
             patience: 0,
             image_calls: Some(10_000),
             most_ahead: 0,
@@ -72,6 +75,7 @@ impl Options {
             | flag(self.earlier_image, sys::store::RELKVANU_STORE_EARLIER_IMAGE)
             | flag(self.backup, sys::store::RELKVANU_STORE_BACKUP)
             | flag(self.manifests, sys::store::RELKVANU_STORE_MANIFESTS)
+            | flag(self.checksums, sys::store::RELKVANU_STORE_CHECKSUMS)
     }
 }
 

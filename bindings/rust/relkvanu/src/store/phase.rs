@@ -1,5 +1,5 @@
 //! The commands of an operator, and the phase of a job: it runs, is being stopped, or is stopped.
-use super::calls::{made, List, Made};
+use super::calls::{outcome_of, List, Made};
 use super::error::{CallError, StoreError, StoreErrorKind};
 use super::{Store, NOW};
 use crate::call::Call;
@@ -49,7 +49,7 @@ pub struct JobPhase {
     pub stop_failed: Option<StopFailed>,
 }
 
-pub(super) fn told(phase: u32, savepoint: u64, term: u64, failed: u32) -> JobPhase {
+pub(super) fn job_phase(phase: u32, savepoint: u64, term: u64, failed: u32) -> JobPhase {
     let number = |it: u64| (it != 0).then_some(it);
     JobPhase {
         phase: match phase {
@@ -85,9 +85,7 @@ impl Store {
     pub fn configure(&self, settings: &Settings) -> Result<Made, CallError> {
         let given = settings.into();
         // SAFETY: the settings and the call outlive the function.
-        self.verb(|store, call| unsafe {
-            sys::store::relkvanu_store_configure(store, &given, call)
-        })
+        self.verb(|store, call| unsafe { sys::store::relkvanu_store_configure(store, &given, call) })
     }
 
     /// Stops the job with a savepoint. With its last acknowledgement the job is stopped, in the same commit. `NotNow` if it is being stopped, or is stopped.
@@ -107,19 +105,13 @@ impl Store {
     pub fn go_back(&self, id: u64, accept_published: bool) -> Result<Made, CallError> {
         let flags = u32::from(accept_published) * sys::store::RELKVANU_STORE_ACCEPT_PUBLISHED;
         // SAFETY: the call outlives the function.
-        self.verb(|store, call| unsafe {
-            sys::store::relkvanu_store_go_back(store, id, flags, call)
-        })
+        self.verb(|store, call| unsafe { sys::store::relkvanu_store_go_back(store, id, flags, call) })
     }
 
     /// Begins a job again that lacks its last calls, in place of the first restore: `term` is the greatest that any task was told, and names are
     /// given out from `first_name` on.
     pub fn advance(&self, term: u64, first_name: u64) -> Result<Made, CallError> {
-        self.call(Call::Advance {
-            now: NOW,
-            term,
-            first_name,
-        })
+        self.call(Call::Advance { now: NOW, term, first_name })
     }
 
     /// The phase, of what is committed. Never waits.
@@ -127,12 +119,7 @@ impl Store {
         let mut found = Default::default();
         // SAFETY: the place is this function's own.
         self.check(unsafe { sys::store::relkvanu_store_phase(self.at(), &mut found) })?;
-        Ok(told(
-            found.phase,
-            found.savepoint,
-            found.term,
-            found.stop_failed,
-        ))
+        Ok(job_phase(found.phase, found.savepoint, found.term, found.stop_failed))
     }
 
     fn verb(
@@ -143,15 +130,12 @@ impl Store {
         let mut list = List::place();
         let status = make(self.at(), list.calls.as_mut_ptr());
         if let Err(mut why) = self.check(status) {
-            if matches!(
-                why.kind,
-                StoreErrorKind::BadArgument | StoreErrorKind::NotNow
-            ) {
+            if matches!(why.kind, StoreErrorKind::BadArgument | StoreErrorKind::NotNow) {
                 why.message = said_why();
             }
             return Err(why.into());
         }
-        made(&list.calls[0], &[]).map_err(CallError::Fault)
+        outcome_of(&list.calls[0], &[]).map_err(CallError::Fault)
     }
 }
 

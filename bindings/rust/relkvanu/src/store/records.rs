@@ -25,6 +25,55 @@ pub struct Record {
     pub missing: u64,
 }
 
+impl Record {
+    fn of(it: &sys::relkvanu_store_record) -> Record {
+        let is_whole = it.status == sys::RELKVANU_STORE_OK as u32;
+        Record {
+            id: it.id,
+            damage: (!is_whole).then(|| StoreErrorKind::of(it.status as c_int)),
+            is_savepoint: it.is_savepoint,
+            is_of_job: it.is_of_job,
+            is_next: it.is_next,
+            written: it.written,
+            files: it.files,
+            bytes: it.bytes,
+            missing: it.missing,
+        }
+    }
+}
+
+/// What is wrong with a file of a record.
+#[derive(Clone, Copy, Debug, PartialEq, Eq)]
+#[non_exhaustive]
+pub enum FileFault {
+    Missing,
+    /// It has another length than the manifest says.
+    Length,
+    /// It has another checksum.
+    Changed,
+    Unreadable,
+}
+
+impl FileFault {
+    fn of(fault: u32) -> FileFault {
+        match fault {
+            sys::RELKVANU_STORE_FILE_MISSING => FileFault::Missing,
+            sys::RELKVANU_STORE_FILE_LENGTH => FileFault::Length,
+            sys::RELKVANU_STORE_FILE_CHANGED => FileFault::Changed,
+            _ => FileFault::Unreadable,
+        }
+    }
+}
+
+/// A record whose files were read.
+#[derive(Clone, Debug, PartialEq, Eq)]
+pub struct Checked {
+    pub record: Record,
+    /// Files of which the manifest has no checksum.
+    pub unknown: u64,
+    pub faults: Vec<(u64, FileFault)>,
+}
+
 /// The record of which [`export`] has made a folder.
 #[derive(Clone, Copy, Debug, PartialEq, Eq)]
 pub struct Carried {
@@ -64,10 +113,7 @@ fn text(message: &[c_char]) -> String {
 fn check(status: c_int, message: &[c_char]) -> Result<(), StoreError> {
     match status {
         sys::RELKVANU_STORE_OK => Ok(()),
-        _ => Err(StoreError {
-            kind: StoreErrorKind::of(status),
-            message: text(message),
-        }),
+        _ => Err(StoreError { kind: StoreErrorKind::of(status), message: text(message) }),
     }
 }
 
@@ -76,18 +122,7 @@ pub fn records(folder: &Path) -> Result<Vec<Record>, StoreError> {
     unsafe extern "C" fn note(with: *mut c_void, it: *const sys::relkvanu_store_record) -> bool {
         // SAFETY: `with` is the list below, and the library gives a record.
         let (found, it) = unsafe { (&mut *with.cast::<Vec<Record>>(), &*it) };
-        let is_whole = it.status == sys::RELKVANU_STORE_OK as u32;
-        found.push(Record {
-            id: it.id,
-            damage: (!is_whole).then(|| StoreErrorKind::of(it.status as c_int)),
-            is_savepoint: it.is_savepoint,
-            is_of_job: it.is_of_job,
-            is_next: it.is_next,
-            written: it.written,
-            files: it.files,
-            bytes: it.bytes,
-            missing: it.missing,
-        });
+        found.push(Record::of(it));
         true
     }
     let folder = c_path(folder)?;
@@ -106,8 +141,50 @@ pub fn records(folder: &Path) -> Result<Vec<Record>, StoreError> {
     check(status, &message).map(|()| found)
 }
 
+/// What [`check_records`] has been told: the records, and what is wrong with the files of the one that comes next.
+#[derive(Default)]
+struct Checking {
+    found: Vec<Checked>,
+    faults: Vec<(u64, FileFault)>,
+}
+
+/// The same, and reads the files: each one of which a manifest has a checksum, once.
+pub fn check_records(folder: &Path) -> Result<Vec<Checked>, StoreError> {
+    unsafe extern "C" fn note(with: *mut c_void, it: *const sys::relkvanu_store_record) -> bool {
+        // SAFETY: `with` is what is told below, and the library gives a record.
+        let (told, it) = unsafe { (&mut *with.cast::<Checking>(), &*it) };
+        told.found.push(Checked {
+            record: Record::of(it),
+            unknown: it.unknown,
+            faults: std::mem::take(&mut told.faults),
+        });
+        true
+    }
+    unsafe extern "C" fn note_fault(with: *mut c_void, _: u64, file: u64, fault: u32) -> bool {
+        // SAFETY: `with` is what is told below.
+        let told = unsafe { &mut *with.cast::<Checking>() };
+        told.faults.push((file, FileFault::of(fault)));
+        true
+    }
+    let folder = c_path(folder)?;
+    let mut told = Checking::default();
+    let mut message = [0; sys::RELKVANU_STORE_MESSAGE];
+    // SAFETY: all that is passed outlives the call.
+    let status = unsafe {
+        sys::relkvanu_store_check_records(
+            folder.as_ptr(),
+            note,
+            note_fault,
+            (&mut told as *mut Checking).cast(),
+            message.as_mut_ptr(),
+            message.len(),
+        )
+    };
+    check(status, &message).map(|()| told.found)
+}
+
 /// What a function has made of a job.
-fn made(
+fn recovered(
     path: &Path,
     folder: &Path,
     make: impl FnOnce(*const c_char, *const c_char, *mut sys::relkvanu_store_recovered) -> c_int,
@@ -134,7 +211,7 @@ fn made(
 /// files, or from the one with this number; 0: any. Each task and process of the old job has been told to end. Killed at any moment it has done nothing, or
 /// all. `Present`: there is a job; `Absent`: no record has all its files. Then nothing has changed.
 pub fn recover(path: &Path, folder: &Path, record: u64) -> Result<Recovered, StoreError> {
-    made(path, folder, |path, folder, told| {
+    recovered(path, folder, |path, folder, told| {
         // SAFETY: all that is passed outlives the call.
         unsafe { sys::relkvanu_store_recover(path, folder, record, told) }
     })
@@ -147,41 +224,25 @@ pub fn export(folder: &Path, record: u64, to: &Path) -> Result<Carried, StoreErr
     // SAFETY: all zero is such a struct.
     let mut it: sys::relkvanu_store_carried = unsafe { std::mem::zeroed() };
     // SAFETY: all that is passed outlives the call.
-    let status =
-        unsafe { sys::relkvanu_store_export(folder.as_ptr(), record, to.as_ptr(), &mut it) };
+    let status = unsafe { sys::relkvanu_store_export(folder.as_ptr(), record, to.as_ptr(), &mut it) };
     check(status, &it.message)?;
-    Ok(Carried {
-        record: it.record,
-        is_savepoint: it.is_savepoint,
-        files: it.files,
-        bytes: it.bytes,
-    })
+    Ok(Carried { record: it.record, is_savepoint: it.is_savepoint, files: it.files, bytes: it.bytes })
 }
 
 /// Makes another job, at the path over the folder that it makes, of a record in `from`: an exported folder, or the storage folder of a job, which may run.
 /// Killed at any moment it has done nothing, a part that the same call finishes, or all.
-pub fn import(
-    from: &Path,
-    record: u64,
-    path: &Path,
-    folder: &Path,
-) -> Result<Recovered, StoreError> {
+pub fn import(from: &Path, record: u64, path: &Path, folder: &Path) -> Result<Recovered, StoreError> {
     let from = c_path(from)?;
-    made(path, folder, |path, folder, told| {
+    recovered(path, folder, |path, folder, told| {
         // SAFETY: all that is passed outlives the call.
         unsafe { sys::relkvanu_store_import(from.as_ptr(), record, path, folder, told) }
     })
 }
 
 /// [`import`] by which the files leave `from`, or stay in place if the folder is the same. A job that has the folder is refused from then on.
-pub fn claim(
-    from: &Path,
-    record: u64,
-    path: &Path,
-    folder: &Path,
-) -> Result<Recovered, StoreError> {
+pub fn claim(from: &Path, record: u64, path: &Path, folder: &Path) -> Result<Recovered, StoreError> {
     let from = c_path(from)?;
-    made(path, folder, |path, folder, told| {
+    recovered(path, folder, |path, folder, told| {
         // SAFETY: all that is passed outlives the call.
         unsafe { sys::relkvanu_store_claim(from.as_ptr(), record, path, folder, told) }
     })
@@ -190,7 +251,7 @@ pub fn claim(
 /// Puts a backup of [`Store::backup`](super::Store::backup) back in the place of the job's file. Read docs/DURABLE-BACKUP.md, A backup, first.
 pub fn put_back(backup: &Path, path: &Path, folder: &Path) -> Result<Recovered, StoreError> {
     let backup = c_path(backup)?;
-    made(path, folder, |path, folder, told| {
+    recovered(path, folder, |path, folder, told| {
         // SAFETY: all that is passed outlives the call.
         unsafe { sys::relkvanu_store_put_back(backup.as_ptr(), path, folder, told) }
     })

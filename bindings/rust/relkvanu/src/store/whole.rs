@@ -173,27 +173,13 @@ impl Store {
 
     /// A restore to the latest record or to this savepoint, in the shape that the job has or in this one, and the record from which the job begins, as
     /// [`load`](Self::load).
-    pub fn restore_whole(
-        &self,
-        savepoint: Option<NonZeroU64>,
-        shape: Option<&[u64]>,
-    ) -> Result<Restored, CallError> {
-        let made = self.call(Call::Restore {
-            now: NOW,
-            savepoint,
-            shape,
-        })?;
+    pub fn restore_whole(&self, savepoint: Option<NonZeroU64>, shape: Option<&[u64]>) -> Result<Restored, CallError> {
+        let made = self.call(Call::Restore { now: NOW, savepoint, shape })?;
         let id = match made.called() {
-            Some(Answer::Restored {
-                from: Choice::Checkpoint(id) | Choice::Savepoint(id),
-                ..
-            }) => NonZeroU64::new(id),
+            Some(Answer::Restored { from: Choice::Checkpoint(id) | Choice::Savepoint(id), .. }) => NonZeroU64::new(id),
             _ => None,
         };
-        Ok(Restored {
-            term: made.term.unwrap_or(0),
-            record: id.map_or(Ok(None), |id| self.load(Some(id)))?,
-        })
+        Ok(Restored { term: made.term.unwrap_or(0), record: id.map_or(Ok(None), |id| self.load(Some(id)))? })
     }
 
     /// At most so many of the last thousand records that are complete or have failed, the last one first.
@@ -203,9 +189,7 @@ impl Store {
         // SAFETY: all zero is such a struct.
         let mut found = vec![unsafe { std::mem::zeroed::<sys::relkvanu_store_past>() }; len];
         // SAFETY: the list has as many places as is said.
-        self.check_why(unsafe {
-            sys::relkvanu_store_history(self.at(), found.as_mut_ptr(), &mut len)
-        })?;
+        self.check_why(unsafe { sys::relkvanu_store_history(self.at(), found.as_mut_ptr(), &mut len) })?;
         Ok(found[..len].iter().map(past_of).collect())
     }
 
@@ -213,10 +197,7 @@ impl Store {
     pub(super) fn check_why(&self, status: c_int) -> Result<(), StoreError> {
         self.check(status).map_err(|why| match why.kind {
             StoreErrorKind::BadArgument | StoreErrorKind::FileLost | StoreErrorKind::Damaged => {
-                StoreError {
-                    message: said_why(),
-                    ..why
-                }
+                StoreError { message: said_why(), ..why }
             }
             _ => why,
         })
