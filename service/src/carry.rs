@@ -21,7 +21,7 @@ pub fn run() -> ExitCode {
 /// Where the files of the job are, and the service.
 #[derive(Args)]
 #[allow(dead_code, reason = "the Python package reads the words")]
-pub struct Place {
+pub struct FilesAndService {
     /// The folder of the job's files
     #[arg(long, value_name = "DIR", required_unless_present = "bucket", conflicts_with = "bucket")]
     folder: Option<PathBuf>,
@@ -60,8 +60,11 @@ pub struct Keep {
     /// The job
     #[arg(value_parser = job_name)]
     job: String,
+    /// Manifests have a checksum of each file, which is read once
+    #[arg(long)]
+    checksums: bool,
     #[command(flatten)]
-    place: Place,
+    at: FilesAndService,
 }
 
 #[derive(Args)]
@@ -76,7 +79,7 @@ pub struct Export {
     /// A folder that is not there yet or is empty, or s3://BUCKET/PREFIX
     to: String,
     #[command(flatten)]
-    place: Place,
+    at: FilesAndService,
 }
 
 #[derive(Args)]
@@ -94,7 +97,7 @@ pub struct Import {
     #[arg(long)]
     claim: bool,
     #[command(flatten)]
-    place: Place,
+    at: FilesAndService,
 }
 
 #[derive(Args)]
@@ -107,7 +110,7 @@ pub struct Recover {
     #[arg(long, value_name = "ID")]
     record: Option<u64>,
     #[command(flatten)]
-    place: Place,
+    at: FilesAndService,
 }
 
 /// The number of a record, or the word for the last one.

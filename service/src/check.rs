@@ -4,7 +4,7 @@ use crate::database::{Database, NoDatabase};
 use crate::exit::{NOT_TO_START, START_AGAIN};
 use crate::log;
 use crate::model::{Job, KeptImage, NoJob, Opening, Phase, Shards, Trail};
-use crate::store::{DbError, LiteReader, PgReader, Reader, Unusable};
+use crate::store::{DbError, Listed, LiteReader, PgReader, Reader, Unusable};
 use crate::writer::{replay, StartError};
 use serde_json::json;
 use std::collections::{BTreeMap, VecDeque};
@@ -23,9 +23,6 @@ enum Unchecked {
     Database(#[from] NoDatabase),
     #[error(transparent)]
     Unusable(#[from] Unusable),
-    /// A row of a phase can't be read as one.
-    #[error("the phases can't be read: {0}")]
-    Phases(DbError),
     /// Memory ran out, or the log can't be read now.
     #[error(transparent)]
     Unread(StartError),
@@ -46,7 +43,6 @@ impl Unchecked {
         match self {
             Unchecked::Unusable(error) if error.may_pass() => START_AGAIN,
             Unchecked::Unread(_) => START_AGAIN,
-            Unchecked::Phases(_) => DIFFERS,
             Unchecked::Database(_) | Unchecked::Unusable(_) | Unchecked::NoJob(_) | Unchecked::Output(_) => {
                 NOT_TO_START
             }
@@ -84,19 +80,22 @@ pub fn run(given: &cli::Check) -> ExitCode {
 /// Prints a line for each job. Returns whether all answers, images and phases are as the database has them.
 fn checked(given: &cli::Check) -> Result<bool, Unchecked> {
     let mut reader = opened(&Database::of(&given.database)?)?;
-    let mut jobs = reader.jobs()?;
+    let mut jobs = reader.listed()?;
     if let Some(name) = &given.job {
         jobs.retain(|job| job.name == *name);
         if jobs.is_empty() {
             return Err(Unchecked::NoJob(name.clone()));
         }
     }
-    let phases = phases(reader.as_mut())?;
+    let mut phases: BTreeMap<i64, Result<Phase, DbError>> = reader.phases(Shards::ALL)?.into_iter().collect();
     let mut all_alike = true;
-    for opening in jobs {
-        let name = opening.name.clone();
-        let phase = phases.get(&opening.number).copied().unwrap_or_default();
-        match compare(reader.as_mut(), opening, phase) {
+    for Listed { number, name, opening } in jobs {
+        let phase = phases.remove(&number).unwrap_or(Ok(Phase::default()));
+        let compared = match (opening, phase) {
+            (Ok(opening), Ok(phase)) => compare(reader.as_mut(), opening, phase),
+            (Err(why), _) | (_, Err(why)) => Err(why.into()),
+        };
+        match compared {
             Ok(Compared { calls, images }) => tell(given.json, &name, calls, images)?,
             Err(error) if error.may_pass() => return Err(Unchecked::Unread(error)),
             Err(error) => {
@@ -106,15 +105,6 @@ fn checked(given: &cli::Check) -> Result<bool, Unchecked> {
         }
     }
     Ok(all_alike)
-}
-
-/// The phases of the jobs that somebody has stopped.
-fn phases(reader: &mut dyn Reader) -> Result<BTreeMap<i64, Phase>, Unchecked> {
-    match reader.phases(Shards::ALL) {
-        Ok(phases) => Ok(phases.into_iter().collect()),
-        Err(error) if error.is_damage() => Err(Unchecked::Phases(error)),
-        Err(error) => Err(error.into()),
-    }
 }
 
 /// Opens a database to read it as it is now, whatever a service commits meanwhile.
@@ -217,5 +207,9 @@ fn tell_failure(json: bool, job: &str, error: &StartError) -> io::Result<()> {
     if json {
         return writeln!(io::stdout(), "{}", json!({"job": job, "alike": false, "error": error.to_string()}));
     }
-    writeln!(io::stdout(), "{error}")
+    match error {
+        // a row that can't be read does not say whose it is
+        StartError::Unread(_) => writeln!(io::stdout(), "job {job}: {error}"),
+        _ => writeln!(io::stdout(), "{error}"),
+    }
 }

@@ -2,7 +2,7 @@
 use crate::ask::Ask;
 use crate::carry::{Export, Import, Keep, Recover};
 use crate::config::LogForm;
-use crate::files::{Names, Where};
+use crate::files::{FileNames, Where};
 use crate::http::{is_name, NO_NAME};
 use clap::{ArgGroup, Args, Parser, Subcommand};
 use clap_complete::Shell;
@@ -42,6 +42,8 @@ pub enum Command {
     Import(Import),
     /// Make a job again that the database has lost, of the manifests beside its files
     Recover(Recover),
+    /// Make the tokens, the certificate and the settings with which the service speaks TLS
+    SetupTls(SetupTls),
     #[command(flatten)]
     Ask(Ask),
     /// Print a script that completes the words of this program in a shell
@@ -112,7 +114,7 @@ pub struct Discard {
     #[arg(long, value_name = "FILE")]
     pub token_file: Option<PathBuf>,
     #[command(flatten)]
-    pub names: Names,
+    pub names: FileNames,
     /// Stop when no file waits
     #[arg(long)]
     pub once: bool,
@@ -136,7 +138,7 @@ pub struct Sweep {
     #[command(flatten)]
     pub place: Where,
     #[command(flatten)]
-    pub names: Names,
+    pub names: FileNames,
     /// Delete the garbage; otherwise it is printed alone
     #[arg(long)]
     pub delete: bool,
@@ -223,6 +225,31 @@ pub struct Move {
     /// Take the move back, if no service has run over that database since
     #[arg(long)]
     pub back: bool,
+}
+
+#[derive(Args)]
+#[command(group = ArgGroup::new("kind").required(true).args(["self_signed", "certificate"]))]
+pub struct SetupTls {
+    /// The name by which others reach the machine
+    pub name: String,
+    /// Make a certificate for the name that the machine signs itself, for 90 days
+    #[arg(long)]
+    pub self_signed: bool,
+    /// A certificate with its chain, in PEM
+    #[arg(long, value_name = "FILE", requires = "key")]
+    pub certificate: Option<PathBuf>,
+    /// Its key, in PEM (PKCS#8)
+    #[arg(long, value_name = "FILE", requires = "certificate")]
+    pub key: Option<PathBuf>,
+    /// Address and port
+    #[arg(long, value_name = "ADDRESS", default_value = "0.0.0.0:7780")]
+    pub listen: SocketAddr,
+    /// The folder of the settings, which get tokens and the certificate
+    #[arg(long, value_name = "DIR", default_value = "/etc/relkvanu")]
+    pub settings: PathBuf,
+    /// The folder of systemd's units
+    #[arg(long, value_name = "DIR", default_value = "/etc/systemd/system")]
+    pub units: PathBuf,
 }
 
 /// A job's name, which is a part of a path of the API.

@@ -127,6 +127,7 @@ impl Leader {
         followed.catch_up(self.reader.as_mut(), &mut keep)?;
         keep()?;
         followed.jobs.take_stock(self.reader.as_mut(), self.keeping, &mut keep)?;
+        followed.has_hope()?;
         keep()?;
         self.check_clock(followed.jobs.last_moment()).inspect_err(|_| self.store.release())?;
         let now = wall().max(followed.jobs.last_moment());
@@ -167,6 +168,11 @@ impl Followed {
         beat: &mut dyn FnMut() -> Result<(), StartError>,
     ) -> Result<(), Stop> {
         self.calls += self.jobs.catch_up(reader, beat)?;
-        Ok(())
+        self.has_hope()
+    }
+
+    /// Fails if not one job can be replayed: then this program, or the database, is the wrong one.
+    fn has_hope(&mut self) -> Result<(), Stop> {
+        self.jobs.take_hopeless().map_or(Ok(()), |why| Err(why.into()))
     }
 }

@@ -23,6 +23,7 @@ mod process;
 mod put_back;
 mod remote;
 mod serve;
+mod setup_tls;
 mod sharing;
 mod stop;
 mod store;
@@ -46,6 +47,7 @@ fn main() -> ExitCode {
         Command::Check(given) => check::run(&given),
         Command::Move(given) => moving::run(&given),
         Command::Keep(_) | Command::Export(_) | Command::Import(_) | Command::Recover(_) => carry::run(),
+        Command::SetupTls(given) => setup_tls::run(&given),
         Command::Ask(given) => ask::run(&given),
         Command::Completions { shell } => {
             let mut script = Vec::new();

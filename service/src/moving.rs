@@ -27,9 +27,9 @@ enum NoMove {
     FromPostgres,
     #[error("a log is moved to a PostgreSQL database alone, and `relkvanu backup` copies an SQLite file")]
     ToSqlite,
-    #[error("the source: {}", said(.0))]
+    #[error("the source: {}", reason(.0))]
     Source(Unusable),
-    #[error("the destination: {}", said(.0))]
+    #[error("the destination: {}", reason(.0))]
     Target(Unusable),
     #[error("{0} has tables of a service already, and a log is moved to an empty database alone")]
     Used(String),
@@ -47,7 +47,7 @@ enum NoMove {
 }
 
 /// What is wrong, without the word that a start puts before it.
-fn said(why: &Unusable) -> String {
+fn reason(why: &Unusable) -> String {
     match why {
         Unusable::Failed(why) => why.to_string(),
         other @ Unusable::Newer(_) => other.to_string(),

@@ -64,7 +64,7 @@ pub fn run(given: &cli::PutBack) -> ExitCode {
 }
 
 /// Where the database is, and where its files are set aside.
-struct Place {
+struct Replaced {
     database: PathBuf,
     folder: PathBuf,
     aside: PathBuf,
@@ -72,8 +72,8 @@ struct Place {
     _lock: File,
 }
 
-impl Place {
-    fn open(given: &cli::PutBack) -> Result<Place, NotPut> {
+impl Replaced {
+    fn open(given: &cli::PutBack) -> Result<Replaced, NotPut> {
         let Database::Sqlite(named) = Database::of(&given.database)? else {
             return Err(NotPut::Postgres);
         };
@@ -81,8 +81,12 @@ impl Place {
         let folder = fs::canonicalize(parent).map_err(of(parent))?;
         let database = folder.join(named.file_name().unwrap_or(OsStr::new("relkvanu.db")));
         let lock = locked(&database)?;
-        let place =
-            Place { aside: given.aside.clone().unwrap_or_else(|| folder.join("aside")), database, folder, _lock: lock };
+        let place = Replaced {
+            aside: given.aside.clone().unwrap_or_else(|| folder.join("aside")),
+            database,
+            folder,
+            _lock: lock,
+        };
         place.own(&beside(&place.database, LOCK))?;
         Ok(place)
     }
@@ -149,7 +153,7 @@ fn read(path: &Path, mut each: impl FnMut(&[u8]) -> io::Result<bool>) -> io::Res
 }
 
 /// Whether the database has the bytes of the copy, and no log: then it was put there, and no service has run over it.
-fn is_in_place(place: &Place, copy: &Path) -> Result<bool, NotPut> {
+fn is_in_place(place: &Replaced, copy: &Path) -> Result<bool, NotPut> {
     let lengths = |path: &Path| fs::metadata(path).map(|it| it.len());
     let Ok(there) = lengths(&place.database) else {
         return Ok(false);
@@ -164,7 +168,7 @@ fn is_in_place(place: &Place, copy: &Path) -> Result<bool, NotPut> {
 }
 
 /// Writes the copy beside the database, under another name.
-fn write_new(place: &Place, copy: &Path) -> Result<PathBuf, NotPut> {
+fn write_new(place: &Replaced, copy: &Path) -> Result<PathBuf, NotPut> {
     let new = beside(&place.database, NEW);
     let mut file =
         OpenOptions::new().write(true).create(true).truncate(true).mode(0o600).open(&new).map_err(of(&new))?;
@@ -176,7 +180,7 @@ fn write_new(place: &Place, copy: &Path) -> Result<PathBuf, NotPut> {
 
 /// Puts the copy in the place of the database. Returns what was done.
 fn put(given: &cli::PutBack, copy: &Path) -> Result<String, NotPut> {
-    let place = Place::open(given)?;
+    let place = Replaced::open(given)?;
     let name = copy.to_str().ok_or_else(|| NotPut::Name(copy.to_path_buf()))?;
     if !given.checked && !check::is_sound(name) {
         return Err(NotPut::Unsound(copy.to_path_buf()));
@@ -199,7 +203,7 @@ fn put(given: &cli::PutBack, copy: &Path) -> Result<String, NotPut> {
 /// Puts the files back that were set aside. Those that are there go into another folder, and then the name of the first folder says that all that is in the place
 /// was set aside before.
 fn put_aside_back(given: &cli::PutBack) -> Result<String, NotPut> {
-    let place = Place::open(given)?;
+    let place = Replaced::open(given)?;
     let (back, unused) = (beside(&place.aside, GOES_BACK), beside(&place.aside, UNUSED));
     if !back.exists() {
         if !place.aside.exists() {

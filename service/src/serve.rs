@@ -4,7 +4,7 @@ use crate::config::{Config, Leading, LogForm};
 use crate::database::Database;
 use crate::exit;
 use crate::history::{Door, Historian, HistoryFile};
-use crate::http::{self, App, Audit, Bodies, Keys, Others, Tls};
+use crate::http::{self, App, Audit, Bodies, Forwarder, Keys, Tls};
 use crate::leader::Leader;
 use crate::log;
 use crate::metrics::Metrics;
@@ -99,7 +99,7 @@ impl Shared {
     /// What answers requests.
     fn app(&self, config: &Config, keys: Arc<Keys>, owners: Option<Arc<Owners>>) -> Result<App, Stop> {
         Ok(App {
-            others: owners.map(Others::new).transpose()?,
+            others: owners.map(Forwarder::new).transpose()?,
             board: Arc::clone(&self.board),
             metrics: Arc::clone(&self.metrics),
             inbox: self.inbox.clone(),

@@ -72,7 +72,7 @@ mod tests {
 
     #[test]
     fn damage_stays_and_want_passes() {
-        let bad_row = || DbError::BadRow { table: "job", column: 3, cell: "nothing".to_string() };
+        let bad_row = || DbError::BadRow { job: None, table: "job", column: 3, cell: "nothing".to_string() };
         let no_room = || {
             DbError::from(rusqlite::Error::SqliteFailure(rusqlite::ffi::Error::new(rusqlite::ffi::SQLITE_FULL), None))
         };

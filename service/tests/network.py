@@ -98,10 +98,6 @@ class Network:
         """What becomes of the packets of one direction from now on."""
         WIRE.pack_into(self.map, WIRE.size * (source * len(self.machines) + to), loss, least, most)
 
-    def set_both(self, one, other, *given):
-        self.set(one, other, *given)
-        self.set(other, one, *given)
-
     def end(self):
         """Ends all. Returns how many packets were passed on, lost and delayed."""
         told = self.switch.communicate(b"")[0]

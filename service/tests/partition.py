@@ -8,10 +8,11 @@ import sys
 import threading
 import time
 
-from harness import PgArchive, Server, configured, folder, free_port, kept, until
+from harness import PgArchive, Server, configured, folder, kept
 from postgres import postgres
 from preloaded import Clocks
 from relkvanu_service import Service
+from slow import Proxy
 from writers import SETTINGS, NamedWriter, Writer, check, end
 
 JOBS = ["orders", "users"]
@@ -22,22 +23,12 @@ HOUR = 3600
 LEAST, BUSY = 100, 900  # calls of each client; seconds more, on a busy machine
 
 
-class Line(threading.Thread):
+class Line(Proxy):
     """The line of a service to the database. While it is cut, nothing goes through in either direction, and no end is told."""
 
     def __init__(self, to):
-        super().__init__(daemon=True)
-        self.to, self.port, self.is_cut, self.listens = to, free_port(), False, False
-        self.start()
-        until(lambda: self.listens)
-
-    def run(self):
-        asyncio.run(self.serve())
-
-    async def serve(self):
-        server = await asyncio.start_server(self.connected, "127.0.0.1", self.port)
-        self.listens = True
-        await server.serve_forever()
+        self.to, self.is_cut = to, False
+        super().__init__()
 
     async def whole(self):
         while self.is_cut:
@@ -115,7 +106,7 @@ def family(database):
         return [parent, *map(int, it.read().split())]
 
 
-def told(processes, what):
+def send_signal(processes, what):
     for process in processes:
         try:
             os.kill(process, what)
@@ -167,11 +158,11 @@ class Faults:
         return ", ".join(f"{count} {fault}" for fault, count in self.made.items())
 
     def suspend(self, processes, seconds):
-        told(processes, signal.SIGSTOP)
+        send_signal(processes, signal.SIGSTOP)
         time.sleep(seconds)
         # in any order
         self.chance.shuffle(processes)
-        told(processes, signal.SIGCONT)
+        send_signal(processes, signal.SIGCONT)
 
     def cut(self, place, seconds):
         self.lines[place].is_cut = True
@@ -182,7 +173,7 @@ class Faults:
         self.suspend([self.servers[place].process.pid], seconds)
 
     def killed(self, place, _):
-        told([self.servers[place].process.pid], signal.SIGKILL)
+        send_signal([self.servers[place].process.pid], signal.SIGKILL)
 
     def clock(self, place, seconds):
         """Jobs that move meanwhile go on from the moments that they have."""

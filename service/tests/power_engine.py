@@ -13,7 +13,7 @@ SETTINGS, SHAPE, SUBTASKS = {"interval": 20, "tolerable": 1000}, [1, 2], ("0.0",
 SIZE = 600  # bytes of a file: more than a sector
 
 
-class Told(Service):
+class TellingService(Service):
     """Tells each request that makes calls, once it is answered."""
 
     def __init__(self, url, told):
@@ -71,7 +71,7 @@ class Engine:
 
 
 def main(url, folder, told):
-    engine, kept = Engine(Told(url, told), folder), []
+    engine, kept = Engine(TellingService(url, told), folder), []
     with ThreadPoolExecutor(len(SUBTASKS)) as pool:
         for number, record in enumerate(engine.checkpoints(pool)):
             if number % 5 == 0:

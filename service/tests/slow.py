@@ -1,18 +1,16 @@
-"""A slow line to a server: a proxy that holds each answer, and counts what is asked."""
+"""Proxies: a line to a server, and a slow one, which holds each answer and counts what is asked."""
 import asyncio
 import threading
 
 from harness import free_port, until
 
 
-class Slow(threading.Thread):
-    """Holds each answer of the server at a port of this machine for `delay` seconds, which may be set at any time."""
+class Proxy(threading.Thread):
+    """A port of this machine, at which `connected` gets each connection."""
 
-    def __init__(self, to, delay):
+    def __init__(self):
         super().__init__(daemon=True)
-        self.to, self.delay, self.port = to, delay, free_port()
-        self.asked, self.listens = 0, False
-        self.look, self.looked = None, 0  # how often these bytes are sent
+        self.port, self.listens = free_port(), False
         self.start()
         until(lambda: self.listens)
 
@@ -23,6 +21,15 @@ class Slow(threading.Thread):
         server = await asyncio.start_server(self.connected, "127.0.0.1", self.port)
         self.listens = True
         await server.serve_forever()
+
+
+class Slow(Proxy):
+    """Holds each answer of the server at a port of this machine for `delay` seconds, which may be set at any time."""
+
+    def __init__(self, to, delay):
+        self.to, self.delay, self.asked = to, delay, 0
+        self.look, self.looked = None, 0  # how often these bytes are sent
+        super().__init__()
 
     async def connected(self, reader, writer):
         try:

@@ -7,7 +7,7 @@ import threading
 import time
 
 from harness import PgArchive, Server, configured, folder, kept, lease_of, until
-from partition import Client, Faults, Floor, Line, NamedClient, told
+from partition import Client, Faults, Floor, Line, NamedClient, send_signal
 from postgres import postgres
 from preloaded import Clocks
 from relkvanu_service import Service
@@ -127,7 +127,7 @@ class FaultsOfMany(Faults):
 
     def stopped(self, place, _):
         """In good order: its shards are free at once."""
-        told([self.servers[place].process.pid], signal.SIGTERM)
+        send_signal([self.servers[place].process.pid], signal.SIGTERM)
 
 
 def run(seconds, count=3, seed=1):

@@ -34,7 +34,7 @@ def discard(server, folder, *more, prefix="s-", before=(), job="a"):
     return subprocess.Popen([*before, *words], stderr=subprocess.PIPE, text=True)
 
 
-def ended(run, status, text):
+def await_end(run, status, text):
     told = run.communicate(timeout=COMMAND)[1]
     assert run.returncode == status and text in told, (run.returncode, told)
     return told
@@ -67,17 +67,17 @@ def counts(job):
 def test_a_wrong_prefix():
     with a_job() as (server, job, folder):
         files = files_of(job, folder, 100, 20)
-        told = ended(discard(server, folder, "--once", prefix="state-"), 78, "none of 20 files")
+        told = await_end(discard(server, folder, "--once", prefix="state-"), 78, "none of 20 files")
         assert "state-100" in told and "--allow-absent" in told, told
         assert present(folder) == files and counts(job) == (20, 0), (present(folder), job.state())
         # the right one deletes them, and those that are absent are counted apart
         more = files_of(job, folder, 200, 3, there=[201])
-        told = ended(discard(server, folder, "--once"), 0, "deleted=21 absent=2 failed=0")
+        told = await_end(discard(server, folder, "--once"), 0, "deleted=21 absent=2 failed=0")
         assert present(folder) == [] and counts(job) == (0, 0)
         # absent ones that are said to be
         files_of(job, folder, 300, 5, there=[])
-        ended(discard(server, folder, "--once"), 78, "none of 5 files")
-        ended(discard(server, folder, "--once", "--allow-absent"), 0, "deleted=0 absent=5 failed=0")
+        await_end(discard(server, folder, "--once"), 78, "none of 5 files")
+        await_end(discard(server, folder, "--once", "--allow-absent"), 0, "deleted=0 absent=5 failed=0")
         assert counts(job) == (0, 0) and job.file(more[0])["history"]["deleted"]
         return "20 files stay, and wait again"
 
@@ -88,32 +88,32 @@ def test_a_folder_without_the_marker():
         other = f"{server.folder}/other"
         os.mkdir(other)
         files = files_of(job, folder, 100, 4)
-        ended(discard(server, folder, "--once"), 0, "deleted=4")
+        await_end(discard(server, folder, "--once"), 0, "deleted=4")
         with open(marker, encoding="utf-8") as it:
             text = it.read()
         assert f"the job a, opened at {job.state()['opened']}," in text, text
         files = files_of(job, folder, 200, 4)
         # an empty folder, as a mount point without its disk
-        ended(discard(server, other, "--once"), 78, ".relkvanu-a")
+        await_end(discard(server, other, "--once"), 78, ".relkvanu-a")
         # one of a job of this name in another service
         with open(f"{other}/.relkvanu-a", "w", encoding="utf-8") as it:
             it.write(text.replace("opened at ", "opened at 9"))
-        ended(discard(server, other, "--once"), 78, "names another job")
+        await_end(discard(server, other, "--once"), 78, "names another job")
         # a marker that goes while it works
         with at_work(server, folder) as run:
             until(lambda: counts(job) == (0, 0))
             os.rename(marker, f"{server.folder}/kept")
             files = files_of(job, folder, 300, 4)
-            ended(run, 78, ".relkvanu-a")
+            await_end(run, 78, ".relkvanu-a")
         assert present(folder) == files and counts(job) == (4, 0), job.state()
-        ended(discard(server, folder, "--once", "--init"), 0, "deleted=4")
+        await_end(discard(server, folder, "--once", "--init"), 0, "deleted=4")
         with open(marker, encoding="utf-8") as it:
             assert it.read() == text
         with at_work(server, folder):
             # once it works it has the lock
             files_of(job, folder, 400, 1)
             until(lambda: counts(job) == (0, 0))
-            ended(discard(server, folder, "--once"), 1, "another discarder")
+            await_end(discard(server, folder, "--once"), 1, "another discarder")
         return "refused in 3 folders, and marked by --init"
 
 
@@ -140,7 +140,7 @@ def test_two_jobs_in_a_folder():
             return sorted(name for name in os.listdir(folder) if not name.startswith("."))
 
         assert released(jobs[0], "s-") == [1, 2]
-        ended(discard(server, folder, "--once"), 0, "deleted=1")
+        await_end(discard(server, folder, "--once"), 0, "deleted=1")
         assert there() == ["s-2"]
         # the other job would delete this file, which is in use
         task = jobs[1].begin().session(block=10)
@@ -148,24 +148,24 @@ def test_two_jobs_in_a_folder():
         task.ack(jobs[1].call(savepoint())["id"], "0.0", names)
         jobs[1].call(dispose(1))
         for more, prefix in [([], "s-"), (["--init"], "s-"), ([], "s-0")]:
-            told = ended(discard(server, folder, "--once", *more, prefix=prefix, job="b"), 78, "another job has files in")
+            told = await_end(discard(server, folder, "--once", *more, prefix=prefix, job="b"), 78, "another job has files in")
             assert ".relkvanu-a" in told and "--prefix" in told, told
         assert there() == ["s-2"] and not os.path.exists(f"{folder}/.relkvanu-b") and counts(jobs[1]) == (2, 0)
         # one of another name does not
         for name in names:
             with open(f"{folder}/t-{name}", "w", encoding="utf-8"):
                 pass
-        ended(discard(server, folder, "--once", prefix="t-", job="b"), 0, "deleted=2")
-        ended(discard(server, folder, "--once"), 0, "")
+        await_end(discard(server, folder, "--once", prefix="t-", job="b"), 0, "deleted=2")
+        await_end(discard(server, folder, "--once"), 0, "")
         assert there() == ["s-2"]
         # nobody has said how the files are named: somebody has to look at the first run
         os.remove(f"{folder}/.relkvanu-a.names")
         Service(server.url).open("c", SETTINGS, [1])
         for more in ([], ["--init"]):
-            ended(discard(server, folder, "--once", *more, prefix="", job="c"), 78, "--prefix or --suffix is needed")
-        ended(discard(server, folder, "--once", prefix="u-", job="c"), 78, "--init")
+            await_end(discard(server, folder, "--once", *more, prefix="", job="c"), 78, "--prefix or --suffix is needed")
+        await_end(discard(server, folder, "--once", prefix="u-", job="c"), 78, "--init")
         assert not os.path.exists(f"{folder}/.relkvanu-c")
-        ended(discard(server, folder, "--once", "--init", prefix="u-", job="c"), 0, "is marked")
+        await_end(discard(server, folder, "--once", "--init", prefix="u-", job="c"), 0, "is marked")
         # and a sweeper heeds it
         told = subprocess.run([PROGRAM, "sweep", "c", "--folder", folder, "--url", server.url, "--prefix", "t-", "--delete"], capture_output=True, text=True, timeout=COMMAND, check=False)
         assert told.returncode == 78 and ".relkvanu-b" in told.stderr and there() == ["s-2"], told
@@ -210,13 +210,13 @@ def test_a_job_that_is_named_as_a_file_of_another_job():
             folder = f"{server.folder}/{first}-{second}"
             os.mkdir(folder)
             in_use(first, folder, "s-")
-            ended(discard(server, folder, "--once", "--init", job=first), 0, "is marked")
+            await_end(discard(server, folder, "--once", "--init", job=first), 0, "is marked")
             before = contents(folder)
             for more, prefix in [([], "s-"), (["--init"], "s-"), (["--init"], "t-")]:
-                told = ended(discard(server, folder, "--once", *more, job=second, prefix=prefix), 78, "another job has files in")
+                told = await_end(discard(server, folder, "--once", *more, job=second, prefix=prefix), 78, "another job has files in")
                 assert f".relkvanu-{first} says" in told and "a folder of its own" in told, told
                 assert contents(folder) == before, (first, second, contents(folder))
-            ended(discard(server, folder, "--once", job=first), 0, "")
+            await_end(discard(server, folder, "--once", job=first), 0, "")
         # both markers are there, as two engines have made them in a folder without files
         folder = f"{server.folder}/both"
         os.mkdir(folder)
@@ -229,7 +229,7 @@ def test_a_job_that_is_named_as_a_file_of_another_job():
         for name in ("a", "a.names"):
             told = swept(server, folder, name, "s-")
             assert told.returncode == 78 and "a folder of its own" in told.stderr, told
-            ended(discard(server, folder, "--once", job=name), 78, "a folder of its own")
+            await_end(discard(server, folder, "--once", job=name), 78, "a folder of its own")
         assert contents(folder) == before, contents(folder)
         folder = f"{server.folder}/claimed"
         os.mkdir(folder)
@@ -249,16 +249,16 @@ def test_a_marker_whose_name_begins_as_that_of_another_job():
         os.mkdir(folder)
         jobs = {name: Service(server.url).open(name, SETTINGS, [1]) for name in ("a", "a.new", "b")}
         for name, prefix in (("a", "s-"), ("a.new", "t-"), ("a", "s-"), ("a.new", "t-")):
-            ended(discard(server, folder, "--once", job=name, prefix=prefix), 0, "")
+            await_end(discard(server, folder, "--once", job=name, prefix=prefix), 0, "")
         before = contents(folder)
         assert {name for name in before if name.startswith(".relkvanu-a")} == {".relkvanu-a", ".relkvanu-a.names", ".relkvanu-a.new", ".relkvanu-a.new.names"}, before
         for name in ("a", "a.new"):
             assert f"the job {name}, opened at {jobs[name].state()['opened']}," in before[f".relkvanu-{name}"], before
         for prefix, name in (("s-", "a"), ("t-", "a.new")):
-            told = ended(discard(server, folder, "--once", "--init", job="b", prefix=prefix), 78, "another job has files in")
+            told = await_end(discard(server, folder, "--once", "--init", job="b", prefix=prefix), 78, "another job has files in")
             assert f"as .relkvanu-{name} says" in told, told
         assert contents(folder) == before
-        ended(discard(server, folder, "--once", job="b", prefix="u-"), 0, "is marked")
+        await_end(discard(server, folder, "--once", job="b", prefix="u-"), 0, "is marked")
         return "two jobs with a prefix each; a third one needs its own"
 
 
@@ -283,7 +283,7 @@ def test_a_disk_that_goes():
                 assert left == [] and run.poll() is None, left
                 run.terminate()
             # the mount point has no marker
-            ended(discard(server, folder, "--once"), 78, ".relkvanu-a")
+            await_end(discard(server, folder, "--once"), 78, ".relkvanu-a")
         finally:
             subprocess.run(["umount", "--lazy", folder], check=False, stderr=subprocess.DEVNULL)
         return "20 files deleted on the disk that is out of sight; its mount point is refused"
@@ -298,7 +298,7 @@ def test_it_syncs_the_folder_before_it_reports():
             run = discard(server, folder, "--once", before=strace)
         except FileNotFoundError:
             raise Skipped("strace", "it is not here") from None
-        ended(run, 0, "deleted=20")
+        await_end(run, 0, "deleted=20")
         with open(trace, encoding="utf-8", errors="replace") as it:
             lines = it.read().splitlines()
         unlinks = [at for at, line in enumerate(lines) if "unlinkat(" in line and '"s-' in line]
@@ -317,12 +317,12 @@ def test_it_is_killed_before_it_reports():
             until(lambda: b'"deleted"' in between.last)
             assert present(folder) == [] and counts(job) == (0, 20), job.state()
         between.http.shutdown()
-        ended(discard(server, folder, "--once"), 0, "deleted=0 absent=20 failed=0")
+        await_end(discard(server, folder, "--once"), 0, "deleted=0 absent=20 failed=0")
         assert counts(job) == (0, 0), job.state()
         # the same files that nobody has begun to delete
         files_of(job, folder, 200, 20, there=[])
         assert len(job.take(20)) == 20
-        ended(discard(server, folder, "--once"), 78, "none of 20 files")
+        await_end(discard(server, folder, "--once"), 78, "none of 20 files")
         assert counts(job) == (20, 0), job.state()
         return "20 files that were taken and deleted are reported by the next run"
 

@@ -1,25 +1,30 @@
 """A discarder that is started with a wrong suffix: it refuses before anything is reported, and keeps what it says to other jobs."""
 import json
+import os
 import shutil
+import subprocess
 import time
+import urllib.request
 
-from harness import free_port, until
+from harness import PROGRAM, Server, folder, free_port, until
+from relkvanu_service import Service
 from run import Skipped
-from test_discard_folder import a_job, counts, discard, ended, files_of, present
+from test_discard_folder import SETTINGS, a_job, at_work, await_end, counts, discard, files_of, present
+from test_security import told_again, written
 
 
 def test_a_wrong_suffix_of_a_job_that_is_known():
     with a_job() as (server, job, folder):
         files_of(job, folder, 100, 20)
-        ended(discard(server, folder, "--once"), 0, "deleted=20")
+        await_end(discard(server, folder, "--once"), 0, "deleted=20")
         with open(f"{folder}/.relkvanu-a.names", encoding="utf-8") as it:
             said = json.load(it)
         files = files_of(job, folder, 200, 5)
-        told = ended(discard(server, folder, "--once", "--suffix", ".dat"), 78, "is --prefix or --suffix wrong?")
+        told = await_end(discard(server, folder, "--once", "--suffix", ".dat"), 78, "is --prefix or --suffix wrong?")
         with open(f"{folder}/.relkvanu-a.names", encoding="utf-8") as it:
             assert json.load(it) == said, told
         assert present(folder) == files and counts(job) == (5, 0), (present(folder), counts(job))
-        ended(discard(server, folder, "--once"), 0, "deleted=5")
+        await_end(discard(server, folder, "--once"), 0, "deleted=5")
         return "refused before a file is taken"
 
 
@@ -28,40 +33,63 @@ def test_names_that_are_not_synced():
     if not shutil.which("strace"):
         raise Skipped("strace", "it is not here")
     with a_job() as (server, _, folder):
-        ended(discard(server, folder, "--once", "--init"), 0, "is marked")
+        await_end(discard(server, folder, "--once", "--init"), 0, "is marked")
         with open(f"{folder}/.relkvanu-a.names", encoding="utf-8") as it:
             said = it.read()
         failing = ["strace", "-f", "-qq", "-o", "/dev/null", "-e", "trace=fsync", "-e", "inject=fsync:error=EIO:when=1"]
-        ended(discard(server, folder, "--once", "--init", prefix="t-", before=failing), 0, "how the files are named can't be written")
+        await_end(discard(server, folder, "--once", "--init", prefix="t-", before=failing), 0, "how the files are named can't be written")
         with open(f"{folder}/.relkvanu-a.names", encoding="utf-8") as it:
             assert it.read() == said
-        ended(discard(server, folder, "--once", "--init", prefix="t-"), 0, "")
+        await_end(discard(server, folder, "--once", "--init", prefix="t-"), 0, "")
         with open(f"{folder}/.relkvanu-a.names", encoding="utf-8") as it:
             assert json.load(it) == {"prefix": "t-", "suffix": ""}
         return "those before them stay"
 
 
+def works(port):
+    """Whether a discarder says that it works: "1" or "0", or None without its metrics."""
+    try:
+        with urllib.request.urlopen(f"http://127.0.0.1:{port}/metrics", timeout=5) as it:
+            lines = it.read().decode().splitlines()
+    except OSError:
+        return None
+    return next(line.rsplit(" ", 1)[1] for line in lines if line.startswith("relkvanu_discard_works"))
+
+
+def test_a_running_discarder_tells_that_it_waits_for_the_service():
+    """By its metric, which an alert reads: while its token is refused, and while nobody answers. Then it goes on by itself."""
+    token, other, port = "a" * 20, "b" * 20, free_port()
+    with folder() as at:
+        files = f"{at}/files"
+        os.mkdir(files)
+        for name, words in (("tokens", f"write {token}"), ("token", token)):
+            written(f"{at}/{name}", words)
+        server = Server(at, args=["--token-file", f"{at}/tokens"]).start()
+        job = Service(server.url, token=token).open("a", SETTINGS, [1])
+        with at_work(server, files, "--token-file", f"{at}/token", "--metrics", f"127.0.0.1:{port}") as run:
+            until(lambda: works(port) == "1")
+            for words, wanted in ((f"write {other}", "0"), (f"write {token}", "1")):
+                written(f"{at}/tokens", words)
+                told_again(server)
+                until(lambda wanted=wanted: works(port) == wanted)
+            server.kill()
+            until(lambda: works(port) == "0")
+            server.start()
+            until(lambda: works(port) == "1")
+            files_of(job, files, 100, 2)
+            until(lambda: present(files) == [])
+            assert run.poll() is None
+        server.stop()
+        return "a token that is refused, and a service that is away"
+
+
 def test_a_second_discarder_waits_for_the_first():
     """It waits within its process, and serves its metrics meanwhile. Then it goes on."""
-    import subprocess
-    import urllib.request
-
-    from harness import PROGRAM
-
     with a_job() as (server, job, folder):
         files_of(job, folder, 100, 3)
         ports = [free_port() for _ in range(2)]
         words = [PROGRAM, "discard", "--url", server.url, "--job", "a", "--folder", folder, "--prefix", "s-"]
         run = [subprocess.Popen([*words, "--metrics", f"127.0.0.1:{port}"], stderr=subprocess.DEVNULL) for port in ports[:1]]
-
-        def works(port):
-            try:
-                with urllib.request.urlopen(f"http://127.0.0.1:{port}/metrics", timeout=5) as it:
-                    lines = it.read().decode().splitlines()
-            except OSError:
-                return None
-            return next(line.rsplit(" ", 1)[1] for line in lines if line.startswith("relkvanu_discard_works"))
-
         try:
             until(lambda: works(ports[0]) == "1")
             run.append(subprocess.Popen([*words, "--metrics", f"127.0.0.1:{ports[1]}"], stderr=subprocess.DEVNULL))

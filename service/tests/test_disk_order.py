@@ -6,7 +6,7 @@ import subprocess
 import test_sweep
 from harness import COMMAND, PROGRAM
 from run import Skipped
-from test_discard_folder import a_job, discard, ended, files_of
+from test_discard_folder import a_job, await_end, discard, files_of
 
 CALLS = "trace=unlinkat,fsync,fdatasync"
 
@@ -32,7 +32,7 @@ def test_what_is_deleted_is_listed_before():
     with a_job() as (server, job, at):
         files_of(job, at, 100, 20)
         trace = f"{server.folder}/trace"
-        ended(discard(server, at, "--once", before=traced(trace)), 0, "deleted=20")
+        await_end(discard(server, at, "--once", before=traced(trace)), 0, "deleted=20")
         deletions, syncs = places(trace, r"\.begun")
         assert len(deletions) == 20 and syncs and syncs[0] < deletions[0], (deletions[:1], syncs)
         return "20 files"

@@ -207,7 +207,7 @@ def test_the_unit_makes_dumps():
     """By the drop-in of the page: a dump has its name once it is whole, and the 14 newest of copies and dumps stay."""
     with open(f"{TOP}/docs/SERVICE-BACKUP.md", encoding="utf-8") as it:
         page = it.read()
-    drop_ins = {name: page.split(f"{name} << 'END'\n")[1].partition("END\n")[0] for name in ("05-dump.conf", "10-savepoints.conf")}
+    drop_ins = {name: page.split(f"{name} << 'END'\n")[1].partition("END\n")[0] for name in ("05-dump.conf", "10-savepoints.conf", "20-copies.conf")}
     with folder() as at:
         environment, make = made_up(at), started(drop_ins["05-dump.conf"], at)
         # copies of before a move to PostgreSQL
@@ -233,7 +233,7 @@ def test_the_unit_makes_dumps():
             return "16 dumps, and 6 nights with a clock that is wrong"
         units = f"{at}/units"
         os.makedirs(f"{units}/relkvanu-backup.service.d")
-        for name in ("relkvanu-backup.service", "relkvanu-savepoint@.service"):
+        for name in ("relkvanu-backup.service", "relkvanu-savepoint@.service", "relkvanu-copy@.service"):
             shutil.copy(f"{SERVICE}/deploy/{name}", units)
         for name, text in drop_ins.items():
             with open(f"{units}/relkvanu-backup.service.d/{name}", "w", encoding="utf-8") as it:

@@ -2,9 +2,10 @@
 import re
 import shutil
 import subprocess
+import time
 
 from harness import SERVICE, TOP, folder, served, until
-from relkvanu_service import Service, ack, savepoint
+from relkvanu_service import Service, ack, cancel, savepoint
 from run import Skipped
 
 DEPLOY = f"{SERVICE}/deploy"
@@ -18,6 +19,25 @@ def needed(program):
 def scraped(server):
     text = server.get("/metrics")[2]
     return text, {line.rsplit(" ", 1)[0]: float(line.rsplit(" ", 1)[1]) for line in text.splitlines() if not line.startswith("#")}
+
+
+def test_a_job_that_is_opened_again_keeps_its_first_counts():
+    """A job of the name of one that was just deleted counts from its first call on, and has nothing of that one."""
+    with served() as server:
+        service, tries = Service(server.url), 20
+        for number in range(tries):
+            job = service.open("again", {"interval": 1 << 40}, [1])
+            job.calls([savepoint(), ack(1, "0.0"), cancel()])
+            until(lambda one=job: one.record(1)["history"])
+            assert service.delete("again", abandon=True)
+            service.open("again", {"interval": 1 << 40}, [1]).calls([savepoint(), savepoint()])
+            time.sleep(0.25)  # the history looks each tenth of a second
+            told = scraped(server)[1]
+            assert told['relkvanu_calls_total{call="savepoint",job_name="again",outcome="made"}'] == 2, (number, told)
+            assert not [key for key in told if key.startswith("relkvanu_records_total") and '"again"' in key and told[key]], (number, told)
+            service.job("again").calls([cancel()])
+            service.delete("again", abandon=True)
+        return f"{tries} times"
 
 
 def test_metrics_say_what_was_done():
@@ -58,10 +78,10 @@ def test_metrics_say_what_was_done():
         assert told.returncode == 0 and not told.stdout.strip(), told.stdout
         until(lambda: "relkvanu_oldest_file_age_seconds" in scraped(server)[0])  # the historian tells it
         text = scraped(server)[0]
-        # test_discard_folder and test_sweep look at the others; that of backups is the exporter's of the machine
+        # test_discard_folder and test_sweep look at the others, and test_damaged at a job that is kept out; those of backups and copies are the exporter's of the machine
         with open(f"{DEPLOY}/alerts.yml", encoding="utf-8") as it:
             rules = re.sub(r'__name__=~"relkvanu_\((.*?)\)(\w+)"', lambda it: " ".join(f"relkvanu_{one}{it[2]}" for one in it[1].split("|")), it.read())
-        named = set(re.findall(r"relkvanu_(?!discard_|sweep_|backup_)[a-z_]+", rules))
+        named = set(re.findall(r"relkvanu_(?!discard_|sweep_|backup_|copy_|job_damaged)[a-z_]+", rules))
         missing = [name for name in named if not re.search(rf"^{name}\b", text, re.M)]
         assert not missing, f"alerts use what there is not: {missing}"
         return f"{len(values)} values, and {len(named)} that alerts use"

@@ -43,12 +43,12 @@ def new_database(database, name):
     return f"postgres://relkvanu@127.0.0.1:{database.port}/{name}"
 
 
-def asked(database, url, sql):
+def query(database, url, sql):
     return database.run("psql", "-XAtq", url, "-c", sql).strip()
 
 
 def is_empty(database, url):
-    return asked(database, url, "select count(*) from pg_class where relnamespace = 'public'::regnamespace") == "0"
+    return query(database, url, "select count(*) from pg_class where relnamespace = 'public'::regnamespace") == "0"
 
 
 def mark_of(path):
@@ -70,7 +70,7 @@ def rows_of(path):
 
 
 def rows_there(database, url):
-    return {name: int(asked(database, url, f"select count(*) from {name}")) for name in TABLES}
+    return {name: int(query(database, url, f"select count(*) from {name}")) for name in TABLES}
 
 
 def refused(server):
@@ -219,10 +219,10 @@ def test_all_reads_are_as_before():
         # an engine that was told up to a place of the log of SQLite hears what came after it, and no other place is one of that log
         assert len(events["events"]) > 3 and without(orders.poll(place, log=log)) == without(events), events
         assert server.get(f"/v1/jobs/orders/events?after=100000&log={log}")[0] == 410
-        assert all(int(epoch) > 4 for epoch in asked(database, url, "select distinct epoch from shard").split())
+        assert all(int(epoch) > 4 for epoch in query(database, url, "select distinct epoch from shard").split())
         check_it_goes_on(filled)
         # a number of a job that was deleted is given to no other
-        assert asked(database, url, "select (select job from job where name = 'new') > (select max(job) from gone_job)") == "t"
+        assert query(database, url, "select (select job from job where name = 'new') > (select max(job) from gone_job)") == "t"
         server.stop()
         move(source, url)
         told = move(source, url, "--back", status=78)
@@ -336,7 +336,7 @@ def content_there(database, url):
     """The same of PostgreSQL, which knows the columns by their names."""
     found = {}
     for name in TABLES:
-        columns = asked(database, url, f"select string_agg(column_name, ' ' order by ordinal_position) from information_schema.columns where table_name = '{name}' and column_name <> 'shard'").split()
+        columns = query(database, url, f"select string_agg(column_name, ' ' order by ordinal_position) from information_schema.columns where table_name = '{name}' and column_name <> 'shard'").split()
         cells = ", ".join(f"coalesce('=' || {'one::int' if column == 'one' else column}, '')" for column in columns)
         path = f"{database.data}/rows"
         database.run("psql", "-XAtq", url, "-c", f"\\copy (select array_to_json(array[{cells}])::text from {name}) to '{path}' with (format csv)")
@@ -365,7 +365,7 @@ def test_each_row_is_copied_as_it_is():
         server = made(at, 2003, 3)
         url = new_database(database, "empty").replace("/empty", "/sorts")
         database.sql("create database sorts owner relkvanu template template0 encoding 'UTF8' locale 'C.UTF-8' locale_provider icu icu_locale 'en'")
-        assert asked(database, url, "select 'a' < 'B', 'a' < 'B' collate \"C\"") == "t|f"
+        assert query(database, url, "select 'a' < 'B', 'a' < 'B' collate \"C\"") == "t|f"
         before = content(server.database)
         assert all(before.values()) and len(before["request"]) == 2003 + 1, {name: len(rows) for name, rows in before.items()}
         move(server.database, url)
@@ -380,7 +380,7 @@ def changes_rows(database, url, table, change):
     """Once this table is made, a trigger changes what is inserted."""
     is_made = f"select from pg_event_trigger_ddl_commands() where object_identity = 'public.{table}' and command_tag = 'CREATE TABLE'"
     watched = f"if exists ({is_made}) then create trigger changes before insert on {table} for each row execute function changed(); end if"
-    asked(database, url.replace("relkvanu@", "postgres@"), f"""create function changed() returns trigger language plpgsql as $$begin {change}; end$$;
+    query(database, url.replace("relkvanu@", "postgres@"), f"""create function changed() returns trigger language plpgsql as $$begin {change}; end$$;
         create function watched() returns event_trigger language plpgsql as $$begin {watched}; end$$;
         create event trigger watches on ddl_command_end execute function watched()""")
 
@@ -562,7 +562,7 @@ def empty_again(database, url, path):
     assert "has tables of a service already" in move(path, url, status=78)
     with open(f"{TOP}/docs/SERVICE-MOVE.md", encoding="utf-8") as it:
         [drop] = re.findall(r"psql\s--dbname=relkvanu --command='(drop owned by relkvanu)'", it.read())
-    asked(database, url.replace("relkvanu@", "postgres@"), drop)
+    query(database, url.replace("relkvanu@", "postgres@"), drop)
 
 
 def check_back(database, url, server):
@@ -579,7 +579,7 @@ def check_back(database, url, server):
     assert "is not marked" in move(path, url, "--back") and "rows=" in move(path, url)
     assert state_of(database, url, path) == (True, True)
     # a log that was there whole, and is lost, is not replaced by the old one
-    asked(database, url, f"drop table moved_from, schema_version, member, shard, {', '.join(TABLES)}")
+    query(database, url, f"drop table moved_from, schema_version, member, shard, {', '.join(TABLES)}")
     for more in ((), ("--back",)):
         assert "is not there any more" in move(path, url, *more, status=78)
     kept_out(path, server.folder, "postgres://relkvanu@127.0.0.1")
@@ -734,7 +734,7 @@ def test_what_is_refused():
         for to in (used, new_database(database, "another")):
             told = move(path, to, status=78)
             assert "moved to" in told or "tables of a service already" in told, told
-        assert asked(database, used, "select count(*) from job") == "0"
+        assert query(database, used, "select count(*) from job") == "0"
         kept_out(path, at, f"postgres://relkvanu@127.0.0.1:{database.port}/relkvanu")
         return "a running source, three destinations, and words"
 
@@ -747,7 +747,7 @@ def check_a_used_one(database, at, path, used):
     there = content_there(database, used)
     assert "has tables of a service already" in move(path, used, status=78) and "is not marked" in move(path, used, "--back")
     assert content_there(database, used) == there and not mark_of(path)[0]
-    asked(database, used, "truncate job, call, log_start, clock")
+    query(database, used, "truncate job, call, log_start, clock")
     assert "has tables of a service already" in move(path, used, status=78)
 
 
@@ -756,12 +756,12 @@ def check_the_lock(database, path, url):
     words = [*database.user, f"{database.bin}/psql", "-XAtq", url, "-c", "begin; select pg_advisory_xact_lock(7203146); select pg_sleep(3600)"]
     with subprocess.Popen(words, stdout=subprocess.DEVNULL, stderr=subprocess.DEVNULL, cwd="/") as other:
         try:
-            until(lambda: asked(database, url, "select count(*) from pg_locks where locktype = 'advisory'") == "1")
+            until(lambda: query(database, url, "select count(*) from pg_locks where locktype = 'advisory'") == "1")
             for more in ((), ("--back",)):
                 assert "lock timeout" in move(path, url, *more, status=75)
         finally:
             other.kill()
-        asked(database, url.replace("relkvanu@", "postgres@"), "select pg_terminate_backend(pid) from pg_locks where locktype = 'advisory'")
+        query(database, url.replace("relkvanu@", "postgres@"), "select pg_terminate_backend(pid) from pg_locks where locktype = 'advisory'")
     assert state_of(database, url, path) == (False, False)
 
 

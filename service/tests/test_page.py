@@ -4,6 +4,7 @@ import os
 import shutil
 import threading
 import time
+from decimal import ROUND_HALF_UP, Decimal
 
 from harness import BUSY, COMMAND, free_port, served, until
 from run import Skipped
@@ -31,7 +32,7 @@ class Engine(threading.Thread):
                     self.take_part(event["id"])
 
     def acknowledge(self, record, subtask):
-        self.task.ack(record, subtask, [self.task.name()], sizes=[1_000_000 + 20_000 * self.number])
+        self.task.ack(record, subtask, [self.task.name()], sizes=[1_000_000 + 20_000 * self.number], millis=250 if subtask == "1.2" else 40)
 
     def take_part(self, record):
         self.number += 1
@@ -40,7 +41,7 @@ class Engine(threading.Thread):
             self.task = self.job.begin().session()  # which ends this record
             return
         if self.number % 9 == 4:
-            self.task.decline(record, "1.1")
+            self.task.decline(record, "1.1", reason="the disk is full")
             return
         slow = None if self.number % 7 == 5 else subtasks[-1]
         for subtask in subtasks[:-1]:
@@ -92,6 +93,22 @@ def browser(width, height):
 
 def texts(page, selector):
     return page.execute_script("return [...document.querySelectorAll(arguments[0])].map(it => it.textContent)", selector)
+
+
+def records(page):
+    """The rows of the table of records, each by the titles of the columns."""
+    return page.execute_script("""
+        const rows = document.getElementById("records"), heads = [...rows.closest("table").tHead.rows[0].cells].map(it => it.textContent);
+        return [...rows.rows].map(row => Object.fromEntries([...row.cells].map((cell, place) => [heads[place], cell.textContent])))""")
+
+
+def shown(milliseconds):
+    """A time as the page shows it, if it is less than a minute."""
+    if milliseconds is None:
+        return ""
+    if milliseconds < 1000:
+        return f"{milliseconds} ms"
+    return f"{Decimal(milliseconds / 1000).quantize(Decimal('0.1'), ROUND_HALF_UP)} s"  # as JavaScript rounds
 
 
 def width(page, wanted, dark):
@@ -191,7 +208,7 @@ def test_what_the_page_shows():
         users = Service(server.url).open("users", {"interval": 3_600_000}, [1])
         users.calls([savepoint()])
         try:
-            told = looked_at(page, server, engine)
+            told = check_job_page(page, server, engine)
         finally:
             engine.over.set()
             page.quit()
@@ -199,7 +216,16 @@ def test_what_the_page_shows():
         return told
 
 
-def looked_at(page, server, engine):
+def compare_times(row, past, subtask):
+    """A row of the table has the times of the record's acknowledgements that `GET ../history` has."""
+    times = {"Took": "ended", "First": "first", "Median": "median", "99 of 100": "p99", "Slowest": "slowest"}
+    wanted = {title: shown(past[name]) for title, name in times.items()}
+    wanted["Took"] = shown(past["ended"] - past["triggered"])
+    wanted["Slowest"] += f" by {subtask}" if subtask else ""
+    assert {title: row[title] for title in times} == wanted, (row, past)
+
+
+def check_job_page(page, server, engine):
     job = engine.job
     until(lambda: engine.completed >= 10, 30)
     files = job.take(3)
@@ -216,20 +242,24 @@ def looked_at(page, server, engine):
     assert shown <= job.records()[0]["id"], shown
 
     # each row says what the API says
-    rows = page.execute_script("return [...document.querySelectorAll('#records tr')].map(r => [...r.children].map(c => c.textContent))")
+    rows = records(page)
     told = {str(record["id"]): record for record in job.records()}
+    past = {str(record["id"]): record for record in job.history(1000)}
+    numbers = [int(row["No"]) for row in rows]
+    assert numbers == sorted(numbers, reverse=True), numbers
     hows = set()
     for row in rows[3:]:
-        record = told[row[0]]
+        record = told[row["No"]]
         how = record["why"] if record["how"] == "declined" else record["how"]
-        assert row[6] == record["kind"] and row[1] == how, (row, record)
+        assert row["Kind"] == record["kind"] and row["Ended"] == how and row["Acks"] == f"{record['acks']} of 5", (row, record)
         hows.add(record["how"])
+        compare_times(row, past[row["No"]], record["slowest"])
         if record["how"] == "expired":
-            assert row[3] == ", ".join(record["missing"]) and "1.2" in record["missing"], (row, record)
+            assert row["Reason"] == f"lacked {', '.join(record['missing'])}" and "1.2" in record["missing"], (row, record)
         if record["how"] == "completed":
-            assert row[4] == "1.2" and row[3] == "", row
+            assert record["slowest"] == "1.2" and row["Reason"] == "" and row["Snapshots"] == "in 250 ms", (row, record)
         if record["how"] == "declined":
-            assert row[1] == "declined by 1.1", row
+            assert row["Ended"] == "declined by 1.1" and row["Reason"] == "the disk is full", row
     assert {"completed", "expired", "declined"} <= hows, hows
     bars = page.execute_script("const c = Chart.getChart('durations').data; return c.labels.map((l, i) => [l, c.datasets[0].data[i]])")
     assert len(bars) >= 10, bars

@@ -2,7 +2,6 @@
 records."""
 import json
 import time
-from decimal import ROUND_HALF_UP, Decimal
 
 import test_page
 from harness import Server, caught_up, folder, served, until
@@ -41,7 +40,7 @@ def is_asking(page):
     return page.execute_script("return document.getElementById('ask').open")
 
 
-def said(page):
+def asked_call(page):
     return page.execute_script("return document.getElementById('ask-call').textContent")
 
 
@@ -63,13 +62,13 @@ def test_a_user_acts_by_the_keyboard():
             it.write(f"read {READ}\nwrite {WRITE}\n")
         server = Server(at, args=["--token-file", f"{at}/token"]).start()
         try:
-            return acted(page, server)
+            return act_by_keyboard(page, server)
         finally:
             page.quit()
             server.stop()
 
 
-def acted(page, server):
+def act_by_keyboard(page, server):
     from selenium.webdriver.common.keys import Keys
 
     job = Service(server.url, token=WRITE).open("orders", SETTINGS, [1, 2])
@@ -86,7 +85,7 @@ def acted(page, server):
 
     # a savepoint: the request is shown, a read token is not enough, and a write token makes it
     opened(page, "#do-savepoint")
-    assert said(page) == 'POST /v1/jobs/orders/calls\n{\n "calls": [\n  {\n   "call": "savepoint"\n  }\n ]\n}', said(page)
+    assert asked_call(page) == 'POST /v1/jobs/orders/calls\n{\n "calls": [\n  {\n   "call": "savepoint"\n  }\n ]\n}', asked_call(page)
     assert focus(page) == "ask-yes" and nameless(page) == []
     keys(page, Keys.ENTER)
     until(lambda: focus(page) == "ask-token", 5)
@@ -102,7 +101,7 @@ def acted(page, server):
     job.calls([ack(1, "0.0", [1]), ack(1, "1.0", [2]), ack(1, "1.1", [3])])
     until(lambda: test_page.texts(page, "#savepoints button"), 10)
     opened(page, "#savepoints button")
-    assert focus(page) == "ask-no" and "can't be taken back" in test_page.texts(page, "#ask-question")[0] and '"id": 1' in said(page), said(page)
+    assert focus(page) == "ask-no" and "can't be taken back" in test_page.texts(page, "#ask-question")[0] and '"id": 1' in asked_call(page), asked_call(page)
     keys(page, Keys.ESCAPE)
     until(lambda: not is_asking(page), 5)
     opened(page, "#savepoints button")
@@ -112,11 +111,11 @@ def acted(page, server):
 
     # a restore from the savepoint, in another shape
     opened(page, "#do-restore")
-    assert '"from": "latest"' in said(page) and "shape" not in said(page), said(page)
+    assert '"from": "latest"' in asked_call(page) and "shape" not in asked_call(page), asked_call(page)
     page.execute_script("const it = document.getElementById('restore-from'); it.value = '1'; it.dispatchEvent(new Event('input', {bubbles: true}))")
     page.execute_script("document.getElementById('restore-shape').focus()")
     keys(page, "1 3")
-    assert '"from": 1' in said(page) and "3" in said(page).split("shape")[1], said(page)
+    assert '"from": 1' in asked_call(page) and "3" in asked_call(page).split("shape")[1], asked_call(page)
     page.execute_script("document.getElementById('ask-yes').focus()")
     keys(page, Keys.ENTER)
     until(lambda: not is_asking(page), 5)
@@ -162,13 +161,13 @@ def acted(page, server):
     until(lambda: page.execute_script("return document.getElementById('do-savepoint').disabled"), 10)
     # the job goes, though its files are left
     opened(page, "#do-delete")
-    assert said(page) == "DELETE /v1/jobs/orders", said(page)
+    assert asked_call(page) == "DELETE /v1/jobs/orders", asked_call(page)
     page.execute_script("document.getElementById('ask-yes').focus()")
     keys(page, Keys.ENTER)
     until(lambda: "files of the job are left" in test_page.texts(page, "#ask-wrong")[0], 5)
     page.execute_script("document.getElementById('delete-abandon').focus()")
     keys(page, Keys.SPACE)
-    assert said(page) == "DELETE /v1/jobs/orders?abandon=1", said(page)
+    assert asked_call(page) == "DELETE /v1/jobs/orders?abandon=1", asked_call(page)
     calls = job.state()["seq"]
     page.execute_script("document.getElementById('ask-yes').focus()")
     keys(page, Keys.ENTER)
@@ -215,8 +214,8 @@ def settings_changed(page, server, job):
     page.execute_script("document.getElementById('set-keep').focus()")
     keys(page, Keys.SPACE)
     wanted = {"interval": 30_000, "retained": 0, "keep_on_cancel": not before["keep_on_cancel"]}
-    method, body = said(page).split("\n", 1)
-    assert (method, json.loads(body)) == ("PATCH /v1/jobs/orders/settings", wanted), said(page)
+    method, body = asked_call(page).split("\n", 1)
+    assert (method, json.loads(body)) == ("PATCH /v1/jobs/orders/settings", wanted), asked_call(page)
     page.execute_script("document.getElementById('ask-yes').focus()")
     keys(page, Keys.ENTER)
     until(lambda: "retained" in test_page.texts(page, "#ask-wrong")[0], 10, told=lambda: test_page.texts(page, "#ask-wrong"))
@@ -250,7 +249,7 @@ def stopped_and_back(page, server, job):
     page.get(f"{server.url}/#/jobs/orders")
     are("running", True, False, True, True)
     done("#do-stop", "The job stops: savepoint 1 is triggered, as call 1.")
-    assert said(page) == "POST /v1/jobs/orders/stop\n{}", said(page)
+    assert asked_call(page) == "POST /v1/jobs/orders/stop\n{}", asked_call(page)
     are("stopping", False, False, True, False)
     assert "waits for the acknowledgements of savepoint 1" in test_page.texts(page, "#hint")[0]
     job.call(ack(1, "0.0", [1]))
@@ -274,13 +273,13 @@ def stopped_and_back(page, server, job):
     hidden = "return document.getElementById('restore-consent').parentElement.hidden"
     assert page.execute_script(hidden) and nameless(page) == []
     page.execute_script("const it = document.getElementById('restore-from'); it.selectedIndex = 3; it.dispatchEvent(new Event('input', {bubbles: true}))")
-    assert not page.execute_script(hidden) and '"checkpoint": 3' in said(page) and '"accept_published": false' in said(page), said(page)
+    assert not page.execute_script(hidden) and '"checkpoint": 3' in asked_call(page) and '"accept_published": false' in asked_call(page), asked_call(page)
     page.execute_script("document.getElementById('ask-yes').focus()")
     keys(page, Keys.ENTER)
     until(lambda: "not taken back" in test_page.texts(page, "#ask-wrong")[0], 10)
     page.execute_script("document.getElementById('restore-consent').focus()")
     keys(page, Keys.SPACE)
-    assert '"accept_published": true' in said(page), said(page)
+    assert '"accept_published": true' in asked_call(page), asked_call(page)
     page.execute_script("document.getElementById('ask-yes').focus()")
     keys(page, Keys.ENTER)
     until(lambda: not is_asking(page), 10)
@@ -304,16 +303,9 @@ def test_a_record_and_older_ones():
             job.calls([savepoint(), ack(62, "0.0")])
             caught_up(job)
             page.get(f"{server.url}/#/jobs/orders")
-            return looked_at(page, job)
+            return check_records_page(page, job)
     finally:
         page.quit()
-
-
-def shown(milliseconds):
-    """A time as the page shows it. It takes seconds on a slow disk."""
-    if milliseconds < 1000:
-        return f"{milliseconds} ms"
-    return f"{Decimal(milliseconds / 1000).quantize(Decimal('0.1'), ROUND_HALF_UP)} s"  # as JavaScript rounds
 
 
 def first_of(page):
@@ -329,7 +321,7 @@ def chosen(page, name, value):
     page.execute_script("const it = document.getElementById(arguments[0]); it.value = arguments[1]; it.dispatchEvent(new Event('change'))", name, value)
 
 
-def looked_at(page, job):
+def check_records_page(page, job):
     # pages, back and forth
     until(lambda: first_of(page) == ("62", 25), 10)
     pressed(page, "#older")
@@ -349,15 +341,22 @@ def looked_at(page, job):
     chosen(page, "kind", "")
     chosen(page, "how", "")
     until(lambda: first_of(page)[1] == 25, 10)
+    # another limit, from the newest on
+    for limit, count in (("10", 10), ("100", 62), ("25", 25)):
+        chosen(page, "most", limit)
+        until(lambda wanted=count: first_of(page) == ("62", wanted), 10)
+    reasons = {row["No"]: (row["Ended"], row["Reason"]) for row in test_page.records(page)}
+    assert reasons["57"] == ("declined by 0.1", "no disk") and reasons["59"][1] == reasons["58"][1] == "", reasons
     # one record: why, how large, and when each subtask acknowledged
     row = page.find_element("css selector", "#records tr[data-record='61'] button")
     pressed(page, "#records tr[data-record='61'] button")
     until(lambda: focus(page) == "record-title", 10)
-    assert row.text == "61" and "5.0 MB" in test_page.texts(page, "tr[data-record='61'] td:last-child")[0]
+    of_61 = test_page.records(page)[1]
+    assert row.text == of_61["No"] == "61" and (of_61["Size"], of_61["New"]) == ("5.0 MB", "5.0 MB"), of_61
     log = [entry["at"] for entry in job.log() if entry["line"].split()[:3:2] == ["ack", "61"]]
     started = job.record(61)["history"]["started"]
     rows = page.execute_script("return [...document.querySelectorAll('#acks tr')].map(it => [...it.children].map(c => c.textContent))")
-    assert [row[:2] for row in rows] == [["0.1", shown(log[1] - started)], ["0.0", shown(log[0] - started)]], (rows, log, started)
+    assert [row[:2] for row in rows] == [["0.1", test_page.shown(log[1] - started)], ["0.0", test_page.shown(log[0] - started)]], (rows, log, started)
     times = dict(zip(test_page.texts(page, "#record dt"), test_page.texts(page, "#record dd")))
     assert times == {"First": rows[1][1], "Median": rows[1][1], "99 of 100": rows[0][1], "Slowest": rows[0][1]}, times
     assert test_page.texts(page, "#record-size") == ["Its files have 5.0 MB, of which 5.0 MB are new."], test_page.texts(page, "#record-size")

@@ -34,10 +34,10 @@ def test_the_page_agrees_with_itself():
             job = opened(server)
             page.get(f"{server.url}/#/jobs/orders")
             until(lambda: len(test_page.texts(page, "#records tr")) == 3, 20)
-            rows = [[cell for cell in row] for row in page.execute_script("return [...document.querySelectorAll('#records tr')].map(r => [...r.children].map(c => c.textContent))")]
+            rows = test_page.records(page)
             # who declined, what the pending one lacks and for how long
-            assert rows[1][:2] == ["2", "declined by 0.1"], rows
-            assert rows[0][:2] == ["3", "pending"] and rows[0][2].endswith(" so far") and rows[0][3] == "0.1", rows
+            assert [(row["No"], row["Ended"]) for row in rows[:2]] == [("3", "pending"), ("2", "declined by 0.1")], rows
+            assert rows[0]["Took"].endswith(" so far") and rows[0]["Reason"] == "waits for 0.1" and rows[0]["Acks"] == "1 of 2", rows
             assert [text.split(",")[0] for text in test_page.texts(page, "#savepoints li")] == ["savepoint 1"], test_page.texts(page, "#savepoints li")
             # the chart ends with the state that the facts have, at its moment, and so does its table
             told = page.execute_script("""
@@ -65,7 +65,7 @@ def ticks_together(page):
     def times():
         return page.execute_script("""
             const said = (selector, pattern) => document.querySelector(selector).textContent.match(pattern)[1];
-            return [said("#pending li", /for (.*?);/), said("#records tr td:nth-child(3)", /(.*) so far/)]""")
+            return [said("#pending li", /for (.*?);/), said("#records td[data-since]", /(.*) so far/)]""")
 
     def is_kept():
         page.execute_script("window.before = document.querySelector('#records tr')")

@@ -218,7 +218,7 @@ def test_what_is_beside_a_marker(server, job, place):
             status, _, told = ran("discard", server, place, "--once", "--init", prefix=prefix)
             assert status == 78 and f".relkvanu-{other} says: one of the two jobs" in told, (other, told)
         place.put(f".relkvanu-{other}", b"")
-    # a job whose name begins with this one's is another job, and the storage of this job's engine is none
+    # a job whose name begins with this one's is another job, but the storage of this job's engine is its own
     rows = [("storage", "relkvanu: state files of the job a\n", 0), ("a.2", "", 78), ("storage", "relkvanu: state files of the job b\n", 78),
             ("storage", marker.replace("the job a,", "the job storage,"), 78)]
     for other, text, status in some_of(place, rows, 2):

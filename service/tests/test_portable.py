@@ -402,6 +402,47 @@ def test_savepoints_live_on():
         return f"savepoint {saved} is {living}"
 
 
+def test_checksums():
+    """Each file is read once: what changes afterwards is found in a folder that is exported, after later checkpoints and after a recovery too."""
+    from relkvanu.manifest import sums_in
+
+    with served(names=True) as server:
+        at = pathlib.Path(server.folder) / "state"
+        at.mkdir()
+        job = Service(server.url).open("orders", SETTINGS, [1])
+        job.claim(at)
+        task = job.begin().session(block=10)
+
+        def completes(reused=()):
+            record, name = job.checkpoint()["id"], task.name()
+            write(at / f"{PREFIX}{name}{SUFFIX}", "123456789")
+            task.ack(record, "0.0", [name], reused)
+            return record, int(name)
+
+        def sums(record):
+            (kept,) = (at / ".relkvanu.records").iterdir()
+            return sums_in((kept / f"record-{record}.manifest").read_bytes())
+
+        record, first = completes()
+        did([PROGRAM, "keep", "orders", *place_of(server, at)])
+        assert sums(record) == {}, sums(record)
+        did([PROGRAM, "keep", "orders", "--checksums", *place_of(server, at)])
+        assert sums(record) == {first: 0xcbf43926}, sums(record)  # the check value of CRC-32
+        (at / f"{PREFIX}{first}{SUFFIX}").write_text("123456780")
+        record, second = completes([first])
+        did([PROGRAM, "keep", "orders", "--checksums", *place_of(server, at)])
+        assert sums(record) == {first: 0xcbf43926, second: 0xcbf43926}, sums(record)
+        lose(server)
+        did([PROGRAM, "recover", "orders", *place_of(server, at)])
+        assert sums(record) == {first: 0xcbf43926, second: 0xcbf43926}, sums(record)
+        out = at.parent / "out"
+        did([PROGRAM, "export", "orders", "latest", out, *place_of(server, at)])
+        told = did([STORE, "show", "--whole", out], 1, f"record {record}: file {first} has another checksum")
+        assert f"file {second}" not in told, told
+        did([STORE, "show", out], 0, "whole; a recovery")
+        return f"record {record}"
+
+
 def whole(job, record):
     """The files and the payload of each subtask."""
     return {name: (it["files"], it["payload"]) for name, it in job.load(record)["subtasks"].items()}

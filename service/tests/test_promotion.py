@@ -1,12 +1,14 @@
 """A replica of PostgreSQL that is promoted, with services and writers at work. With synchronous replication it has each call that was answered."""
 import os
 import signal
+import threading
 import time
 
 import kills
-from harness import PgArchive, Server, configured, folder, kept, until
-from partition import family, told
+from harness import COMMAND, PgArchive, Server, configured, folder, kept, until
+from partition import family, send_signal
 from postgres import Replica, postgres
+from relkvanu_service import Service
 from writers import made_by
 
 
@@ -23,7 +25,7 @@ def test_a_replica_that_is_promoted():
             with kept(*servers) as ended, kills.writers_at([server.url for server in servers], found, archive) as writers:
                 time.sleep(1.5)
                 until(lambda: made_by(writers) > 50, told=lambda: [server.log()[-600:] for server in servers])
-                told(family(database), signal.SIGKILL)
+                send_signal(family(database), signal.SIGKILL)
                 os.remove(f"{database.data}/postmaster.pid")
                 before = made_by(writers)
                 replica.promote()
@@ -35,4 +37,41 @@ def test_a_replica_that_is_promoted():
                 server.stop()
             return f"{before} calls answered before; {found[0]}"
         finally:
+            replica.stop()
+
+
+WAITING = "from pg_stat_activity where application_name = 'relkvanu' and wait_event = 'SyncRep'"
+
+
+def test_a_cancelled_wait_for_the_replica():
+    """PostgreSQL keeps a commit whose wait is cancelled, and warns: the service does not answer it, ends, and serves once the replica has it."""
+    with postgres() as database, folder() as at:
+        replica = Replica(database)
+        server = Server(at, database.url, configured(at, "lease_seconds = 600\n"))
+        try:
+            server.start()
+            Service(server.url).open("orders", {"interval": 1 << 40}, [1])
+            replica.stop()
+            answers, said = [], {"calls": [{"call": "savepoint"}]}
+            asked = threading.Thread(target=lambda: answers.append(server.request("POST", "/v1/jobs/orders/calls", said, headers=[("Idempotency-Key", "k")])))
+            asked.start()
+            until(lambda: database.sql(f"select count(*) {WAITING}") == "1", told=server.log)
+            database.sql(f"select pg_cancel_backend(pid) {WAITING}")
+            assert server.ended() == 75 and "wait for a synchronous replica" in server.log(), server.log()[-600:]
+            asked.join(COMMAND)
+            assert [status for status, _, _ in answers] == [0], answers
+            # it was committed here, and is answered to nobody before the replica is back
+            assert database.sql("select count(*) from call") == "1"
+            database.sql("set synchronous_commit = off; delete from member")  # its lease is long, so that calls alone are committed
+            server.start(ready=False)
+            with kept(server):
+                until(lambda: database.sql(f"select count(*) {WAITING}") != "0", told=server.log)
+                assert server.get("/v1/jobs/orders")[0] != 200
+                replica.start()
+                server.wait_ready(kept=True)
+            assert Service(server.url).job("orders").state()["seq"] == 1
+            assert replica.sql("select count(*) from call") == "1"
+            return "status 75, and no answer"
+        finally:
+            server.stop()
             replica.stop()

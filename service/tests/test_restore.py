@@ -9,8 +9,9 @@ import re
 import shlex
 import shutil
 import subprocess
+import time
 
-from harness import COMMAND, PROGRAM, TOP, Server, caught_up, folder, lose_history, served, until
+from harness import COMMAND, PROGRAM, SERVICE, TOP, Server, caught_up, folder, lose_history, served, until
 from places import Bucket, around
 from places import files as files_in
 from postgres import postgres
@@ -373,23 +374,24 @@ def test_no_wait_of_the_page_is_endless():
         return "300 questions each"
 
 
-def copied(text, server, at, record, before, by_notes=False, status=0):
-    """A block of docs/SERVICE-BACKUP.md that copies files of savepoint 12 to another machine or back, over folders and for this savepoint, which the
-    notes may name. It ends with this status."""
+def copied(server, at, *record, status=0):
+    """The script that copies the files of a savepoint to another machine, over folders: that of a number, or the newest that is noted."""
+    settings = {"FOLDER": f"{at}/files", "PREFIX": "state-", "SUFFIX": ".bin", "TO": f"{at}/backup/orders", "BACKUPS_TO": f"{at}/backup/relkvanu",
+                "URL": server.url, "NOTES": f"{at}/notes", "BACKUPS": f"{at}/backups", "METRICS": f"{at}/metrics"}
+    words = [f"{SERVICE}/deploy/copy", "orders", f"{at}/token", *map(str, record)]
+    told = subprocess.run(words, env={**os.environ, **settings}, stdout=subprocess.PIPE, stderr=subprocess.STDOUT, text=True, timeout=COMMAND, check=False)
+    assert told.returncode == status, told
+    return told.stdout
+
+
+def brought_back(at, record):
+    """The block of docs/SERVICE-BACKUP.md that brings the files of savepoint 12 back, over folders and for this savepoint."""
     with open(f"{TOP}/docs/SERVICE-BACKUP.md", encoding="utf-8") as it:
-        page = it.read()
-    block = page.partition(text)[2].split("```")[1]
-    if by_notes:
-        [lines] = re.findall(r"^notes=.*\nrecord=.*$", page, re.MULTILINE)
-        block = block.replace("record=12 before=11", lines.replace("/var/lib/relkvanu-savepoint/orders", f"{at}/notes"))
-    given = {
-        "http://127.0.0.1:7780": server.url, "/etc/relkvanu/write-token": f"{at}/token", "backup.example:/srv/backup": f"{at}/backup", "/srv/orders": f"{at}/files",
-        "record=12 before=11": f"record={record} before={before}", "/orders/12/": f"/orders/{record}/",
-    }
-    for old, new in given.items():
+        block = it.read().partition("**If the files of a savepoint were [copied to another machine]")[2].split("```")[1]
+    for old, new in {"backup.example:/srv/backup": f"{at}/backup", "/srv/orders": f"{at}/files", "/orders/12/": f"/orders/{record}/"}.items():
         block = block.replace(old, new)
     told = subprocess.run(["bash", "-euc", block], cwd=at, stdout=subprocess.PIPE, stderr=subprocess.STDOUT, text=True, timeout=COMMAND, check=False)
-    assert told.returncode == status and "/12/" not in block and "record=12" not in block, (block, told.stdout)
+    assert told.returncode == 0 and "/12/" not in block, (block, told.stdout)
     return told.stdout
 
 
@@ -398,7 +400,7 @@ def content(path):
         return it.read()
 
 
-def test_the_page_copies_state_files_and_brings_them_back():
+def test_state_files_are_copied_and_brought_back():
     """To a folder in place of a machine: a file of two savepoints takes room once. What comes back replaces nothing, and a file that differs is told. Payloads are
     copied too, and a savepoint that has nothing else."""
     if not shutil.which("rsync") or not shutil.which("curl"):
@@ -413,16 +415,22 @@ def test_the_page_copies_state_files_and_brings_them_back():
                 it.write(f"of {name}")
         job.calls([savepoint(), ack(1, "0.0", [1, 2]), savepoint(), ack(2, "0.0", [3], [2], payload=b"and a payload")])
         job.calls([savepoint(), ack(3, "0.0", payload=b"a payload alone"), savepoint()])
-        there, back = "### A copy of the state files", "**If the files of a savepoint were [copied to another machine]"
-        os.mkdir(f"{at}/notes")
-        for name in ("20260101T000000Z.1", "20260102T000000Z.2", "new"):
-            open(f"{at}/notes/{name}", "w", encoding="utf-8").close()
-        for record, by_notes in ((1, False), (2, False), (2, True)):
-            copied(there, server, at, record, record - 1, by_notes)
+        os.makedirs(f"{at}/notes/orders")
+        os.mkdir(f"{at}/backups")
+        copied(server, at, status=1)  # none is noted
+        copied(server, at, 1)
+        for name in ("notes/orders/20260101T000000Z.1", "notes/orders/20260102T000000Z.2", "notes/orders/new"):
+            open(f"{at}/{name}", "w", encoding="utf-8").close()
+        for name in ("20260101T000000Z.db", "20260102T000000Z.dump", "20260103T000000Z.db.part", "other"):
+            with open(f"{at}/backups/{name}", "w", encoding="utf-8") as it:
+                it.write(name)
+        copied(server, at)
         shutil.rmtree(f"{at}/backup/orders/2")
-        copied(there, server, at, 2, 1, by_notes=True)
-        copied(there, server, at, 3, 2)
-        copied(there, server, at, 4, 3, status=22)  # it is not complete
+        os.remove(f"{at}/backups/20260101T000000Z.db")  # there it stays
+        for record in ((), (2,), (3,)):
+            copied(server, at, *record)
+        assert set(os.listdir(f"{at}/backup/relkvanu")) == {"20260101T000000Z.db", "20260102T000000Z.dump"}
+        copied(server, at, 4, status=22)  # it is not complete
         made = {int(it): set(os.listdir(f"{at}/backup/orders/{it}")) for it in os.listdir(f"{at}/backup/orders")}
         files_of = {1: {"state-1.bin", "state-2.bin"}, 2: {"state-2.bin", "state-3.bin"}, 3: set()}
         assert made == {record: {*names, f"savepoint-{record}.json"} for record, names in files_of.items()}, made
@@ -434,12 +442,68 @@ def test_the_page_copies_state_files_and_brings_them_back():
             os.remove(name)
         with open(f"{files}/state-2.bin", "w", encoding="utf-8") as it:
             it.write("of")
-        copied(back, server, at, 3, 2)
-        told = [copied(back, server, at, 2, 1) for _ in range(2)]
+        brought_back(at, 3)
+        told = [brought_back(at, 2) for _ in range(2)]
         assert all("state-2.bin" in text and "state-1.bin" not in text and "state-4.bin" not in text for text in told), told
         assert set(os.listdir(files)) == {f"state-{number}.bin" for number in range(1, 5)}, os.listdir(files)
         assert (content(f"{files}/state-3.bin"), content(f"{files}/state-2.bin")) == ("of files/state-3.bin", "of")
         return "two savepoints"
+
+
+def touched(*paths):
+    for path in paths:
+        os.makedirs(os.path.dirname(path), exist_ok=True)
+        with open(path, "w", encoding="utf-8") as it:
+            it.write(path)
+
+
+def test_what_is_copied_of_a_job_that_has_stopped_or_has_no_savepoint():
+    """Once the job has stopped it is the savepoint of the stop, which has no note. The backups are copied in each case, also without a savepoint or the
+    service, and the state files if the backups can't be. The metric is of the last copy of all."""
+    if not shutil.which("rsync") or not shutil.which("curl"):
+        raise Skipped("rsync or curl", "one of them is not here")
+    with served() as server:
+        at, backups = server.folder, []
+        metric = f"{at}/metrics/relkvanu-copy-orders.prom"
+        job = Service(server.url).open("orders", SETTINGS, [1])
+        touched(f"{at}/token", metric, *(f"{at}/files/state-{number}.bin" for number in range(1, 4)))
+
+        def night(status, *said):
+            """The next backup, and a copy that ends with this status and says these lines alone, and nothing of errors of the system."""
+            backups.append(f"202601{len(backups) + 1:02}T000000Z.db")
+            touched(f"{at}/backups/{backups[-1]}", metric)
+            told = [line for line in copied(server, at, status=status).splitlines() if not line.startswith(("find:", "rsync"))]
+            assert told == ["the backups are copied", *said], (told, said)
+            assert sorted(os.listdir(f"{at}/backup/relkvanu")) == backups
+            assert (content(metric) == metric) == (status != 0), content(metric)
+
+        night(1, "copy: no savepoint of orders is noted")
+        job.calls([savepoint(), ack(1, "0.0", [1, 2])])
+        touched(f"{at}/notes/orders/20260102T000000Z.1")
+        night(0, "savepoint 1 of orders is copied")
+        help_of, value = content(metric).splitlines()
+        name, at_second = value.split(" ")
+        assert help_of == "# HELP relkvanu_copy_timestamp_seconds When a copy was made last." and name == 'relkvanu_copy_timestamp_seconds{job_name="orders"}'
+        assert abs(time.time() - int(at_second)) < COMMAND and os.stat(metric).st_mode & 0o777 == 0o644
+        assert job.stop_job()["id"] == 2
+        night(0, "savepoint 1 of orders is copied")  # it stops, and has not stopped
+        assert not os.path.exists(f"{at}/backup/orders/2")
+        job.calls([ack(2, "0.0", [3], [2])])
+        night(0, "savepoint 2 of orders is copied")
+        assert set(os.listdir(f"{at}/backup/orders/2")) == {"state-2.bin", "state-3.bin", "savepoint-2.json"}
+        assert os.path.samefile(f"{at}/backup/orders/1/state-2.bin", f"{at}/backup/orders/2/state-2.bin")
+        job.begin_job()
+        night(0, "savepoint 1 of orders is copied")
+        shutil.rmtree(f"{at}/backup/orders/1")
+        os.rename(f"{at}/backups", f"{at}/others")
+        touched(metric)
+        told = copied(server, at, status=23)
+        assert "copy: the backups are not copied" in told and "savepoint 1 of orders is copied" in told and content(metric) == metric, told
+        assert set(os.listdir(f"{at}/backup/orders/1")) == {"state-1.bin", "state-2.bin", "savepoint-1.json"}
+        os.rename(f"{at}/others", f"{at}/backups")
+        server.stop()
+        night(7)  # nobody answers curl
+        return f"{len(backups)} backups, each is copied"
 
 
 def page_commands(after, port):

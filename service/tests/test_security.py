@@ -155,14 +155,65 @@ def test_tls_of_its_own():
         assert "first" in first and "second" in name_of(server), (first, name_of(server))
         assert server.get("/readyz")[0] == 200
         written(f"{at}/key.pem", "no key")
-        told_again(server, "the certificate stays as it was")
-        assert "second" in name_of(server)
+        told_again(server, "stay as they were")
+        assert "second" in name_of(server) and "tls_key" in server.log()
         assert server.stop() == 0
         words = ["--database", f"{at}/other.db", "--listen", "127.0.0.1:0", "--config", f"{at}/service.toml"]
         refused(words, 78, "tls_key")
         written(f"{at}/service.toml", f"tls_key = '{at}/key.pem'")
         refused(words, 78, "there is only one of them")
         return "two certificates"
+
+
+def asked(connection, token):
+    """A status that a connection gets which stays open."""
+    connection.request("GET", "/v1/jobs", headers={"Authorization": f"Bearer {token}"})
+    answer = connection.getresponse()
+    answer.read()
+    return answer.status
+
+
+def reload_failed(server, token):
+    context = ssl.create_default_context(cafile=f"{server.folder}/trusted.pem")
+    connection = http.client.HTTPSConnection("127.0.0.1", server.port, context=context, timeout=COMMAND)
+    connection.request("GET", "/metrics", headers={"Authorization": f"Bearer {token}"})
+    return re.findall(r"^relkvanu_reload_failed (\d)$", connection.getresponse().read().decode(), re.M)
+
+
+def test_all_files_are_read_again_or_none():
+    """Connections stay open meanwhile. New copies of the files, as `systemctl reload` makes them, take the place of the old ones."""
+    with folder() as at:
+        os.mkdir(f"{at}/copies")
+        certificate(at, "first")
+        os.replace(f"{at}/certificate.pem", f"{at}/trusted.pem")
+        subprocess.run(["cp", f"{at}/trusted.pem", f"{at}/certificate.pem"], check=True)
+        written(f"{at}/token", f"write {ALL}")
+        written(f"{at}/service.toml", f"tls_certificate = '{at}/certificate.pem'\ntls_key = '{at}/key.pem'\n")
+        words = ["--config", f"{at}/service.toml", "--token-file", f"{at}/token"]
+        server = TlsServer(at, args=words, prefix=["env", f"RELKVANU_KEYS={at}/copies"])
+        server.start()
+        context = ssl.create_default_context(cafile=f"{at}/trusted.pem")
+        connection = http.client.HTTPSConnection("127.0.0.1", server.port, context=context, timeout=COMMAND)
+        assert asked(connection, ALL) == 200 and reload_failed(server, ALL) == ["0"]
+        # a good file of tokens beside a bad key, and then a good certificate beside a bad file of tokens
+        certificate(f"{at}/copies", "second")
+        written(f"{at}/copies/token", f"write {ORDERS}")
+        os.rename(f"{at}/copies/key.pem", f"{at}/copies/good.pem")
+        for broken in ("key.pem", "token"):
+            if broken == "token":
+                os.replace(f"{at}/copies/good.pem", f"{at}/copies/key.pem")
+            written(f"{at}/copies/{broken}", "write short")
+            told_again(server, "stay as they were")
+            assert "first" in name_of(server) and [asked(connection, token) for token in (ALL, ORDERS)] == [200, 401], broken
+            assert reload_failed(server, ALL) == ["1"], broken
+        written(f"{at}/copies/token", f"write {ORDERS}")
+        told_again(server, "the certificate is read again")
+        # the connection that is open has the old certificate and the new tokens
+        assert "second" in name_of(server) and [asked(connection, token) for token in (ALL, ORDERS)] == [401, 200]
+        subprocess.run(["cp", f"{at}/copies/certificate.pem", f"{at}/trusted.pem"], check=True)
+        assert reload_failed(server, ORDERS) == ["0"]
+        assert server.stop() == 0
+        return "two bad files and good ones"
 
 
 def test_a_refusal_over_tls_reaches_a_client_that_still_sends():

@@ -48,7 +48,7 @@ def lines(server):
     return [line for line in server.log().splitlines() if line.strip()]
 
 
-def acted(server):
+def make_requests(server):
     """Some requests with a trace: what a user does, what a task does, and a read that fails."""
     Service(server.url).open("orders", SETTINGS, [1])
     trace = [("traceparent", PARENT), ("Idempotency-Key", "k")]
@@ -65,7 +65,7 @@ def test_the_log_is_json_by_a_setting():
         server = Server(at, args=["--config", f"{at}/service.toml"])
         # it has another form than the line for which `stand_by` and others look
         server.start()
-        acted(server)
+        make_requests(server)
         told = [json.loads(line) for line in lines(server)]
         assert all({"time", "level", "message"} <= set(line) for line in told), told
         requests = [line for line in told if line["message"] == "request"]
@@ -82,7 +82,7 @@ def test_the_log_is_json_by_a_setting():
 
 def test_the_log_as_text():
     with served() as server:
-        acted(server)
+        make_requests(server)
         told = [line.split(" ", 2)[2] for line in lines(server) if " request " in line]
         assert re.fullmatch(rf"request method=POST path=/v1/jobs/orders/calls status=200 by=local took_ms=\d+ calls=savepoint trace_id={TRACE}", told[1]), told
         assert len(told) == 4 and "trace_id" not in told[2], told

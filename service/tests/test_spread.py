@@ -598,37 +598,32 @@ def test_two_members_over_tls():
         return "each passes requests on to the other"
 
 
-def test_a_damaged_job_keeps_its_shard_alone():
-    """A log that can't be read: its shard is not served, and all others are."""
+def damaged_alone(damage, said):
+    """One of ten jobs of two processes is damaged, and its process is killed: the other one keeps out that job, and serves all shards."""
     with postgres() as database, folder() as at:
         servers = members(at, database.url, 2)
         names = opened(servers, 10)
         bad = owned(database, servers[0])
         Service(servers[0].url).job(bad).call(savepoint())
-        database.sql(f"update call set a = 9 from job where job.job = call.job and name = '{bad}' and what = {SAVEPOINT_TRIGGERED}")
+        database.sql(damage.format(job=f"(select job from job where name = '{bad}')"))
         servers[0].kill()
-        until(lambda: shards(servers[1]) == SHARDS - 1)
+        until(lambda: shards(servers[1]) == SHARDS)
         statuses = {name: servers[1].get(f"/v1/jobs/{name}")[0] for name in names}
         assert statuses == {name: 503 if name == bad else 200 for name in names}, statuses
-        assert "savepoint triggered 9" in servers[1].log() and servers[1].process.poll() is None
+        assert sorted(listed(servers[1])) == sorted(set(names) - {bad}) and said in Service(servers[1].url).damaged()[bad]
+        assert said in servers[1].log() and servers[1].process.poll() is None
         servers[1].stop()
-        return "1 of 64 shards"
+        return "9 of 10 jobs, and 64 shards"
 
 
-def test_a_damaged_phase_keeps_its_shard_alone():
+def test_a_damaged_job_is_kept_out_alone():
+    """A call that has another answer."""
+    return damaged_alone(f"update call set a = 9 where job = {{job}} and what = {SAVEPOINT_TRIGGERED}", "savepoint triggered 9")
+
+
+def test_a_damaged_phase_keeps_its_job_out_alone():
     """A row that says what phase a job is in, and says nothing that is known."""
-    with postgres() as database, folder() as at:
-        servers = members(at, database.url, 2)
-        names = opened(servers, 10)
-        bad = owned(database, servers[0])
-        database.sql(f"insert into phase select job, 'strange', 1, 1, 1, null from job where name = '{bad}'")
-        servers[0].kill()
-        until(lambda: shards(servers[1]) == SHARDS - 1)
-        statuses = {name: servers[1].get(f"/v1/jobs/{name}")[0] for name in names}
-        assert statuses == {name: 503 if name == bad else 200 for name in names}, statuses
-        assert "1 shards are not served" in servers[1].log() and servers[1].process.poll() is None
-        servers[1].stop()
-        return "1 of 64 shards"
+    return damaged_alone("insert into phase values({job}, 'strange', 1, 1, 1, null)", "a row of phase has")
 
 
 def test_the_way_from_one_leader_and_back():

@@ -37,11 +37,13 @@ def commands():
         "sweep": "runs the sweeper likewise", "init": "For an option that is for one", "upgrade": "## To upgrade",
         "way back": "If the start ends with 78 all the same", "savepoint units": "**The timer takes no savepoint.**", "savepoints over TLS": "**Over TLS, or if the service",
         "try savepoints": "**Try it once** while", "mail": "- **By mail**, with", "metric": "- **By Prometheus**, with",
+        "copies": "**The state files need a copy",
         "address": "**The address.**", "go back": "These commands go back to the files that were set aside", "all units": "**With many jobs**",
         "moved": "**Keep the old machine from starting the service again.**",
     }
-    steps = ("Install", "Make tokens", "Get a certificate", "Listen", "Start", "Open a job", "See it")
+    steps = ("Install", "Set up TLS", "Start")
     places |= {f"TLS: {step}": f"{number}. **{step}**" for number, step in enumerate(steps, 1)}
+    places |= {"TLS: Trust": "**For a first try** let", "TLS: Ask": "**Ask whether it serves.**", "TLS: See it": "**See it**, with a command"}
     assert all(text.count(place) == 1 for place in places.values()), places
     return {name: text.partition(place)[2].split("```")[1] for name, place in places.items()}
 

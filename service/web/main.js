@@ -88,14 +88,23 @@ function showJob(told, rows) {
   views.fill(at("count-rows"), samples.slice(-ROWS).reverse().map(views.sampleRow));
 }
 
+// A job that is kept out, if it was chosen.
+function showDamage(job) {
+  at("damaged").hidden = job === undefined;
+  at("damaged-title").textContent = job?.name ?? "";
+  at("damage").textContent = job?.why ?? "";
+}
+
 async function show() {
   const name = chosen();
   const told = await get(`/view${name === null ? "" : `/${name}`}?records=${RECORDS}&samples=${SAMPLES}&files=${FILES}`);
   const [job, last] = [told.job, Date.now()];
-  const rows = job ? await records.rows(job, told.records) : [];
+  const rows = job ? await records.rows(job, told.records, RECORDS) : [];
   Object.assign(shown, { told, last });
-  at("no-jobs").hidden = told.jobs.length > 0;
-  views.fill(at("jobs"), told.jobs.map((one) => views.jobLink(one, job !== null && one.name === job.name)));
+  at("no-jobs").hidden = told.jobs.length + told.damaged.length > 0;
+  const links = told.damaged.map((one) => views.damagedLink(one, one.name === name));
+  views.fill(at("jobs"), [...links, ...told.jobs.map((one) => views.jobLink(one, job !== null && one.name === job.name))]);
+  showDamage(told.damaged.find((one) => one.name === name));
   if (job) {
     if (shown.job !== job.name) for (const id of ["file", "record", "term"]) at(id).replaceChildren();
     shown.job = job.name;

@@ -2,7 +2,6 @@
 import { get } from "./api.js";
 import { bytes, duration, element, fill, moment } from "./views.js";
 
-const ROWS = 25;
 const SUBTASKS = 20;
 
 const at = (id) => document.getElementById(id);
@@ -14,21 +13,27 @@ function search() {
   return word("how") + word("kind");
 }
 
-function isFirst() {
-  return page.before === null && search() === "";
+// How many rows a page has at most.
+function most() {
+  return Number(at("most").value);
 }
 
-// The records to show: the newest of a look, or those of the page that was asked for.
-export async function rows(job, newest) {
+// Whether the newest records of a look are the page that was asked for.
+function isFirst(newest) {
+  return page.before === null && search() === "" && most() <= newest;
+}
+
+// The records to show: of the newest ones of a look, which has at most so many, or those of the page that was asked for.
+export async function rows(job, newest, looked) {
   if (page.job !== job.name) Object.assign(page, { job: job.name, before: null, newer: [] });
-  if (isFirst()) {
-    page.rows = newest.slice(0, ROWS);
+  if (isFirst(looked)) {
+    page.rows = newest.slice(0, most());
   } else {
     const before = page.before === null ? "" : `&before=${page.before}`;
-    page.rows = (await get(`/jobs/${job.name}/records?limit=${ROWS}${before}${search()}`)).records;
+    page.rows = (await get(`/jobs/${job.name}/records?limit=${most()}${before}${search()}`)).records;
   }
   at("newer").disabled = page.newer.length === 0;
-  at("older").disabled = page.rows.length < ROWS;
+  at("older").disabled = page.rows.length < most();
   at("no-records").hidden = page.rows.length > 0;
   at("page-says").textContent = page.rows.length === 0 ? "" : `records ${page.rows[0].id} to ${page.rows[page.rows.length - 1].id}`;
   return page.rows;
@@ -45,7 +50,7 @@ export function start(look) {
     page.before = page.newer.pop();
     look();
   });
-  for (const name of ["how", "kind"]) {
+  for (const name of ["how", "kind", "most"]) {
     at(name).addEventListener("change", () => {
       Object.assign(page, { before: null, newer: [] });
       look();

@@ -41,6 +41,12 @@ export function moment(ms) {
   return new Date(ms).toLocaleString([], { month: "short", day: "numeric", hour: "2-digit", minute: "2-digit", second: "2-digit" });
 }
 
+// The same in a table: of today the time alone.
+function shortMoment(ms) {
+  const it = new Date(ms);
+  return it.toDateString() === new Date().toDateString() ? it.toLocaleTimeString() : moment(ms);
+}
+
 // A number of bytes in words.
 export function bytes(number) {
   const units = ["B", "kB", "MB", "GB", "TB", "PB"];
@@ -67,10 +73,19 @@ export function tone(how) {
   return GOOD.has(how) ? "good" : BAD.has(how) ? "bad" : "other";
 }
 
+function link(job, word, kind, isCurrent) {
+  const made = element("a", { href: `#/jobs/${job.name}`, "aria-current": isCurrent ? "true" : null }, `${job.name} `);
+  made.append(element("span", { class: `mode ${kind}` }, word));
+  return element("li", {}, made);
+}
+
 export function jobLink(job, isCurrent) {
-  const link = element("a", { href: `#/jobs/${job.name}`, "aria-current": isCurrent ? "true" : null }, `${job.name} `);
-  link.append(element("span", { class: `mode ${MODES[doing(job)]}` }, doing(job)));
-  return element("li", {}, link);
+  return link(job, doing(job), MODES[doing(job)], isCurrent);
+}
+
+// One that is kept out, since its log can't be replayed.
+export function damagedLink(job, isCurrent) {
+  return link(job, "damaged", "bad", isCurrent);
 }
 
 function fact(name, value, kind) {
@@ -183,6 +198,30 @@ export function soFar(ms) {
   return `${duration(Math.max(0, ms))} so far`;
 }
 
+// From a record's trigger to a moment.
+function after(record, moment) {
+  return moment === null ? "" : duration(moment - record.started);
+}
+
+// The slowest acknowledgement, and the subtask that made it.
+function slowest(record) {
+  return record.last_ack === null ? "" : `${after(record, record.last_ack)} by ${record.slowest}`;
+}
+
+// What its tasks told of their snapshots: the sum of the bytes, and the longest time.
+function snapshots(record) {
+  // 0 is of tasks that told the time alone
+  return [record.bytes ? bytes(record.bytes) : "", record.millis === null ? "" : `in ${duration(record.millis)}`].join(" ").trim();
+}
+
+// Why a record failed, or what it waits for; nothing of one that is complete.
+function reason(record, live) {
+  if (record.how === "declined") return record.reason ?? "";
+  const lack = missing(live ?? record);
+  if (lack === "") return "";
+  return record.how === "pending" ? `waits for ${lack}` : `lacked ${lack}`;
+}
+
 // A pending record says what it lacks now, and since when it has been pending: the page fills in for how long.
 export function recordRow(record, waiting, look) {
   const live = record.finished === null ? waiting.find((one) => one.id === record.id) : undefined;
@@ -193,14 +232,20 @@ export function recordRow(record, waiting, look) {
     "tr",
     { "data-record": record.id },
     element("td", {}, element("button", { type: "button", class: "small", "aria-label": `Record ${record.id}: why and when`, onclick: () => look(record.id) }, record.id)),
-    cell(how, record.how === "pending" ? null : tone(record.how)),
-    element("td", { "data-since": live?.started }, record.finished === null ? "" : duration(record.finished - record.started)),
-    cell(missing(live ?? record), "many"),
-    cell(record.slowest ?? ""),
-    cell(kept),
     cell(record.kind),
-    cell(moment(record.started)),
-    cell(record.full_bytes === null ? "" : `${bytes(record.full_bytes)}, new ${bytes(record.fresh_bytes)}`),
+    cell(how, record.how === "pending" ? null : tone(record.how)),
+    cell(reason(record, live), "many"),
+    cell(shortMoment(record.started)),
+    element("td", { "data-since": live?.started }, record.finished === null ? "" : duration(record.finished - record.started)),
+    cell(`${record.acks} of ${record.shape.reduce((sum, width) => sum + width, 0)}`),
+    cell(after(record, record.first_ack)),
+    cell(record.median === null ? "" : duration(record.median)),
+    cell(record.p99 === null ? "" : duration(record.p99)),
+    cell(slowest(record)),
+    cell(record.full_bytes === null ? "" : bytes(record.full_bytes)),
+    cell(record.fresh_bytes === null ? "" : bytes(record.fresh_bytes)),
+    cell(snapshots(record)),
+    cell(kept, "many"),
   );
 }
 

@@ -257,8 +257,13 @@ class Service:
         return True
 
     def jobs(self):
-        """The state of each job."""
+        """The state of each job. One that is `damaged` is none of them."""
         return self.request("GET", "/v1/jobs")["jobs"]
+
+    def damaged(self):
+        """The jobs that the service keeps out since their logs can't be replayed, by name, and why. Their requests are refused with status 503 until
+        they are mended and the service has started again. A service of an earlier version ends instead."""
+        return {job["name"]: job["why"] for job in self.request("GET", "/v1/jobs").get("damaged", [])}
 
     def request(self, method, path, body=None, key=None, wait=0):
         """Makes a request until it is answered, and returns its body. Raises `Failed` if the answer is an error."""

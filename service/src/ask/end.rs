@@ -1,7 +1,7 @@
 //! `relkvanu end`: ends a job for good, with all its files. Its steps are commands that a user may give one by one, so a repeat goes on where one
 //! ended.
 use super::ended::Ended;
-use super::said;
+use super::print_answer;
 use super::words::{At, End};
 use crate::files::MARK;
 use relkvanu_client::{Answer, Call, Error, Job, Service};
@@ -29,7 +29,7 @@ pub async fn end(service: &Service, given: &End) -> Result<(), Ended> {
         service.delete(&given.job, false).await?;
     }
     remove_marks(&given.folder, &given.job)?;
-    said(given.at.json, &json!({"ended": given.job}), |_| {
+    print_answer(given.at.json, &json!({"ended": given.job}), |_| {
         format!("job {} has ended, and its files are deleted\n", given.job)
     })
 }

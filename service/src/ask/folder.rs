@@ -1,8 +1,8 @@
 //! What a job knows of the files in a folder or a bucket: which records have all theirs there, and which files no record needs.
 use super::ended::Ended;
 use super::words::{Orphans, Restore, Savepoints};
-use super::{said, tables};
-use crate::files::{no_marker, Folder, Marked, Names, Owner, Place, Stop, Where};
+use super::{print_answer, tables};
+use crate::files::{no_marker, FileNames, Folder, Marked, Owner, Stop, Storage, Where};
 use crate::log;
 use relkvanu_client::Job;
 use serde_json::{json, Value};
@@ -14,8 +14,8 @@ const LOOK_EACH: Duration = Duration::from_millis(100);
 
 /// Where the files are looked for.
 struct Looked {
-    place: Box<dyn Place>,
-    names: Names,
+    place: Box<dyn Storage>,
+    names: FileNames,
     /// Those that are there. The place is listed before the job is asked for its records.
     there: BTreeSet<u64>,
 }
@@ -29,7 +29,7 @@ pub async fn savepoints(job: &Job, given: &Savepoints) -> Result<(), Ended> {
         None => None,
     };
     let (rows, warnings) = rows(job, looked.as_ref()).await?;
-    said(given.at.json, &json!(rows), tables::savepoints)?;
+    print_answer(given.at.json, &json!(rows), tables::savepoints)?;
     for text in warnings.values() {
         log::warn(text);
     }
@@ -78,7 +78,7 @@ fn is_whole(row: &Value) -> bool {
 }
 
 /// Opens the place and lists it. A folder that has lost its marker is looked at all the same.
-async fn looked(job: &Job, name: &str, at: &Where, given: &Names) -> Result<Looked, Ended> {
+async fn looked(job: &Job, name: &str, at: &Where, given: &FileNames) -> Result<Looked, Ended> {
     let names = at.names(given).map_err(Ended::Place)?;
     let is_bucket = at.bucket.is_some();
     let ended = |stop| match stop {
@@ -167,11 +167,11 @@ pub async fn orphans(job: &Job, given: &Orphans) -> Result<(), Ended> {
             orphans.push(given.folder.join(given.names.of(*file)).display().to_string());
         }
     }
-    said(given.at.json, &json!(orphans), tables::lines)
+    print_answer(given.at.json, &json!(orphans), tables::lines)
 }
 
 /// The numbers of the files that are whole.
-fn listed(place: &dyn Place, names: &Names) -> Result<BTreeSet<u64>, Stop> {
+fn listed(place: &dyn Storage, names: &FileNames) -> Result<BTreeSet<u64>, Stop> {
     let found = place.beginning(&names.prefix)?;
     Ok(found.iter().filter_map(|name| names.number(name)).collect())
 }

@@ -33,7 +33,7 @@ const POLL: u64 = 20;
 /// Does what the command says. Its exit status is that of [`Ended`].
 pub fn run(given: &Ask) -> ExitCode {
     let runtime = tokio::runtime::Builder::new_current_thread().enable_all().build();
-    let asked = runtime.map_err(Ended::from).and_then(|runtime| runtime.block_on(asked(given)));
+    let asked = runtime.map_err(Ended::from).and_then(|runtime| runtime.block_on(run_command(given)));
     match asked {
         Ok(()) => ExitCode::SUCCESS,
         // whoever read the answer has read enough
@@ -45,12 +45,12 @@ pub fn run(given: &Ask) -> ExitCode {
     }
 }
 
-async fn asked(given: &Ask) -> Result<(), Ended> {
+async fn run_command(given: &Ask) -> Result<(), Ended> {
     let at = given.at();
     let service = remote::service(&at.urls, at.token_file.as_deref())?;
     let service = service.within(Some(Duration::from_secs(at.within)));
     match given {
-        Ask::Jobs(_) => said(at.json, &jobs(&service).await?, tables::jobs),
+        Ask::Jobs(_) => print_answer(at.json, &jobs(&service).await?, tables::jobs),
         Ask::Show(given) => show(&service.job(&given.job), given).await,
         Ask::Log(given) => print_log(&service.job(&given.job), given).await,
         Ask::Files(given) => files(&service.job(&given.job), given).await,
@@ -60,15 +60,15 @@ async fn asked(given: &Ask) -> Result<(), Ended> {
         Ask::Checkpoint(given) => checkpoint(&service.job(&given.job), given).await,
         Ask::Set(given) => set(&service.job(&given.job), given).await,
         Ask::Stop(given) => stop(&service.job(&given.job), given).await,
-        Ask::Begin(given) => said(at.json, &service.job(&given.job).begin_job().await?, tables::made),
+        Ask::Begin(given) => print_answer(at.json, &service.job(&given.job).begin_job().await?, tables::action),
         Ask::Dispose(given) => {
             call(&service.job(&given.job), at.json, Call::Dispose { id: given.id }).await.map(|_| ())
         }
         Ask::Restore(given) => restore(&service.job(&given.job), given).await,
-        Ask::Term(given) => said(at.json, &service.job(&given.job).term().await?, tables::term),
+        Ask::Term(given) => print_answer(at.json, &service.job(&given.job).term().await?, tables::term),
         Ask::Fence(given) => fence(&service.job(&given.job), given).await,
         Ask::Advance(given) => {
-            said(at.json, &above(&service.job(&given.job), given.term, given.name).await?, tables::made)
+            print_answer(at.json, &above(&service.job(&given.job), given.term, given.name).await?, tables::action)
         }
         Ask::Cancel(given) => call(&service.job(&given.job), at.json, Call::Cancel).await.map(|_| ()),
         Ask::Delete(given) => delete(&service, given).await,
@@ -77,29 +77,34 @@ async fn asked(given: &Ask) -> Result<(), Ended> {
 }
 
 /// Prints an answer as JSON for programs, or as text for people.
-fn said(json: bool, value: &Value, text: impl FnOnce(&Value) -> String) -> Result<(), Ended> {
+fn print_answer(json: bool, value: &Value, text: impl FnOnce(&Value) -> String) -> Result<(), Ended> {
     let text = if json { format!("{value}\n") } else { text(value) };
     let mut out = std::io::stdout().lock();
     out.write_all(text.as_bytes())?;
     Ok(out.flush()?)
 }
 
+/// The jobs. One that is kept out is none of them, and is told beside.
 async fn jobs(service: &Service) -> Result<Value, Ended> {
     let mut told = service.jobs().await?;
+    for job in told["damaged"].as_array().map(Vec::as_slice).unwrap_or_default() {
+        let [name, why] = ["name", "why"].map(|member| job[member].as_str().unwrap_or_default());
+        log::error(&format!("job {name} is damaged, and is kept out: {why}"));
+    }
     Ok(told["jobs"].take())
 }
 
 async fn show(job: &Job, given: &words::Show) -> Result<(), Ended> {
     match given.id {
-        None => said(given.at.json, &job.state().await?, tables::job),
-        Some(id) => said(given.at.json, &job.record(id).await?, tables::record),
+        None => print_answer(given.at.json, &job.state().await?, tables::job),
+        Some(id) => print_answer(given.at.json, &job.record(id).await?, tables::record),
     }
 }
 
 async fn files(job: &Job, given: &words::Files) -> Result<(), Ended> {
     match given.file {
-        None => said(given.at.json, &job.files(given.most).await?, tables::files),
-        Some(file) => said(given.at.json, &job.file(file).await?, tables::file),
+        None => print_answer(given.at.json, &job.files(given.most).await?, tables::files),
+        Some(file) => print_answer(given.at.json, &job.file(file).await?, tables::file),
     }
 }
 
@@ -115,7 +120,7 @@ async fn print_log(job: &Job, given: &words::Log) -> Result<(), Ended> {
         };
         after = last["seq"].as_u64().unwrap_or(u64::MAX);
         left -= (calls.len() as u64).min(left);
-        calls.iter().try_for_each(|one| said(given.at.json, one, tables::call))?;
+        calls.iter().try_for_each(|one| print_answer(given.at.json, one, tables::call))?;
     }
     Ok(())
 }
@@ -125,7 +130,7 @@ async fn call(job: &Job, json: bool, call: Call) -> Result<Value, Ended> {
     let mut answers = job.calls(&[call]).await?;
     match answers.pop() {
         Some(Answer::Made { reply, .. }) => {
-            said(json, &reply, tables::made)?;
+            print_answer(json, &reply, tables::action)?;
             Ok(reply)
         }
         Some(Answer::Refused { name, .. } | Answer::Fenced { name, .. }) => Err(Ended::Refused(name)),
@@ -167,9 +172,9 @@ async fn above(job: &Job, term: Option<u64>, name: Option<u64>) -> Result<Value,
 async fn fence(job: &Job, given: &words::Fence) -> Result<(), Ended> {
     match job.fence(given.first_name).await {
         Err(Error::Fenced { name, .. }) if name == HAS_NAMES => {
-            said(given.at.json, &pass_over(job, given.first_name).await?, tables::term)
+            print_answer(given.at.json, &pass_over(job, given.first_name).await?, tables::term)
         }
-        told => said(given.at.json, &told?, tables::fenced),
+        told => print_answer(given.at.json, &told?, tables::fenced),
     }
 }
 
@@ -199,7 +204,7 @@ async fn delete(service: &Service, given: &words::Delete) -> Result<(), Ended> {
     if !service.delete(job, given.abandon).await? {
         return Err(Ended::NoJob(job.to_string()));
     }
-    said(given.at.json, &json!({"deleted": job}), |_| format!("job {job} is deleted\n"))
+    print_answer(given.at.json, &json!({"deleted": job}), |_| format!("job {job} is deleted\n"))
 }
 
 async fn savepoint(job: &Job, given: &words::Savepoint) -> Result<(), Ended> {
@@ -210,26 +215,26 @@ async fn savepoint(job: &Job, given: &words::Savepoint) -> Result<(), Ended> {
     }
     let (id, seq) = (reply["id"].as_u64().unwrap_or(0), reply["seq"].as_u64().unwrap_or(0));
     complete(job, "savepoint", id, seq, began + Duration::from_secs(given.wait)).await?;
-    said(given.at.json, &json!({"completed": id}), |_| format!("savepoint {id} is complete\n"))
+    print_answer(given.at.json, &json!({"completed": id}), |_| format!("savepoint {id} is complete\n"))
 }
 
 async fn checkpoint(job: &Job, given: &words::Checkpoint) -> Result<(), Ended> {
     let began = Instant::now();
     let reply = job.checkpoint().await?;
     let (id, seq) = (reply["id"].as_u64().unwrap_or(0), reply["seq"].as_u64().unwrap_or(0));
-    said(given.at.json, &reply, |_| format!("checkpoint {id} is triggered\n"))?;
+    print_answer(given.at.json, &reply, |_| format!("checkpoint {id} is triggered\n"))?;
     if given.wait == 0 {
         return Ok(());
     }
     complete(job, "checkpoint", id, seq, began + Duration::from_secs(given.wait)).await?;
-    said(given.at.json, &json!({"completed": id}), |_| format!("checkpoint {id} is complete\n"))
+    print_answer(given.at.json, &json!({"completed": id}), |_| format!("checkpoint {id} is complete\n"))
 }
 
 /// Stops a job. One that stops already, or has stopped, is not stopped again.
 async fn stop(job: &Job, given: &words::Stop) -> Result<(), Ended> {
     let until = Instant::now() + Duration::from_secs(given.wait);
     match job.stop_job().await {
-        Ok(reply) => said(given.at.json, &reply, tables::stopping)?,
+        Ok(reply) => print_answer(given.at.json, &reply, tables::stopping)?,
         Err(Error::Refused(name)) if STANDS.contains(&name.as_str()) => {}
         Err(error) => return Err(error.into()),
     }
@@ -237,7 +242,7 @@ async fn stop(job: &Job, given: &words::Stop) -> Result<(), Ended> {
         return Ok(());
     }
     let id = stopped(job, until).await?;
-    said(given.at.json, &json!({"stopped": id}), |_| format!("the job has stopped at savepoint {id}\n"))
+    print_answer(given.at.json, &json!({"stopped": id}), |_| format!("the job has stopped at savepoint {id}\n"))
 }
 
 /// Waits until a job has stopped, and returns the savepoint.
@@ -261,7 +266,7 @@ async fn stopped(job: &Job, until: Instant) -> Result<u64, Ended> {
 
 async fn set(job: &Job, given: &words::Set) -> Result<(), Ended> {
     let settings = Value::Object(given.settings.iter().cloned().collect());
-    said(given.at.json, &job.set(&settings).await?, tables::set)
+    print_answer(given.at.json, &job.set(&settings).await?, tables::set)
 }
 
 /// Waits until a record is complete, by the events after its trigger.

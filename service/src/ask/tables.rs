@@ -219,7 +219,7 @@ fn settings(settings: &Value) -> String {
 }
 
 /// What a call did that a user made.
-pub fn made(reply: &Value) -> String {
+pub fn action(reply: &Value) -> String {
     let of = |name: &str| cell(&reply[name]);
     let mut text = match reply.as_object().and_then(|members| {
         ["savepoint", "dispose", "restore", "cancel"]

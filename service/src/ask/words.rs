@@ -1,6 +1,6 @@
 //! The command line of the commands that ask a service.
 use crate::cli::job_name;
-use crate::files::{Names, Where};
+use crate::files::{FileNames, Where};
 use clap::{ArgGroup, Args, Subcommand};
 use serde_json::Value;
 use std::path::PathBuf;
@@ -122,7 +122,7 @@ pub struct Savepoints {
     #[command(flatten)]
     pub place: Where,
     #[command(flatten)]
-    pub names: Names,
+    pub names: FileNames,
     #[command(flatten)]
     pub at: At,
 }
@@ -136,7 +136,7 @@ pub struct Orphans {
     #[arg(long, value_name = "DIR")]
     pub folder: PathBuf,
     #[command(flatten)]
-    pub names: Names,
+    pub names: FileNames,
     #[command(flatten)]
     pub at: At,
 }
@@ -241,7 +241,7 @@ pub struct Restore {
     #[command(flatten)]
     pub place: Where,
     #[command(flatten)]
-    pub names: Names,
+    pub names: FileNames,
     #[command(flatten)]
     pub at: At,
 }
@@ -312,7 +312,7 @@ pub struct End {
     #[arg(long, value_name = "DIR")]
     pub folder: PathBuf,
     #[command(flatten)]
-    pub names: Names,
+    pub names: FileNames,
     #[command(flatten)]
     pub at: At,
 }

@@ -1,6 +1,6 @@
 //! The deletions of a discarder in the place of a job's files: what it makes sure of first, and what it writes down of them.
 use crate::cli;
-use crate::files::{self, Gone, Marked, Names, Need, Owner, Place, Stop, BEGUN};
+use crate::files::{self, FileNames, Gone, Marked, Need, Owner, Stop, Storage, BEGUN};
 use crate::log;
 use std::collections::HashSet;
 
@@ -30,7 +30,7 @@ pub struct Known {
 /// The place that a discarder works in. Its marker is locked, which keeps other discarders out.
 pub struct Deletions {
     marked: Marked,
-    names: Names,
+    names: FileNames,
     allow_absent: bool,
     /// Whether this run wrote down first how the files are named.
     says_first: bool,
@@ -39,9 +39,9 @@ pub struct Deletions {
 impl Deletions {
     /// Begins in a place, and checks its marker. Makes the marker in the first run for a job, or with `--init`.
     pub fn begin(
-        mut place: Box<dyn Place>,
+        mut place: Box<dyn Storage>,
         given: &cli::Discard,
-        names: &Names,
+        names: &FileNames,
         known: &Known,
     ) -> Result<Deletions, NotOpen> {
         let (name, text) = (known.owner.marker(), known.owner.text());
@@ -130,7 +130,7 @@ impl Deletions {
 }
 
 /// Refuses a place in which another job may have files of the same names.
-fn check(place: &dyn Place, marker: &str, names: &Names, known: &Known, need: Need) -> Result<(), Stop> {
+fn check(place: &dyn Storage, marker: &str, names: &FileNames, known: &Known, need: Need) -> Result<(), Stop> {
     if known.has_names {
         files::check(place, marker, names, need)
     } else {
@@ -162,7 +162,7 @@ mod tests {
         goes_with: &'static str,
     }
 
-    impl Place for Memory {
+    impl Storage for Memory {
         fn title(&self) -> String {
             "memory".to_string()
         }
@@ -223,7 +223,7 @@ mod tests {
     #[test]
     fn a_marker_that_goes_during_deletions_is_noticed() -> Result<(), Stop> {
         let owner = Owner { job: "a".to_string(), opened: 7 };
-        let names = Names { prefix: "s-".to_string(), suffix: String::new() };
+        let names = FileNames { prefix: "s-".to_string(), suffix: String::new() };
         let files = Files::default();
         let place = Memory { files: Rc::clone(&files), goes_with: "s-3" };
         for name in ["s-1", "s-2", "s-3"] {
@@ -243,7 +243,7 @@ mod tests {
     #[test]
     fn files_that_are_all_absent_were_begun_with_or_are_refused() -> Result<(), Stop> {
         let owner = Owner { job: "a".to_string(), opened: 7 };
-        let names = Names { prefix: "s-".to_string(), suffix: String::new() };
+        let names = FileNames { prefix: "s-".to_string(), suffix: String::new() };
         let place = Memory { files: Files::default(), goes_with: "" };
         place.write("s-1", "state")?;
         place.write(&owner.marker(), &owner.text())?;

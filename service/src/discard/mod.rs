@@ -4,7 +4,7 @@ mod metrics;
 
 use crate::cli;
 use crate::exit::NOT_TO_START;
-use crate::files::{Gone, Names, Owner, Stop};
+use crate::files::{FileNames, Gone, Owner, Stop};
 use crate::log;
 use crate::metrics_server;
 use crate::remote;
@@ -92,7 +92,7 @@ async fn work(given: &cli::Discard) -> Result<(), Stop> {
             Err(Stop::Again(why)) if !given.once => log::warn(&format!("it tries again later: {why}")),
             ended => return ended,
         }
-        metrics.works(false);
+        metrics.has_folder(false);
         if began.elapsed() > LONGEST_PAUSE {
             pause = Pause::new();
         }
@@ -100,22 +100,22 @@ async fn work(given: &cli::Discard) -> Result<(), Stop> {
     }
 }
 
-async fn discard(given: &cli::Discard, job: &Job, names: &Names, metrics: &Metrics) -> Result<(), Stop> {
+async fn discard(given: &cli::Discard, job: &Job, names: &FileNames, metrics: &Metrics) -> Result<(), Stop> {
     let deletions = deletions(given, job, names, metrics).await?;
     Discarder { job, deletions, metrics, once: given.once }.work().await
 }
 
 /// Begins in the place, once no other discarder works there. Each try reads anew whose files it has: the job may be another one by then.
 /// `--once` does not wait.
-async fn deletions(given: &cli::Discard, job: &Job, names: &Names, metrics: &Metrics) -> Result<Deletions, Stop> {
+async fn deletions(given: &cli::Discard, job: &Job, names: &FileNames, metrics: &Metrics) -> Result<Deletions, Stop> {
     let (mut pause, mut waits) = (Pause::new(), false);
     loop {
-        let known = known(job, given).await?;
+        let known = known(job, given, metrics).await?;
         let place = given.place.open(&given.names, &known.owner)?;
         let why = format!("another discarder works in {}", place.title());
         match Deletions::begin(place, given, names, &known) {
             Ok(deletions) => {
-                metrics.works(true);
+                metrics.has_folder(true);
                 return Ok(deletions);
             }
             Err(NotOpen::Stop(stop)) => return Err(stop),
@@ -127,7 +127,7 @@ async fn deletions(given: &cli::Discard, job: &Job, names: &Names, metrics: &Met
     }
 }
 
-fn service(given: &cli::Discard) -> Result<(Service, Names), Stop> {
+fn service(given: &cli::Discard) -> Result<(Service, FileNames), Stop> {
     if let Some(folder) = given.place.folder.as_deref().filter(|folder| !folder.is_dir()) {
         return Err(Stop::Again(format!("--folder: {} is no folder", folder.display())));
     }
@@ -140,11 +140,11 @@ fn service(given: &cli::Discard) -> Result<(Service, Names), Stop> {
 }
 
 /// Whose files the place has, and whether this is the first run for the job: none of its files was taken before.
-async fn known(job: &Job, given: &cli::Discard) -> Result<Known, Stop> {
+async fn known(job: &Job, given: &cli::Discard, metrics: &Metrics) -> Result<Known, Stop> {
     let until = Instant::now() + HISTORY_PATIENCE;
     loop {
-        let state = insist(given.once, || job.state()).await?;
-        let files = insist(given.once, || job.files(1)).await?;
+        let state = insist(given.once, metrics, || job.state()).await?;
+        let files = insist(given.once, metrics, || job.files(1)).await?;
         let number = |value: &Value, name: &str| value[name].as_u64().unwrap_or(0);
         let is_empty = |name: &str| files[name].as_array().is_some_and(Vec::is_empty);
         let is_read = number(&files, "upto") >= number(&state, "seq");
@@ -158,18 +158,22 @@ async fn known(job: &Job, given: &cli::Discard) -> Result<Known, Stop> {
 }
 
 /// Asks until the answer is no error: the job may be opened later, and the token may be one day in the service's file.
-/// `--once` does not.
-async fn insist<T, F>(once: bool, ask: impl Fn() -> F) -> Result<T, Stop>
+/// `--once` does not. The metrics say that it waits.
+async fn insist<T, F>(once: bool, metrics: &Metrics, ask: impl Fn() -> F) -> Result<T, Stop>
 where
     F: Future<Output = Result<T, Error>>,
 {
     let mut pause = Pause::new();
     loop {
         match ask().await {
-            Ok(told) => return Ok(told),
+            Ok(told) => {
+                metrics.answered();
+                return Ok(told);
+            }
             Err(error) if once => return Err(Stop::Again(error.to_string())),
             Err(error) => log::warn(&format!("it asks again: {error}")),
         }
+        metrics.waits();
         pause.rest().await;
     }
 }
@@ -203,7 +207,7 @@ impl Discarder<'_> {
 
     /// The files that were taken and never reported.
     async fn left(&self) -> Result<Vec<u64>, Stop> {
-        let files = insist(self.once, || self.job.files(1000)).await?;
+        let files = insist(self.once, self.metrics, || self.job.files(1000)).await?;
         let taken = files["taken"].as_array().map(Vec::as_slice).unwrap_or_default();
         let number = |row: &Value| row["file"].as_str()?.parse().ok();
         Ok(taken.iter().filter_map(number).collect())
@@ -216,7 +220,7 @@ impl Discarder<'_> {
             let files = answers.first().and_then(Answer::files);
             files.ok_or_else(|| Error::Answer(format!("to take is {answers:?}")))
         };
-        insist(self.once, ask).await
+        insist(self.once, self.metrics, ask).await
     }
 
     /// Deletes files for good and then reports each. Returns how many could not be deleted.
@@ -254,7 +258,7 @@ impl Discarder<'_> {
     /// Makes reports, and returns how many were refused.
     async fn report(&self, reports: &[Call]) -> Result<usize, Stop> {
         let key = new_key();
-        let answers = insist(self.once, || self.job.calls_with_key(reports, &key)).await?;
+        let answers = insist(self.once, self.metrics, || self.job.calls_with_key(reports, &key)).await?;
         Ok(answers.iter().filter(|answer| matches!(answer, Answer::Refused { .. })).count())
     }
 }

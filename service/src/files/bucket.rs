@@ -1,6 +1,6 @@
 //! A bucket of S3, which a program in Python reaches for this one, `python3 -m relkvanu.bucket`: Debian has no library of S3 for Rust. It is told a
 //! line of JSON for each thing to do, answers with a line, and decides nothing.
-use super::{Found, Gone, Names, Owner, Pages, Place, Stop, Where};
+use super::{FileNames, Found, Gone, Owner, Pages, Stop, Storage, Where};
 use serde_json::{json, Value};
 use std::cell::RefCell;
 use std::io::{BufRead, BufReader, Write};
@@ -11,11 +11,11 @@ pub struct Bucket {
     bucket: String,
     /// The folder of the bucket, with a slash behind it, and the names there.
     folder: String,
-    names: Names,
+    names: FileNames,
 }
 
 impl Bucket {
-    pub fn open(given: &Where, bucket: &str, names: &Names, owner: &Owner) -> Result<Bucket, Stop> {
+    pub fn open(given: &Where, bucket: &str, names: &FileNames, owner: &Owner) -> Result<Bucket, Stop> {
         let (folder, base) = names.in_bucket();
         let mut helper = Helper::start()?;
         helper.ask(&json!({
@@ -35,7 +35,7 @@ impl Bucket {
     }
 }
 
-impl Place for Bucket {
+impl Storage for Bucket {
     fn title(&self) -> String {
         format!("s3://{}/{}", self.bucket, self.folder.trim_end_matches('/'))
     }

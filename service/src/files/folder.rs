@@ -1,5 +1,5 @@
 //! A folder of files, held open.
-use super::{Found, Gone, Pages, Place, Stop};
+use super::{Found, Gone, Pages, Stop, Storage};
 use crate::log;
 use rustix::fd::OwnedFd;
 use rustix::fs::{openat, renameat, statat, unlinkat, AtFlags, Dir, FileType, Mode, OFlags};
@@ -57,7 +57,7 @@ impl Folder {
     }
 }
 
-impl Place for Folder {
+impl Storage for Folder {
     fn title(&self) -> String {
         self.path.display().to_string()
     }

@@ -1,5 +1,5 @@
 //! The marker of a job: the file that says whose files a place has.
-use super::{Place, Stop};
+use super::{Stop, Storage};
 use std::ops::Deref;
 
 /// Whose files a place has.
@@ -29,13 +29,13 @@ pub fn begins(job: &str) -> String {
 
 /// A place that has the marker of a job.
 pub struct Marked {
-    place: Box<dyn Place>,
+    place: Box<dyn Storage>,
     marker: String,
 }
 
 impl Marked {
-    /// That of this job, or why it is none.
-    pub fn open(mut place: Box<dyn Place>, owner: &Owner) -> Result<Marked, Stop> {
+    /// Holds the marker of this job. Fails if there is none, or it is that of another job.
+    pub fn open(mut place: Box<dyn Storage>, owner: &Owner) -> Result<Marked, Stop> {
         let marker = owner.marker();
         match place.hold(&marker)? {
             Some(text) if text == owner.text() => Ok(Marked { place, marker }),
@@ -58,7 +58,7 @@ impl Marked {
 }
 
 impl Deref for Marked {
-    type Target = dyn Place;
+    type Target = dyn Storage;
 
     fn deref(&self) -> &Self::Target {
         &*self.place
@@ -66,7 +66,7 @@ impl Deref for Marked {
 }
 
 /// What is said of a place that is not marked.
-pub fn no_marker(place: &dyn Place, name: &str) -> String {
+pub fn no_marker(place: &dyn Storage, name: &str) -> String {
     let may_be = if place.is_bucket() {
         "it may be the wrong bucket, or --prefix is wrong"
     } else {
@@ -75,7 +75,7 @@ pub fn no_marker(place: &dyn Place, name: &str) -> String {
     format!("{} has no file {name}: {may_be}. If it is the job's, run relkvanu discard once with --init", place.title())
 }
 
-fn other_marker(place: &dyn Place, name: &str) -> String {
+fn other_marker(place: &dyn Storage, name: &str) -> String {
     format!(
         "{}/{name} names another job, or a job of this name of another service: its files have other numbers. If the folder is of \
          this one, run it once with --init",

@@ -1,4 +1,4 @@
-//! Where a job's files are: a folder, or a bucket. A `Place` is asked for what either can do. Whose place it is, and what may be deleted there, is
+//! Where a job's files are: a folder, or a bucket. A `Storage` is asked for what either can do. Whose place it is, and what may be deleted there, is
 //! decided in `marked`, `others` and the commands, once for both.
 mod bucket;
 mod folder;
@@ -8,7 +8,7 @@ mod others;
 
 pub use folder::Folder;
 pub use marked::{no_marker, Marked, Owner};
-pub use names::Names;
+pub use names::FileNames;
 pub use others::{check, check_markers, check_own, forget, say, Need, BEGUN, MARK};
 
 use bucket::Bucket;
@@ -48,7 +48,7 @@ pub struct Where {
 
 impl Where {
     /// The names of the files where they are, or why there can be no such names.
-    pub fn names(&self, names: &Names) -> Result<Names, String> {
+    pub fn names(&self, names: &FileNames) -> Result<FileNames, String> {
         let base = if self.bucket.is_some() { names.in_bucket().1 } else { names.clone() };
         base.check().map(|()| base)
     }
@@ -58,7 +58,7 @@ impl Where {
     }
 
     /// Opens it for a job.
-    pub fn open(&self, names: &Names, owner: &Owner) -> Result<Box<dyn Place>, Stop> {
+    pub fn open(&self, names: &FileNames, owner: &Owner) -> Result<Box<dyn Storage>, Stop> {
         match (&self.folder, &self.bucket) {
             (Some(path), _) => Ok(Box::new(Folder::open(path)?)),
             (None, Some(bucket)) => Ok(Box::new(Bucket::open(self, bucket, names, owner)?)),
@@ -86,7 +86,7 @@ pub struct Found {
 
 /// A folder or a bucket with files. Names are those in it, without a path. It stays the same one until it is dropped, also if another disk is
 /// mounted or renamed to its path.
-pub trait Place {
+pub trait Storage {
     /// What a person calls it.
     fn title(&self) -> String;
 

@@ -4,7 +4,7 @@ use clap::Args;
 
 /// How files are named. In a bucket the prefix begins with the folder of the files.
 #[derive(Args, Clone)]
-pub struct Names {
+pub struct FileNames {
     /// The part of a file's name before its number
     #[arg(long, default_value = "")]
     pub prefix: String,
@@ -16,7 +16,7 @@ pub struct Names {
 /// A file's name while it is written.
 const PART: &str = ".part";
 
-impl Names {
+impl FileNames {
     pub fn of(&self, file: u64) -> String {
         format!("{}{file}{}", self.prefix, self.suffix)
     }
@@ -33,13 +33,13 @@ impl Names {
     }
 
     /// The folder of a bucket where the files are, with a slash behind it, and their names there.
-    pub fn in_bucket(&self) -> (&str, Names) {
+    pub fn in_bucket(&self) -> (&str, FileNames) {
         let (folder, prefix) = self.prefix.split_at(self.prefix.rfind('/').map_or(0, |slash| slash + 1));
-        (folder, Names { prefix: prefix.to_string(), suffix: self.suffix.clone() })
+        (folder, FileNames { prefix: prefix.to_string(), suffix: self.suffix.clone() })
     }
 
     /// Whether a file of these names, or a part of one, may have a name of the others too.
-    pub fn may_be_those_of(&self, other: &Names) -> bool {
+    pub fn may_be_those_of(&self, other: &FileNames) -> bool {
         let are_digits = |rest: Option<&str>| rest.is_some_and(|rest| rest.bytes().all(|byte| byte.is_ascii_digit()));
         let begin = |one: &str, other: &str| are_digits(one.strip_prefix(other)) || are_digits(other.strip_prefix(one));
         let end = |one: &str, other: &str| are_digits(one.strip_suffix(other)) || are_digits(other.strip_suffix(one));
@@ -68,7 +68,7 @@ mod tests {
 
     #[test]
     fn names_of_two_jobs_may_be_the_same() {
-        let of = |(prefix, suffix): (&str, &str)| Names { prefix: prefix.to_string(), suffix: suffix.to_string() };
+        let of = |(prefix, suffix): (&str, &str)| FileNames { prefix: prefix.to_string(), suffix: suffix.to_string() };
         for (one, other, may_be) in [
             (("", ""), ("", ""), true),
             (("s-", ".bin"), ("s-", ".bin"), true),
@@ -88,7 +88,7 @@ mod tests {
 
     #[test]
     fn a_name_has_one_number() {
-        let names = Names { prefix: "state-".to_string(), suffix: ".bin".to_string() };
+        let names = FileNames { prefix: "state-".to_string(), suffix: ".bin".to_string() };
         assert_eq!(names.number(&names.of(u64::MAX)), Some(u64::MAX));
         for name in [
             "state-.bin",
@@ -106,10 +106,10 @@ mod tests {
 
     #[test]
     fn a_file_that_is_not_whole_has_a_number_too() {
-        let names = Names { prefix: "state-".to_string(), suffix: ".bin".to_string() };
+        let names = FileNames { prefix: "state-".to_string(), suffix: ".bin".to_string() };
         let found = ["state-7.bin", "state-7.bin.part", "state-7.bin.part.part", "state-07.bin.part", ".part"];
         assert_eq!(found.map(|name| names.number_or_part(name)), [Some(7), Some(7), None, None, None]);
-        let plain = Names { prefix: String::new(), suffix: String::new() };
+        let plain = FileNames { prefix: String::new(), suffix: String::new() };
         assert_eq!(["7", "7.part", "7.bin"].map(|name| plain.number_or_part(name)), [Some(7), Some(7), None]);
     }
 
@@ -122,7 +122,7 @@ mod tests {
             ("a/", "a/", ""),
             ("/s", "/", "s"),
         ] {
-            let names = Names { prefix: prefix.to_string(), suffix: ".sst".to_string() };
+            let names = FileNames { prefix: prefix.to_string(), suffix: ".sst".to_string() };
             let (found, there) = names.in_bucket();
             assert_eq!((found, there.of(7)), (folder, format!("{base}7.sst")));
         }

@@ -1,6 +1,6 @@
 //! Other jobs whose files are in the same place. Each job that gives out names begins with 1, so two of them need names that differ.
 use super::marked::begins;
-use super::{Names, Place, Stop};
+use super::{FileNames, Stop, Storage};
 use crate::http::is_name;
 use serde_json::{json, Value};
 use std::collections::BTreeSet;
@@ -28,7 +28,7 @@ pub enum Need {
 
 /// Refuses a folder with the marker of a job that is named as a file beside this job's marker is, or the other way round. Each of the two
 /// would overwrite what the other one wrote.
-pub fn check_markers(place: &dyn Place, own: &str) -> Result<(), Stop> {
+pub fn check_markers(place: &dyn Storage, own: &str) -> Result<(), Stop> {
     let clash = |one: &str, other: &str| [NAMES, BEGUN].iter().any(|end| one.strip_suffix(end) == Some(other));
     let Some(other) = others(place, own)?.into_iter().find(|other| clash(other, own) || clash(own, other)) else {
         return Ok(());
@@ -41,7 +41,7 @@ pub fn check_markers(place: &dyn Place, own: &str) -> Result<(), Stop> {
 }
 
 /// Refuses a folder in which another job may have files of the same names.
-pub fn check(place: &dyn Place, own: &str, names: &Names, need: Need) -> Result<(), Stop> {
+pub fn check(place: &dyn Storage, own: &str, names: &FileNames, need: Need) -> Result<(), Stop> {
     check_markers(place, own)?;
     for other in others(place, own)? {
         let why = match names_of(place, &other)? {
@@ -63,9 +63,9 @@ pub fn check(place: &dyn Place, own: &str, names: &Names, need: Need) -> Result<
 
 /// Refuses other names than those that the job's files have had here: none of its files would be found, and another job could take the
 /// names that they have.
-pub fn check_own(place: &dyn Place, own: &str, names: &Names) -> Result<(), Stop> {
+pub fn check_own(place: &dyn Storage, own: &str, names: &FileNames) -> Result<(), Stop> {
     match names_of(place, own)? {
-        Some(Names { prefix, suffix }) if prefix != names.prefix || suffix != names.suffix => Err(Stop::Never(format!(
+        Some(FileNames { prefix, suffix }) if prefix != names.prefix || suffix != names.suffix => Err(Stop::Never(format!(
             "{}/{own}{NAMES} says that the files of this job are named {prefix}NUMBER{suffix}: is --prefix or --suffix wrong? If the \
              files have other names now, run it once with --init",
             place.title()
@@ -76,7 +76,7 @@ pub fn check_own(place: &dyn Place, own: &str, names: &Names) -> Result<(), Stop
 
 /// Writes down how the files of the job are named, for discarders and sweepers of other jobs. What is known stays, unless it is to be said
 /// `anew`. Returns whether it was not known.
-pub fn say(place: &dyn Place, own: &str, names: &Names, anew: bool) -> Result<bool, Stop> {
+pub fn say(place: &dyn Storage, own: &str, names: &FileNames, anew: bool) -> Result<bool, Stop> {
     if names_of(place, own)?.is_some() && !anew {
         return Ok(false);
     }
@@ -86,19 +86,19 @@ pub fn say(place: &dyn Place, own: &str, names: &Names, anew: bool) -> Result<bo
 }
 
 /// Forgets how they are named: no file was there.
-pub fn forget(place: &dyn Place, own: &str) -> Result<(), Stop> {
+pub fn forget(place: &dyn Storage, own: &str) -> Result<(), Stop> {
     place.remove(&format!("{own}{NAMES}"))
 }
 
-fn names_of(place: &dyn Place, marker: &str) -> Result<Option<Names>, Stop> {
+fn names_of(place: &dyn Storage, marker: &str) -> Result<Option<FileNames>, Stop> {
     let text = place.read(&format!("{marker}{NAMES}"))?.unwrap_or_default();
     let said: Value = serde_json::from_str(&text).unwrap_or_default();
     let named = said["prefix"].as_str().zip(said["suffix"].as_str());
-    Ok(named.map(|(prefix, suffix)| Names { prefix: prefix.to_string(), suffix: suffix.to_string() }))
+    Ok(named.map(|(prefix, suffix)| FileNames { prefix: prefix.to_string(), suffix: suffix.to_string() }))
 }
 
 /// The markers of other jobs.
-fn others(place: &dyn Place, own: &str) -> Result<Vec<String>, Stop> {
+fn others(place: &dyn Storage, own: &str) -> Result<Vec<String>, Stop> {
     let names = place.beginning(MARK)?.into_iter();
     let known: BTreeSet<String> = names.filter(|name| name.strip_prefix(MARK).is_some_and(is_name)).collect();
     let mut found = Vec::new();
@@ -111,14 +111,14 @@ fn others(place: &dyn Place, own: &str) -> Result<Vec<String>, Stop> {
 }
 
 /// Whether a file is the marker of the storage of this job's engine.
-fn is_own_storage(place: &dyn Place, name: &str, own: &str) -> Result<bool, Stop> {
+fn is_own_storage(place: &dyn Storage, name: &str, own: &str) -> Result<bool, Stop> {
     let job = own.strip_prefix(MARK).unwrap_or_default();
     Ok(name == STORAGE
         && place.read(name)?.is_some_and(|text| text.strip_prefix(STORAGE_OF) == Some(&format!("{job}\n"))))
 }
 
 /// Whether a file says that it is the marker of the job by which it is named. A job may be named as a file beside another one's marker is.
-fn is_marker(place: &dyn Place, name: &str) -> Result<bool, Stop> {
+fn is_marker(place: &dyn Storage, name: &str) -> Result<bool, Stop> {
     let job = name.strip_prefix(MARK).unwrap_or_default();
     Ok(place.read(name)?.is_some_and(|text| text.starts_with(&begins(job))))
 }

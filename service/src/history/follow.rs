@@ -106,8 +106,9 @@ impl Follower {
     /// Goes on from an image, if calls before it can't be read and there is no summary of them. Forgets what they did to files.
     /// How records ended that were live then is not known.
     pub fn bridge(&mut self, tables: &Tables, image: &Image) -> Result<(), Error> {
-        let contents =
-            image.contents().ok_or_else(|| Error::BadLog(format!("the image after call {} is none", image.seq)))?;
+        let contents = image
+            .contents()
+            .ok_or_else(|| Error::BadLog(format!("the image after call {} can't be read", image.seq)))?;
         tables.within(|| self.take_over(tables, image, &contents))
     }
 

@@ -2,6 +2,7 @@
 use super::error::Error;
 use super::follow::Follower;
 use super::history_file::HistoryFile;
+use super::records::Ended;
 use super::samples::Samples;
 use super::summary::Summary;
 use super::tables::Tables;
@@ -9,7 +10,7 @@ use crate::log;
 use crate::metrics::Metrics;
 use crate::model::{Keeping, KeptSummary};
 use crate::process;
-use crate::store::{room_of, Reader};
+use crate::store::{space_of, Reader};
 use crate::writer::{Board, ForKeeping, Inbox, JobState, Message, Read, ReadDone, MOST_JOBS};
 use std::collections::hash_map::Entry;
 use std::collections::{HashMap, HashSet};
@@ -106,15 +107,11 @@ impl Historian {
         // a job that the tables have has been on the board, unless it was deleted, or is another process's
         let lengths: HashSet<i64> = self.board.lengths().into_iter().map(|(job, _)| job).collect();
         let away: HashSet<i64> = tables.jobs()?.into_iter().filter(|job| !lengths.contains(job)).collect();
-        let left: Vec<Follower> =
-            followers.extract_if(|number, _| !lengths.contains(number)).map(|(_, follower)| follower).collect();
-        if !left.is_empty() {
-            self.metrics.forget_all(left.iter().map(|follower| follower.name.as_str()));
-        }
+        followers.retain(|number, _| lengths.contains(number));
         if away == self.away {
             return Ok(());
         }
-        let there: HashSet<i64> = self.reader.jobs()?.into_iter().map(|opening| opening.number).collect();
+        let there: HashSet<i64> = self.reader.listed()?.into_iter().map(|job| job.number).collect();
         for job in away.iter().copied().filter(|job| !there.contains(job)) {
             while tables.within(|| Ok(tables.forget_piece(job)?))? {}
         }
@@ -134,9 +131,11 @@ impl Historian {
         }
         let new: HashSet<i64> =
             lengths.iter().map(|(job, _)| *job).filter(|job| !followers.contains_key(job)).collect();
-        for opening in self.reader.jobs()?.iter().filter(|opening| new.contains(&opening.number)) {
+        // one whose row is bad is kept out, and is not on the board
+        let openings = self.reader.listed()?.into_iter().filter_map(|listed| listed.opening.ok());
+        for opening in openings.filter(|opening| new.contains(&opening.number)) {
             if let Entry::Vacant(place) = followers.entry(opening.number) {
-                let follower = Follower::open(tables, self.reader.as_mut(), opening)?;
+                let follower = Follower::open(tables, self.reader.as_mut(), &opening)?;
                 self.tell(&follower);
                 place.insert(follower);
             }
@@ -154,17 +153,10 @@ impl Historian {
             return self.bridge(tables, follower);
         }
         let last = page.last().map_or(follower.upto, |entry| entry.seq);
-        let said = self.reader.said(follower.job, follower.upto, last)?;
+        let said = self.reader.ack_bytes(follower.job, follower.upto, last)?;
         let figures = self.reader.figures(follower.job, follower.upto, last)?;
         let ended = follower.follow(tables, &page, &said, &figures)?;
-        for (at, one) in ended.iter().filter(|(at, _)| *at >= self.since) {
-            debug_assert!(*at >= self.since);
-            let kind = one.kind.to_string();
-            self.metrics.record(&follower.name, &kind, one.how, one.took as f64 / 1000.0);
-            if let (Some(bytes), true) = (one.bytes, one.how == "completed") {
-                self.metrics.sizes.record(&follower.name, &kind, bytes);
-            }
-        }
+        self.tell_ended(follower, &ended);
         self.tell(follower);
         if next.is_some_and(|next| follower.upto >= next) {
             self.keep_summary(tables, follower)?;
@@ -212,7 +204,7 @@ impl Historian {
         let parts = Summary::of(tables, follower)?.parts(follower)?;
         let bytes = parts.last().map_or(0, |part| part.whole);
         for part in parts {
-            if !self.keep(ForKeeping::Summary { job: follower.name.clone(), part }) {
+            if !self.keep(ForKeeping::Summary(part)) {
                 return Ok(());
             }
         }
@@ -238,8 +230,28 @@ impl Historian {
     }
 
     fn tell(&self, follower: &Follower) {
-        self.metrics.history(&follower.name, follower.upto);
-        self.board.set_history(&follower.name, follower.upto);
+        let is_there = || self.is_there(&follower.name, follower.job);
+        self.metrics.of_job(&follower.name, is_there, |metrics| metrics.history(&follower.name, follower.upto));
+        self.board.set_history(&follower.name, follower.job, follower.upto);
+    }
+
+    /// Counts the records that ended since this process serves.
+    fn tell_ended(&self, follower: &Follower, ended: &[(u64, Ended)]) {
+        let is_there = || self.is_there(&follower.name, follower.job);
+        self.metrics.of_job(&follower.name, is_there, |metrics| {
+            for (_, one) in ended.iter().filter(|(at, _)| *at >= self.since) {
+                let kind = one.kind.to_string();
+                metrics.record(&follower.name, &kind, one.how, one.took as f64 / 1000.0);
+                if let (Some(bytes), true) = (one.bytes, one.how == "completed") {
+                    metrics.sizes.record(&follower.name, &kind, bytes);
+                }
+            }
+        });
+    }
+
+    /// Whether the job of this name is still that of this number: it may have been deleted, and another one opened under its name.
+    fn is_there(&self, name: &str, number: i64) -> bool {
+        self.board.number(name) == Some(number)
     }
 
     /// Writes how many files and pending records each job has, if it is time, and deletes old samples.
@@ -266,7 +278,9 @@ impl Historian {
                 |at: Option<u64>| at.map_or(Duration::ZERO, |at| Duration::from_millis(job.now.saturating_sub(at)));
             let none = job.files.waiting + job.files.taken == 0;
             let (waiting, taken) = if none { (None, None) } else { tables.oldest_files(job.opening.number)? };
-            self.metrics.upkeep.oldest_files(&job.opening.name, age(waiting), age(taken));
+            let (name, ages) = (&job.opening.name, (age(waiting), age(taken)));
+            let is_there = || self.is_there(name, job.opening.number);
+            self.metrics.of_job(name, is_there, |metrics| metrics.upkeep.oldest_files(name, ages.0, ages.1));
         }
         Ok(())
     }
@@ -295,13 +309,13 @@ impl Historian {
             return;
         }
         self.measured = Some(Instant::now());
-        let database = self.reader.room().map_err(|error| error.to_string());
-        let history = room_of(self.file.path()).map_err(|error| error.to_string());
+        let database = self.reader.space().map_err(|error| error.to_string());
+        let history = space_of(self.file.path()).map_err(|error| error.to_string());
         for (of, told) in [("database", database), ("history", history)] {
             match told {
-                Ok(room) => {
-                    self.metrics.upkeep.stored(of, room.bytes);
-                    room.disk.into_iter().for_each(|disk| self.metrics.upkeep.disk(of, disk));
+                Ok(space) => {
+                    self.metrics.upkeep.stored(of, space.bytes);
+                    space.disk.into_iter().for_each(|disk| self.metrics.upkeep.disk(of, disk));
                 }
                 Err(why) => log::warn(&format!("the size of the {of}: {why}")),
             }

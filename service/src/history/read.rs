@@ -135,7 +135,7 @@ impl HistoryReader {
     }
 
     /// At most this many records that are complete or have failed, the greatest number first.
-    pub fn ended(&self, job: i64, most: u64) -> Result<Vec<RecordRow>, Error> {
+    pub fn ended_records(&self, job: i64, most: u64) -> Result<Vec<RecordRow>, Error> {
         let sql =
             format!("select {RECORD} from record where job = ? and finished is not null order by id desc limit ?");
         self.all(&sql, params![job, bits(most)], record_of)

@@ -119,7 +119,7 @@ impl Records {
         if let (Call::Decline { id, .. }, Some(Figure { reason: Some(reason), .. })) = (call, figure) {
             tables.set_reason(entry.job, *id, reason)?;
         }
-        for (place, id) in entry.ended().into_iter().enumerate() {
+        for (place, id) in entry.ended_records().into_iter().enumerate() {
             ended.extend(self.end(tables, id, (place as u64) < expired(reply), call, entry)?);
         }
         if let Call::Restore { shape: Some(shape), .. } = call {

@@ -11,7 +11,7 @@ use serde::{Deserialize, Serialize};
 /// The columns of a file that was not reported as deleted: its number, and the places of `born`, `released` and `taken`.
 type File = (i64, Option<i64>, Option<i64>, Option<i64>);
 /// The columns of a call that files name: `seq`, `at`, `record`, `line`, `what`, `a`, `b`, `ended` and `waiting`.
-type Place = (i64, i64, Option<i64>, String, i64, i64, i64, Option<String>, i64);
+type CallRow = (i64, i64, Option<i64>, String, i64, i64, i64, Option<String>, i64);
 
 /// All but the records that ended.
 #[derive(Serialize, Deserialize, Debug)]
@@ -24,7 +24,7 @@ pub struct Summary {
     files: Vec<File>,
     /// The calls that released the files that wait, and of how many files each.
     queue: Vec<(i64, i64)>,
-    places: Vec<Place>,
+    places: Vec<CallRow>,
     /// The files whose bytes are known, and these.
     sizes: Vec<(i64, i64)>,
 }

@@ -1,9 +1,9 @@
 //! When each subtask acknowledged a record, as the log has it: who is slow.
 use super::query::{numbers, Parameter};
-use super::reply::{error, json_reply, Reply};
+use super::reply::{error, json_reply, HttpReply};
 use super::App;
 use crate::history::rank;
-use crate::model::{parse_line, AckBytes, Answer, Call, Entry, Reply as Made, Subtask};
+use crate::model::{parse_line, AckBytes, Answer, Call, Entry, Reply, Subtask};
 use crate::store::{DbError, Reader};
 use serde_json::{json, Value};
 
@@ -27,7 +27,7 @@ impl Ack {
         let (_, Call::Ack { subtask, fresh, reused, .. }) = parse_line(&entry.line)? else {
             return None;
         };
-        let is_late = matches!(entry.reply()?, Made::Answered(Answer::AckLate { .. }));
+        let is_late = matches!(entry.reply()?, Reply::Answered(Answer::AckLate { .. }));
         let (fresh, reused) = (fresh.len(), reused.len());
         Some(Ack { seq: entry.seq, at: entry.at, subtask, is_late, fresh, reused })
     }
@@ -47,7 +47,7 @@ impl Ack {
     }
 }
 
-pub async fn answer(app: &App, job: String, id: u64, query: &str) -> Result<Reply, Box<Reply>> {
+pub async fn answer(app: &App, job: String, id: u64, query: &str) -> Result<HttpReply, Box<HttpReply>> {
     let [most] = numbers(query, [LIMIT])?;
     let number = app.number(&job)?;
     let Some(record) = app.read_history(move |history| history.record(number, id)).await? else {
@@ -89,14 +89,14 @@ fn acks(reader: &mut dyn Reader, job: i64, id: u64) -> Result<(Vec<Ack>, Vec<Ack
         found.extend(page.iter().filter_map(Ack::of));
     }
     let (first, last) = (found.first().map_or(0, |ack| ack.seq), found.last().map_or(0, |ack| ack.seq));
-    let said = reader.said(job, first.saturating_sub(1), last)?;
+    let said = reader.ack_bytes(job, first.saturating_sub(1), last)?;
     Ok((found, said))
 }
 
 #[cfg(test)]
 mod tests {
     use super::*;
-    use crate::model::Told;
+    use crate::model::AnswerRow;
 
     #[test]
     fn other_calls_are_no_acknowledgements() {
@@ -106,7 +106,7 @@ mod tests {
             at: 30,
             record: Some(1),
             line: line.to_string(),
-            told: Told::of(&Made::Answered(answer)),
+            told: AnswerRow::of(&Reply::Answered(answer)),
             ended: None,
             waiting: 0,
         };

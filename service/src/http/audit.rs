@@ -1,6 +1,6 @@
 //! Who called what: lines of the service's log. There is one for each request that a user makes to change something, one for each
 //! that is refused for its token or fails, though no more than one a second, and one for each request if the configuration says so.
-use super::reply::Reply;
+use super::reply::HttpReply;
 use super::route::Route;
 use crate::log;
 use crate::model::{Call, Change, FIELDS};
@@ -45,7 +45,7 @@ impl Did {
 }
 
 /// A request, for its line.
-pub struct Asked {
+pub struct RequestLine {
     pub method: Method,
     pub path: String,
     pub since: Instant,
@@ -70,7 +70,7 @@ impl Audit {
     }
 
     /// Writes the line of a request that was answered, if it has one. `by` names its token.
-    pub fn answered(&self, asked: &Asked, route: Option<&Route>, by: Option<&str>, reply: &mut Reply) {
+    pub fn answered(&self, asked: &RequestLine, route: Option<&Route>, by: Option<&str>, reply: &mut HttpReply) {
         let (status, did) = (reply.status().as_u16(), reply.extensions_mut().remove::<Did>());
         // a standby answers 503 to each request
         let is_bad = matches!(status, 401 | 403) || status >= 500 && status != 503;

@@ -29,17 +29,17 @@ impl Bodies {
 }
 
 /// The room of one body. It is free again once this is dropped.
-pub struct Room {
+pub struct BodyRoom {
     bodies: Arc<Bodies>,
     /// The name of the token; `None` where there is only one, or none.
     token: Option<String>,
     bytes: usize,
 }
 
-impl Room {
+impl BodyRoom {
     /// The room of a body of which nothing has come.
-    pub fn new(bodies: &Arc<Bodies>, token: Option<String>) -> Room {
-        Room { bodies: Arc::clone(bodies), token, bytes: 0 }
+    pub fn new(bodies: &Arc<Bodies>, token: Option<String>) -> BodyRoom {
+        BodyRoom { bodies: Arc::clone(bodies), token, bytes: 0 }
     }
 
     /// Takes what is missing for a body of so many bytes. Returns whether there is room.
@@ -62,7 +62,7 @@ impl Room {
     }
 }
 
-impl Drop for Room {
+impl Drop for BodyRoom {
     fn drop(&mut self) {
         let mut state = self.bodies.state();
         state.free += self.bytes;
@@ -89,15 +89,15 @@ mod tests {
     #[test]
     fn no_token_takes_the_room_of_all_others() {
         let (bodies, token) = (bodies(), |name: &str| Some(name.to_string()));
-        let mut some: Vec<Room> = (0..6).map(|_| Room::new(&bodies, token("a"))).collect();
+        let mut some: Vec<BodyRoom> = (0..6).map(|_| BodyRoom::new(&bodies, token("a"))).collect();
         assert_eq!(
             some.iter_mut().map(|room| room.grow(10)).collect::<Vec<_>>(),
             [true, true, true, true, true, false]
         );
-        let (mut other, mut more) = (Room::new(&bodies, token("b")), Room::new(&bodies, token("b")));
+        let (mut other, mut more) = (BodyRoom::new(&bodies, token("b")), BodyRoom::new(&bodies, token("b")));
         // half of what is left, and then one body of the greatest length
         assert!(other.grow(25) && !more.grow(1));
-        let mut third = Room::new(&bodies, token("c"));
+        let mut third = BodyRoom::new(&bodies, token("c"));
         assert!(third.grow(10) && !third.grow(14));
         drop((some, other));
         assert!(more.grow(45) && bodies.state().of.len() == 2);
@@ -108,7 +108,7 @@ mod tests {
     #[test]
     fn one_token_may_take_all() {
         let bodies = bodies();
-        let mut rooms: Vec<Room> = (0..11).map(|_| Room::new(&bodies, None)).collect();
+        let mut rooms: Vec<BodyRoom> = (0..11).map(|_| BodyRoom::new(&bodies, None)).collect();
         assert_eq!(rooms.iter_mut().filter_map(|room| room.grow(10).then_some(())).count(), 10);
         // a body that comes in parts takes its bytes once
         rooms.truncate(1);

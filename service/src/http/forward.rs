@@ -1,6 +1,6 @@
 //! The other processes that share the jobs: requests for jobs of theirs are passed on to them, and lists are put together. A request is
 //! passed on once at most, with the token of its client, which decides there what it may do.
-use super::reply::{error, with_header, Reply};
+use super::reply::{error, with_header, HttpReply};
 use super::{gate, no_job, App};
 use crate::sharing::{Owner, Owners};
 use hyper::body::HttpBody;
@@ -29,7 +29,7 @@ const LOOK_EACH: Duration = Duration::from_millis(200);
 /// Shorter than a service keeps a connection that is idle.
 const IDLE: Duration = Duration::from_millis(500);
 
-pub struct Others {
+pub struct Forwarder {
     pub owners: Arc<Owners>,
     client: Client<HttpsConnector<HttpConnector>>,
 }
@@ -40,20 +40,20 @@ pub enum Served {
     At(String),
 }
 
-impl Others {
+impl Forwarder {
     /// Fails if there is no TLS.
-    pub fn new(owners: Arc<Owners>) -> Result<Others, crate::stop::Stop> {
+    pub fn new(owners: Arc<Owners>) -> Result<Forwarder, crate::stop::Stop> {
         let tls = TlsConnector::new().map_err(crate::stop::Stop::Others)?;
         let mut connector = HttpConnector::new();
         connector.set_connect_timeout(Some(CONNECT));
         connector.set_nodelay(true);
         connector.enforce_http(false);
         let client = Client::builder().pool_idle_timeout(IDLE).build(HttpsConnector::from((connector, tls.into())));
-        Ok(Others { owners, client })
+        Ok(Forwarder { owners, client })
     }
 
     /// Where the job of this name is served; `None` if there is no such job.
-    pub async fn find(&self, app: &App, job: &str) -> Result<Option<Served>, Box<Reply>> {
+    pub async fn find(&self, app: &App, job: &str) -> Result<Option<Served>, Box<HttpReply>> {
         if app.board.number(job).is_some() {
             return Ok(Some(Served::Here));
         }
@@ -71,7 +71,7 @@ impl Others {
     }
 
     /// The number of a job, which the database knows.
-    async fn number(&self, app: &App, job: &str) -> Result<Option<i64>, Box<Reply>> {
+    async fn number(&self, app: &App, job: &str) -> Result<Option<i64>, Box<HttpReply>> {
         if let Some(number) = self.owners.number(job) {
             return Ok(Some(number));
         }
@@ -84,7 +84,13 @@ impl Others {
     }
 
     /// Passes a request for a job on to its owner. What is known of the job is forgotten if that does not have it.
-    pub async fn pass(&self, app: &App, address: &str, job: &str, asked: Request<Body>) -> Result<Reply, Box<Reply>> {
+    pub async fn pass(
+        &self,
+        app: &App,
+        address: &str,
+        job: &str,
+        asked: Request<Body>,
+    ) -> Result<HttpReply, Box<HttpReply>> {
         let is_read = *asked.method() == Method::GET;
         let told = tokio::select! {
             told = self.send(address, asked) => told,
@@ -104,7 +110,7 @@ impl Others {
     }
 
     /// A stream that ends when the job has another owner, so that its client comes back.
-    fn followed(&self, reply: Reply, job: &str, address: &str) -> Reply {
+    fn followed(&self, reply: HttpReply, job: &str, address: &str) -> HttpReply {
         let (head, mut body) = reply.into_parts();
         let (mut sender, passed) = Body::channel();
         let left = left(Arc::clone(&self.owners), job.to_string(), address.to_string());
@@ -122,10 +128,10 @@ impl Others {
                 }
             }
         });
-        Reply::from_parts(head, passed)
+        HttpReply::from_parts(head, passed)
     }
 
-    async fn send(&self, address: &str, asked: Request<Body>) -> Result<Reply, Box<Reply>> {
+    async fn send(&self, address: &str, asked: Request<Body>) -> Result<HttpReply, Box<HttpReply>> {
         let (head, body) = asked.into_parts();
         let place = head.uri.path_and_query().map_or("/", |it| it.as_str());
         let uri: Uri = format!("{}{place}", address.trim_end_matches('/')).parse().map_err(|_| unreached(address))?;
@@ -146,7 +152,7 @@ impl Others {
     }
 
     /// The bodies of the answers of all other processes that have shards.
-    pub async fn all(&self, place: &str, headers: &HeaderMap) -> Result<Vec<(HeaderMap, Vec<u8>)>, Box<Reply>> {
+    pub async fn all(&self, place: &str, headers: &HeaderMap) -> Result<Vec<(HeaderMap, Vec<u8>)>, Box<HttpReply>> {
         let mut told = Vec::new();
         for address in self.owners.others() {
             let asked = tokio::time::timeout(LIST, self.part(&address, get(place, headers)));
@@ -155,7 +161,7 @@ impl Others {
         Ok(told)
     }
 
-    async fn part(&self, address: &str, asked: Request<Body>) -> Result<(HeaderMap, Vec<u8>), Box<Reply>> {
+    async fn part(&self, address: &str, asked: Request<Body>) -> Result<(HeaderMap, Vec<u8>), Box<HttpReply>> {
         let reply = self.send(address, asked).await?;
         if reply.status() != 200 {
             return Err(reply.into());
@@ -167,7 +173,7 @@ impl Others {
 }
 
 /// The JSON of an answer.
-pub async fn json(reply: Reply) -> Result<serde_json::Value, Box<Reply>> {
+pub async fn json(reply: HttpReply) -> Result<serde_json::Value, Box<HttpReply>> {
     let bytes = hyper::body::to_bytes(reply.into_body()).await.map_err(|_| moves())?;
     serde_json::from_slice(&bytes).map_err(|_| moves().into())
 }
@@ -196,15 +202,15 @@ pub fn was_passed(headers: &HeaderMap) -> bool {
 }
 
 /// The answer while a job goes from one process to another.
-pub fn moves() -> Reply {
+pub fn moves() -> HttpReply {
     gate::busy("the job is moving from one process to another")
 }
 
-fn not_answered() -> Reply {
+fn not_answered() -> HttpReply {
     error(502, "the process that has this job did not answer")
 }
 
-fn is_stream(reply: &Reply) -> bool {
+fn is_stream(reply: &HttpReply) -> bool {
     reply.headers().get(CONTENT_TYPE).is_some_and(|kind| kind == "text/event-stream")
 }
 
@@ -216,12 +222,12 @@ async fn left(owners: Arc<Owners>, job: String, address: String) {
     }
 }
 
-fn unreached(address: &str) -> Reply {
+fn unreached(address: &str) -> HttpReply {
     gate::busy(&format!("the process that has this job was not reached at {address}"))
 }
 
 /// Answers a request for a job of another process; gives back any other.
-pub async fn answered(app: &App, job: &str, request: Request<Body>) -> Result<Request<Body>, Box<Reply>> {
+pub async fn answered(app: &App, job: &str, request: Request<Body>) -> Result<Request<Body>, Box<HttpReply>> {
     let Some(others) = &app.others else {
         return Ok(request);
     };
@@ -240,14 +246,14 @@ pub async fn answered(app: &App, job: &str, request: Request<Body>) -> Result<Re
 }
 
 /// An answer that a job is not there, of a process that had it when the request came: it may be another process's by now.
-pub async fn looked_again(app: &App, job: Option<&str>, reply: Reply) -> Reply {
+pub async fn looked_again(app: &App, job: Option<&str>, reply: HttpReply) -> HttpReply {
     let (Some(others), Some(job)) = (&app.others, job) else {
         return reply;
     };
     if reply.status() != 404 || reply.extensions().get::<NoSuchJob>().is_none() {
         return reply;
     }
-    if app.board.number(job).is_some() {
+    if app.board.number(job).is_some() || app.board.damage(job).is_some() {
         return moves();
     }
     others.owners.forget(job);
@@ -265,7 +271,7 @@ pub struct NoSuchJob;
 /// The header of a list that was passed on: the bits of the shards whose jobs it has.
 const SHARDS: &str = "relkvanu-shards";
 
-pub fn with_shards(reply: Reply, shards: crate::model::Shards) -> Reply {
+pub fn with_shards(reply: HttpReply, shards: crate::model::Shards) -> HttpReply {
     with_header(reply, HeaderName::from_static(SHARDS), &shards.bits().to_string())
 }
 

@@ -1,7 +1,7 @@
 //! The checks that every request passes: its route, its token, its origin, and whether this process leads.
-use super::audit::Asked;
+use super::audit::RequestLine;
 use super::json_members::PATH;
-use super::reply::{as_problem, error, text, wants_problems, with_header, Reply};
+use super::reply::{as_problem, damaged, error, text, wants_problems, with_header, HttpReply};
 use super::route::{NoRoute, Route};
 use super::slots::{Kind, Slot};
 use super::{forward, names, operate, page, reads, room, stream, trace, view, writes, App};
@@ -26,16 +26,16 @@ const SLOW_COMMIT: Duration = Duration::from_secs(3);
 const FIND_LEADER: Duration = Duration::from_secs(1);
 
 /// Answers a request, once its connection has a slot for it.
-pub async fn answer(app: Arc<App>, slot: &Arc<Slot>, request: Request<Body>) -> Reply {
+pub async fn answer(app: Arc<App>, slot: &Arc<Slot>, request: Request<Body>) -> HttpReply {
     let trace = trace::of(request.headers());
     log::traced(trace, answered(app, slot, request)).await
 }
 
-async fn answered(app: Arc<App>, slot: &Arc<Slot>, request: Request<Body>) -> Reply {
+async fn answered(app: Arc<App>, slot: &Arc<Slot>, request: Request<Body>) -> HttpReply {
     let route = Route::of(request.method(), request.uri().path());
     let name = route.as_ref().map_or("none", Route::name);
     let asked =
-        Asked { method: request.method().clone(), path: shortened(request.uri().path()), since: Instant::now() };
+        RequestLine { method: request.method().clone(), path: shortened(request.uri().path()), since: Instant::now() };
     let known = route.as_ref().ok().cloned();
     let (kind, checked) = checked(&app, route, request.headers());
     let by = checked.as_ref().ok().and_then(|(_, caller)| caller.as_ref()).map(|caller| caller.name.clone());
@@ -46,7 +46,7 @@ async fn answered(app: Arc<App>, slot: &Arc<Slot>, request: Request<Body>) -> Re
         // the page's files are a part of the program
         (Some(_), Ok((route @ Route::Asset(_), _))) => dispatched(&app, route, None, request).await,
         (Some(turn), Ok((route, caller))) => {
-            room::kept(&app, turn, dispatched(&app, route, caller, request).await).await
+            room::keep_room(&app, turn, dispatched(&app, route, caller, request).await).await
         }
     };
     app.metrics.request(name, reply.status().as_str());
@@ -72,7 +72,7 @@ fn shortened(path: &str) -> String {
 type Admitted = (Route, Option<Caller>);
 
 /// The route of a request that may be made, and the kind of slot that it needs.
-fn checked(app: &App, route: Result<Route, NoRoute>, headers: &HeaderMap) -> (Kind, Result<Admitted, Box<Reply>>) {
+fn checked(app: &App, route: Result<Route, NoRoute>, headers: &HeaderMap) -> (Kind, Result<Admitted, Box<HttpReply>>) {
     match route {
         Err(none) => (Kind::Stranger, Err(no_route(&none).into())),
         Ok(route) => match admitted(app, &route, headers) {
@@ -83,24 +83,35 @@ fn checked(app: &App, route: Result<Route, NoRoute>, headers: &HeaderMap) -> (Ki
 }
 
 /// All slots of the request's kind are taken. The connection ends.
-fn crowded() -> Reply {
+fn crowded() -> HttpReply {
     with_header(busy("too many connections do this"), CONNECTION, "close")
 }
 
-async fn dispatched(app: &Arc<App>, route: Route, caller: Option<Caller>, request: Request<Body>) -> Reply {
+async fn dispatched(app: &Arc<App>, route: Route, caller: Option<Caller>, request: Request<Body>) -> HttpReply {
     let caller = caller.unwrap_or_else(Caller::local);
     let job = route.job().map(str::to_string);
     let reply = dispatch(app, route, &caller, request).await.unwrap_or_else(|refused| *refused);
     forward::looked_again(app, job.as_deref(), reply).await
 }
 
-async fn dispatch(app: &Arc<App>, route: Route, caller: &Caller, request: Request<Body>) -> Result<Reply, Box<Reply>> {
+async fn dispatch(
+    app: &Arc<App>,
+    route: Route,
+    caller: &Caller,
+    request: Request<Body>,
+) -> Result<HttpReply, Box<HttpReply>> {
     if route.needs_leader() && !app.board.is_ready() {
         return Err(standby(app).await.into());
     }
     let request = match route.job() {
         // the page's view of a job has the names of all jobs too
-        Some(job) if !matches!(route, Route::View(_)) => forward::answered(app, job, request).await?,
+        Some(job) if !matches!(route, Route::View(_)) => {
+            // nothing of it is served, so that it is never served in part
+            if let Some(why) = app.board.damage(job) {
+                return Err(damaged(job, &why).into());
+            }
+            forward::answered(app, job, request).await?
+        }
         _ => request,
     };
     match route {
@@ -124,7 +135,7 @@ async fn dispatch(app: &Arc<App>, route: Route, caller: &Caller, request: Reques
     }
 }
 
-fn no_route(none: &NoRoute) -> Reply {
+fn no_route(none: &NoRoute) -> HttpReply {
     match none {
         NoRoute::Path => error(404, "there is no such path"),
         NoRoute::Method(has) => with_header(error(405, &format!("this path takes {has} alone")), ALLOW, has),
@@ -135,7 +146,7 @@ fn no_route(none: &NoRoute) -> Reply {
 
 /// Whether a request may be made. It has a token, or, if there are no tokens, comes from a program of this machine and names
 /// this machine. A page of another site can do neither, because it can't set this type of content.
-fn admitted(app: &App, route: &Route, headers: &HeaderMap) -> Result<Option<Caller>, Box<Reply>> {
+fn admitted(app: &App, route: &Route, headers: &HeaderMap) -> Result<Option<Caller>, Box<HttpReply>> {
     let Some(access) = route.access() else {
         return Ok(None);
     };
@@ -161,7 +172,7 @@ fn admitted(app: &App, route: &Route, headers: &HeaderMap) -> Result<Option<Call
 }
 
 /// The token is for other jobs. Whether there is such a job is not told.
-pub fn not_for(job: &str) -> Reply {
+pub fn not_for(job: &str) -> HttpReply {
     error(403, &format!("Authorization: this token is not for the job {job}"))
 }
 
@@ -182,7 +193,7 @@ fn names_loopback(headers: &HeaderMap) -> bool {
     name == "localhost" || address.parse::<IpAddr>().is_ok_and(|address| address.is_loopback())
 }
 
-fn health(app: &App) -> Reply {
+fn health(app: &App) -> HttpReply {
     match app.board.silence() {
         silence if silence < STUCK && app.history_file.works() => text(200, "ok\n"),
         // calls go on, so a start of the process would do harm and no good
@@ -191,7 +202,7 @@ fn health(app: &App) -> Reply {
     }
 }
 
-async fn ready(app: &App) -> Reply {
+async fn ready(app: &App) -> HttpReply {
     match app.board.commit_takes() {
         _ if app.board.is_stopping() => busy("the service is stopping"),
         takes if takes >= SLOW_COMMIT => {
@@ -204,13 +215,13 @@ async fn ready(app: &App) -> Reply {
 }
 
 /// The request can be made again soon.
-pub fn busy(why: &str) -> Reply {
+pub fn busy(why: &str) -> HttpReply {
     with_header(error(503, why), RETRY_AFTER, "1")
 }
 
 /// Names the leader. Where there is none, this process may lead in far less than the second that `Retry-After` says at least, so
 /// clients pause as they do by themselves.
-pub async fn standby(app: &App) -> Reply {
+pub async fn standby(app: &App) -> HttpReply {
     let refused = error(503, "this process does not lead");
     let found = app.read_events(|reader| Ok(reader.leader()));
     match tokio::time::timeout(FIND_LEADER, found).await {

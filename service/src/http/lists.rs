@@ -1,6 +1,6 @@
 //! Lists of all jobs, of which each process that shares them has a part.
 use super::forward::{self, was_passed};
-use super::reply::{json_reply, Reply};
+use super::reply::{json_reply, HttpReply};
 use super::App;
 use crate::model::Shards;
 use hyper::{Body, Request};
@@ -19,9 +19,9 @@ pub async fn parts<O>(
     request: &Request<Body>,
     place: &str,
     own: impl Fn() -> O,
-) -> Result<(Shards, Vec<Value>), Box<Reply>>
+) -> Result<(Shards, Vec<Value>), Box<HttpReply>>
 where
-    O: Future<Output = Result<(Shards, Value), Box<Reply>>>,
+    O: Future<Output = Result<(Shards, Value), Box<HttpReply>>>,
 {
     let since = Instant::now();
     loop {
@@ -47,6 +47,14 @@ where
     }
 }
 
+/// The jobs that are kept out, of several answers, by name.
+pub fn damaged(parts: &mut [Value]) -> Value {
+    let lists = parts.iter_mut().filter_map(|part| part["damaged"].as_array_mut());
+    let mut jobs: Vec<Value> = lists.flat_map(std::mem::take).collect();
+    jobs.sort_by(|one, other| one["name"].as_str().cmp(&other["name"].as_str()));
+    jobs.into()
+}
+
 /// The jobs of several answers to `GET /v1/jobs`, in the order of their numbers, at most so many. `after` is that of the request.
 pub fn joined(mut parts: Vec<Value>, after: u64, most: usize) -> Value {
     let mut jobs: Vec<(u64, Value)> = Vec::new();
@@ -62,7 +70,9 @@ pub fn joined(mut parts: Vec<Value>, after: u64, most: usize) -> Value {
     jobs.dedup_by_key(|(number, _)| *number);
     has_more |= jobs.len() > most;
     jobs.truncate(most);
+    let damaged = damaged(&mut parts);
     let mut whole = parts.swap_remove(0);
+    whole["damaged"] = damaged;
     whole["next"] = if has_more { jobs.last().map_or(after, |(number, _)| *number).into() } else { Value::Null };
     if let Some(object) = whole.as_object_mut() {
         object.remove("numbers");
@@ -72,7 +82,7 @@ pub fn joined(mut parts: Vec<Value>, after: u64, most: usize) -> Value {
 }
 
 /// The answer to a request for a list: the whole of its parts, or the part of this process.
-pub fn reply(request: &Request<Body>, shards: Shards, told: Value) -> Reply {
+pub fn reply(request: &Request<Body>, shards: Shards, told: Value) -> HttpReply {
     // the text of many jobs takes long, and the other requests go on by another thread
     let reply = tokio::task::block_in_place(move || json_reply(200, &told));
     if was_passed(request.headers()) {
@@ -89,13 +99,17 @@ mod tests {
 
     #[test]
     fn jobs_of_several_processes_are_in_order() {
-        let one = json!({"epoch": 3, "log": "a", "numbers": [1, 4], "jobs": ["j1", "j4"], "next": 4});
-        let other = json!({"epoch": 9, "log": "b", "numbers": [2, 3], "jobs": ["j2", "j3"], "next": null});
+        let (bad, worse) = (json!({"name": "b", "why": "x"}), json!({"name": "a", "why": "y"}));
+        let one = json!({"epoch": 3, "log": "a", "numbers": [1, 4], "jobs": ["j1", "j4"], "next": 4, "damaged": [bad]});
+        let other =
+            json!({"epoch": 9, "log": "b", "numbers": [2, 3], "jobs": ["j2", "j3"], "next": null, "damaged": [worse]});
         let told = joined(vec![one.clone(), other.clone()], 0, 2);
-        assert_eq!(told, json!({"epoch": 3, "log": "a", "jobs": ["j1", "j2"], "next": 2}));
+        let all_bad = json!([worse, bad]);
+        assert_eq!(told, json!({"epoch": 3, "log": "a", "jobs": ["j1", "j2"], "next": 2, "damaged": all_bad}));
         let told = joined(vec![one, other.clone()], 0, 10);
-        assert_eq!(told, json!({"epoch": 3, "log": "a", "jobs": ["j1", "j2", "j3", "j4"], "next": 4}));
+        let jobs = ["j1", "j2", "j3", "j4"];
+        assert_eq!(told, json!({"epoch": 3, "log": "a", "jobs": jobs, "next": 4, "damaged": all_bad}));
         let told = joined(vec![other], 0, 10);
-        assert_eq!(told, json!({"epoch": 9, "log": "b", "jobs": ["j2", "j3"], "next": null}));
+        assert_eq!(told, json!({"epoch": 9, "log": "b", "jobs": ["j2", "j3"], "next": null, "damaged": [worse]}));
     }
 }

@@ -1,6 +1,6 @@
 //! Whether the log has the events after a place that an engine knows. If it does not, the answer is 410.
 use super::query::Parameter;
-use super::reply::{refusal, Reply};
+use super::reply::{refusal, HttpReply};
 use super::{gate, no_job, App};
 use crate::model::length_in;
 use serde_json::json;
@@ -29,7 +29,7 @@ pub struct LogPosition<'a> {
 
 impl<'a> LogPosition<'a> {
     /// A place of a job that this process has.
-    pub fn of(app: &App, job: &'a str, after: Option<u64>) -> Result<LogPosition<'a>, Box<Reply>> {
+    pub fn of(app: &App, job: &'a str, after: Option<u64>) -> Result<LogPosition<'a>, Box<HttpReply>> {
         let number = app.number(job)?;
         match app.board.epoch_of(number) {
             0 => Err(no_job(job).into()),
@@ -43,7 +43,7 @@ impl<'a> LogPosition<'a> {
     }
 
     /// Refuses what may be of another owner.
-    pub async fn check_owner(&self, app: &App) -> Result<(), Box<Reply>> {
+    pub async fn check_owner(&self, app: &App) -> Result<(), Box<HttpReply>> {
         match self.is_owned(app) {
             true => Ok(()),
             false if app.board.is_ready() => Err(no_job(self.job).into()),
@@ -52,7 +52,7 @@ impl<'a> LogPosition<'a> {
     }
 
     /// Whether this log has the place, or had it when the identity `known` of the log ended.
-    pub async fn check_log(&self, app: &App, known: Option<&str>) -> Result<(), Box<Reply>> {
+    pub async fn check_log(&self, app: &App, known: Option<&str>) -> Result<(), Box<HttpReply>> {
         let after = self.after.unwrap_or(0);
         let length = match known.filter(|known| *known != app.board.log()) {
             None => app.board.length(self.job),
@@ -70,7 +70,7 @@ impl<'a> LogPosition<'a> {
     }
 
     /// Whether all events after the place are in the log. Returns the first call that it has.
-    pub fn check_cut(&self, app: &App) -> Result<u64, Box<Reply>> {
+    pub fn check_cut(&self, app: &App) -> Result<u64, Box<HttpReply>> {
         let first = app.board.first(self.job);
         let last = *app.board.events(self.job).ok_or_else(|| no_job(self.job))?.borrow();
         match self.after {
@@ -83,7 +83,7 @@ impl<'a> LogPosition<'a> {
         }
     }
 
-    fn gone(&self, app: &App, reason: &str, why: &str) -> Reply {
+    fn gone(&self, app: &App, reason: &str, why: &str) -> HttpReply {
         let first = app.board.first(self.job);
         let error = format!("after {why}");
         refusal(

@@ -30,7 +30,7 @@ mod writes;
 
 pub use audit::Audit;
 pub use bodies::Bodies;
-pub use forward::Others;
+pub use forward::Forwarder;
 pub use keys::Keys;
 pub use server::serve;
 pub use tls::{NoTls, Tls, TlsFiles};
@@ -43,7 +43,7 @@ use crate::metrics::Metrics;
 use crate::model::Shards;
 use crate::store::{DbError, Reader};
 use crate::writer::{Board, Inbox, JobState, Message, NotSent, Read, ReadDone, MOST_JOBS};
-use reply::{error, Reply};
+use reply::{error, HttpReply};
 use std::error::Error;
 use std::sync::Arc;
 use std::time::Duration;
@@ -67,7 +67,7 @@ pub struct App {
     pub history_file: Arc<HistoryFile>,
     pub keys: Arc<Keys>,
     /// The other processes, if this one shares the jobs with them.
-    pub others: Option<Others>,
+    pub others: Option<Forwarder>,
     pub audit: Audit,
     /// Room for the bodies of all requests.
     pub bodies: Arc<Bodies>,
@@ -90,7 +90,7 @@ fn units(bytes: usize) -> u32 {
 
 impl App {
     /// Puts a message into the writer's queue, and waits for its answer.
-    async fn ask<T>(&self, message: impl FnOnce(oneshot::Sender<T>) -> Message) -> Result<T, Box<Reply>> {
+    async fn ask<T>(&self, message: impl FnOnce(oneshot::Sender<T>) -> Message) -> Result<T, Box<HttpReply>> {
         let (reply, answer) = oneshot::channel();
         match self.inbox.try_send(message(reply)) {
             Ok(()) => answer.await.map_err(|_| gate::busy("the service is stopping").into()),
@@ -99,12 +99,12 @@ impl App {
         }
     }
 
-    async fn read(&self, read: Read) -> Result<ReadDone, Box<Reply>> {
+    async fn read(&self, read: Read) -> Result<ReadDone, Box<HttpReply>> {
         self.ask(|reply| Message::Read(read, reply)).await
     }
 
     /// The jobs of this process in the order of their numbers, and the shards of which they are all. The writer makes calls between two pieces.
-    async fn jobs(&self) -> Result<(Shards, Vec<JobState>), Box<Reply>> {
+    async fn jobs(&self) -> Result<(Shards, Vec<JobState>), Box<HttpReply>> {
         let (mut all, mut known) = (Vec::<JobState>::new(), None);
         loop {
             let after = all.last().map_or(i64::MIN, |job| job.opening.number);
@@ -125,7 +125,7 @@ impl App {
     }
 
     /// The number of a job in the database.
-    fn number(&self, job: &str) -> Result<i64, Box<Reply>> {
+    fn number(&self, job: &str) -> Result<i64, Box<HttpReply>> {
         self.board.number(job).ok_or_else(|| no_job(job).into())
     }
 
@@ -133,7 +133,7 @@ impl App {
     async fn read_log<T: Send + 'static>(
         &self,
         read: impl FnOnce(&mut dyn Reader) -> Result<T, DbError> + Send + 'static,
-    ) -> Result<T, Box<Reply>> {
+    ) -> Result<T, Box<HttpReply>> {
         waited(&self.reader, move |reader| read(reader.as_mut())).await
     }
 
@@ -141,7 +141,7 @@ impl App {
     async fn read_events<T: Send + 'static>(
         &self,
         read: impl FnOnce(&mut dyn Reader) -> Result<T, DbError> + Send + 'static,
-    ) -> Result<T, Box<Reply>> {
+    ) -> Result<T, Box<HttpReply>> {
         waited(&self.events, move |reader| read(reader.as_mut())).await
     }
 
@@ -149,7 +149,7 @@ impl App {
     async fn read_history<T: Send + 'static>(
         &self,
         read: impl FnOnce(&HistoryReader) -> Result<T, history::Error> + Send + 'static,
-    ) -> Result<T, Box<Reply>> {
+    ) -> Result<T, Box<HttpReply>> {
         waited(&self.history, move |door| read(door.reader()?)).await
     }
 }
@@ -158,7 +158,7 @@ impl App {
 async fn waited<R: Send + 'static, T: Send + 'static, E: Error + Send + 'static>(
     from: &Arc<Mutex<R>>,
     read: impl FnOnce(&mut R) -> Result<T, E> + Send + 'static,
-) -> Result<T, Box<Reply>> {
+) -> Result<T, Box<HttpReply>> {
     let turn = tokio::time::timeout(READ_WITHIN, Arc::clone(from).lock_owned());
     let mut reader = turn.await.map_err(|_| gate::busy("other reads take too long"))?;
     match tokio::task::spawn_blocking(move || read(&mut reader)).await {
@@ -171,7 +171,7 @@ async fn waited<R: Send + 'static, T: Send + 'static, E: Error + Send + 'static>
     }
 }
 
-fn no_job(job: &str) -> Reply {
+fn no_job(job: &str) -> HttpReply {
     let mut reply = error(404, &format!("there is no job {job}"));
     reply.extensions_mut().insert(forward::NoSuchJob);
     reply

@@ -2,7 +2,7 @@
 use super::audit::Did;
 use super::operate::answered;
 use super::query::numbers;
-use super::reply::{bad_field, error, invalid, json_reply, refusal, Reply};
+use super::reply::{bad_field, error, invalid, json_reply, refusal, HttpReply};
 use super::writes::{key_name, read_body};
 use super::{gate, no_job, wire, App};
 use crate::auth::Caller;
@@ -15,7 +15,12 @@ use serde_json::{json, Value};
 const NO_NAMES: &str = "NoNames";
 
 /// Gives a job names, from a first one on. The call is in its log, and is made once under a key.
-pub async fn fence(app: &App, caller: &Caller, job: String, request: Request<Body>) -> Result<Reply, Box<Reply>> {
+pub async fn fence(
+    app: &App,
+    caller: &Caller,
+    job: String,
+    request: Request<Body>,
+) -> Result<HttpReply, Box<HttpReply>> {
     app.number(&job)?;
     let name = key_name(request.headers())?;
     let (bytes, _room) = read_body(app, caller, request.into_body()).await?;
@@ -39,7 +44,12 @@ pub async fn fence(app: &App, caller: &Caller, job: String, request: Request<Bod
 }
 
 /// Lets a job go on from an older copy of its log: it begins again above the terms and names that it lost. Under a key it is made once.
-pub async fn advance(app: &App, caller: &Caller, job: String, request: Request<Body>) -> Result<Reply, Box<Reply>> {
+pub async fn advance(
+    app: &App,
+    caller: &Caller,
+    job: String,
+    request: Request<Body>,
+) -> Result<HttpReply, Box<HttpReply>> {
     app.number(&job)?;
     let name = key_name(request.headers())?;
     let (bytes, _room) = read_body(app, caller, request.into_body()).await?;
@@ -52,7 +62,7 @@ pub async fn advance(app: &App, caller: &Caller, job: String, request: Request<B
 }
 
 /// What the answer of the one call says.
-fn turned(answers: &str, first_name: u64) -> Reply {
+fn turned(answers: &str, first_name: u64) -> HttpReply {
     let mut told: Value = serde_json::from_str(answers).unwrap_or_default();
     let mut answer = told["answers"][0].take();
     if let Some(why) = answer["fenced"].as_str() {
@@ -71,7 +81,7 @@ fn turned(answers: &str, first_name: u64) -> Reply {
 }
 
 /// What the term or the names refuse, by its name.
-fn fenced(name: &str) -> Reply {
+fn fenced(name: &str) -> HttpReply {
     let text = match name {
         NO_NAMES => "the job gives out no names; POST /v1/jobs/JOB/fence makes it do so, between the end of all its tasks and their restart",
         "HasNames" => "the job gives out names already",
@@ -82,7 +92,7 @@ fn fenced(name: &str) -> Reply {
 }
 
 /// The term that runs, for whoever starts the tasks.
-pub async fn term(app: &App, job: String, query: &str) -> Result<Reply, Box<Reply>> {
+pub async fn term(app: &App, job: String, query: &str) -> Result<HttpReply, Box<HttpReply>> {
     numbers(query, [])?;
     match app.read(Read::Term(job.clone())).await? {
         ReadDone::Term(Some(now)) => {
@@ -96,7 +106,12 @@ pub async fn term(app: &App, job: String, query: &str) -> Result<Reply, Box<Repl
 
 /// Which of some files may be deleted, by what is committed. The writer answers only while it surely leads, and this looks again:
 /// a process that was suspended meanwhile sends no answer.
-pub async fn garbage(app: &App, caller: &Caller, job: String, request: Request<Body>) -> Result<Reply, Box<Reply>> {
+pub async fn garbage(
+    app: &App,
+    caller: &Caller,
+    job: String,
+    request: Request<Body>,
+) -> Result<HttpReply, Box<HttpReply>> {
     let (bytes, _room) = read_body(app, caller, request.into_body()).await?;
     let files = wire::garbage(&bytes).map_err(|why| invalid(&why))?;
     let told = app.read(Read::Garbage { job: job.clone(), files }).await?;

@@ -1,6 +1,6 @@
 //! What an operator does to a job that is open: a checkpoint now, a stop and the beginning after it, and other settings.
 use super::audit::Did;
-use super::reply::{error, invalid, json_reply, refusal, Reply};
+use super::reply::{error, invalid, json_reply, refusal, HttpReply};
 use super::writes::{key_name, key_used, read_body};
 use super::{no_job, wire, App};
 use crate::auth::Caller;
@@ -16,7 +16,7 @@ pub async fn one(
     job: String,
     call: Call,
     request: Request<Body>,
-) -> Result<Reply, Box<Reply>> {
+) -> Result<HttpReply, Box<HttpReply>> {
     app.number(&job)?;
     let name = key_name(request.headers())?;
     let (bytes, _room) = read_body(app, caller, request.into_body()).await?;
@@ -39,7 +39,12 @@ fn word(call: &Call) -> &'static str {
 }
 
 /// Changes the settings that the body names. A repeat changes nothing more, so it needs no key.
-pub async fn settings(app: &App, caller: &Caller, job: String, request: Request<Body>) -> Result<Reply, Box<Reply>> {
+pub async fn settings(
+    app: &App,
+    caller: &Caller,
+    job: String,
+    request: Request<Body>,
+) -> Result<HttpReply, Box<HttpReply>> {
     app.number(&job)?;
     let (bytes, _room) = read_body(app, caller, request.into_body()).await?;
     let change = wire::change(&bytes).map_err(|why| invalid(&why))?;
@@ -48,7 +53,7 @@ pub async fn settings(app: &App, caller: &Caller, job: String, request: Request<
     Ok(answered(app, &at, done, Some(Did::settings(&change))))
 }
 
-pub(super) fn answered(app: &App, job: &str, done: CallsDone, did: Option<Did>) -> Reply {
+pub(super) fn answered(app: &App, job: &str, done: CallsDone, did: Option<Did>) -> HttpReply {
     let mut reply = match done {
         CallsDone::Made(epoch, outcomes) => turned(&app.board.answers(epoch, &outcomes)),
         CallsDone::Known(answers) => turned(&answers),
@@ -62,7 +67,7 @@ pub(super) fn answered(app: &App, job: &str, done: CallsDone, did: Option<Did>) 
 }
 
 /// What the answer of the one call says. A refusal is an error here, since the request makes nothing else.
-fn turned(answers: &str) -> Reply {
+fn turned(answers: &str) -> HttpReply {
     let mut told: Value = serde_json::from_str(answers).unwrap_or_default();
     let mut answer = told["answers"][0].take();
     if let Some(why) = answer["fenced"].as_str() {

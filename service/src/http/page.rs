@@ -1,5 +1,5 @@
 //! The page's files and the API's description, which are part of the program: no request reaches a file.
-use super::reply::{with_type, Reply};
+use super::reply::{with_type, HttpReply};
 use hyper::header::{HeaderValue, CACHE_CONTROL, CONTENT_SECURITY_POLICY};
 
 const POLICY: &str = "default-src 'none'; script-src 'self'; style-src 'self'; img-src 'self'; connect-src 'self'; \
@@ -32,7 +32,7 @@ pub fn asset(path: &str) -> Option<&'static Asset> {
     ASSETS.iter().find(|asset| asset.path == path)
 }
 
-pub fn answer(asset: &'static Asset) -> Reply {
+pub fn answer(asset: &'static Asset) -> HttpReply {
     let mut reply = with_type(200, asset.kind, asset.bytes);
     let headers = reply.headers_mut();
     headers.insert(CONTENT_SECURITY_POLICY, HeaderValue::from_static(POLICY));

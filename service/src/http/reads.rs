@@ -3,7 +3,7 @@ use super::forward::was_passed;
 use super::log_position::{self, LogPosition};
 use super::query::{self, numbers, Parameter};
 use super::render::{self, Metadata};
-use super::reply::{bad_field, body, error, json_reply, with_type, Reply};
+use super::reply::{bad_field, body, error, json_reply, with_type, HttpReply};
 use super::route::Route;
 use super::{acks, lists, names, no_job, states, App};
 use crate::auth::Caller;
@@ -26,7 +26,7 @@ const fn limit(most: u64, default: u64) -> Parameter {
     Parameter { name: "limit", most, default }
 }
 
-pub async fn answer(app: &App, route: Route, caller: &Caller, query: &str) -> Result<Reply, Box<Reply>> {
+pub async fn answer(app: &App, route: Route, caller: &Caller, query: &str) -> Result<HttpReply, Box<HttpReply>> {
     match route {
         Route::Metrics => metrics(app, query).await,
         Route::Job(job) => one_job(app, job, query).await,
@@ -65,7 +65,7 @@ fn rows(most: u64) -> u32 {
 }
 
 /// If the writer does not answer, the jobs' metrics are those of the last time.
-async fn metrics(app: &App, query: &str) -> Result<Reply, Box<Reply>> {
+async fn metrics(app: &App, query: &str) -> Result<HttpReply, Box<HttpReply>> {
     numbers(query, [])?;
     let asked = async {
         if !app.board.is_ready() {
@@ -82,6 +82,7 @@ async fn metrics(app: &App, query: &str) -> Result<Reply, Box<Reply>> {
         app.metrics.queue.followed();
     }
     app.metrics.commit_takes(app.board.commit_takes());
+    app.metrics.upkeep.damaged(app.board.damaged().iter().map(|(job, _)| job.as_str()));
     app.metrics.upkeep.history_up(app.history_file.works());
     // those of many jobs take long, and the other requests go on by another thread
     let served = |job: &str| app.board.served(job);
@@ -92,7 +93,7 @@ async fn metrics(app: &App, query: &str) -> Result<Reply, Box<Reply>> {
 
 /// The jobs in the order of their numbers, in parts if that is asked for: `next` is the `after` of the next part. One process alone numbers
 /// them as they are opened.
-pub async fn jobs(app: &App, caller: &Caller, request: &Request<Body>) -> Result<Reply, Box<Reply>> {
+pub async fn jobs(app: &App, caller: &Caller, request: &Request<Body>) -> Result<HttpReply, Box<HttpReply>> {
     let query = request.uri().query().unwrap_or("");
     let [after, most] = numbers(query, [AFTER, limit(u64::MAX, u64::MAX)])?;
     let most = usize::try_from(most).unwrap_or(usize::MAX);
@@ -105,7 +106,7 @@ pub async fn jobs(app: &App, caller: &Caller, request: &Request<Body>) -> Result
 }
 
 /// The jobs of this process, with their numbers.
-async fn own_jobs(app: &App, caller: &Caller, after: u64, most: usize) -> Result<(Shards, Value), Box<Reply>> {
+async fn own_jobs(app: &App, caller: &Caller, after: u64, most: usize) -> Result<(Shards, Value), Box<HttpReply>> {
     let (shards, mut jobs) = app.jobs().await?;
     let number = |job: &JobState| u64::try_from(job.opening.number).unwrap_or(0);
     jobs.retain(|job| number(job) > after && caller.may_see(&job.opening.name));
@@ -115,12 +116,20 @@ async fn own_jobs(app: &App, caller: &Caller, after: u64, most: usize) -> Result
     let numbers: Vec<u64> = jobs[..most].iter().map(number).collect();
     let jobs: Vec<Value> =
         tokio::task::block_in_place(|| jobs[..most].iter().map(|job| render::job(job, log)).collect());
-    let mut told = json!({"epoch": epoch, "log": log, "numbers": numbers, "next": next});
+    let mut told =
+        json!({"epoch": epoch, "log": log, "numbers": numbers, "next": next, "damaged": damaged(app, caller)});
     told["jobs"] = jobs.into(); // `json!` would copy them
     Ok((shards, told))
 }
 
-async fn one_job(app: &App, job: String, query: &str) -> Result<Reply, Box<Reply>> {
+/// The jobs of this process that are kept out and that the caller may see, and why. They are in no list of jobs.
+pub(super) fn damaged(app: &App, caller: &Caller) -> Vec<Value> {
+    let mut kept_out = app.board.damaged();
+    kept_out.retain(|(name, _)| caller.may_see(name));
+    kept_out.into_iter().map(|(name, why)| json!({"name": name, "why": why})).collect()
+}
+
+async fn one_job(app: &App, job: String, query: &str) -> Result<HttpReply, Box<HttpReply>> {
     numbers(query, [])?;
     match app.read(Read::Job(job.clone())).await? {
         ReadDone::Job(state) => Ok(json_reply(200, &render::job(&state, app.board.log()))),
@@ -128,7 +137,7 @@ async fn one_job(app: &App, job: String, query: &str) -> Result<Reply, Box<Reply
     }
 }
 
-async fn records(app: &App, job: &str, query: &str) -> Result<Reply, Box<Reply>> {
+async fn records(app: &App, job: &str, query: &str) -> Result<HttpReply, Box<HttpReply>> {
     let before = Parameter { name: "before", most: u64::MAX, default: u64::MAX };
     let (how, query) = query::text(query, "how");
     let (kind, query) = query::text(&query, "kind");
@@ -142,17 +151,17 @@ async fn records(app: &App, job: &str, query: &str) -> Result<Reply, Box<Reply>>
 }
 
 /// The last records that are complete or have failed, the greatest number first.
-async fn history(app: &App, job: &str, query: &str) -> Result<Reply, Box<Reply>> {
+async fn history(app: &App, job: &str, query: &str) -> Result<HttpReply, Box<HttpReply>> {
     let [last] = numbers(query, [Parameter { name: "last", most: MOST_ROWS, default: 100 }])?;
     let number = app.number(job)?;
-    let read = move |history: &HistoryReader| Ok((history.ended(number, last)?, history.upto(number)?));
+    let read = move |history: &HistoryReader| Ok((history.ended_records(number, last)?, history.upto(number)?));
     let (records, upto) = app.read_history(read).await?;
     let records: Vec<Value> = records.iter().map(render::past).collect();
     Ok(json_reply(200, &json!({"upto": upto, "records": records})))
 }
 
 /// One of these words, in which a '+' or '%20' stands for a space.
-fn word(name: &str, given: Option<&str>, words: &[&'static str]) -> Result<Option<&'static str>, Box<Reply>> {
+fn word(name: &str, given: Option<&str>, words: &[&'static str]) -> Result<Option<&'static str>, Box<HttpReply>> {
     let Some(given) = given else {
         return Ok(None);
     };
@@ -161,7 +170,7 @@ fn word(name: &str, given: Option<&str>, words: &[&'static str]) -> Result<Optio
     found.map(|word| Some(*word)).ok_or_else(|| bad_field(name, &format!("is none of {}", words.join(", "))).into())
 }
 
-async fn record(app: &App, job: String, id: u64, query: &str) -> Result<Reply, Box<Reply>> {
+async fn record(app: &App, job: String, id: u64, query: &str) -> Result<HttpReply, Box<HttpReply>> {
     numbers(query, [])?;
     let number = app.number(&job)?;
     let ReadDone::Record(live) = app.read(Read::Record { job: job.clone(), id }).await? else {
@@ -175,13 +184,13 @@ async fn record(app: &App, job: String, id: u64, query: &str) -> Result<Reply, B
 }
 
 /// The metadata of a live record, or nothing of one that is not live.
-pub(super) fn metadata(live: Option<RecordState>) -> Result<Option<Metadata>, Box<Reply>> {
+pub(super) fn metadata(live: Option<RecordState>) -> Result<Option<Metadata>, Box<HttpReply>> {
     let read = |state: RecordState| state.metadata.and_then(|text| Metadata::of(&text));
     live.map(|state| read(state).ok_or_else(|| error(507, "memory ran out").into())).transpose()
 }
 
 /// The files that were taken and not reported, those taken first before the others, and the files that were deleted last.
-async fn files(app: &App, job: &str, query: &str) -> Result<Reply, Box<Reply>> {
+async fn files(app: &App, job: &str, query: &str) -> Result<HttpReply, Box<HttpReply>> {
     let before = Parameter { name: "before", most: u64::MAX, default: u64::MAX };
     let [before, most] = numbers(query, [before, limit(MOST_ROWS, 100)])?;
     let ReadDone::Job(state) = app.read(Read::Job(job.to_string())).await? else {
@@ -198,7 +207,7 @@ pub(super) struct FilesRead {
 }
 
 /// How far the history is, and at most this many taken files, and files that were deleted before a call.
-pub(super) async fn files_of(app: &App, job: &JobState, before: u64, most: u64) -> Result<FilesRead, Box<Reply>> {
+pub(super) async fn files_of(app: &App, job: &JobState, before: u64, most: u64) -> Result<FilesRead, Box<HttpReply>> {
     let number = job.opening.number;
     let (taken, deleted, upto) = app
         .read_history(move |history| {
@@ -211,7 +220,7 @@ pub(super) async fn files_of(app: &App, job: &JobState, before: u64, most: u64) 
 }
 
 /// Taken files by the coordinator's whole list, for a history that does not know all of them.
-async fn taken_by_all(app: &App, job: &str, number: i64, most: u64) -> Result<Vec<FileRow>, Box<Reply>> {
+async fn taken_by_all(app: &App, job: &str, number: i64, most: u64) -> Result<Vec<FileRow>, Box<HttpReply>> {
     let all = match app.read(Read::Taken(job.to_string())).await? {
         ReadDone::Taken(all) => all.ok_or_else(|| error(507, "memory ran out"))?,
         _ => return Err(no_job(job).into()),
@@ -220,7 +229,7 @@ async fn taken_by_all(app: &App, job: &str, number: i64, most: u64) -> Result<Ve
 }
 
 /// How often a file is used, by which records, and its history.
-async fn one_file(app: &App, job: String, file: u64, query: &str) -> Result<Reply, Box<Reply>> {
+async fn one_file(app: &App, job: String, file: u64, query: &str) -> Result<HttpReply, Box<HttpReply>> {
     numbers(query, [])?;
     let number = app.number(&job)?;
     let ReadDone::File { uses, bytes, live } = app.read(Read::File { job: job.clone(), file }).await? else {
@@ -247,7 +256,7 @@ async fn one_file(app: &App, job: String, file: u64, query: &str) -> Result<Repl
 
 /// The acknowledgements of these live records that name a file. Reads one record at a time, so none keeps the writer
 /// for long. A record that has ended meanwhile has none.
-async fn used_by(app: &App, job: &str, file: u64, live: Vec<u64>) -> Result<Vec<Value>, Box<Reply>> {
+async fn used_by(app: &App, job: &str, file: u64, live: Vec<u64>) -> Result<Vec<Value>, Box<HttpReply>> {
     let mut by = Vec::new();
     for id in live {
         if let ReadDone::Record(record) = app.read(Read::Record { job: job.to_string(), id }).await? {
@@ -257,7 +266,7 @@ async fn used_by(app: &App, job: &str, file: u64, live: Vec<u64>) -> Result<Vec<
     Ok(by)
 }
 
-async fn log(app: &App, job: &str, caller: &Caller, query: &str) -> Result<Reply, Box<Reply>> {
+async fn log(app: &App, job: &str, caller: &Caller, query: &str) -> Result<HttpReply, Box<HttpReply>> {
     let terms = Parameter { name: "terms", most: 1, default: 0 };
     let [after, most, terms] = numbers(query, [AFTER, limit(MOST_ROWS, 100), terms])?;
     if terms == 1 && !caller.may_write {
@@ -276,7 +285,7 @@ async fn log(app: &App, job: &str, caller: &Caller, query: &str) -> Result<Reply
 }
 
 /// The events after a place, once there is one, or after a time. Without a place: from the first that the log has.
-async fn events(app: &App, job: &str, query: &str) -> Result<Reply, Box<Reply>> {
+async fn events(app: &App, job: &str, query: &str) -> Result<HttpReply, Box<HttpReply>> {
     let wait = Parameter { name: "wait", most: MOST_WAIT, default: 0 };
     let (known, query) = query::text(query, "log");
     let [after, wait, most] = numbers(&query, [log_position::AFTER, wait, limit(MOST_ROWS, MOST_ROWS)])?;
@@ -309,7 +318,7 @@ async fn events(app: &App, job: &str, query: &str) -> Result<Reply, Box<Reply>> 
     Ok(json_reply(200, &json!({"first": first, "log": app.board.log(), "upto": upto, "events": events})))
 }
 
-async fn samples(app: &App, job: &str, query: &str) -> Result<Reply, Box<Reply>> {
+async fn samples(app: &App, job: &str, query: &str) -> Result<HttpReply, Box<HttpReply>> {
     let [after, most] = numbers(query, [AFTER, limit(MOST_SAMPLES, 1000)])?;
     let number = app.number(job)?;
     let samples = app.read_history(move |history| history.samples(number, after, most)).await?;

@@ -76,7 +76,15 @@ impl Row<'_> {
     fn of(entry: &Entry, has_term: bool) -> Row<'_> {
         let Entry { seq, at, record, line, told, waiting, .. } = entry;
         let line = if has_term { Cow::Borrowed(line.as_str()) } else { without_term(line) };
-        Row { seq: *seq, at: *at, record: *record, line, answer: told.text(), ended: entry.ended(), waiting: *waiting }
+        Row {
+            seq: *seq,
+            at: *at,
+            record: *record,
+            line,
+            answer: told.text(),
+            ended: entry.ended_records(),
+            waiting: *waiting,
+        }
     }
 }
 
@@ -98,7 +106,7 @@ pub fn event(entry: &Entry, base: impl Fn(u64) -> Option<Choice>) -> Option<Valu
     let reply = entry.reply()?;
     let is = Event::of(&reply)?;
     let word = is.word();
-    let mut event = json!({"seq": entry.seq, "at": entry.at, "event": word, "ended": entry.ended()});
+    let mut event = json!({"seq": entry.seq, "at": entry.at, "event": word, "ended": entry.ended_records()});
     if let Some(id) = entry.record {
         event["id"] = json!(id);
     }
@@ -129,7 +137,7 @@ fn why(entry: &Entry) -> Option<String> {
     let Reply::Answered(answer) = entry.reply()? else {
         return None;
     };
-    let (dropped, id) = (dropped(&entry.ended()), entry.record.unwrap_or_default());
+    let (dropped, id) = (dropped(&entry.ended_records()), entry.record.unwrap_or_default());
     Some(match answer {
         A::AckLate { .. } => format!("an acknowledgement of record {id} came after the record was done or had ended"),
         A::AckPending { .. } | A::AckCompleted { .. } => format!("record {id} completed, and {dropped}"),

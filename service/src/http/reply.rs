@@ -1,18 +1,19 @@
 //! Answers: JSON bodies, and errors that name the field.
 use super::json_members::Invalid;
 use hyper::header::{
-    HeaderMap, HeaderName, HeaderValue, ACCEPT, CONTENT_TYPE, REFERRER_POLICY, X_CONTENT_TYPE_OPTIONS, X_FRAME_OPTIONS,
+    HeaderMap, HeaderName, HeaderValue, ACCEPT, CONTENT_TYPE, REFERRER_POLICY, RETRY_AFTER, X_CONTENT_TYPE_OPTIONS,
+    X_FRAME_OPTIONS,
 };
 use hyper::{Body, Response, StatusCode};
 use serde_json::{json, Value};
 
-pub type Reply = Response<Body>;
+pub type HttpReply = Response<Body>;
 
 /// How many headers most answers have at most.
 const HEADERS: usize = 6;
 
 /// An answer of this type, with the headers that every answer has.
-pub fn with_type(status: u16, kind: &'static str, body: impl Into<Body>) -> Reply {
+pub fn with_type(status: u16, kind: &'static str, body: impl Into<Body>) -> HttpReply {
     let mut reply = Response::new(body.into());
     *reply.status_mut() = StatusCode::from_u16(status).unwrap_or(StatusCode::INTERNAL_SERVER_ERROR);
     *reply.headers_mut() = HeaderMap::with_capacity(HEADERS);
@@ -24,29 +25,29 @@ pub fn with_type(status: u16, kind: &'static str, body: impl Into<Body>) -> Repl
     reply
 }
 
-pub fn body(status: u16, text: String) -> Reply {
+pub fn body(status: u16, text: String) -> HttpReply {
     with_type(status, "application/json", text)
 }
 
-pub fn json_reply(status: u16, value: &Value) -> Reply {
+pub fn json_reply(status: u16, value: &Value) -> HttpReply {
     body(status, value.to_string())
 }
 
-pub fn text(status: u16, text: &'static str) -> Reply {
+pub fn text(status: u16, text: &'static str) -> HttpReply {
     with_type(status, "text/plain; charset=utf-8", text)
 }
 
-pub fn error(status: u16, why: &str) -> Reply {
+pub fn error(status: u16, why: &str) -> HttpReply {
     refusal(status, json!({"error": why}))
 }
 
 /// An error's JSON, which the answer keeps beside its body for [`as_problem`].
-struct Said(Value);
+struct ErrorMembers(Value);
 
 /// An error of these members, of which `error` is the text.
-pub fn refusal(status: u16, members: Value) -> Reply {
+pub fn refusal(status: u16, members: Value) -> HttpReply {
     let mut reply = json_reply(status, &members);
-    reply.extensions_mut().insert(Said(members));
+    reply.extensions_mut().insert(ErrorMembers(members));
     reply
 }
 
@@ -62,8 +63,8 @@ pub fn wants_problems(headers: &HeaderMap) -> bool {
 }
 
 /// The same answer, whose error is one of RFC 9457: its members, and the standard ones.
-pub fn as_problem(mut reply: Reply) -> Reply {
-    let Some(Said(mut members)) = reply.extensions_mut().remove::<Said>() else {
+pub fn as_problem(mut reply: HttpReply) -> HttpReply {
+    let Some(ErrorMembers(mut members)) = reply.extensions_mut().remove::<ErrorMembers>() else {
         return reply;
     };
     let status = reply.status();
@@ -76,17 +77,23 @@ pub fn as_problem(mut reply: Reply) -> Reply {
     reply
 }
 
+/// A job that is kept out, since its log can't be replayed. Once it is mended and the service has started again, the request can be made.
+pub fn damaged(job: &str, why: &str) -> HttpReply {
+    let why = format!("job {job} is damaged, and is kept out: {why}");
+    with_header(refusal(503, json!({"error": why, "reason": "damaged"})), RETRY_AFTER, "10")
+}
+
 /// A bad request: the field, and what is wrong with it.
-pub fn invalid(invalid: &Invalid) -> Reply {
+pub fn invalid(invalid: &Invalid) -> HttpReply {
     let Invalid { field, why } = invalid;
     refusal(400, json!({"error": format!("{field} {why}"), "field": field}))
 }
 
-pub fn bad_field(field: &str, why: &str) -> Reply {
+pub fn bad_field(field: &str, why: &str) -> HttpReply {
     invalid(&Invalid { field: field.to_string(), why: why.to_string() })
 }
 
-pub fn with_header(mut reply: Reply, name: HeaderName, value: &str) -> Reply {
+pub fn with_header(mut reply: HttpReply, name: HeaderName, value: &str) -> HttpReply {
     if let Ok(value) = HeaderValue::from_str(value) {
         reply.headers_mut().insert(name, value);
     }

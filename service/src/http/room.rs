@@ -1,5 +1,5 @@
 //! Large answers keep room for themselves until they are sent, so that slow readers can't fill the memory.
-use super::reply::Reply;
+use super::reply::HttpReply;
 use super::slots::Turn;
 use super::{gate, units, App};
 use futures_core::Stream;
@@ -18,7 +18,7 @@ const SMALL: u64 = 64 << 10;
 const PIECE: usize = 64 << 10;
 
 /// The answer. A large one now keeps its room and its connection's place until it is sent; if there is no room, it says so.
-pub async fn kept(app: &App, turn: Turn, reply: Reply) -> Reply {
+pub async fn keep_room(app: &App, turn: Turn, reply: HttpReply) -> HttpReply {
     let length = match HttpBody::size_hint(reply.body()).exact() {
         // it is sent as it comes, and its connection's place is taken until it ends
         None => return reply.map(|body| Body::wrap_stream(Streamed { body, _turn: turn })),
@@ -36,7 +36,7 @@ pub async fn kept(app: &App, turn: Turn, reply: Reply) -> Reply {
         return gate::busy("the answer is not whole");
     };
     head.headers.insert(CONTENT_LENGTH, HeaderValue::from(length));
-    Reply::from_parts(head, Body::wrap_stream(Pieces { rest, _room: room, _turn: turn }))
+    HttpReply::from_parts(head, Body::wrap_stream(Pieces { rest, _room: room, _turn: turn }))
 }
 
 struct Streamed {

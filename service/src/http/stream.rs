@@ -2,7 +2,7 @@
 use super::log_position::{self, LogPosition};
 use super::query::{self, numbers};
 use super::render;
-use super::reply::{bad_field, with_type, Reply};
+use super::reply::{bad_field, with_type, HttpReply};
 use super::{no_job, App};
 use crate::auth::Caller;
 use hyper::body::Sender;
@@ -30,7 +30,7 @@ pub async fn answer(
     job: String,
     caller: &Caller,
     request: &Request<Body>,
-) -> Result<Reply, Box<Reply>> {
+) -> Result<HttpReply, Box<HttpReply>> {
     let (known, query) = query::text(request.uri().query().unwrap_or(""), "log");
     let [after] = numbers(&query, [log_position::AFTER])?;
     let (after, known) = match last_id(request.headers())? {
@@ -55,7 +55,7 @@ pub async fn answer(
 }
 
 /// The place and the log's identity of a client that comes back.
-fn last_id(headers: &HeaderMap) -> Result<Option<(u64, String)>, Box<Reply>> {
+fn last_id(headers: &HeaderMap) -> Result<Option<(u64, String)>, Box<HttpReply>> {
     let Some(value) = headers.get(LAST_ID) else {
         return Ok(None);
     };
@@ -108,7 +108,7 @@ impl Stream {
     }
 
     /// The text of what has come, and whether it is the last. Nothing comes of a log that is another process's by now.
-    async fn next(&mut self) -> Result<(String, bool), Box<Reply>> {
+    async fn next(&mut self) -> Result<(String, bool), Box<HttpReply>> {
         let place = LogPosition { job: &self.job, number: self.number, after: Some(self.after), epoch: self.epoch };
         let is_cut = place.check_cut(&self.app).is_err();
         if !place.is_owned(&self.app) {

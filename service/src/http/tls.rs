@@ -1,4 +1,5 @@
 //! TLS of the service's own: its certificate and key, which can be read again while it serves.
+use super::keys::fresh;
 use native_tls::{Identity, Protocol, TlsAcceptor};
 use openssl::asn1::Asn1Time;
 use openssl::x509::X509;
@@ -37,16 +38,24 @@ struct Read {
     until: Option<SystemTime>,
 }
 
+/// A certificate that can take the place of the one that is used.
+pub struct Fresh(Read);
+
 impl Tls {
     pub fn read(files: TlsFiles) -> Result<Tls, NoTls> {
         let read = RwLock::new(read(&files)?);
         Ok(Tls { files, read })
     }
 
-    /// Reads the files again. If they can't be used, the ones before go on.
-    pub fn read_again(&self) -> Result<(), NoTls> {
-        *self.read.write().unwrap_or_else(PoisonError::into_inner) = read(&self.files)?;
-        Ok(())
+    /// What the files have now, or their new copies.
+    pub fn fresh(&self) -> Result<Fresh, NoTls> {
+        let TlsFiles { certificate, key } = &self.files;
+        read(&TlsFiles { certificate: fresh(certificate), key: fresh(key) }).map(Fresh)
+    }
+
+    /// From now on new connections get it.
+    pub fn take(&self, Fresh(read): Fresh) {
+        *self.read.write().unwrap_or_else(PoisonError::into_inner) = read;
     }
 
     pub fn acceptor(&self) -> tokio_native_tls::TlsAcceptor {

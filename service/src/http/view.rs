@@ -4,8 +4,8 @@ use super::forward::{self, was_passed, Served};
 use super::query::{numbers, Parameter};
 use super::reads::{files_of, metadata, FilesRead};
 use super::render;
-use super::reply::{json_reply, Reply};
-use super::{lists, App};
+use super::reply::{json_reply, HttpReply};
+use super::{lists, reads, App};
 use crate::auth::Caller;
 use crate::history::{self, HistoryReader, Search};
 use crate::model::{Kind, Shards};
@@ -38,11 +38,12 @@ pub async fn answer(
     name: Option<String>,
     caller: &Caller,
     request: Request<Body>,
-) -> Result<Reply, Box<Reply>> {
+) -> Result<HttpReply, Box<HttpReply>> {
     let query = request.uri().query().unwrap_or("");
     let wanted = numbers(query, [RECORDS, SAMPLES, FILES])?;
+    let is_damaged = name.as_ref().is_some_and(|job| app.board.damage(job).is_some());
     let elsewhere = match (&name, &app.others) {
-        (Some(job), Some(others)) => match others.find(app, job).await? {
+        (Some(job), Some(others)) if !is_damaged => match others.find(app, job).await? {
             Some(Served::At(_)) if was_passed(request.headers()) => return Err(forward::moves().into()),
             Some(Served::At(address)) => Some((others, job.clone(), address)),
             Some(Served::Here) | None => None,
@@ -56,6 +57,7 @@ pub async fn answer(
     let mut names: Vec<Value> =
         parts.iter_mut().filter_map(|part| part["jobs"].as_array_mut().map(std::mem::take)).flatten().collect();
     names.sort_by(|one, other| one["name"].as_str().cmp(&other["name"].as_str()));
+    let damaged = lists::damaged(&mut parts);
     let mut told = match elsewhere {
         Some((others, job, address)) => {
             let reply = others.pass(app, &address, &job, forward::get(&place(&request), request.headers())).await?;
@@ -66,11 +68,13 @@ pub async fn answer(
         }
         // where this process has none, the first job of another one
         None => match parts.iter().position(|part| !part["job"].is_null()) {
+            _ if is_damaged => parts.swap_remove(0),
             Some(0) | None => parts.swap_remove(0),
             Some(_) => return Box::pin(answer(app, first(&names), caller, request)).await,
         },
     };
     told["jobs"] = names.into();
+    told["damaged"] = damaged;
     Ok(json_reply(200, &told))
 }
 
@@ -88,11 +92,13 @@ async fn own(
     name: Option<&String>,
     caller: &Caller,
     [records, samples, files]: [u64; 3],
-) -> Result<(Shards, Value), Box<Reply>> {
+) -> Result<(Shards, Value), Box<HttpReply>> {
     let (shards, jobs) = app.jobs().await?;
     // the names of many jobs take long, and the other requests go on by another thread
     let (names, shown) = tokio::task::block_in_place(|| names_of(jobs, name, caller));
-    let mut told = json!({"epoch": app.board.epoch(), "job": null});
+    // in place of one that is kept out no other job is shown
+    let shown = shown.filter(|_| name.is_none_or(|name| app.board.damage(name).is_none()));
+    let mut told = json!({"epoch": app.board.epoch(), "job": null, "damaged": reads::damaged(app, caller)});
     told["jobs"] = names; // `json!` would copy them
     if let (Some(job), Some(object)) = (shown, told.as_object_mut()) {
         let wanted = Wanted { records, samples, files };
@@ -120,7 +126,7 @@ fn names_of(jobs: Vec<JobState>, name: Option<&String>, caller: &Caller) -> (Val
 }
 
 /// The pending records of a job, each with the subtasks that are missing. One that has ended meanwhile is left out.
-async fn pending(app: &App, job: &JobState) -> Result<Vec<Value>, Box<Reply>> {
+async fn pending(app: &App, job: &JobState) -> Result<Vec<Value>, Box<HttpReply>> {
     let mut found = Vec::new();
     for (record, _) in job.live.iter().filter(|(record, _)| !record.done).take(MOST_PENDING) {
         let read = Read::Record { job: job.opening.name.clone(), id: record.id };
@@ -141,7 +147,7 @@ async fn pending(app: &App, job: &JobState) -> Result<Vec<Value>, Box<Reply>> {
 }
 
 /// What the history has of a job, how far it is, and the files that were taken and deleted.
-async fn history(app: &App, job: &JobState, wanted: Wanted) -> Result<serde_json::Map<String, Value>, Box<Reply>> {
+async fn history(app: &App, job: &JobState, wanted: Wanted) -> Result<serde_json::Map<String, Value>, Box<HttpReply>> {
     let number = job.opening.number;
     let FilesRead { upto, taken, deleted } = files_of(app, job, u64::MAX, wanted.files).await?;
     let savepoints: Vec<u64> = savepoints(job).collect();
@@ -150,7 +156,7 @@ async fn history(app: &App, job: &JobState, wanted: Wanted) -> Result<serde_json
             "upto": upto,
             "records": history.records(number, u64::MAX, wanted.records, Search::default())?,
             "samples": history.samples(number, 0, wanted.samples)?,
-            "savepoints": kept(history, number, &savepoints)?,
+            "savepoints": savepoint_times(history, number, &savepoints)?,
             "taken": taken,
             "deleted": deleted,
         });
@@ -166,7 +172,7 @@ fn savepoints(job: &JobState) -> impl Iterator<Item = u64> + '_ {
 }
 
 /// When each savepoint was triggered and completed, as far as the history knows it.
-fn kept(history: &HistoryReader, job: i64, savepoints: &[u64]) -> Result<Vec<Value>, history::Error> {
+fn savepoint_times(history: &HistoryReader, job: i64, savepoints: &[u64]) -> Result<Vec<Value>, history::Error> {
     let told = |id: &u64| {
         let row = history.record(job, *id)?;
         let (started, finished) = row.map_or((None, None), |row| (Some(row.started), row.finished));

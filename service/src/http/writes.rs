@@ -1,13 +1,13 @@
 //! Requests that change something: a new job, and calls.
 use super::audit::Did;
-use super::bodies::Room;
+use super::bodies::BodyRoom;
 use super::forward::{self, was_passed, Served};
 use super::query::{numbers, Parameter};
-use super::reply::{bad_field, body, error, invalid, json_reply, refusal, with_header, Reply};
+use super::reply::{bad_field, body, damaged, error, invalid, json_reply, refusal, with_header, HttpReply};
 use super::{gate, no_job, wire, App};
 use crate::auth::Caller;
 use crate::model::{settings_json, sha256, Call};
-use crate::writer::{CallsDone, Created, Delete, Deletion, Key, Message, Names};
+use crate::writer::{CallsDone, Created, Delete, Deletion, Key, Message, NamesWanted};
 use hyper::body::HttpBody;
 use hyper::header::{HeaderMap, LOCATION};
 use hyper::{Body, Request};
@@ -21,7 +21,7 @@ const ABANDON: Parameter = Parameter { name: "abandon", most: 1, default: 0 };
 /// How long a body may still take when the service stops.
 const STOP_BODIES: Duration = Duration::from_secs(5);
 
-pub async fn new_job(app: &App, caller: &Caller, request: Request<Body>) -> Result<Reply, Box<Reply>> {
+pub async fn new_job(app: &App, caller: &Caller, request: Request<Body>) -> Result<HttpReply, Box<HttpReply>> {
     let (head, body) = request.into_parts();
     let (bytes, _room) = read_body(app, caller, body).await?;
     let wire::NewJob { name, settings, shape, names } = wire::new_job(&bytes).map_err(|why| invalid(&why))?;
@@ -30,7 +30,10 @@ pub async fn new_job(app: &App, caller: &Caller, request: Request<Body>) -> Resu
     }
     let mut told = json!({"name": name, "settings": settings_json(&settings), "shape": shape});
     let (place, by_default) = (format!("/v1/jobs/{name}"), app.names);
-    let names = Names { wanted: names, by_default };
+    let names = NamesWanted { wanted: names, by_default };
+    if let Some(why) = app.board.damage(&name) {
+        return Err(damaged(&name, &why).into());
+    }
     if let Some(address) = elsewhere(app, &name).await? {
         return pass_new(app, &address, &name, head, bytes).await;
     }
@@ -53,11 +56,12 @@ pub async fn new_job(app: &App, caller: &Caller, request: Request<Body>) -> Resu
         Created::Other => bad_name_taken(),
         Created::OtherNames { names } => other_names(names),
         Created::NotOpened(why) => error(507, &format!("the job was not opened: {why}")),
+        Created::Damaged(why) => damaged(&at, &why),
     })
 }
 
 /// The address of the process that has the job of this name, or has to open it; `None`: this one.
-async fn elsewhere(app: &App, job: &str) -> Result<Option<String>, Box<Reply>> {
+async fn elsewhere(app: &App, job: &str) -> Result<Option<String>, Box<HttpReply>> {
     let Some(others) = &app.others else {
         return Ok(None);
     };
@@ -75,7 +79,7 @@ async fn pass_new(
     job: &str,
     head: hyper::http::request::Parts,
     bytes: Vec<u8>,
-) -> Result<Reply, Box<Reply>> {
+) -> Result<HttpReply, Box<HttpReply>> {
     match &app.others {
         Some(others) if !was_passed(&head.headers) => {
             others.pass(app, address, job, Request::from_parts(head, Body::from(bytes))).await
@@ -84,12 +88,12 @@ async fn pass_new(
     }
 }
 
-fn bad_name_taken() -> Reply {
+fn bad_name_taken() -> HttpReply {
     let why = "name is that of a job with other settings or another shape";
     refusal(409, json!({"error": why, "field": "name"}))
 }
 
-fn other_names(has: bool) -> Reply {
+fn other_names(has: bool) -> HttpReply {
     let why = if has {
         "names: the job gives out names, so it can't be opened without"
     } else {
@@ -99,7 +103,7 @@ fn other_names(has: bool) -> Reply {
 }
 
 /// Deletes a job with its log and its history.
-pub async fn delete_job(app: &App, job: String, query: &str) -> Result<Reply, Box<Reply>> {
+pub async fn delete_job(app: &App, job: String, query: &str) -> Result<HttpReply, Box<HttpReply>> {
     let [abandon] = numbers(query, [ABANDON])?;
     let name = job.clone();
     let told = app.ask(|reply| Message::Delete(Delete { job, abandon: abandon == 1, reply })).await?;
@@ -111,7 +115,12 @@ pub async fn delete_job(app: &App, job: String, query: &str) -> Result<Reply, Bo
     })
 }
 
-pub async fn calls(app: &App, caller: &Caller, job: String, request: Request<Body>) -> Result<Reply, Box<Reply>> {
+pub async fn calls(
+    app: &App,
+    caller: &Caller,
+    job: String,
+    request: Request<Body>,
+) -> Result<HttpReply, Box<HttpReply>> {
     app.number(&job)?;
     let name = key_name(request.headers())?;
     let (bytes, _room) = read_body(app, caller, request.into_body()).await?;
@@ -134,11 +143,11 @@ pub async fn calls(app: &App, caller: &Caller, job: String, request: Request<Bod
     Ok(reply)
 }
 
-pub(super) fn key_used() -> Reply {
+pub(super) fn key_used() -> HttpReply {
     refusal(422, json!({"error": "Idempotency-Key was used with another body", "field": "Idempotency-Key"}))
 }
 
-fn key_is_missing(call: &Call) -> Reply {
+fn key_is_missing(call: &Call) -> HttpReply {
     bad_field(
         "Idempotency-Key",
         &format!("is missing: without it, a {} whose answer is lost is made twice", call.name()),
@@ -146,7 +155,7 @@ fn key_is_missing(call: &Call) -> Reply {
 }
 
 /// The request's key: 1 to 255 visible characters of ASCII.
-pub(super) fn key_name(headers: &HeaderMap) -> Result<Option<String>, Box<Reply>> {
+pub(super) fn key_name(headers: &HeaderMap) -> Result<Option<String>, Box<HttpReply>> {
     let Some(value) = headers.get(KEY) else {
         return Ok(None);
     };
@@ -157,14 +166,14 @@ pub(super) fn key_name(headers: &HeaderMap) -> Result<Option<String>, Box<Reply>
 }
 
 /// The whole body, within its limits of bytes and time, and its room, which is kept until the request is answered.
-pub(super) async fn read_body(app: &App, caller: &Caller, body: Body) -> Result<(Vec<u8>, Room), Box<Reply>> {
+pub(super) async fn read_body(app: &App, caller: &Caller, body: Body) -> Result<(Vec<u8>, BodyRoom), Box<HttpReply>> {
     let most = app.limits.body_bytes;
     let length = body.size_hint().upper().and_then(|length| usize::try_from(length).ok());
     let time = Duration::from_secs(app.limits.body_seconds);
     if length.is_some_and(|length| length > most) {
         return Err(too_long(most).into());
     }
-    let mut reading = Reading { most, bytes: Vec::new(), room: Room::new(&app.bodies, app.keys.token_of(caller)) };
+    let mut reading = Reading { most, bytes: Vec::new(), room: BodyRoom::new(&app.bodies, app.keys.token_of(caller)) };
     tokio::select! {
         // most bodies are there at once, and need no timer
         biased;
@@ -181,11 +190,11 @@ pub(super) async fn read_body(app: &App, caller: &Caller, body: Body) -> Result<
 struct Reading {
     most: usize,
     bytes: Vec<u8>,
-    room: Room,
+    room: BodyRoom,
 }
 
 impl Reading {
-    async fn read(&mut self, mut body: Body) -> Result<(), Box<Reply>> {
+    async fn read(&mut self, mut body: Body) -> Result<(), Box<HttpReply>> {
         while let Some(part) = body.data().await {
             let part = part.map_err(|_| error(400, "the body ended early"))?;
             let length = self.bytes.len() + part.len();
@@ -207,6 +216,6 @@ async fn stops(app: &App) {
     tokio::time::sleep(STOP_BODIES).await;
 }
 
-fn too_long(most: usize) -> Reply {
+fn too_long(most: usize) -> HttpReply {
     error(413, &format!("the body has more than {most} bytes"))
 }

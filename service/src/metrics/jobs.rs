@@ -107,34 +107,19 @@ impl Gauges {
 
     /// Those of whole numbers.
     fn whole(&self) -> [&Parted<IntGaugeVec>; 12] {
-        let Gauges {
-            mode,
-            phase,
-            files,
-            pending,
-            savepoints,
-            log_calls,
-            kept_calls,
-            image_bytes,
-            since_image,
-            history,
-            term,
-            next_name,
-            ..
-        } = self;
         [
-            mode,
-            phase,
-            files,
-            pending,
-            savepoints,
-            log_calls,
-            kept_calls,
-            image_bytes,
-            since_image,
-            history,
-            term,
-            next_name,
+            &self.mode,
+            &self.phase,
+            &self.files,
+            &self.pending,
+            &self.savepoints,
+            &self.log_calls,
+            &self.kept_calls,
+            &self.image_bytes,
+            &self.since_image,
+            &self.history,
+            &self.term,
+            &self.next_name,
         ]
     }
 

@@ -209,6 +209,15 @@ impl Metrics {
         self.gauges.history(job, upto);
     }
 
+    /// Sets values of a job, if it `is_there`. One that goes leaves the board before its values are forgotten, so none are left of it, and a later
+    /// job of its name gets none.
+    pub fn of_job(&self, job: &str, is_there: impl Fn() -> bool, set: impl FnOnce(&Metrics)) {
+        let _held = self.values(job);
+        if is_there() {
+            set(self);
+        }
+    }
+
     /// A job was deleted, or is another process's: its values go.
     pub fn forget(&self, job: &str) {
         let _held = self.values(job);

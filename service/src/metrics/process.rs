@@ -17,7 +17,7 @@ pub struct Process {
 
 /// What the system says of the process.
 #[derive(Debug, PartialEq)]
-struct Said {
+struct ProcStat {
     cpu_seconds: f64,
     threads: i64,
     virtual_bytes: i64,
@@ -54,7 +54,7 @@ impl Process {
 
     /// Asks the system. What it does not say stays as it was.
     pub fn look(&self) {
-        let said = fs::read_to_string("/proc/self/stat").ok().and_then(|text| Said::of(&text, ticks_each_second()));
+        let said = fs::read_to_string("/proc/self/stat").ok().and_then(|text| ProcStat::of(&text, ticks_each_second()));
         if let Some(said) = said {
             self.cpu.inc_by((said.cpu_seconds - self.cpu.get()).max(0.0));
             self.threads.set(said.threads);
@@ -69,13 +69,13 @@ impl Process {
     }
 }
 
-impl Said {
+impl ProcStat {
     /// Reads `/proc/self/stat`. The program's name, which may have spaces, is in brackets.
-    fn of(text: &str, ticks_each_second: f64) -> Option<Said> {
+    fn of(text: &str, ticks_each_second: f64) -> Option<ProcStat> {
         let words: Vec<&str> = text.rsplit_once(')')?.1.split_whitespace().collect();
         let number = |place: usize| words.get(place)?.parse::<i64>().ok();
         let cpu_seconds = (number(11)? + number(12)?) as f64 / ticks_each_second;
-        Some(Said { cpu_seconds, threads: number(17)?, virtual_bytes: number(20)?, resident_pages: number(21)? })
+        Some(ProcStat { cpu_seconds, threads: number(17)?, virtual_bytes: number(20)?, resident_pages: number(21)? })
     }
 }
 
@@ -107,8 +107,8 @@ mod tests {
     fn reads_what_linux_says() {
         let text =
             "7 (a b) c) S 1 7 7 0 -1 4194560 90 0 0 0 250 50 0 0 20 0 9 0 123 20480000 1500 18446744073709551615";
-        let said = Said { cpu_seconds: 3.0, threads: 9, virtual_bytes: 20_480_000, resident_pages: 1500 };
-        assert_eq!(Said::of(text, 100.0), Some(said));
-        assert_eq!((Said::of("", 100.0), Said::of("7 (a) S 1", 100.0)), (None, None));
+        let said = ProcStat { cpu_seconds: 3.0, threads: 9, virtual_bytes: 20_480_000, resident_pages: 1500 };
+        assert_eq!(ProcStat::of(text, 100.0), Some(said));
+        assert_eq!((ProcStat::of("", 100.0), ProcStat::of("7 (a) S 1", 100.0)), (None, None));
     }
 }

@@ -16,6 +16,8 @@ pub struct Upkeep {
     token_until: GaugeVec,
     certificate_until: Gauge,
     oldest_file: Parted<GaugeVec>,
+    damaged: IntGaugeVec,
+    reload_failed: IntGauge,
 }
 
 impl Upkeep {
@@ -45,6 +47,17 @@ impl Upkeep {
                 "When the certificate ends, or the first one of its chain, in Unix time; +Inf without TLS.",
             )?,
             oldest_file: Parted::of(|| GaugeVec::new(oldest_file.clone(), &["job_name", "state"]))?,
+            reload_failed: IntGauge::new(
+                "relkvanu_reload_failed",
+                "1 if a file was bad when the tokens and the certificate were read again last: all stay as they were.",
+            )?,
+            damaged: IntGaugeVec::new(
+                Opts::new(
+                    "relkvanu_job_damaged",
+                    "1 of a job that this process keeps out, since its log can't be replayed; nothing of other jobs.",
+                ),
+                &["job_name"],
+            )?,
             token_until: GaugeVec::new(
                 Opts::new(
                     "relkvanu_token_until_timestamp_seconds",
@@ -61,7 +74,20 @@ impl Upkeep {
         [&self.history_lag, &self.oldest_file].into_iter().try_for_each(|it| all.add(it))?;
         all.add(&self.certificate_until)?;
         [&self.keys_behind, &self.samples_behind].into_iter().try_for_each(|it| all.add(it))?;
+        all.add(&self.damaged)?;
+        all.add(&self.reload_failed)?;
         [&self.bytes, &self.free, &self.disk].into_iter().try_for_each(|it| all.add(it))
+    }
+
+    /// Whether the tokens and the certificate could not be read again.
+    pub fn reload_failed(&self, failed: bool) {
+        self.reload_failed.set(i64::from(failed));
+    }
+
+    /// The jobs that are kept out are these.
+    pub fn damaged<'a>(&self, jobs: impl Iterator<Item = &'a str>) {
+        self.damaged.reset();
+        jobs.for_each(|job| self.damaged.with_label_values(&[job]).set(1));
     }
 
     pub fn history_up(&self, is_up: bool) {

@@ -90,19 +90,12 @@ impl Job {
 #[cfg(test)]
 mod tests {
     use super::super::outcome::Extra;
+    use super::super::settings::settings_of;
     use super::super::{Opening, Settings};
     use super::*;
     use std::error::Error;
 
-    const SETTINGS: Settings = Settings {
-        interval: 10,
-        pause: 0,
-        at_once: 1,
-        timeout: 5000,
-        tolerable: 0,
-        retained: 3,
-        keep_on_cancel: false,
-    };
+    const SETTINGS: Settings = settings_of([10, 0, 1, 5000, 0, 3], false);
 
     /// A job of two subtasks with three checkpoints, of which each has a file of each subtask and the first file of all.
     fn with_three() -> Result<Job, Box<dyn Error>> {

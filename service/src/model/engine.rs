@@ -26,7 +26,7 @@ impl NoJob {
 const FILES: usize = 64;
 
 /// A call that was made.
-pub struct Made {
+pub struct MadeCall {
     pub reply: Reply,
     /// Its line, without a newline.
     pub line: String,
@@ -34,10 +34,10 @@ pub struct Made {
     pub released: Range<u64>,
 }
 
-impl Made {
-    fn of(made: relkvanu::Made<'_>) -> Result<Made, Fault> {
+impl MadeCall {
+    fn of(made: relkvanu::Made<'_>) -> Result<MadeCall, Fault> {
         let released = made.waited..made.counts.waiting;
-        Ok(Made { reply: reply(Ok(made.said))?, line: made.line, released })
+        Ok(MadeCall { reply: reply(Ok(made.said))?, line: made.line, released })
     }
 }
 
@@ -81,18 +81,18 @@ impl Engine {
     }
 
     /// Makes a call at the moment `now`, in one call of the library. A take that finds more files than there is room for is made again.
-    pub fn make(&mut self, call: &Call, now: u64) -> Result<Made, Fault> {
+    pub fn make(&mut self, call: &Call, now: u64) -> Result<MadeCall, Fault> {
         let call = call.of_library(now);
         let mut files = [0; FILES];
         match self.0.make(&call, &mut files) {
             Err(Fault::TooShort { places }) => {
                 let mut files = vec![0; usize::try_from(places).unwrap_or(0)];
-                self.0.make(&call, &mut files).and_then(Made::of)
+                self.0.make(&call, &mut files).and_then(MadeCall::of)
             }
             // The line would be longer than a line may be. So it has more files than an acknowledgement may have, and is refused for
             // these or before them.
             Err(long @ Fault::BadLine(LineFault::TooLong)) => Err(self.refused(&call).unwrap_or(long)),
-            made => made.and_then(Made::of),
+            made => made.and_then(MadeCall::of),
         }
     }
 
@@ -198,19 +198,12 @@ fn reply(said: Result<Said<'_>, Fault>) -> Result<Reply, Fault> {
 #[cfg(test)]
 mod tests {
     use super::super::call::Subtask;
+    use super::super::settings::settings_of;
     use super::*;
     use relkvanu::Refusal;
     use std::error::Error;
 
-    const SETTINGS: Settings = Settings {
-        interval: 10,
-        pause: 0,
-        at_once: 1,
-        timeout: 5000,
-        tolerable: 0,
-        retained: 1,
-        keep_on_cancel: false,
-    };
+    const SETTINGS: Settings = settings_of([10, 0, 1, 5000, 0, 1], false);
 
     fn ack(fresh: Vec<u64>) -> Call {
         let subtask = Subtask { vertex: 0, index: 0 };

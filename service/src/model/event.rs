@@ -71,51 +71,51 @@ pub fn kind(reply: &Reply) -> Option<&'static str> {
 
 #[cfg(test)]
 mod tests {
-    use super::super::told::Told;
+    use super::super::answer_row::AnswerRow;
     use super::*;
     use crate::store::{IS_EVENT, LITE, PG};
     use rusqlite::Connection;
     use Answer as A;
 
-    const fn said(answer: Answer) -> Reply {
+    const fn answered(answer: Answer) -> Reply {
         Reply::Answered(answer)
     }
 
     /// Answers, as docs/RULES.md says; the event that each is, by docs/SERVICE-API.md. None is left out.
     fn answers() -> Vec<(Reply, Option<&'static str>)> {
-        let restored = |from| said(A::Restored { from, released: 3 });
+        let restored = |from| answered(A::Restored { from, released: 3 });
         vec![
-            (said(A::Triggered { expired: 0, id: 1 }), Some("triggered")),
-            (said(A::Triggered { expired: 2, id: 3 }), Some("triggered")),
-            (said(A::HeldInterval { expired: 0 }), None),
-            (said(A::HeldInterval { expired: 1 }), Some("expired")),
-            (said(A::HeldAtOnce { expired: 0 }), None),
-            (said(A::HeldAtOnce { expired: 1 }), Some("expired")),
-            (said(A::HeldPause { expired: 0 }), None),
-            (said(A::HeldPause { expired: 3 }), Some("expired")),
-            (said(A::Failed { expired: 0 }), Some("failed")),
-            (said(A::Failed { expired: 1 }), Some("failed")),
-            (said(A::SavepointTriggered(4)), Some("triggered")),
-            (said(A::AckPending { missing: 2 }), None),
-            (said(A::AckCompleted { dropped: 0, released: 0 }), Some("completed")),
-            (said(A::AckCompleted { dropped: 1, released: 2 }), Some("completed")),
-            (said(A::AckLate { handed_out: 1 }), None),
-            (said(A::DeclineAborted { released: 0 }), Some("declined")),
-            (said(A::DeclineFailed { released: 2 }), Some("failed")),
-            (said(A::DeclineLate), None),
-            (said(A::Disposed { released: 0 }), Some("disposed")),
+            (answered(A::Triggered { expired: 0, id: 1 }), Some("triggered")),
+            (answered(A::Triggered { expired: 2, id: 3 }), Some("triggered")),
+            (answered(A::HeldInterval { expired: 0 }), None),
+            (answered(A::HeldInterval { expired: 1 }), Some("expired")),
+            (answered(A::HeldAtOnce { expired: 0 }), None),
+            (answered(A::HeldAtOnce { expired: 1 }), Some("expired")),
+            (answered(A::HeldPause { expired: 0 }), None),
+            (answered(A::HeldPause { expired: 3 }), Some("expired")),
+            (answered(A::Failed { expired: 0 }), Some("failed")),
+            (answered(A::Failed { expired: 1 }), Some("failed")),
+            (answered(A::SavepointTriggered(4)), Some("triggered")),
+            (answered(A::AckPending { missing: 2 }), None),
+            (answered(A::AckCompleted { dropped: 0, released: 0 }), Some("completed")),
+            (answered(A::AckCompleted { dropped: 1, released: 2 }), Some("completed")),
+            (answered(A::AckLate { handed_out: 1 }), None),
+            (answered(A::DeclineAborted { released: 0 }), Some("declined")),
+            (answered(A::DeclineFailed { released: 2 }), Some("failed")),
+            (answered(A::DeclineLate), None),
+            (answered(A::Disposed { released: 0 }), Some("disposed")),
             (restored(Choice::Checkpoint(1)), Some("restored")),
             (restored(Choice::Savepoint(4)), Some("restored")),
             (restored(Choice::Fresh), Some("restored")),
-            (said(A::Cancelled { dropped: 0, released: 0 }), Some("cancelled")),
-            (said(A::Cancelled { dropped: 1, released: 2 }), Some("cancelled")),
-            (said(A::Configured { checkpoints: 1, released: 2 }), None),
-            (said(A::Deleted(u64::MAX)), None),
-            (said(A::Undeleted(7)), None),
-            (said(A::Counted { file: 7, uses: 1 }), None),
-            (said(A::Named), None),
-            (said(A::Reserved(20)), None),
-            (said(A::Forfeited), None),
+            (answered(A::Cancelled { dropped: 0, released: 0 }), Some("cancelled")),
+            (answered(A::Cancelled { dropped: 1, released: 2 }), Some("cancelled")),
+            (answered(A::Configured { checkpoints: 1, released: 2 }), None),
+            (answered(A::Deleted(u64::MAX)), None),
+            (answered(A::Undeleted(7)), None),
+            (answered(A::Counted { file: 7, uses: 1 }), None),
+            (answered(A::Named), None),
+            (answered(A::Reserved(20)), None),
+            (answered(A::Forfeited), None),
             (Reply::Taken(vec![7, 8, 9]), None),
         ]
     }
@@ -125,13 +125,13 @@ mod tests {
         for (reply, word) in answers() {
             assert_eq!(Event::of(&reply).map(Event::word), word, "{reply:?}");
         }
-        let listed: Vec<u32> = answers().iter().map(|(reply, _)| Told::of(reply).what).collect();
+        let listed: Vec<u32> = answers().iter().map(|(reply, _)| AnswerRow::of(reply).what).collect();
         let left_out = (0..200).find(|what| Answer::of_numbers(*what, 0, 0).is_some() && !listed.contains(what));
         assert_eq!(left_out, None);
-        let restored = |from| said(A::Restored { from, released: 0 });
+        let restored = |from| answered(A::Restored { from, released: 0 });
         let kinds = [
-            said(A::Triggered { expired: 0, id: 1 }),
-            said(A::SavepointTriggered(4)),
+            answered(A::Triggered { expired: 0, id: 1 }),
+            answered(A::SavepointTriggered(4)),
             restored(Choice::Savepoint(4)),
             restored(Choice::Fresh),
         ];
@@ -147,7 +147,7 @@ mod tests {
         assert!(LITE.contains(IS_EVENT) && PG.contains(IS_EVENT));
         let base = Connection::open_in_memory()?;
         for (reply, word) in answers() {
-            let [what, a, _] = Told::of(&reply).numbers();
+            let [what, a, _] = AnswerRow::of(&reply).numbers();
             let sql = format!("select {IS_EVENT} from (select ?1 as what, ?2 as a)");
             let is_event: bool = base.query_row(&sql, [what, a], |row| row.get(0))?;
             assert_eq!(is_event, word.is_some(), "{reply:?}");

@@ -1,16 +1,16 @@
 //! One job: its coordinator, its place in the log, and when the timer has to tick it.
+use super::answer_row::AnswerRow;
 use super::bases::Bases;
 use super::call::Call;
-use super::engine::{Engine, Lendable, Made, NoJob};
+use super::engine::{Engine, Lendable, MadeCall, NoJob};
 use super::image::Image;
-use super::live::{ended, Live};
+use super::live::{ended_numbers, Live};
 use super::outcome::{Extra, Outcome, Reply};
 use super::phase::Phase;
 use super::retention::Retention;
 use super::settings::pending_limit;
 use super::sizes::{FileBytes, SizeChange, Sizes, Use};
 use super::states::{StateChange, States};
-use super::told::Told;
 use relkvanu::{Answer, Choice, Fault, Kind, Live as LiveRecord, Mode, Settings};
 use std::collections::HashSet;
 use std::ops::Range;
@@ -37,7 +37,7 @@ pub struct Entry {
     /// The record that the call is about.
     pub record: Option<u64>,
     pub line: String,
-    pub told: Told,
+    pub told: AnswerRow,
     /// The numbers of the records that the call ended, with a space between them.
     pub ended: Option<String>,
     /// How many files the call added to those that wait for deletion.
@@ -56,7 +56,7 @@ impl Entry {
     }
 
     /// The numbers of the records that the call ended.
-    pub fn ended(&self) -> Vec<u64> {
+    pub fn ended_records(&self) -> Vec<u64> {
         self.ended.iter().flat_map(|ids| ids.split(' ')).filter_map(|id| id.parse().ok()).collect()
     }
 }
@@ -181,7 +181,7 @@ impl Job {
 
     /// Makes a call. If it changed something, also returns its row, which has to be committed before the call is answered.
     pub fn call(&mut self, call: &Call, now: u64) -> (Outcome, Option<Logged>) {
-        let Made { reply, line, released } = match self.engine.make(call, now) {
+        let MadeCall { reply, line, released } = match self.engine.make(call, now) {
             Ok(made) => made,
             Err(fault) => return (fault.into(), None),
         };
@@ -192,7 +192,7 @@ impl Job {
         let waiting = released.end.saturating_sub(released.start);
         let sizes = self.resize(call, &reply, released);
         let (job, seq, at) = (self.opening.number, self.seq, self.at);
-        let entry = Entry { job, seq, at, record, line, told: Told::of(&reply), ended, waiting };
+        let entry = Entry { job, seq, at, record, line, told: AnswerRow::of(&reply), ended, waiting };
         self.retention.count_bytes(entry.bytes() as u64);
         let (beside, states) = (self.beside(call), self.states.follow(call, &reply, &entry));
         (Outcome::Made { seq: Some(self.seq), reply, beside }, Some(Logged { entry, sizes, states }))
@@ -275,7 +275,7 @@ impl Job {
             return None;
         }
         let after = self.engine.live();
-        let gone = ended(&self.live, &after);
+        let gone = ended_numbers(&self.live, &after);
         self.live = after;
         gone
     }

@@ -6,7 +6,7 @@ use std::collections::BTreeMap;
 pub type Live = BTreeMap<u64, LiveRecord>;
 
 /// The numbers of `before` that are not in `after`, with a space between them; none: `None`.
-pub fn ended(before: &Live, after: &Live) -> Option<String> {
+pub fn ended_numbers(before: &Live, after: &Live) -> Option<String> {
     let gone: Vec<String> = before.keys().filter(|id| !after.contains_key(id)).map(u64::to_string).collect();
     (!gone.is_empty()).then(|| gone.join(" "))
 }

@@ -1,4 +1,5 @@
 //! Jobs and their calls: the decisions of the proved coordinator, in the words of the log and of the API.
+mod answer_row;
 mod back;
 mod bases;
 mod call;
@@ -20,9 +21,9 @@ mod starts;
 mod states;
 mod stop;
 mod summary;
-mod told;
 mod trail;
 
+pub use answer_row::AnswerRow;
 pub use bases::Bases;
 pub use call::{Call, Subtask, Target};
 pub use clock::{check as check_clock, millis, nearer, shown, wall, Clock, FarAhead, Moment};
@@ -44,5 +45,4 @@ pub use sizes::{parse_sizes, sizes_text, AckBytes, Bytes, FileBytes};
 pub use starts::{length_in, lengths_text};
 pub use states::{files_text, parse_files, Figure, Given, StateChange, SubtaskState, MOST_PAYLOAD, MOST_REASON};
 pub use summary::{KeptSummary, PastRecord, SummaryPart};
-pub use told::Told;
 pub use trail::Trail;

@@ -19,7 +19,7 @@ pub enum Outcome {
     /// The call was made. `seq` is its place in the log; a take that finds no file has none.
     Made { seq: Option<u64>, reply: Reply, beside: Extra },
     /// The same, and what a request asked for beside it: the kind of the record, and which records the call has ended.
-    Told { made: Box<Outcome>, kind: Option<String>, ended: Vec<u64> },
+    Detailed { made: Box<Outcome>, kind: Option<String>, ended: Vec<u64> },
     /// The coordinator refused the call, or the term or the names did, or the library does not take it: nothing changed.
     Refused(Fault),
     /// The service refuses it, which knows that the coordinator would: nothing changed.
@@ -146,7 +146,7 @@ impl Outcome {
     pub fn has_row(&self) -> bool {
         match self {
             Outcome::Made { seq, .. } => seq.is_some(),
-            Outcome::Told { made, .. } => made.has_row(),
+            Outcome::Detailed { made, .. } => made.has_row(),
             _ => false,
         }
     }
@@ -166,7 +166,7 @@ impl Outcome {
                 }
                 told
             }
-            Outcome::Told { made, kind, ended } => {
+            Outcome::Detailed { made, kind, ended } => {
                 let mut told = made.json();
                 if let Some(kind) = kind {
                     told["kind"] = json!(kind);
@@ -190,7 +190,7 @@ impl Outcome {
     /// The word under which the metrics count it, and that of a refusal in the API.
     pub fn word(&self) -> &'static str {
         match self {
-            Outcome::Made { .. } | Outcome::Told { .. } => "made",
+            Outcome::Made { .. } | Outcome::Detailed { .. } => "made",
             Outcome::Refused(Fault::Fenced(_)) => "fenced",
             Outcome::Refused(_) | Outcome::Unable(_) => "refused",
             Outcome::NoMemory => "no_memory",

@@ -25,7 +25,7 @@ pub const FIELDS: [Field; 6] = [
 ];
 
 /// The settings of six numbers, in the order of [`FIELDS`].
-pub fn settings_of(numbers: [u64; 6], keep_on_cancel: bool) -> Settings {
+pub const fn settings_of(numbers: [u64; 6], keep_on_cancel: bool) -> Settings {
     let [interval, pause, at_once, timeout, tolerable, retained] = numbers;
     Settings { interval, pause, at_once, timeout, tolerable, retained, keep_on_cancel }
 }

@@ -156,7 +156,7 @@ impl Sizes {
                 for (file, bytes) in fresh.iter().zip(bytes) {
                     self.tell(*file, *bytes, Use::Needed, &mut change);
                 }
-                change.said = self.said(fresh, reused);
+                change.said = self.ack_bytes(fresh, reused);
             }
             (_, Reply::Taken(files)) => files.iter().for_each(|file| self.set(*file, Use::Taken)),
             (Call::Deleted { file }, _) => {
@@ -176,7 +176,7 @@ impl Sizes {
     }
 
     /// What an acknowledgement of these files said, if the bytes of one of them are known.
-    fn said(&self, fresh: &[u64], reused: &[u64]) -> Option<AckBytes> {
+    fn ack_bytes(&self, fresh: &[u64], reused: &[u64]) -> Option<AckBytes> {
         let known = |file: &u64| Some((*file, self.bytes_of(*file)?));
         let fresh: Vec<FileBytes> = fresh.iter().filter_map(known).collect();
         let reused: Vec<FileBytes> = reused.iter().filter_map(known).collect();

@@ -89,7 +89,7 @@ impl States {
         if let Some(new) = &new {
             self.0.insert(new.record);
         }
-        let gone = entry.ended().into_iter().filter(|record| self.0.remove(record)).collect();
+        let gone = entry.ended_records().into_iter().filter(|record| self.0.remove(record)).collect();
         Some(Box::new(StateChange { new, figure, gone, copy: None }))
     }
 
@@ -131,12 +131,12 @@ fn given(call: &Call, reply: &Reply, job: i64) -> Option<SubtaskState> {
 
 #[cfg(test)]
 mod tests {
-    use super::super::told::Told;
+    use super::super::answer_row::AnswerRow;
     use super::*;
 
     fn followed(states: &mut States, call: &Call, answer: Answer, ended: Option<&str>) -> StateChange {
         let reply = Reply::Answered(answer);
-        let (told, ended) = (Told::of(&reply), ended.map(str::to_string));
+        let (told, ended) = (AnswerRow::of(&reply), ended.map(str::to_string));
         let entry = Entry { job: 7, seq: 1, at: 1, record: None, line: String::new(), told, ended, waiting: 0 };
         states.follow(call, &reply, &entry).map_or_else(StateChange::default, |change| *change)
     }

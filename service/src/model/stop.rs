@@ -63,7 +63,7 @@ impl Job {
         let restore = Call::Restore { target: Target::Savepoint(stop.savepoint), shape: None };
         let outcome = self.step(&restore, now, made);
         match outcome {
-            Outcome::Made { .. } | Outcome::Told { .. } => self.phase = Phase::Stopped(stop, self.running_term()),
+            Outcome::Made { .. } | Outcome::Detailed { .. } => self.phase = Phase::Stopped(stop, self.running_term()),
             Outcome::NoMemory | Outcome::NotMade => {}
             Outcome::Refused(_) | Outcome::Unable(_) => self.phase = Phase::NotStopped(stop, StopFailed::Failed),
         }
@@ -144,20 +144,13 @@ fn why(call: &Call, mode: Mode) -> StopFailed {
 #[cfg(test)]
 mod tests {
     use super::super::call::Subtask;
+    use super::super::settings::settings_of;
     use super::super::{Opening, Settings};
     use super::*;
     use relkvanu::Choice;
     use std::error::Error;
 
-    const SETTINGS: Settings = Settings {
-        interval: 100,
-        pause: 0,
-        at_once: 1,
-        timeout: 5000,
-        tolerable: 0,
-        retained: 1,
-        keep_on_cancel: false,
-    };
+    const SETTINGS: Settings = settings_of([100, 0, 1, 5000, 0, 1], false);
     const STOP: Stop = Stop { savepoint: 2, at: 150 };
 
     /// A job of two subtasks that gives out names, with checkpoint 1, which is complete.

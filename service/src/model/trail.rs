@@ -9,7 +9,7 @@ use std::collections::BTreeMap;
 
 /// A call of the log.
 #[derive(Clone, Copy, PartialEq, Eq)]
-struct Place {
+struct CallAt {
     record: u64,
     seq: u64,
     at: u64,
@@ -21,7 +21,7 @@ pub struct Trail {
     /// When the savepoints that are pending, or completed last, were triggered.
     triggered: BTreeMap<u64, u64>,
     /// The last call that completed a record.
-    completed: Option<Place>,
+    completed: Option<CallAt>,
     /// The last call that only a job makes which has not stopped, and the restore with which it stops.
     last: Option<Call>,
     /// The savepoint with which the job has stopped, as far as the log tells: the restore to it came with its last acknowledgement, nothing
@@ -35,10 +35,10 @@ impl Trail {
         let Some((_, call)) = parse_line(&entry.line) else {
             return;
         };
-        for id in entry.ended() {
+        for id in entry.ended_records() {
             self.triggered.remove(&id);
         }
-        let place = Place { record: entry.record.unwrap_or(0), seq: entry.seq, at: entry.at };
+        let place = CallAt { record: entry.record.unwrap_or(0), seq: entry.seq, at: entry.at };
         match call {
             Call::Ack { .. } if is_completion(entry) => self.completed = Some(place),
             Call::Restore { target: Target::Savepoint(id), .. } => {
@@ -58,8 +58,8 @@ impl Trail {
     }
 
     /// Whether a restore to a savepoint at this place is the end of a stop.
-    fn stops(&self, id: u64, restore: Place) -> bool {
-        let is_next = |it: Place| it.record == id && it.seq + 1 == restore.seq && it.at == restore.at;
+    fn stops(&self, id: u64, restore: CallAt) -> bool {
+        let is_next = |it: CallAt| it.record == id && it.seq + 1 == restore.seq && it.at == restore.at;
         self.completed.is_some_and(is_next) && self.triggered.get(&id).is_none_or(|at| *at != restore.at)
     }
 
@@ -117,19 +117,12 @@ fn has_stopped(savepoint: u64) -> String {
 mod tests {
     use super::super::call::Subtask;
     use super::super::phase::StopFailed;
+    use super::super::settings::settings_of;
     use super::super::{Opening, Settings};
     use super::*;
     use std::error::Error;
 
-    const SETTINGS: Settings = Settings {
-        interval: 100,
-        pause: 0,
-        at_once: 1,
-        timeout: 5000,
-        tolerable: 0,
-        retained: 2,
-        keep_on_cancel: false,
-    };
+    const SETTINGS: Settings = settings_of([100, 0, 1, 5000, 0, 2], false);
 
     /// A job with names, of one subtask, and what its log says.
     struct Tried {

@@ -1,9 +1,10 @@
 //! One parser of rows for both databases.
 use super::error::DbError;
+use super::reader::Listed;
 use super::rows::{Keyed, SavedImage};
 use crate::model::{
-    parse_config, parse_files, parse_sizes, AckBytes, Entry, Figure, FileBytes, Given, Image, KeptImage, KeptSummary,
-    Opening, PastRecord, Phase, Subtask, SubtaskState, Told,
+    parse_config, parse_files, parse_sizes, AckBytes, AnswerRow, Entry, Figure, FileBytes, Given, Image, KeptImage,
+    KeptSummary, Opening, PastRecord, Phase, Subtask, SubtaskState,
 };
 use rusqlite::types::{Type, ValueRef};
 
@@ -13,6 +14,8 @@ pub enum Cell {
     Null,
     Number(i64),
     Text(String),
+    /// A text that is not UTF-8, as damage may leave it.
+    NoText,
 }
 
 /// A row, whose cells are read in their order.
@@ -27,6 +30,9 @@ impl Row {
         let cell = |place| match row.get_ref(place)? {
             ValueRef::Null => Ok(Cell::Null),
             ValueRef::Integer(number) => Ok(Cell::Number(number)),
+            ValueRef::Text(bytes) => {
+                Ok(std::str::from_utf8(bytes).map_or(Cell::NoText, |text| Cell::Text(text.to_string())))
+            }
             other => Ok(Cell::Text(other.as_str()?.to_string())),
         };
         let cells = (0..row.as_ref().column_count()).map(cell).collect::<rusqlite::Result<_>>()?;
@@ -40,11 +46,15 @@ impl Row {
 
     /// What the row says.
     pub fn read<T: FromRow>(mut self) -> Result<T, DbError> {
-        T::read(&mut self).ok_or_else(|| {
-            let column = self.next;
-            let cell = self.cells.get(column.saturating_sub(1)).map_or("nothing".to_string(), |it| format!("{it:?}"));
-            DbError::BadRow { table: T::TABLE, column, cell }
-        })
+        T::read(&mut self).ok_or_else(|| self.bad::<T>())
+    }
+
+    /// That the cell which was read last is not as this program writes it.
+    fn bad<T: FromRow>(&self) -> DbError {
+        let column = self.next;
+        let cell = self.cells.get(column.saturating_sub(1)).map_or("nothing".to_string(), |it| format!("{it:?}"));
+        let job = self.cells.first().filter(|_| T::OF_JOB).and_then(Cell::number);
+        DbError::BadRow { job, table: T::TABLE, column, cell }
     }
 
     fn cell(&mut self) -> Option<&mut Cell> {
@@ -58,12 +68,11 @@ impl Row {
 
     /// `Some(None)` if it is null.
     fn number_or_null<T: TryFrom<i64>>(&mut self) -> Option<Option<T>> {
-        let number = match self.cell()? {
-            Cell::Null => return Some(None),
-            Cell::Number(number) => *number,
-            Cell::Text(text) => text.parse().ok()?,
-        };
-        T::try_from(number).ok().map(Some)
+        let cell = self.cell()?;
+        if matches!(cell, Cell::Null) {
+            return Some(None);
+        }
+        T::try_from(cell.number()?).ok().map(Some)
     }
 
     /// A number of which the cell has the 64 bits, as a signed one.
@@ -79,7 +88,7 @@ impl Row {
     fn text_or_null(&mut self) -> Option<Option<String>> {
         match self.cell()? {
             Cell::Null => Some(None),
-            Cell::Number(_) => None,
+            Cell::Number(_) | Cell::NoText => None,
             Cell::Text(text) => Some(Some(std::mem::take(text))),
         }
     }
@@ -88,7 +97,17 @@ impl Row {
     fn parsed<T>(&mut self, parse: impl FnOnce(&str) -> Option<T>) -> Option<T> {
         match self.cell()? {
             Cell::Text(text) => parse(text),
-            Cell::Null | Cell::Number(_) => None,
+            Cell::Null | Cell::Number(_) | Cell::NoText => None,
+        }
+    }
+}
+
+impl Cell {
+    fn number(&self) -> Option<i64> {
+        match self {
+            Cell::Number(number) => Some(*number),
+            Cell::Text(text) => text.parse().ok(),
+            Cell::Null | Cell::NoText => None,
         }
     }
 }
@@ -97,6 +116,8 @@ impl Row {
 pub trait FromRow: Sized {
     /// The table that an error names.
     const TABLE: &'static str;
+    /// Whether the first column has the number of a job.
+    const OF_JOB: bool = false;
 
     /// `None` if a cell is not as this program writes it: the last one that was read.
     fn read(row: &mut Row) -> Option<Self>;
@@ -104,6 +125,7 @@ pub trait FromRow: Sized {
 
 impl FromRow for Opening {
     const TABLE: &'static str = "job";
+    const OF_JOB: bool = true;
 
     fn read(row: &mut Row) -> Option<Opening> {
         Some(Opening {
@@ -116,8 +138,34 @@ impl FromRow for Opening {
     }
 }
 
+/// An opening as it can be shown though a part of it can't be read.
+impl FromRow for Listed {
+    const TABLE: &'static str = Opening::TABLE;
+    const OF_JOB: bool = true;
+
+    fn read(row: &mut Row) -> Option<Listed> {
+        let Cell::Text(name) = row.cells.get(1)? else {
+            return None;
+        };
+        let name = name.clone();
+        let opening = Opening::read(row).ok_or_else(|| row.bad::<Opening>());
+        let number = row.cells.first()?.number()?;
+        Some(Listed { number, name, opening })
+    }
+}
+
+/// What a row says, or why that can't be read.
+impl<T: FromRow> FromRow for Result<T, DbError> {
+    const TABLE: &'static str = T::TABLE;
+
+    fn read(row: &mut Row) -> Option<Result<T, DbError>> {
+        Some(T::read(row).ok_or_else(|| row.bad::<(i64, T)>()))
+    }
+}
+
 impl FromRow for Entry {
     const TABLE: &'static str = "call";
+    const OF_JOB: bool = true;
 
     fn read(row: &mut Row) -> Option<Entry> {
         Some(Entry {
@@ -126,7 +174,7 @@ impl FromRow for Entry {
             at: row.number()?,
             record: row.number_or_null()?,
             line: row.text()?,
-            told: Told { what: row.number()?, a: row.bits()?, b: row.bits()?, files: row.text_or_null()? },
+            told: AnswerRow { what: row.number()?, a: row.bits()?, b: row.bits()?, files: row.text_or_null()? },
             ended: row.text_or_null()?,
             waiting: row.number()?,
         })
@@ -149,6 +197,7 @@ impl FromRow for Keyed {
 
 impl FromRow for SavedImage {
     const TABLE: &'static str = "image";
+    const OF_JOB: bool = true;
 
     fn read(row: &mut Row) -> Option<SavedImage> {
         let (job, seq, at, digest) = (row.number()?, row.number()?, row.number()?, row.text()?);
@@ -259,6 +308,7 @@ impl FromRow for Option<u64> {
 /// A job's number before what the row says of the job.
 impl<T: FromRow> FromRow for (i64, T) {
     const TABLE: &'static str = T::TABLE;
+    const OF_JOB: bool = true;
 
     fn read(row: &mut Row) -> Option<(i64, T)> {
         Some((row.number()?, T::read(row)?))
@@ -303,7 +353,7 @@ mod tests {
         let entry: Entry = of_lite("1, 9, 3010, null, 'take 2', 18, 2, -1, '7 8', null, 0")?.read()?;
         assert_eq!(entry, of_pg(cells).read()?);
         assert_eq!((entry.job, entry.seq, entry.at, entry.record), (1, 9, 3010, None));
-        let told = Told { what: 18, a: 2, b: u64::MAX, files: Some("7 8".to_string()) };
+        let told = AnswerRow { what: 18, a: 2, b: u64::MAX, files: Some("7 8".to_string()) };
         assert_eq!((entry.line.as_str(), &entry.told, &entry.ended, entry.bytes()), ("take 2", &told, &None, 9));
         let cells = [Some("1"), Some("9"), Some("3010"), Some("d"), Some("2 3"), None, Some("8"), Some("{}")];
         let saved: SavedImage = of_lite("1, 9, 3010, 'd', '2 3', null, 8, '{}'")?.read()?;
@@ -319,6 +369,8 @@ mod tests {
         assert_eq!(told, Err("a row of call has Text(\"x\") in column 2".to_string()));
         let told = of_lite("1, -9, 0").and_then(Row::read::<(i64, KeptSummary)>).map_err(|error| error.to_string());
         assert_eq!(told, Err("a row of summary has Number(-9) in column 2".to_string()));
+        let told = of_lite("1, cast(x'ff' as text)").and_then(Row::read::<(i64, u64)>).map_err(|error| error.bad_job());
+        assert_eq!(told, Err(Some(1)));
         let told = of_lite("1").and_then(Row::read::<(i64, u64)>).map_err(|error| error.to_string());
         assert_eq!(told, Err("a row of call has nothing in column 2".to_string()));
     }

@@ -41,7 +41,13 @@ pub enum DbError {
     NotLeading,
     /// A row is not as this program writes it.
     #[error("a row of {table} has {cell} in column {column}")]
-    BadRow { table: &'static str, column: usize, cell: String },
+    BadRow {
+        /// The job whose row it is, if the row names it.
+        job: Option<i64>,
+        table: &'static str,
+        column: usize,
+        cell: String,
+    },
 }
 
 impl DbError {
@@ -54,6 +60,22 @@ impl DbError {
             DbError::Pg(failed) => matches!(failed.state.as_deref(), Some("XX001" | "XX002")),
             DbError::File { .. } | DbError::Unfit { .. } | DbError::NoSync => false,
             DbError::Odd(_) | DbError::NotLeading => false,
+        }
+    }
+
+    /// The job whose row is bad: the rows of other jobs can be read.
+    pub fn bad_job(&self) -> Option<i64> {
+        match self {
+            DbError::BadRow { job, .. } => *job,
+            _ => None,
+        }
+    }
+
+    /// The same of a read of this job alone.
+    pub fn of_job(self, number: i64) -> DbError {
+        match self {
+            DbError::BadRow { table, column, cell, .. } => DbError::BadRow { job: Some(number), table, column, cell },
+            other => other,
         }
     }
 

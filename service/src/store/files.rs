@@ -9,7 +9,7 @@ const PIECE: usize = 1 << 20;
 
 /// Makes the database's file, which only its owner may read, if there is none. Returns its path without symbolic links, by which SQLite
 /// names the files beside it.
-pub fn made(path: &Path) -> io::Result<PathBuf> {
+pub fn make_file(path: &Path) -> io::Result<PathBuf> {
     File::options().create(true).append(true).mode(0o600).open(path)?;
     fs::canonicalize(path)
 }
@@ -83,7 +83,7 @@ mod tests {
     fn a_file_that_was_replaced_is_seen() -> io::Result<()> {
         let folder = std::env::temp_dir().join(format!("relkvanu-files-{}", std::process::id()));
         fs::create_dir_all(&folder)?;
-        let path = made(&folder.join("x.db"))?;
+        let path = make_file(&folder.join("x.db"))?;
         let log = beside(&path, "-wal");
         write_again(&log)?;
         assert!(Opened::now(&path).is_err_and(|why| why.to_string().contains("x.db-wal")));

@@ -55,7 +55,7 @@ impl Lite {
     /// Opens the database, and makes or upgrades its tables if its version says so. What is committed is then in the database's own file.
     pub fn open(path: &Path) -> Result<Lite, Unusable> {
         let (unread, failed) = (DbError::file(path), DbError::unopened(path));
-        let real = files::made(path).map_err(&unread)?;
+        let real = files::make_file(path).map_err(&unread)?;
         let lock = locked(&real)?;
         files::write_again(&files::beside(&real, "-wal")).map_err(&unread)?;
         let connection = Connection::open(&real).map_err(&failed)?;

@@ -3,11 +3,11 @@ use super::cells::{FromRow, Row};
 use super::error::DbError;
 use super::lite::{signed, BUSY};
 use super::moved;
-use super::reader::Reader;
-use super::room::room_of;
-use super::rows::{image_columns, whole, LogPage, Room, SavedImage, COLUMNS, IS_EVENT, PAGE_BYTES, STATE};
+use super::reader::{Listed, Reader, Tried};
+use super::rows::{image_columns, whole, LogPage, SavedImage, Space, COLUMNS, IS_EVENT, PAGE_BYTES, STATE};
+use super::space::space_of;
 use crate::model::{
-    AckBytes, Entry, Figure, FileBytes, KeptImage, KeptSummary, Opening, PastRecord, Phase, Shards, SubtaskState,
+    AckBytes, Entry, Figure, FileBytes, KeptImage, KeptSummary, PastRecord, Phase, Shards, SubtaskState,
 };
 use rusqlite::{params, Connection, OpenFlags, OptionalExtension, Params};
 use std::path::Path;
@@ -73,7 +73,7 @@ impl Reader for LiteReader {
         Ok(self.0.execute_batch("begin")?)
     }
 
-    fn jobs(&mut self) -> Result<Vec<Opening>, DbError> {
+    fn listed(&mut self) -> Result<Vec<Listed>, DbError> {
         self.all("select job, name, config, shape, started from job order by job", [])
     }
 
@@ -119,12 +119,12 @@ impl Reader for LiteReader {
         self.all(sql, params![job, signed(after), most])
     }
 
-    fn said(&mut self, job: i64, after: u64, upto: u64) -> Result<Vec<AckBytes>, DbError> {
+    fn ack_bytes(&mut self, job: i64, after: u64, upto: u64) -> Result<Vec<AckBytes>, DbError> {
         let sql = "select job, seq, fresh, bytes from ack_size where job = ? and seq > ? and seq <= ? order by seq";
         self.all(sql, params![job, signed(after), signed(upto)])
     }
 
-    fn sizes(&mut self, _: Shards, after: (i64, i64), most: u32) -> Result<Vec<(i64, FileBytes)>, DbError> {
+    fn sizes(&mut self, _: Shards, after: (i64, i64), most: u32) -> Result<Tried<FileBytes>, DbError> {
         let sql = "select job, file, bytes from size where (job, file) > (?, ?) order by job, file limit ?";
         self.all(sql, params![after.0, after.1, most])
     }
@@ -140,7 +140,7 @@ impl Reader for LiteReader {
         self.all(sql, params![job, signed(after), signed(upto)])
     }
 
-    fn with_states(&mut self, _: Shards) -> Result<Vec<(i64, u64)>, DbError> {
+    fn with_states(&mut self, _: Shards) -> Result<Tried<u64>, DbError> {
         self.all("select distinct job, record from subtask_state", [])
     }
 
@@ -148,7 +148,7 @@ impl Reader for LiteReader {
         self.all("select job, is_empty from gone_job", [])
     }
 
-    fn phases(&mut self, _: Shards) -> Result<Vec<(i64, Phase)>, DbError> {
+    fn phases(&mut self, _: Shards) -> Result<Tried<Phase>, DbError> {
         self.all("select job, phase, record, at, term, failed from phase", [])
     }
 
@@ -159,13 +159,18 @@ impl Reader for LiteReader {
         jobs.iter().filter_map(|job| of(job).transpose()).collect()
     }
 
-    fn room(&mut self) -> Result<Room, DbError> {
+    fn space(&mut self) -> Result<Space, DbError> {
         let path = self.0.path().ok_or(DbError::Odd("the database has no file"))?;
-        room_of(path).map_err(DbError::file(path))
+        space_of(path).map_err(DbError::file(path))
     }
 
     fn first(&mut self, job: i64) -> Result<Option<u64>, DbError> {
         Ok(self.one("select min(seq) from call where job = ?", [job])?.flatten())
+    }
+
+    fn last(&mut self, job: i64) -> Result<u64, DbError> {
+        let sql = "select max(coalesce((select max(seq) from call where job = ?1), 0), coalesce((select max(seq) from image where job = ?1), 0))";
+        Ok(self.one(sql, [job])?.unwrap_or(0))
     }
 
     fn lengths_after(&mut self, name: &str, _job: i64) -> Result<Option<String>, DbError> {

@@ -17,8 +17,8 @@ mod pg_read;
 mod pg_target;
 mod pq;
 mod reader;
-mod room;
 mod rows;
+mod space;
 mod tables;
 
 pub use cells::entry_of;
@@ -36,12 +36,14 @@ pub use pg::TABLES as PG;
 pub use pg_members::{Member, Members, Shares};
 pub use pg_read::PgReader;
 pub use pg_target::{Found, Target};
-pub use reader::Reader;
-pub use room::room_of;
+#[cfg(test)]
+pub use reader::Tried;
+pub use reader::{Listed, Reader};
 pub use rows::Disk;
 #[cfg(test)]
-pub use rows::Room;
+pub use rows::Space;
 #[cfg(test)]
 pub use rows::IS_EVENT;
 pub use rows::{steps_after, Committed, GoneJob, Group, Keyed, Lead, SavedImage, Store};
+pub use space::space_of;
 pub use tables::{are_alike, bytes_of, Cells, Table, TABLES};

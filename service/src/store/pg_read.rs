@@ -2,11 +2,10 @@
 use super::cells::{FromRow, Row};
 use super::error::DbError;
 use super::pq::{Connection, Failed, Rows};
-use super::reader::Reader;
-use super::rows::{image_columns, whole, LogPage, Room, SavedImage, COLUMNS, IS_EVENT, PAGE_BYTES, STATE};
+use super::reader::{Listed, Reader, Tried};
+use super::rows::{image_columns, whole, LogPage, SavedImage, Space, COLUMNS, IS_EVENT, PAGE_BYTES, STATE};
 use crate::model::{
-    shard_of, AckBytes, Entry, Figure, FileBytes, KeptImage, KeptSummary, Opening, PastRecord, Phase, Shards,
-    SubtaskState,
+    shard_of, AckBytes, Entry, Figure, FileBytes, KeptImage, KeptSummary, PastRecord, Phase, Shards, SubtaskState,
 };
 use std::time::Duration;
 
@@ -90,7 +89,7 @@ impl Reader for PgReader {
         Ok(())
     }
 
-    fn jobs(&mut self) -> Result<Vec<Opening>, DbError> {
+    fn listed(&mut self) -> Result<Vec<Listed>, DbError> {
         self.all("select job, name, config, shape, started from job order by job", &[])
     }
 
@@ -139,13 +138,13 @@ impl Reader for PgReader {
         self.all(sql, &[&job.to_string(), &signed(after), &most.to_string()])
     }
 
-    fn said(&mut self, job: i64, after: u64, upto: u64) -> Result<Vec<AckBytes>, DbError> {
+    fn ack_bytes(&mut self, job: i64, after: u64, upto: u64) -> Result<Vec<AckBytes>, DbError> {
         let sql = "select job, seq, fresh, bytes from ack_size
             where job = $1::bigint and seq > $2::bigint and seq <= $3::bigint order by seq";
         self.all(sql, &[&job.to_string(), &signed(after), &signed(upto)])
     }
 
-    fn sizes(&mut self, shards: Shards, after: (i64, i64), most: u32) -> Result<Vec<(i64, FileBytes)>, DbError> {
+    fn sizes(&mut self, shards: Shards, after: (i64, i64), most: u32) -> Result<Tried<FileBytes>, DbError> {
         let sql = format!(
             "select job, file, bytes from size where (job, file) > ($2::bigint, $3::bigint) and {OF_SHARDS}
             order by job, file limit $4::bigint"
@@ -166,7 +165,7 @@ impl Reader for PgReader {
         self.all(sql, &[&job.to_string(), &signed(after), &signed(upto)])
     }
 
-    fn with_states(&mut self, shards: Shards) -> Result<Vec<(i64, u64)>, DbError> {
+    fn with_states(&mut self, shards: Shards) -> Result<Tried<u64>, DbError> {
         let sql = format!("select distinct job, record from subtask_state where {OF_SHARDS}");
         self.all(&sql, &[&shards.bits().to_string()])
     }
@@ -175,7 +174,7 @@ impl Reader for PgReader {
         self.all("select job, is_empty from gone_job", &[])
     }
 
-    fn phases(&mut self, shards: Shards) -> Result<Vec<(i64, Phase)>, DbError> {
+    fn phases(&mut self, shards: Shards) -> Result<Tried<Phase>, DbError> {
         let sql = format!("select job, phase, record, at, term, failed from phase where {OF_SHARDS}");
         self.all(&sql, &[&shards.bits().to_string()])
     }
@@ -188,13 +187,18 @@ impl Reader for PgReader {
         self.all(&sql, &[&array(jobs.iter())])
     }
 
-    fn room(&mut self) -> Result<Room, DbError> {
+    fn space(&mut self) -> Result<Space, DbError> {
         let bytes = self.one("select pg_database_size(current_database())", &[])?;
-        Ok(Room { bytes: bytes.ok_or(DbError::Odd("the database does not tell its size"))?, disk: None })
+        Ok(Space { bytes: bytes.ok_or(DbError::Odd("the database does not tell its size"))?, disk: None })
     }
 
     fn first(&mut self, job: i64) -> Result<Option<u64>, DbError> {
         Ok(self.one("select min(seq) from call where job = $1::bigint", &[&job.to_string()])?.flatten())
+    }
+
+    fn last(&mut self, job: i64) -> Result<u64, DbError> {
+        let sql = "select greatest((select max(seq) from call where job = $1::bigint), (select max(seq) from image where job = $1::bigint), 0)";
+        Ok(self.one(sql, &[&job.to_string()])?.unwrap_or(0))
     }
 
     fn lengths_after(&mut self, name: &str, job: i64) -> Result<Option<String>, DbError> {
@@ -209,7 +213,7 @@ impl Reader for PgReader {
         Ok(self.one::<Option<u64>>("select max(at) from clock", &[])?.flatten().unwrap_or(0))
     }
 
-    fn jobs_after(&mut self, shards: Shards, number: i64) -> Result<Vec<Opening>, DbError> {
+    fn jobs_after(&mut self, shards: Shards, number: i64) -> Result<Vec<Listed>, DbError> {
         let sql = format!(
             "select job, name, config, shape, started from job where job > $2::bigint and {OF_SHARDS} order by job"
         );

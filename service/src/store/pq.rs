@@ -1,19 +1,30 @@
 //! libpq, as far as the service needs it: a connection, statements with parameters, and rows of text.
 use super::parameter::{count, Packed, Parameter, TEXT};
+use crate::log;
 use pq_sys::{
     ConnStatusType, PGconn, PGresult, PQclear, PQconnectdbParams, PQconsumeInput, PQdb, PQerrorMessage, PQfinish,
     PQflush, PQgetResult, PQgetisnull, PQgetvalue, PQhost, PQisBusy, PQnfields, PQntuples, PQport, PQresultErrorField,
-    PQresultStatus, PQsendPrepare, PQsendQuery, PQsendQueryParams, PQsendQueryPrepared, PQsetnonblocking, PQsocket,
-    PQstatus, PQuser,
+    PQresultStatus, PQsendPrepare, PQsendQuery, PQsendQueryParams, PQsendQueryPrepared, PQsetNoticeReceiver,
+    PQsetnonblocking, PQsocket, PQstatus, PQuser,
 };
 use std::ffi::{CStr, CString};
-use std::os::raw::{c_char, c_int};
+use std::os::raw::{c_char, c_int, c_void};
 use std::ptr;
+use std::sync::atomic::{AtomicBool, Ordering};
+use std::sync::Arc;
 use std::time::{Duration, Instant};
 
 const COMMAND_OK: u32 = 1;
 const TUPLES_OK: u32 = 2;
 const STATE: c_int = b'C' as c_int;
+const MESSAGE: c_int = b'M' as c_int;
+const FUNCTION: c_int = b'R' as c_int;
+
+/// The function of PostgreSQL that waits for synchronous replicas. It warns if somebody cancels that wait: then the commit is in this database, and
+/// may be in no replica. The warning's text is in the language of the database, and its state is that of any warning.
+const WAITS_FOR_REPLICAS: &CStr = c"SyncRepWaitForLSN";
+const LOCAL_ONLY: &str =
+    "somebody has cancelled a commit's wait for a synchronous replica: it may be in this database alone";
 
 /// How long a peer that is gone may keep a connection waiting. An idle connection sends something each 5 s, so that no firewall
 /// forgets it.
@@ -34,6 +45,8 @@ pub struct Connection {
     /// What `PQconnectdbParams` returned: valid until `drop`, which alone frees it. It is null if memory ran out: then `open` fails, and what
     /// that calls takes a null.
     raw: *mut PGconn,
+    /// Whether a wait for a synchronous replica was cancelled. The receiver of notices has its address, and nothing else has.
+    is_local_only: Arc<AtomicBool>,
     /// How long a statement may take until its last row is there; `None`: for ever.
     patience: Option<Duration>,
     /// When the last statement ended.
@@ -76,7 +89,11 @@ impl Connection {
         // SAFETY: both arrays have as many texts, end with a null, and live until the call returns, as the texts do. They end with a
         // zero byte each.
         let raw = unsafe { PQconnectdbParams(names.as_ptr(), values.as_ptr(), 1) };
-        let opened = Connection { raw, patience: None, used: Instant::now() };
+        let is_local_only = Arc::new(AtomicBool::new(false));
+        // SAFETY: `raw` is valid or null, which the call takes. It calls `hear` with a result that lives until this returns, and with the
+        // address, which lives as long as the connection: `drop` finishes that before the field is dropped.
+        unsafe { PQsetNoticeReceiver(raw, Some(hear), Arc::as_ptr(&is_local_only).cast_mut().cast()) };
+        let opened = Connection { raw, is_local_only, patience: None, used: Instant::now() };
         // SAFETY: `raw` is valid.
         let is_ready =
             unsafe { PQstatus(opened.raw) == ConnStatusType::CONNECTION_OK && PQsetnonblocking(opened.raw, 1) == 0 };
@@ -168,6 +185,10 @@ impl Connection {
             told = told.and(rows);
         }
         self.used = Instant::now();
+        if self.is_local_only.swap(false, Ordering::SeqCst) {
+            // as one whose connection was lost
+            return Err(Failed { text: LOCAL_ONLY.to_string(), state: None });
+        }
         told
     }
 
@@ -252,6 +273,26 @@ impl Connection {
     fn message(&self) -> String {
         // SAFETY: `raw` is valid, and has the text, which ends with a zero byte.
         unsafe { shown(PQerrorMessage(self.raw)) }.trim().replace('\n', " ")
+    }
+}
+
+/// Hears a notice of the database, which comes beside results.
+///
+/// # Safety
+///
+/// `notice` is a result of libpq, and `is_local_only` points to an `AtomicBool`. Both live until this returns.
+unsafe extern "C" fn hear(is_local_only: *mut c_void, notice: *const PGresult) {
+    // SAFETY: the caller's promise. A field is null or a text that ends with a zero byte, and is part of the result.
+    let field = |code| unsafe {
+        let text = PQresultErrorField(notice, code);
+        (!text.is_null()).then(|| CStr::from_ptr(text))
+    };
+    if field(FUNCTION) == Some(WAITS_FOR_REPLICAS) {
+        // SAFETY: the caller's promise.
+        unsafe { &*is_local_only.cast::<AtomicBool>() }.store(true, Ordering::SeqCst);
+    }
+    if let Some(text) = field(MESSAGE) {
+        log::warn(&format!("PostgreSQL: {}", text.to_string_lossy()));
     }
 }
 

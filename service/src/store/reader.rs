@@ -1,9 +1,19 @@
 //! What a reader of the database does.
 use super::error::DbError;
-use super::rows::{LogPage, Room, SavedImage, PAGE_BYTES, VERSION};
+use super::rows::{LogPage, SavedImage, Space, PAGE_BYTES, VERSION};
 use crate::model::{
     AckBytes, Entry, Figure, FileBytes, KeptImage, KeptSummary, Opening, PastRecord, Phase, Shards, SubtaskState,
 };
+
+/// A job that the database has, and what it was opened with, if that can be read.
+pub struct Listed {
+    pub number: i64,
+    pub name: String,
+    pub opening: Result<Opening, DbError>,
+}
+
+/// Rows of jobs, of which each can be read or not.
+pub type Tried<T> = Vec<(i64, Result<T, DbError>)>;
 
 /// A connection that only reads. A part of a log that it returns has one call at least, if there is one, and [`PAGE_BYTES`] or one call
 /// more at most. So it is no sign of the end that there are fewer calls than were asked for.
@@ -18,7 +28,8 @@ pub trait Reader: Send {
         Ok(())
     }
 
-    fn jobs(&mut self) -> Result<Vec<Opening>, DbError>;
+    /// All jobs, also one whose row is bad.
+    fn listed(&mut self) -> Result<Vec<Listed>, DbError>;
 
     /// The entries after `after`, at most `most`.
     fn log(&mut self, job: i64, after: u64, most: u32) -> Result<LogPage, DbError>;
@@ -48,11 +59,11 @@ pub trait Reader: Send {
     fn past(&mut self, job: i64, after: u64, most: u32) -> Result<Vec<PastRecord>, DbError>;
 
     /// What acknowledgements said of sizes, of the calls after `after` up to `upto`, in order.
-    fn said(&mut self, job: i64, after: u64, upto: u64) -> Result<Vec<AckBytes>, DbError>;
+    fn ack_bytes(&mut self, job: i64, after: u64, upto: u64) -> Result<Vec<AckBytes>, DbError>;
 
     /// The bytes of files of the jobs of shards, after a job and the number of its file, which a database keeps with a sign; at most `most`, in
     /// order. A database whose only process has all shards gives those of all jobs.
-    fn sizes(&mut self, shards: Shards, after: (i64, i64), most: u32) -> Result<Vec<(i64, FileBytes)>, DbError>;
+    fn sizes(&mut self, shards: Shards, after: (i64, i64), most: u32) -> Result<Tried<FileBytes>, DbError>;
 
     /// What the subtasks of a record have beside their files, in their order.
     fn states(&mut self, job: i64, record: u64) -> Result<Vec<SubtaskState>, DbError>;
@@ -61,22 +72,25 @@ pub trait Reader: Send {
     fn figures(&mut self, job: i64, after: u64, upto: u64) -> Result<Vec<Figure>, DbError>;
 
     /// The records of the jobs of shards of which it has such rows.
-    fn with_states(&mut self, shards: Shards) -> Result<Vec<(i64, u64)>, DbError>;
+    fn with_states(&mut self, shards: Shards) -> Result<Tried<u64>, DbError>;
 
     /// The numbers of jobs that were deleted, and 1 if nothing is left of it.
     fn gone(&mut self) -> Result<Vec<(i64, u64)>, DbError>;
 
     /// The phases of the jobs of shards that somebody has stopped.
-    fn phases(&mut self, shards: Shards) -> Result<Vec<(i64, Phase)>, DbError>;
+    fn phases(&mut self, shards: Shards) -> Result<Tried<Phase>, DbError>;
 
     /// How many bytes the lines and files of the last calls of jobs have on average.
     fn call_bytes(&mut self, jobs: &[i64]) -> Result<Vec<(i64, u64)>, DbError>;
 
     /// How much room the database takes, and has.
-    fn room(&mut self) -> Result<Room, DbError>;
+    fn space(&mut self) -> Result<Space, DbError>;
 
     /// The first call that the log has.
     fn first(&mut self, job: i64) -> Result<Option<u64>, DbError>;
+
+    /// How many calls a job has had: the place of the last call or image. It needs no other column of its rows.
+    fn last(&mut self, job: i64) -> Result<u64, DbError>;
 
     /// How many calls jobs had, this one among them, when the identity `name` of its log ended; `None` if the log does not know that it
     /// began, or ended.
@@ -88,15 +102,15 @@ pub trait Reader: Send {
     }
 
     /// The jobs of shards with a number above `number`, in order.
-    fn jobs_after(&mut self, shards: Shards, number: i64) -> Result<Vec<Opening>, DbError> {
-        let mut jobs = self.jobs()?;
+    fn jobs_after(&mut self, shards: Shards, number: i64) -> Result<Vec<Listed>, DbError> {
+        let mut jobs = self.listed()?;
         jobs.retain(|job| shards.has_job(job.number) && job.number > number);
         Ok(jobs)
     }
 
     /// The number of the job of this name.
     fn number(&mut self, name: &str) -> Result<Option<i64>, DbError> {
-        Ok(self.jobs()?.iter().find(|job| job.name == name).map(|job| job.number))
+        Ok(self.listed()?.iter().find(|job| job.name == name).map(|job| job.number))
     }
 
     /// The last moment of all logs, from which on [`Reader::changed`] tells what is new.
@@ -119,7 +133,7 @@ pub trait Reader: Send {
             if room == 0 || bytes >= PAGE_BYTES {
                 break;
             }
-            let entries = self.log(*job, *seq, room)?;
+            let entries = self.log(*job, *seq, room).map_err(|why| why.of_job(*job))?;
             bytes += entries.iter().map(Entry::bytes).sum::<usize>();
             page.extend(entries);
         }
@@ -130,7 +144,8 @@ pub trait Reader: Send {
     fn images_of(&mut self, jobs: &[i64]) -> Result<Vec<(i64, KeptImage)>, DbError> {
         let mut found = Vec::new();
         for job in jobs {
-            found.extend(self.images(*job)?.into_iter().map(|image| (*job, image)));
+            let images = self.images(*job).map_err(|why| why.of_job(*job))?;
+            found.extend(images.into_iter().map(|image| (*job, image)));
         }
         Ok(found)
     }
@@ -139,7 +154,8 @@ pub trait Reader: Send {
     fn summaries_of(&mut self, jobs: &[i64]) -> Result<Vec<(i64, KeptSummary)>, DbError> {
         let mut found = Vec::new();
         for job in jobs {
-            found.extend(self.summaries(*job)?.into_iter().map(|summary| (*job, summary)));
+            let summaries = self.summaries(*job).map_err(|why| why.of_job(*job))?;
+            found.extend(summaries.into_iter().map(|summary| (*job, summary)));
         }
         Ok(found)
     }
@@ -148,7 +164,7 @@ pub trait Reader: Send {
     fn images_at(&mut self, places: &[(i64, u64)]) -> Result<Vec<SavedImage>, DbError> {
         let mut found = Vec::new();
         for (job, seq) in places {
-            let image = self.image(*job, seq.saturating_sub(1))?;
+            let image = self.image(*job, seq.saturating_sub(1)).map_err(|why| why.of_job(*job))?;
             found.extend(image.filter(|saved| saved.image.seq == *seq));
         }
         Ok(found)
@@ -158,7 +174,7 @@ pub trait Reader: Send {
     fn firsts(&mut self, jobs: &[i64]) -> Result<Vec<(i64, u64)>, DbError> {
         let mut found = Vec::new();
         for job in jobs {
-            found.extend(self.first(*job)?.map(|first| (*job, first)));
+            found.extend(self.first(*job).map_err(|why| why.of_job(*job))?.map(|first| (*job, first)));
         }
         Ok(found)
     }

@@ -251,7 +251,7 @@ pub fn image_columns(joined: &str) -> String {
 
 /// How many bytes something takes, and what its disk has, if that can be known here.
 #[derive(Clone, Copy, Debug, PartialEq, Eq)]
-pub struct Room {
+pub struct Space {
     pub bytes: u64,
     pub disk: Option<Disk>,
 }

@@ -77,7 +77,7 @@ impl Metrics {
     }
 
     /// A sweep came to its end.
-    pub fn ended(&self, swept: &Swept) {
+    pub fn sweep_ended(&self, swept: &Swept) {
         self.unissued.set(swept.unissued as i64);
         self.garbage.set(swept.garbage as i64);
         self.ended.set(now());

@@ -4,7 +4,7 @@ mod metrics;
 
 use crate::cli;
 use crate::exit::NOT_TO_START;
-use crate::files::{self, Found, Gone, Marked, Names, Need, Owner, Stop};
+use crate::files::{self, FileNames, Found, Gone, Marked, Need, Owner, Stop};
 use crate::log;
 use crate::metrics_server;
 use crate::remote;
@@ -96,7 +96,7 @@ async fn work(given: &cli::Sweep) -> Result<Swept, Stop> {
 }
 
 /// One sweep. It opens the place anew, so a disk that is mounted again is found.
-async fn sweep(given: &cli::Sweep, job: &Job, names: &Names, metrics: &Metrics) -> Result<Swept, Stop> {
+async fn sweep(given: &cli::Sweep, job: &Job, names: &FileNames, metrics: &Metrics) -> Result<Swept, Stop> {
     let began = Instant::now();
     let state = job.state().await.map_err(stopped)?;
     let owner = Owner { job: given.job.clone(), opened: state["opened"].as_u64().unwrap_or_default() };
@@ -108,7 +108,7 @@ async fn sweep(given: &cli::Sweep, job: &Job, names: &Names, metrics: &Metrics) 
     let told = sweep.pages().await;
     say(&[format!("{} seconds={:.1}", sweep.swept, began.elapsed().as_secs_f64())])?;
     told?;
-    metrics.ended(&sweep.swept);
+    metrics.sweep_ended(&sweep.swept);
     Ok(sweep.swept)
 }
 
@@ -116,7 +116,7 @@ async fn sweep(given: &cli::Sweep, job: &Job, names: &Names, metrics: &Metrics) 
 struct Sweep<'a> {
     given: &'a cli::Sweep,
     job: &'a Job,
-    names: &'a Names,
+    names: &'a FileNames,
     place: &'a Marked,
     metrics: &'a Metrics,
     swept: Swept,

@@ -1,9 +1,10 @@
 //! The board: what the threads know of each other.
+use super::damaged::KeptOut;
 use super::lag::Lag;
 use super::lease::Lease;
 use crate::model::{shard_of, wall, Answer, Bases, Choice, Held, Job, Moment, Outcome, Reply, Shards, SHARDS};
 use serde_json::Value;
-use std::collections::HashMap;
+use std::collections::{BTreeMap, HashMap};
 use std::fmt::Write;
 use std::sync::atomic::{AtomicBool, AtomicU64, Ordering};
 use std::sync::{Mutex, OnceLock, PoisonError, RwLock, RwLockReadGuard};
@@ -27,6 +28,8 @@ pub struct Board {
     stopping: watch::Sender<bool>,
     started: Instant,
     jobs: RwLock<HashMap<String, Watched>>,
+    /// The jobs of this process that are kept out since their logs can't be replayed, and why.
+    kept_out: RwLock<BTreeMap<String, String>>,
 }
 
 /// That this process serves a job.
@@ -66,7 +69,30 @@ impl Board {
             stopping: watch::channel(false).0,
             started: Instant::now(),
             jobs,
+            kept_out: RwLock::default(),
         }
+    }
+
+    /// These jobs are kept out, too.
+    pub fn keep_out(&self, jobs: &KeptOut) {
+        let mut kept_out = self.kept_out.write().unwrap_or_else(PoisonError::into_inner);
+        kept_out.extend(jobs.iter().map(|damaged| (damaged.name.clone(), damaged.why.to_string())));
+    }
+
+    /// Another process may have this job, which is kept out here.
+    pub fn forget_kept_out(&self, job: &str) {
+        self.kept_out.write().unwrap_or_else(PoisonError::into_inner).remove(job);
+    }
+
+    /// Why a job is kept out; `None` if it is not, or is none of this process.
+    pub fn damage(&self, job: &str) -> Option<String> {
+        self.kept_out.read().unwrap_or_else(PoisonError::into_inner).get(job).cloned()
+    }
+
+    /// The jobs that are kept out, and why.
+    pub fn damaged(&self) -> Vec<(String, String)> {
+        let kept_out = self.kept_out.read().unwrap_or_else(PoisonError::into_inner);
+        kept_out.iter().map(|(name, why)| (name.clone(), why.clone())).collect()
     }
 
     /// This process leads, and the log of its shards has this identity.
@@ -252,9 +278,9 @@ impl Board {
         self.read().get(job).map_or(1, |watched| watched.first.load(Ordering::SeqCst))
     }
 
-    /// The history has read a job's log up to here.
-    pub fn set_history(&self, job: &str, upto: u64) {
-        if let Some(watched) = self.read().get(job) {
+    /// The history has read the log of the job of this name and number up to here.
+    pub fn set_history(&self, job: &str, number: i64, upto: u64) {
+        if let Some(watched) = self.read().get(job).filter(|watched| watched.number == number) {
             watched.read.store(upto, Ordering::SeqCst);
             watched.lag.note(watched.length.load(Ordering::SeqCst), upto);
         }

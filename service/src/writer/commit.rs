@@ -105,9 +105,9 @@ impl Writer {
             }
             let old = self.old_records(&one);
             let (job, whole, group) = match one {
-                ForKeeping::Summary { job, part } => {
+                ForKeeping::Summary(part) => {
                     let whole = (part.whole > 0).then_some(part.seq);
-                    (self.jobs.place(&job), whole, Group { summaries: vec![part], ..Group::default() })
+                    (self.jobs.place_of(part.job), whole, Group { summaries: vec![part], ..Group::default() })
                 }
                 ForKeeping::Past(past) => (None, None, Group { past, ..Group::default() }),
             };

@@ -50,7 +50,7 @@ impl Images {
     }
 
     /// An image was made. Returns the place of its job if memory ran out. The job may have been deleted meanwhile.
-    pub fn made(&mut self, imaged: Imaged) -> Option<usize> {
+    pub fn image_made(&mut self, imaged: Imaged) -> Option<usize> {
         let Imaged { place, saved } = imaged;
         if !matches!(self.state, State::Made(its) if its == place) {
             return None;

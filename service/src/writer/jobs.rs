@@ -1,6 +1,7 @@
 //! The jobs of this process, or all of the service, brought up to date with the log.
 mod catch_up;
 
+use super::damaged::KeptOut;
 use super::message::ForKeeping;
 use super::replay::StartError;
 use crate::model::{Job, NoJob, Opening, Shards};
@@ -27,6 +28,8 @@ pub struct Jobs {
     /// The greatest number of a job that was deleted, and those jobs of which the database has something left.
     last_gone: i64,
     leftovers: Vec<i64>,
+    /// Jobs whose logs can't be replayed. They have no place.
+    kept_out: KeptOut,
 }
 
 impl Jobs {
@@ -50,6 +53,7 @@ impl Jobs {
         self.last_number = self.last_number.max(others.last_number);
         self.last_gone = self.last_gone.max(others.last_gone);
         self.last_moment = self.last_moment.max(others.last_moment);
+        self.kept_out.extend(others.kept_out);
         let mut places = Vec::with_capacity(others.places.len());
         for mut job in others.jobs.into_iter().filter(|job| !job.is_deleted) {
             job.ahead = job.at.saturating_sub(now);
@@ -74,6 +78,32 @@ impl Jobs {
             self.unopen(place);
         }
         given_up
+    }
+
+    /// The jobs that are kept out.
+    pub fn kept_out(&self) -> &KeptOut {
+        &self.kept_out
+    }
+
+    /// Gives up the jobs of shards that are kept out, and returns their names.
+    pub fn give_up_kept_out(&mut self, shards: Shards) -> Vec<String> {
+        self.kept_out.give_up(shards)
+    }
+
+    /// Why none of the jobs can be replayed, if there is any. Then this program, or the database, is the wrong one.
+    pub fn take_hopeless(&mut self) -> Option<StartError> {
+        self.places.is_empty().then(|| std::mem::take(&mut self.kept_out).into_first()).flatten()
+    }
+
+    /// Keeps a job out, of which nothing is served or written then. An error that is not of one job alone ends the start.
+    fn keep_out(&mut self, place: usize, why: StartError) -> Result<(), StartError> {
+        if !why.is_of_one_job() {
+            return Err(why);
+        }
+        let (number, name) = (self.number_at(place), self.jobs[place].opening.name.clone());
+        self.kept_out.add(number, name, why);
+        self.unopen(place);
+        Ok(())
     }
 
     fn number_at(&self, place: usize) -> i64 {
@@ -125,7 +155,7 @@ impl Jobs {
     /// Whether the jobs that this is of are there.
     pub fn has(&self, given: &ForKeeping) -> bool {
         match given {
-            ForKeeping::Summary { job, .. } => self.place(job).is_some(),
+            ForKeeping::Summary(part) => self.place_of(part.job).is_some(),
             ForKeeping::Past(past) => past.iter().all(|record| self.place_of(record.job).is_some()),
         }
     }
@@ -140,6 +170,9 @@ impl Jobs {
     fn delete_gone(&mut self, reader: &mut dyn Reader) -> Result<bool, StartError> {
         let gone = reader.gone()?;
         let gone: Vec<(i64, u64)> = gone.into_iter().filter(|(job, _)| self.shards.has_job(*job)).collect();
+        for (job, _) in &gone {
+            self.kept_out.forget(*job);
+        }
         self.leftovers = gone.iter().filter(|(_, is_empty)| *is_empty == 0).map(|(job, _)| *job).collect();
         self.last_gone = gone.iter().map(|(job, _)| *job).max().unwrap_or(0).max(self.last_gone);
         let places: Vec<usize> = gone.iter().filter_map(|(job, _)| self.place_of(*job)).collect();
@@ -151,6 +184,7 @@ impl Jobs {
 
     /// Forgets the jobs that are none of these: they were deleted, and the database need not know that any more.
     fn delete_all_but(&mut self, there: &HashSet<i64>) {
+        self.kept_out.retain(there);
         let gone = self.numbers.iter().filter(|(number, _)| !there.contains(number)).map(|(_, place)| *place);
         for place in gone.collect::<Vec<_>>() {
             self.delete(place);
@@ -162,9 +196,10 @@ impl Jobs {
         Some(self.jobs[self.place(name)?].opening.number)
     }
 
-    /// Each job's number, and how many calls it has.
+    /// Each job's number, and how many calls it has; those too that are kept out.
     pub fn lengths(&self) -> Vec<(i64, u64)> {
-        self.jobs.iter().filter(|job| !job.is_deleted).map(|job| (job.opening.number, job.seq)).collect()
+        let there = self.jobs.iter().filter(|job| !job.is_deleted);
+        there.map(|job| (job.opening.number, job.seq)).chain(self.kept_out.lengths()).collect()
     }
 
     /// How many jobs there are that are not deleted.

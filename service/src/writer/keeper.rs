@@ -161,13 +161,13 @@ impl Keeper {
     }
 
     /// An image was made, or memory ran out.
-    pub fn made(&mut self, jobs: &mut Jobs, imaged: Imaged, metrics: &Metrics) {
+    pub fn image_made(&mut self, jobs: &mut Jobs, imaged: Imaged, metrics: &Metrics) {
         let number = jobs.at(imaged.place).opening.number;
         if imaged.saved.as_ref().is_some_and(|saved| saved.image.job != number) {
             // the job was given up meanwhile, and another one has its place
             return;
         }
-        if let Some(place) = self.images.made(imaged) {
+        if let Some(place) = self.images.image_made(imaged) {
             let job = jobs.at(place);
             log::warn(&format!("image job={} calls={}: memory ran out; the log grows", job.opening.name, job.seq));
             metrics.image_fails(&job.opening.name, true);

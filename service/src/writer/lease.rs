@@ -66,6 +66,71 @@ impl Lease {
 #[cfg(test)]
 mod tests {
     use super::*;
+    use crate::model::Held;
+    use crate::store::{DbError, Keyed, Lead};
+
+    /// What a commit of [`Slow`] takes.
+    const PAUSE: Duration = Duration::from_millis(20);
+    const ASKED: &str = "a lease asks a store for nothing but commits";
+
+    /// A store whose commits take a while, and renew the lease.
+    #[derive(Default)]
+    struct Slow {
+        beat: Duration,
+        commits: u64,
+    }
+
+    impl Store for Slow {
+        fn lead(&mut self) -> Result<Lead, DbError> {
+            unreachable!("{ASKED}")
+        }
+
+        fn begin(&mut self, _: &str, _: &[Held], _: &[(i64, u64)]) -> Result<(), DbError> {
+            unreachable!("{ASKED}")
+        }
+
+        fn commit(&mut self, _: &Group) -> Result<Committed, Failure> {
+            std::thread::sleep(PAUSE);
+            self.commits += 1;
+            Ok(Committed { renews: true })
+        }
+
+        fn keyed(&mut self, _: &[(i64, String)]) -> Result<Vec<Keyed>, DbError> {
+            unreachable!("{ASKED}")
+        }
+
+        fn forget_keys(&mut self, _: u64, _: u64) -> Result<u64, DbError> {
+            unreachable!("{ASKED}")
+        }
+
+        fn forget_past(&mut self, _: i64, _: u64, _: u64) -> Result<(), DbError> {
+            unreachable!("{ASKED}")
+        }
+
+        fn forget_gone(&mut self, _: u64) -> Result<(), DbError> {
+            unreachable!("{ASKED}")
+        }
+
+        fn forget_job(&mut self, _: i64) -> Result<bool, DbError> {
+            unreachable!("{ASKED}")
+        }
+
+        fn note(&mut self, _: u64) -> Result<(), Failure> {
+            unreachable!("{ASKED}")
+        }
+
+        fn beat(&self) -> Duration {
+            self.beat
+        }
+
+        fn lease(&self) -> Option<Duration> {
+            Some(Duration::from_secs(10_800))
+        }
+
+        fn release(&mut self) {
+            unreachable!("{ASKED}")
+        }
+    }
 
     /// Renewed at the machine's start, and so many tenths as long as the time since. So no pause of a busy machine matters.
     fn renewed_long_ago(tenths: u32) -> Lease {
@@ -88,5 +153,30 @@ mod tests {
         assert!(!lease.is_sure());
         lease.committed(Committed { renews: true }, Moment::now());
         assert!(lease.is_sure());
+    }
+
+    /// Its first commit may be long after another process could lead.
+    #[test]
+    fn a_lease_counts_from_when_it_was_asked_for() {
+        let asked = Moment::now();
+        std::thread::sleep(PAUSE);
+        assert!(Lease::of(&Slow::default(), asked).age() >= PAUSE);
+    }
+
+    #[test]
+    fn a_renewed_lease_counts_from_before_the_commit() {
+        let (mut store, mut lease) = (Slow::default(), renewed_long_ago(14));
+        lease.renew(&mut store).expect("a commit");
+        assert!(lease.age() >= PAUSE && lease.is_sure());
+    }
+
+    #[test]
+    fn a_lease_is_renewed_once_it_is_as_old_as_a_beat() {
+        let mut lease = renewed_long_ago(14);
+        for (beat, commits) in [(lease.age() * 2, 0), (lease.age(), 1)] {
+            let mut store = Slow { beat, commits: 0 };
+            lease.keep(&mut store).expect("a commit, if it is due");
+            assert_eq!(store.commits, commits);
+        }
     }
 }

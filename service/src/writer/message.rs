@@ -35,7 +35,7 @@ pub enum Message {
         name: String,
         settings: Settings,
         shape: Vec<u64>,
-        names: Names,
+        names: NamesWanted,
         reply: oneshot::Sender<Created>,
     },
     Read(Read, oneshot::Sender<ReadDone>),
@@ -82,7 +82,7 @@ impl NotDeletable {
 
 #[derive(Debug)]
 pub enum ForKeeping {
-    Summary { job: String, part: SummaryPart },
+    Summary(SummaryPart),
     Past(Vec<PastRecord>),
 }
 
@@ -99,7 +99,7 @@ pub enum CallsDone {
 
 /// Whether a job gives out names: what its creation wants, and what a new one has if that says nothing.
 #[derive(Clone, Copy, Debug)]
-pub struct Names {
+pub struct NamesWanted {
     pub wanted: Option<bool>,
     pub by_default: bool,
 }
@@ -122,6 +122,8 @@ pub enum Created {
     NotOpened(NoJob),
     /// Another process has a job of this name, or has to open it.
     Elsewhere,
+    /// A job of this name is kept out, and why.
+    Damaged(String),
 }
 
 /// How many jobs the writer reads at once, between two groups of calls.

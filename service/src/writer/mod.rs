@@ -2,6 +2,7 @@
 mod batch;
 mod board;
 mod commit;
+mod damaged;
 mod delete;
 mod imager;
 mod images;
@@ -25,7 +26,7 @@ pub use delete::Delete;
 pub use imager::Imager;
 pub use jobs::Jobs;
 pub use lease::Lease;
-pub use message::{CallsDone, Created, Deletion, ForKeeping, Key, Message, Names, Read, ReadDone, MOST_JOBS};
+pub use message::{CallsDone, Created, Deletion, ForKeeping, Key, Message, NamesWanted, Read, ReadDone, MOST_JOBS};
 pub use moves::Adoption;
 pub use queue::{queue, Inbox, Messages, NotSent};
 pub use replay::StartError;
@@ -111,6 +112,7 @@ impl Writer {
         for place in writer.jobs.places() {
             writer.publish(place);
         }
+        writer.board.keep_out(writer.jobs.kept_out());
         writer
     }
 
@@ -184,7 +186,7 @@ impl Writer {
                 None
             }
             Message::Imaged(imaged) => {
-                self.keeper.made(&mut self.jobs, imaged, &self.metrics);
+                self.keeper.image_made(&mut self.jobs, imaged, &self.metrics);
                 None
             }
             message => match &mut self.lent {
@@ -335,9 +337,9 @@ impl Writer {
             return made;
         };
         let kind = kind(reply).filter(|word| *word != "fresh").map(str::to_string).or(named);
-        let mut ended: Vec<u64> = round.group.entries[first..].iter().flat_map(Entry::ended).collect();
+        let mut ended: Vec<u64> = round.group.entries[first..].iter().flat_map(Entry::ended_records).collect();
         ended.sort_unstable();
-        Outcome::Told { made: Box::new(made), kind, ended }
+        Outcome::Detailed { made: Box::new(made), kind, ended }
     }
 
     fn call(&mut self, round: &mut Round, place: usize, call: &Call) -> Outcome {

@@ -20,6 +20,7 @@ impl Writer {
             self.store.hold(&held);
             self.leftovers.extend(jobs.leftovers());
             let (shards, count) = (jobs.shards(), jobs.count());
+            self.board.keep_out(jobs.kept_out());
             let places = self.jobs.adopt(jobs, self.clock.now());
             self.keeper.called(&places.iter().copied().collect());
             for place in places {
@@ -40,6 +41,9 @@ impl Writer {
                 self.keeper.forget(*place);
                 self.timer.set(*place, None);
                 self.board.forget(name);
+            }
+            for name in self.jobs.give_up_kept_out(shards) {
+                self.board.forget_kept_out(&name);
             }
             self.leftovers.forget(shards);
             self.store.let_go(shards);

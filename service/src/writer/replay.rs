@@ -1,5 +1,5 @@
 //! One job is brought up to date with its log: by an image, and by the calls after it.
-use crate::model::{parse_line, Entry, Fault, Job, NoJob, Outcome, Told};
+use crate::model::{parse_line, AnswerRow, Entry, Fault, Job, NoJob, Outcome};
 use crate::store::{DbError, Failure, SavedImage};
 use thiserror::Error;
 
@@ -33,6 +33,19 @@ pub enum StartError {
 }
 
 impl StartError {
+    /// Whether it is about what the database has of one job, so that others can be replayed, and a later start fails likewise.
+    pub fn is_of_one_job(&self) -> bool {
+        match self {
+            StartError::Unread(error) => error.bad_job().is_some(),
+            StartError::NotOpened { why, .. } => !why.is_memory(),
+            StartError::Differs { .. }
+            | StartError::Damaged { .. }
+            | StartError::BadImage { .. }
+            | StartError::OtherPhase { .. } => true,
+            StartError::NoMemory { .. } | StartError::NotLeading(_) => false,
+        }
+    }
+
     /// Whether a later start may succeed, without anybody's doing.
     pub fn may_pass(&self) -> bool {
         match self {
@@ -79,7 +92,7 @@ pub fn repeat(job: &mut Job, entry: &Entry) -> Result<(), StartError> {
     }
     let (now, call) = parse_line(&entry.line).ok_or_else(|| damaged(format!("{:?} is no call", entry.line)))?;
     let answered = match job.repeat(&call, now) {
-        Outcome::Made { reply, .. } if Told::of(&reply) == entry.told => {
+        Outcome::Made { reply, .. } if AnswerRow::of(&reply) == entry.told => {
             job.at = entry.at;
             return Ok(());
         }

@@ -2,7 +2,7 @@
 use super::delete::Delete;
 use super::jobs::Jobs;
 use super::keeper::Upkeep;
-use super::message::{CallsDone, Created, Deletion, ForKeeping, Key, Names, Read, ReadDone};
+use super::message::{CallsDone, Created, Deletion, ForKeeping, Key, NamesWanted, Read, ReadDone};
 use super::moves::Adoption;
 use crate::model::{Call, NoJob, Opening, Settings, Shards};
 use crate::store::{Group, Keyed};
@@ -65,7 +65,7 @@ impl Round {
         self.postponed.retain(|(place, _)| !places.contains(place));
         for (created, _) in &mut self.created {
             // one that differs may have been compared with a job that is taken out
-            if !matches!(created, Created::NotOpened(_)) {
+            if !matches!(created, Created::NotOpened(_) | Created::Damaged(_)) {
                 *created = Created::Elsewhere;
             }
         }
@@ -82,7 +82,7 @@ impl Round {
         name: &str,
         settings: Settings,
         shape: Vec<u64>,
-        names: Names,
+        names: NamesWanted,
         now: u64,
     ) -> Created {
         let Some(number) = jobs.next_number() else {
@@ -99,6 +99,9 @@ impl Round {
                 Some(wanted) if wanted != has => Created::OtherNames { names: has },
                 _ => Created::Same { names: has },
             };
+        }
+        if let Some(why) = jobs.kept_out().why(name) {
+            return Created::Damaged(why);
         }
         let names = names.wanted.unwrap_or(names.by_default);
         let opening = Opening { number, name: name.to_string(), settings, shape, started: now };

@@ -1,5 +1,5 @@
 //! The events of a job, from a place on.
-use crate::http::Asked;
+use crate::http::ApiRequest;
 use crate::{Error, Job};
 use serde_json::{json, Value};
 use std::time::Duration;
@@ -43,7 +43,7 @@ impl Follower {
         };
         let log = self.log.as_ref().map(|log| format!("&log={log}")).unwrap_or_default();
         let path = format!("{}/events?after={after}&wait={wait}{log}", self.job.path);
-        let told = self.job.ask(Asked::poll(path, Duration::from_secs(wait))).await?;
+        let told = self.job.ask(ApiRequest::poll(path, Duration::from_secs(wait))).await?;
         if told.status == GONE {
             let gone = told.value()?;
             if gone["reason"] == OTHER_LOG {

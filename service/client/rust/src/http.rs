@@ -120,7 +120,7 @@ pub struct Requests {
 }
 
 /// A request, without the address.
-pub struct Asked {
+pub struct ApiRequest {
     method: Method,
     path: String,
     body: Option<String>,
@@ -129,30 +129,35 @@ pub struct Asked {
     wait: Duration,
 }
 
-impl Asked {
-    pub fn get(path: String) -> Asked {
-        Asked { method: Method::GET, path, body: None, key: None, wait: Duration::ZERO }
+impl ApiRequest {
+    pub fn get(path: String) -> ApiRequest {
+        ApiRequest { method: Method::GET, path, body: None, key: None, wait: Duration::ZERO }
     }
 
-    pub fn poll(path: String, wait: Duration) -> Asked {
-        Asked { wait, ..Asked::get(path) }
+    pub fn poll(path: String, wait: Duration) -> ApiRequest {
+        ApiRequest { wait, ..ApiRequest::get(path) }
     }
 
-    pub fn delete(path: String) -> Asked {
-        Asked { method: Method::DELETE, ..Asked::get(path) }
+    pub fn delete(path: String) -> ApiRequest {
+        ApiRequest { method: Method::DELETE, ..ApiRequest::get(path) }
     }
 
-    pub fn patch(path: String, body: &Value) -> Asked {
-        Asked { method: Method::PATCH, body: Some(body.to_string()), ..Asked::get(path) }
+    pub fn patch(path: String, body: &Value) -> ApiRequest {
+        ApiRequest { method: Method::PATCH, body: Some(body.to_string()), ..ApiRequest::get(path) }
     }
 
-    pub fn post(path: String, body: &Value, key: Option<&str>) -> Asked {
-        Asked { method: Method::POST, body: Some(body.to_string()), key: key.map(str::to_string), ..Asked::get(path) }
+    pub fn post(path: String, body: &Value, key: Option<&str>) -> ApiRequest {
+        ApiRequest {
+            method: Method::POST,
+            body: Some(body.to_string()),
+            key: key.map(str::to_string),
+            ..ApiRequest::get(path)
+        }
     }
 }
 
 /// An answer of any status.
-pub struct Told {
+pub struct ApiAnswer {
     pub status: u16,
     bytes: Vec<u8>,
     headers: HeaderMap,
@@ -188,12 +193,12 @@ impl Requests {
     }
 
     /// The body of the answer to a request. An answer that is an error is one here.
-    pub async fn body(&self, manner: &Manner, asked: Asked) -> Result<Value, Error> {
+    pub async fn body(&self, manner: &Manner, asked: ApiRequest) -> Result<Value, Error> {
         self.ask(manner, asked).await?.body()
     }
 
     /// Makes a request until it is answered.
-    pub async fn ask(&self, manner: &Manner, asked: Asked) -> Result<Told, Error> {
+    pub async fn ask(&self, manner: &Manner, asked: ApiRequest) -> Result<ApiAnswer, Error> {
         let until = manner.patience.and_then(|patience| Instant::now().checked_add(patience + asked.wait));
         let mut pause = FIRST_PAUSE;
         loop {
@@ -221,7 +226,7 @@ impl Requests {
     }
 
     /// How long one try may take. There is time for each address, and for the first again.
-    fn one_try(&self, manner: &Manner, asked: &Asked) -> Duration {
+    fn one_try(&self, manner: &Manner, asked: &ApiRequest) -> Duration {
         let tries = u32::try_from(self.addresses.len() + 1).unwrap_or(u32::MAX);
         let share = manner.patience.map_or(ONE_TRY, |patience| patience / tries);
         let sending = asked.body.as_ref().map_or(0, |body| body.len() / BYTES_EACH_SECOND);
@@ -229,17 +234,17 @@ impl Requests {
     }
 
     /// One try, whose head and each part of whose body come within a time.
-    async fn once(&self, asked: &Asked, url: &str, most: Duration) -> Result<Told, Error> {
+    async fn once(&self, asked: &ApiRequest, url: &str, most: Duration) -> Result<ApiAnswer, Error> {
         let answer = within(most, self.client.request(self.request(asked, url)?)).await?;
         let (head, mut body) = answer.into_parts();
         let mut bytes = Vec::new();
         while let Some(part) = within(most, async { body.data().await.transpose() }).await? {
             bytes.extend_from_slice(&part);
         }
-        Ok(Told { status: head.status.as_u16(), bytes, headers: head.headers })
+        Ok(ApiAnswer { status: head.status.as_u16(), bytes, headers: head.headers })
     }
 
-    fn request(&self, asked: &Asked, url: &str) -> Result<Request<Body>, Error> {
+    fn request(&self, asked: &ApiRequest, url: &str) -> Result<Request<Body>, Error> {
         let mut request = Request::builder().method(&asked.method).uri(format!("{url}{}", asked.path));
         request = request.header(CONTENT_TYPE, "application/json");
         if let Some(token) = &self.token {
@@ -265,7 +270,7 @@ async fn within<T>(most: Duration, work: impl Future<Output = Result<T, hyper::E
     }
 }
 
-impl Told {
+impl ApiAnswer {
     /// Whether another try may be answered otherwise.
     fn is_passing(&self, method: &Method) -> bool {
         is_passing(self.status) || self.status == 500 && method == Method::GET

@@ -33,7 +33,7 @@ pub use whole::{Part, Whole};
 
 use call::texts;
 use follow::events_of;
-use http::{Asked, Manner, Requests, Told};
+use http::{ApiAnswer, ApiRequest, Manner, Requests};
 use serde_json::{json, Value};
 use std::sync::Arc;
 use std::time::Duration;
@@ -89,7 +89,7 @@ impl Service {
     }
 
     async fn opened(&self, name: &str, body: Value) -> Result<Job, Error> {
-        self.requests.body(&self.manner, Asked::post("/v1/jobs".to_string(), &body, None)).await?;
+        self.requests.body(&self.manner, ApiRequest::post("/v1/jobs".to_string(), &body, None)).await?;
         Ok(self.job(name))
     }
 
@@ -104,15 +104,16 @@ impl Service {
     /// the job are left, unless it is to `abandon` them: nobody deletes them then. Returns whether there was such a job.
     pub async fn delete(&self, name: &str, abandon: bool) -> Result<bool, Error> {
         let path = format!("/v1/jobs/{name}?abandon={}", u8::from(abandon));
-        match self.requests.body(&self.manner, Asked::delete(path)).await {
+        match self.requests.body(&self.manner, ApiRequest::delete(path)).await {
             Err(Error::Status { status: 404, .. }) => Ok(false),
             told => told.map(|_| true),
         }
     }
 
-    /// The state of each job.
+    /// The state of each job, as `jobs`. As `damaged` the name of each job that the service keeps out since its log can't be replayed, and why: their
+    /// requests are refused with status 503 until they are mended and the service has started again.
     pub async fn jobs(&self) -> Result<Value, Error> {
-        self.requests.body(&self.manner, Asked::get("/v1/jobs".to_string())).await
+        self.requests.body(&self.manner, ApiRequest::get("/v1/jobs".to_string())).await
     }
 }
 
@@ -130,21 +131,21 @@ impl Job {
 
     /// The same under a key of the caller's, who can give it again if the request was not answered.
     pub async fn calls_with_key(&self, calls: &[Call], key: &str) -> Result<Vec<Answer>, Error> {
-        let told = self.made(calls, key).await?;
+        let told = self.send_calls(calls, key).await?;
         let answers = told["answers"].as_array().ok_or(Error::Answer("has no answers".to_string()))?;
         Ok(answers.iter().map(Answer::of).collect())
     }
 
     /// The body that answers calls.
-    async fn made(&self, calls: &[Call], key: &str) -> Result<Value, Error> {
+    async fn send_calls(&self, calls: &[Call], key: &str) -> Result<Value, Error> {
         let body = json!({"calls": calls.iter().map(Call::json).collect::<Vec<_>>()});
-        self.requests.body(&self.manner, Asked::post(format!("{}/calls", self.path), &body, Some(key))).await
+        self.requests.body(&self.manner, ApiRequest::post(format!("{}/calls", self.path), &body, Some(key))).await
     }
 
     /// Begins the job again, from the latest record or from a savepoint, in a new shape if one is given, once all its tasks
     /// have ended: makes the call `restore`. Pending records end. Fails with [`Error::Refused`] if the job is cancelled.
     pub async fn begin(&self, savepoint: Option<u64>, shape: Option<Vec<u64>>) -> Result<Start, Error> {
-        let told = self.made(&[Call::Restore { savepoint, shape }], &new_key()).await?;
+        let told = self.send_calls(&[Call::Restore { savepoint, shape }], &new_key()).await?;
         Start::of(self, &told).await
     }
 
@@ -152,7 +153,7 @@ impl Job {
     /// records after it is not taken back.** Fails with [`Error::Refused`] if no such checkpoint is retained, it has another shape than
     /// the job, or the job does not run.
     pub async fn go_back(&self, checkpoint: u64, shape: Option<Vec<u64>>) -> Result<Start, Error> {
-        let told = self.made(&[Call::GoBack { checkpoint, shape }], &new_key()).await?;
+        let told = self.send_calls(&[Call::GoBack { checkpoint, shape }], &new_key()).await?;
         Start::of(self, &told).await
     }
 
@@ -183,7 +184,7 @@ impl Job {
     /// Changes settings of the job, while it runs: those that are given, as `{"interval": 30000}`. Returns all that it has then, under
     /// `settings`. Fails with [`Error::Refused`] if more checkpoints are pending than may be from then on, or the job is cancelled.
     pub async fn set(&self, settings: &Value) -> Result<Value, Error> {
-        self.requests.body(&self.manner, Asked::patch(format!("{}/settings", self.path), settings)).await
+        self.requests.body(&self.manner, ApiRequest::patch(format!("{}/settings", self.path), settings)).await
     }
 
     /// Stops the job with a savepoint, whose number is the answer's `id`: the timer rests, and with the last acknowledgement the job has stopped
@@ -228,7 +229,7 @@ impl Job {
     }
 
     async fn posted(&self, what: &str, body: &Value) -> Result<Value, Error> {
-        let asked = Asked::post(format!("{}/{what}", self.path), body, Some(&new_key()));
+        let asked = ApiRequest::post(format!("{}/{what}", self.path), body, Some(&new_key()));
         self.requests.body(&self.manner, asked).await
     }
 
@@ -236,7 +237,7 @@ impl Job {
     /// first stay garbage for good, so they may be deleted at any time.
     pub async fn garbage(&self, files: &[u64]) -> Result<(Vec<u64>, Vec<u64>), Error> {
         let body = json!({"files": texts(files)});
-        let asked = Asked::post(format!("{}/garbage", self.path), &body, None);
+        let asked = ApiRequest::post(format!("{}/garbage", self.path), &body, None);
         let told = self.requests.body(&self.manner, asked).await?;
         let list = |name: &str| {
             let files = told[name].as_array()?.iter().map(|file| file.as_str()?.parse().ok());
@@ -251,7 +252,7 @@ impl Job {
         let answers = self.calls(&[Call::Take { most }]).await?;
         match answers.first() {
             Some(answer) => answer.files().ok_or_else(|| Error::Answer(format!("to take is {answer:?}"))),
-            None => Err(Error::Answer("to take is none".to_string())),
+            None => Err(Error::Answer("to take is missing".to_string())),
         }
     }
 
@@ -301,7 +302,7 @@ impl Job {
     /// 60. Fails with status 410 if the log does not have them; a [`Follower`] goes on from the job's state.
     pub async fn events(&self, after: u64, wait: u64) -> Result<(u64, Vec<Value>), Error> {
         let path = format!("{}/events?after={after}&wait={wait}", self.path);
-        let mut told = self.ask(Asked::poll(path, Duration::from_secs(wait))).await?.body()?;
+        let mut told = self.ask(ApiRequest::poll(path, Duration::from_secs(wait))).await?.body()?;
         let upto = told["upto"].as_u64().ok_or(Error::Answer("has no upto".to_string()))?;
         Ok((upto, events_of(&mut told)?))
     }
@@ -319,10 +320,10 @@ impl Job {
     }
 
     async fn get(&self, rest: &str) -> Result<Value, Error> {
-        self.ask(Asked::get(format!("{}{rest}", self.path))).await?.body()
+        self.ask(ApiRequest::get(format!("{}{rest}", self.path))).await?.body()
     }
 
-    async fn ask(&self, asked: Asked) -> Result<Told, Error> {
+    async fn ask(&self, asked: ApiRequest) -> Result<ApiAnswer, Error> {
         self.requests.ask(&self.manner, asked).await
     }
 }

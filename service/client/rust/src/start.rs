@@ -22,8 +22,10 @@ impl Start {
     /// By the body that answers a restore.
     pub(crate) async fn of(job: &Job, told: &Value) -> Result<Start, Error> {
         let reply = Answer::of(&told["answers"][0]).reply()?;
-        let kind =
-            reply["restore"].as_str().ok_or_else(|| Error::Answer("to restore is none".to_string()))?.to_string();
+        let kind = reply["restore"]
+            .as_str()
+            .ok_or_else(|| Error::Answer("to restore has no member \"restore\"".to_string()))?
+            .to_string();
         let (id, seq, log) = (reply["id"].as_u64(), reply["seq"].as_u64(), told["log"].as_str());
         let files = match id {
             Some(id) => held(&job.record(id).await?, id)?,

@@ -75,18 +75,18 @@ async fn read_request(stream: &mut TcpStream) -> String {
 }
 
 #[expect(clippy::unnecessary_wraps, reason = "a stub may have no answer")]
-fn said(status: u16, headers: &str, body: &Value) -> Option<String> {
+fn response(status: u16, headers: &str, body: &Value) -> Option<String> {
     let body = body.to_string();
     let length = body.len();
     Some(format!("HTTP/1.1 {status} said\r\ncontent-length: {length}\r\nconnection: close\r\n{headers}\r\n{body}"))
 }
 
 fn good() -> Option<String> {
-    said(200, "", &json!({"jobs": [], "answers": [{"seq": 1, "cancel": "cancelled"}]}))
+    response(200, "", &json!({"jobs": [], "answers": [{"seq": 1, "cancel": "cancelled"}]}))
 }
 
 fn bad(status: u16) -> Option<String> {
-    said(status, "", &json!({"error": "so it is"}))
+    response(status, "", &json!({"error": "so it is"}))
 }
 
 fn service(urls: &[&str]) -> Service {
@@ -124,13 +124,13 @@ async fn a_call_is_made_again_under_its_key() {
 
 #[tokio::test]
 async fn retry_after_is_waited_for() {
-    let stub = Stub::new(vec![said(503, "retry-after: 1\r\n", &json!({})), good()]).await;
+    let stub = Stub::new(vec![response(503, "retry-after: 1\r\n", &json!({})), good()]).await;
     let begun = Instant::now();
     assert!(service(&[&stub.url]).jobs().await.is_ok());
     assert!(begun.elapsed() >= Duration::from_secs(1), "{:?}", begun.elapsed());
     // another address is asked at once: a wait of a minute would end after the deadline
     let (first, second) =
-        (Stub::new(vec![said(503, "retry-after: 60\r\n", &json!({}))]).await, Stub::new(vec![good()]).await);
+        (Stub::new(vec![response(503, "retry-after: 60\r\n", &json!({}))]).await, Stub::new(vec![good()]).await);
     assert!(service(&[&first.url, &second.url]).jobs().await.is_ok());
     assert_eq!((first.count(), second.count()), (1, 1));
     // such a wait is not begun, so the address is asked once
@@ -143,7 +143,7 @@ async fn retry_after_is_waited_for() {
 async fn the_leader_that_a_standby_names_is_asked_next() {
     let (second, leader) = (Stub::new(vec![bad(503)]).await, Stub::new(vec![good()]).await);
     let header = format!("relkvanu-leader: {}\r\n", leader.url);
-    let standby = Stub::new(vec![said(503, &header, &json!({}))]).await;
+    let standby = Stub::new(vec![response(503, &header, &json!({}))]).await;
     let asked = service(&[&standby.url, &second.url, &leader.url]);
     assert!(asked.jobs().await.is_ok() && asked.jobs().await.is_ok());
     assert_eq!((standby.count(), second.count(), leader.count()), (1, 0, 2));
@@ -165,10 +165,11 @@ async fn a_mute_machine_does_not_use_up_the_time() {
 #[tokio::test]
 async fn a_follower_goes_on_from_the_state() {
     let events = json!({"upto": 9, "log": "one", "first": 1, "events": [{"seq": 8, "event": "completed", "id": 3}]});
-    let gone = said(410, "", &json!({"error": "gone", "reason": "cut", "first": 1, "log": "two"}));
+    let gone = response(410, "", &json!({"error": "gone", "reason": "cut", "first": 1, "log": "two"}));
     let state =
         json!({"seq": 5, "last_event": 4, "now": 1, "log": "two", "mode": "running", "choice": {"kind": "fresh"}});
-    let stub = Stub::new(vec![said(200, "", &events), gone, said(200, "", &state), said(200, "", &events)]).await;
+    let stub =
+        Stub::new(vec![response(200, "", &events), gone, response(200, "", &state), response(200, "", &events)]).await;
     let mut follower = service(&[&stub.url]).job("a").follower_at(7, "one");
     assert_eq!(follower.next(0).await.expect("events")[0]["id"], 3);
     assert_eq!(follower.place(), (Some(9), Some("one")));
@@ -192,7 +193,7 @@ async fn a_follower_goes_on_from_the_state() {
 /// It does not ask for the state, and stays where it is.
 #[tokio::test]
 async fn a_follower_ends_over_another_log() {
-    let gone = || said(410, "", &json!({"error": "a backup", "reason": "other_log", "first": 1, "log": "two"}));
+    let gone = || response(410, "", &json!({"error": "a backup", "reason": "other_log", "first": 1, "log": "two"}));
     let stub = Stub::new(vec![gone(), gone()]).await;
     let mut follower = service(&[&stub.url]).job("a").follower_at(7, "one");
     for count in [1, 2] {
@@ -203,9 +204,10 @@ async fn a_follower_ends_over_another_log() {
 
 #[tokio::test]
 async fn a_job_begins_with_the_files_of_its_record() {
-    let answered = |answer: serde_json::Value| said(200, "", &json!({"answers": [answer], "epoch": 1, "log": "one"}));
+    let answered =
+        |answer: serde_json::Value| response(200, "", &json!({"answers": [answer], "epoch": 1, "log": "one"}));
     let restored = answered(json!({"restore": "savepoint", "id": 3, "released": 0, "seq": 9}));
-    let record = |live: serde_json::Value| said(200, "", &json!({"id": 3, "live": live}));
+    let record = |live: serde_json::Value| response(200, "", &json!({"id": 3, "live": live}));
     let live = record(json!({"acks": [{"subtask": "0.0", "files": ["31", "32"]}]}));
     let fresh = answered(json!({"restore": "fresh", "released": 0, "seq": 9}));
     let refused = answered(json!({"refused": "NotRunning"}));

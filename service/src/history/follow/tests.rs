@@ -1,8 +1,8 @@
 //! A history that goes on from a summary, and tables of other versions.
 use super::super::version::{upgrade, STEPS};
 use super::*;
-use crate::model::{parse_config, Figure, FileBytes, PastRecord, Phase, Shards, SubtaskState, Told};
-use crate::store::{Room, SavedImage};
+use crate::model::{parse_config, AnswerRow, Figure, FileBytes, PastRecord, Phase, Shards, SubtaskState};
+use crate::store::{Listed, SavedImage, Space, Tried};
 use std::path::PathBuf;
 
 /// A log in memory, with what the database keeps of a history.
@@ -25,7 +25,7 @@ impl Memory {
 }
 
 impl Reader for Memory {
-    fn jobs(&mut self) -> Result<Vec<Opening>, DbError> {
+    fn listed(&mut self) -> Result<Vec<Listed>, DbError> {
         Ok(vec![])
     }
     fn log(&mut self, _: i64, after: u64, most: u32) -> Result<Vec<Entry>, DbError> {
@@ -55,10 +55,10 @@ impl Reader for Memory {
     fn past(&mut self, _: i64, after: u64, most: u32) -> Result<Vec<PastRecord>, DbError> {
         Ok(self.past.iter().filter(|record| record.id > after).take(most as usize).cloned().collect())
     }
-    fn said(&mut self, _: i64, after: u64, upto: u64) -> Result<Vec<AckBytes>, DbError> {
+    fn ack_bytes(&mut self, _: i64, after: u64, upto: u64) -> Result<Vec<AckBytes>, DbError> {
         Ok(self.said.iter().filter(|one| one.seq > after && one.seq <= upto).cloned().collect())
     }
-    fn sizes(&mut self, _: Shards, _: (i64, i64), _: u32) -> Result<Vec<(i64, FileBytes)>, DbError> {
+    fn sizes(&mut self, _: Shards, _: (i64, i64), _: u32) -> Result<Tried<FileBytes>, DbError> {
         Ok(vec![])
     }
     fn states(&mut self, _: i64, _: u64) -> Result<Vec<SubtaskState>, DbError> {
@@ -67,24 +67,27 @@ impl Reader for Memory {
     fn figures(&mut self, _: i64, _: u64, _: u64) -> Result<Vec<Figure>, DbError> {
         Ok(vec![])
     }
-    fn with_states(&mut self, _: Shards) -> Result<Vec<(i64, u64)>, DbError> {
+    fn with_states(&mut self, _: Shards) -> Result<Tried<u64>, DbError> {
         Ok(vec![])
     }
     fn gone(&mut self) -> Result<Vec<(i64, u64)>, DbError> {
         Ok(vec![])
     }
-    fn phases(&mut self, _: Shards) -> Result<Vec<(i64, Phase)>, DbError> {
+    fn phases(&mut self, _: Shards) -> Result<Tried<Phase>, DbError> {
         Ok(Vec::new())
     }
 
     fn call_bytes(&mut self, _: &[i64]) -> Result<Vec<(i64, u64)>, DbError> {
         Ok(vec![])
     }
-    fn room(&mut self) -> Result<Room, DbError> {
+    fn space(&mut self) -> Result<Space, DbError> {
         Err(DbError::Odd("there is none"))
     }
     fn first(&mut self, _: i64) -> Result<Option<u64>, DbError> {
         Ok(self.log.first().map(|entry| entry.seq))
+    }
+    fn last(&mut self, _: i64) -> Result<u64, DbError> {
+        Ok(self.log.last().map_or(0, |entry| entry.seq))
     }
     fn lengths_after(&mut self, _: &str, _: i64) -> Result<Option<String>, DbError> {
         Ok(None)
@@ -107,7 +110,7 @@ fn log() -> Vec<Entry> {
     let mut log: Vec<Entry> = Vec::new();
     let mut add = |record: Option<u64>, line: String, reply: Reply, ended: Option<&str>, waiting| {
         let seq = log.len() as u64 + 1;
-        let (told, ended) = (Told::of(&reply), ended.map(str::to_string));
+        let (told, ended) = (AnswerRow::of(&reply), ended.map(str::to_string));
         log.push(Entry { job: 1, seq, at: 1000 + seq, record, line, told, ended, waiting });
     };
     let said = Reply::Answered;
@@ -133,7 +136,7 @@ fn log() -> Vec<Entry> {
 }
 
 /// What the acknowledgements of the log said: a file has ten times its number of bytes, and each uses one of 7 again.
-fn said(log: &[Entry]) -> Vec<AckBytes> {
+fn ack_bytes_of(log: &[Entry]) -> Vec<AckBytes> {
     let of = |entry: &Entry| {
         let file: u64 = entry.line.split_once('+')?.1.parse().ok()?;
         Some(AckBytes { job: 1, seq: entry.seq, fresh: vec![(file, file * 10)], full: file * 10 + 7 })
@@ -186,7 +189,7 @@ fn a_summary_and_the_rest_of_the_log_give_the_same_history() -> Result<(), Error
     let file = File::new("whole");
     let tables = Tables::open(&file.0)?;
     let mut memory = Memory { log: whole.clone(), ..Memory::default() };
-    let said = said(&whole);
+    let said = ack_bytes_of(&whole);
     Follower::open(&tables, &mut memory, &opening())?.follow(&tables, &whole, &said, &[])?;
     let wanted = dump(&tables);
     // record 1 has the files 100 and 101, and record 6 the file 600 so far
@@ -231,7 +234,7 @@ fn a_summary_and_the_rest_of_the_log_give_the_same_history() -> Result<(), Error
         let mut follower = Follower::open(&new, &mut memory, &opening())?;
         let last = Entry {
             line: "ack 70 6 0.1".to_string(),
-            told: Told::of(&Reply::Answered(COMPLETED)),
+            told: AnswerRow::of(&Reply::Answered(COMPLETED)),
             seq: whole.len() as u64 + 1,
             record: Some(6),
             ..whole[0].clone()

@@ -2,7 +2,7 @@
 use super::super::replay::{missing, repeat, resume, StartError};
 use super::{Beat, Jobs};
 use crate::model::{Entry, FileBytes, Keeping, KeptImage, KeptSummary, Retention};
-use crate::store::Reader;
+use crate::store::{DbError, Listed, Reader};
 use std::collections::{BTreeMap, BTreeSet, HashMap};
 
 const PAGE: u32 = 10_000;
@@ -25,35 +25,81 @@ impl Jobs {
             self.delete_all_but(&openings.iter().map(|opening| opening.number).collect());
         }
         let mut opened = Vec::new();
-        for opening in openings {
-            if self.numbers.contains_key(&opening.number) {
-                continue;
+        for listed in openings {
+            if !self.numbers.contains_key(&listed.number) && !self.kept_out.has(listed.number) {
+                opened.extend(self.open_listed(listed)?);
             }
-            let name = opening.name.clone();
-            opened.push(self.open(opening).map_err(|why| StartError::NotOpened { job: name, why })?);
         }
         self.delete_gone(reader)?;
         opened.retain(|place| !self.jobs[*place].is_deleted);
         self.resume_all(opened.iter().copied(), reader, beat)?;
         // the place of a job that was deleted may be that of a new one
         let behind: BTreeSet<usize> = changed.into_iter().chain(opened).collect();
-        self.read_logs(behind.into_iter().collect(), reader, beat)
+        let made = self.read_logs(behind.into_iter().collect(), reader, beat)?;
+        if !self.kept_out.is_empty() {
+            // standbys look for calls from the last moment on, of whichever job it is
+            self.last_moment = self.last_moment.max(self.read_to.unwrap_or(0));
+        }
+        Ok(made)
+    }
+
+    /// Opens a job that the database has, and returns its place; `None` if it is kept out.
+    fn open_listed(&mut self, Listed { number, name, opening }: Listed) -> Result<Option<usize>, StartError> {
+        let opened = opening
+            .map_err(StartError::Unread)
+            .and_then(|opening| self.open(opening).map_err(|why| StartError::NotOpened { job: name.clone(), why }));
+        match opened {
+            Ok(place) => Ok(Some(place)),
+            Err(why) if why.is_of_one_job() => {
+                self.last_number = self.last_number.max(number);
+                self.kept_out.add(number, name, why);
+                Ok(None)
+            }
+            Err(why) => Err(why),
+        }
     }
 
     /// Reads the phases of jobs, whose calls have all been made here.
     fn take_phases(&mut self, reader: &mut dyn Reader) -> Result<(), StartError> {
         for (number, phase) in reader.phases(self.shards)? {
             if let Some(place) = self.place_of(number) {
-                self.jobs[place].phase = phase;
+                match phase {
+                    Ok(phase) => self.jobs[place].phase = phase,
+                    Err(why) => self.keep_out(place, why.into())?,
+                }
             }
         }
         Ok(())
     }
 
-    /// The next time all jobs and all logs are looked at. Where several processes wrote, neither the numbers of jobs nor the moments of calls
-    /// rise in the order of the commits.
+    /// The next time all jobs and all logs are looked at, those too that are kept out. Where several processes wrote, neither the numbers of
+    /// jobs nor the moments of calls rise in the order of the commits.
     pub fn look_at_all(&mut self) {
         self.read_to = None;
+        self.kept_out.clear();
+    }
+
+    /// Reads rows of several jobs. A job whose row is bad is kept out, and those of the others are read again.
+    fn read_of<T>(
+        &mut self,
+        reader: &mut dyn Reader,
+        mut read: impl FnMut(&Jobs, &mut dyn Reader) -> Result<T, DbError>,
+    ) -> Result<T, StartError> {
+        loop {
+            let why = match read(self, reader) {
+                Ok(found) => return Ok(found),
+                Err(why) => why,
+            };
+            match why.bad_job().and_then(|job| self.place_of(job)) {
+                Some(place) => self.keep_out(place, why.into())?,
+                None => return Err(why.into()),
+            }
+        }
+    }
+
+    /// The numbers of the jobs that are there.
+    fn there(&self) -> Vec<i64> {
+        self.numbers.keys().copied().collect()
     }
 
     /// The places of jobs that may have calls which were not made here.
@@ -83,20 +129,25 @@ impl Jobs {
             let stopped = self.read_pages(&behind, &mut made, reader, beat)?;
             // the leader may have cut faster than this process reads
             behind = self.resume_all(stopped.keys().copied(), reader, beat)?;
-            let gap = stopped
-                .iter()
-                .find_map(|(place, found)| (*found).filter(|_| !behind.contains(place)).map(|seq| (*place, seq)));
-            if let Some((place, seq)) = gap {
-                // its job may have been deleted meanwhile, whose calls then go
-                if self.delete_gone(reader)? && self.jobs[place].is_deleted {
-                    behind.extend(stopped.into_keys());
-                    continue;
-                }
-                let (job, why) = (self.jobs[place].opening.name.clone(), missing(&self.jobs[place]));
-                return Err(StartError::Damaged { job, seq, why });
-            }
+            let gaps = stopped.iter().filter_map(|(place, found)| Some((*place, (*found)?)));
+            let gaps: Vec<(usize, u64)> = gaps.filter(|(place, _)| !behind.contains(place)).collect();
+            self.keep_out_gaps(&gaps, reader)?;
         }
         Ok(made)
+    }
+
+    /// Keeps jobs out whose next call is missing, though the log has a later one.
+    fn keep_out_gaps(&mut self, gaps: &[(usize, u64)], reader: &mut dyn Reader) -> Result<(), StartError> {
+        if !gaps.is_empty() {
+            // a job may have been deleted meanwhile, whose calls then go
+            self.delete_gone(reader)?;
+        }
+        for (place, seq) in gaps.iter().copied().filter(|(place, _)| !self.jobs[*place].is_deleted).collect::<Vec<_>>()
+        {
+            let (job, why) = (self.jobs[place].opening.name.clone(), missing(&self.jobs[place]));
+            self.keep_out(place, StartError::Damaged { job, seq, why })?;
+        }
+        Ok(())
     }
 
     /// Makes the calls that follow in the logs of several jobs. Returns the places of those jobs that have none, or that have a later one,
@@ -114,8 +165,18 @@ impl Jobs {
         let mut from = ALL;
         loop {
             beat()?;
-            let asked = behind.range(from..).map(|(job, place)| (*job, self.jobs[*place].seq));
-            let page = reader.logs(&asked.collect::<Vec<_>>(), PAGE)?;
+            let page = self.read_of(reader, |jobs, reader| {
+                let there = behind.range(from..).filter(|(job, _)| jobs.numbers.contains_key(job));
+                let asked = there.map(|(job, place)| (*job, jobs.jobs[*place].seq));
+                reader.logs(&asked.collect::<Vec<_>>(), PAGE)
+            })?;
+            behind.retain(|job, place| {
+                let is_there = self.numbers.contains_key(job);
+                if !is_there {
+                    stopped.remove(place);
+                }
+                is_there
+            });
             match page.last() {
                 // the jobs before it have been read, if the rows came in order: then the last page, of all jobs, has none
                 Some(entry) => from = entry.job,
@@ -132,8 +193,13 @@ impl Jobs {
                     stopped.insert(place, Some(first));
                     continue;
                 }
-                self.make_all(place, entries, beat)?;
-                *made += entries.len() as u64;
+                match self.make_all(place, entries, beat) {
+                    Ok(()) => *made += entries.len() as u64,
+                    Err(why) => {
+                        behind.remove(&number);
+                        self.keep_out(place, why)?;
+                    }
+                }
                 stopped.remove(&place);
             }
         }
@@ -157,39 +223,53 @@ impl Jobs {
         reader: &mut dyn Reader,
         beat: Beat,
     ) -> Result<Vec<usize>, StartError> {
-        let numbers: Vec<i64> = places.map(|place| self.jobs[place].opening.number).collect();
+        let numbers: BTreeSet<i64> = places.map(|place| self.jobs[place].opening.number).collect();
         if numbers.is_empty() {
             return Ok(Vec::new());
         }
+        let images = self.read_of(reader, |jobs, reader| {
+            reader.images_of(&numbers.iter().copied().filter(|job| jobs.numbers.contains_key(job)).collect::<Vec<_>>())
+        })?;
         // of each job the last one stays
-        let mut newest: BTreeMap<i64, KeptImage> = reader.images_of(&numbers)?.into_iter().collect();
+        let mut newest: BTreeMap<i64, KeptImage> = images.into_iter().collect();
         newest.retain(|job, image| self.place_of(*job).is_some_and(|place| image.seq > self.jobs[place].seq));
         for batch in batches(&newest) {
-            for saved in reader.images_at(&batch)? {
-                beat()?;
-                if let Some(place) = self.place_of(saved.image.job) {
-                    resume(&mut self.jobs[place], &saved)?;
-                    self.last_moment = self.last_moment.max(saved.image.at);
-                }
-            }
+            self.resume_batch(&batch, reader, beat)?;
         }
         Ok(newest.keys().filter_map(|job| self.place_of(*job)).collect())
     }
 
+    /// Goes on from the images at these places.
+    fn resume_batch(&mut self, batch: &[(i64, u64)], reader: &mut dyn Reader, beat: Beat) -> Result<(), StartError> {
+        let images = self.read_of(reader, |jobs, reader| {
+            let there = batch.iter().copied().filter(|(job, _)| jobs.numbers.contains_key(job));
+            reader.images_at(&there.collect::<Vec<_>>())
+        })?;
+        for saved in images {
+            beat()?;
+            let Some(place) = self.place_of(saved.image.job) else { continue };
+            match resume(&mut self.jobs[place], &saved) {
+                Ok(()) => self.last_moment = self.last_moment.max(saved.image.at),
+                Err(why) => self.keep_out(place, why)?,
+            }
+        }
+        Ok(())
+    }
+
     /// Reads what the database has of each job's log.
     pub fn take_stock(&mut self, reader: &mut dyn Reader, keeping: Keeping, beat: Beat) -> Result<(), StartError> {
-        let numbers: Vec<i64> = self.jobs.iter().map(|job| job.opening.number).collect();
         let mut images: HashMap<i64, Vec<KeptImage>> = HashMap::new();
-        for (job, image) in reader.images_of(&numbers)? {
+        for (job, image) in self.read_of(reader, |jobs, reader| reader.images_of(&jobs.there()))? {
             images.entry(job).or_default().push(image);
         }
         beat()?;
         let mut summaries: HashMap<i64, Vec<KeptSummary>> = HashMap::new();
-        for (job, summary) in reader.summaries_of(&numbers)? {
+        for (job, summary) in self.read_of(reader, |jobs, reader| reader.summaries_of(&jobs.there()))? {
             summaries.entry(job).or_default().push(summary);
         }
         beat()?;
-        let firsts: HashMap<i64, u64> = reader.firsts(&numbers)?.into_iter().collect();
+        let firsts = self.read_of(reader, |jobs, reader| reader.firsts(&jobs.there()))?;
+        let firsts: HashMap<i64, u64> = firsts.into_iter().collect();
         for job in &mut self.jobs {
             let number = job.opening.number;
             let images = images.remove(&number).unwrap_or_default();
@@ -198,15 +278,19 @@ impl Jobs {
         }
         self.take_phases(reader)?;
         for (job, record) in reader.with_states(self.shards)? {
-            if let Some(place) = self.place_of(job) {
-                self.jobs[place].states.note(record);
+            let Some(place) = self.place_of(job) else { continue };
+            match record {
+                Ok(record) => self.jobs[place].states.note(record),
+                Err(why) => self.keep_out(place, why.into())?,
             }
         }
         if keeping.keep_bytes > 0 {
             beat()?;
-            self.take_means(reader.call_bytes(&numbers)?);
+            let means = self.read_of(reader, |jobs, reader| reader.call_bytes(&jobs.there()))?;
+            self.take_means(means);
         }
-        self.take_sizes(reader, beat)
+        self.take_sizes(reader, beat)?;
+        self.kept_out.count_calls(reader)
     }
 
     fn take_means(&mut self, means: Vec<(i64, u64)>) {
@@ -223,10 +307,18 @@ impl Jobs {
         loop {
             beat()?;
             let page = reader.sizes(self.shards, after, PAGE)?;
-            let Some((job, (file, _))) = page.last() else { break };
-            after = (*job, *file as i64);
+            match page.last() {
+                Some((job, Ok((file, _)))) => after = (*job, *file as i64),
+                // its job is kept out
+                Some((job, Err(_))) => after = (*job, i64::MAX),
+                None => break,
+            }
             for (job, size) in page {
-                sizes.entry(job).or_default().push(size);
+                match (size, self.place_of(job)) {
+                    (Ok(size), Some(_)) => sizes.entry(job).or_default().push(size),
+                    (Err(why), Some(place)) => self.keep_out(place, why.into())?,
+                    (_, None) => {}
+                }
             }
         }
         for (job, sizes) in sizes {

@@ -4,7 +4,7 @@ use super::outcome::Reply;
 use relkvanu::Answer;
 
 #[derive(Clone, Debug, Default, PartialEq, Eq)]
-pub struct Told {
+pub struct AnswerRow {
     pub what: u32,
     pub a: u64,
     pub b: u64,
@@ -12,16 +12,16 @@ pub struct Told {
     pub files: Option<String>,
 }
 
-impl Told {
-    pub fn of(reply: &Reply) -> Told {
+impl AnswerRow {
+    pub fn of(reply: &Reply) -> AnswerRow {
         match reply {
             Reply::Answered(answer) => {
                 let (what, a, b) = answer.numbers();
-                Told { what, a, b, files: None }
+                AnswerRow { what, a, b, files: None }
             }
             Reply::Taken(files) => {
                 let texts: Vec<String> = files.iter().map(u64::to_string).collect();
-                Told { what: Answer::TAKEN, a: files.len() as u64, b: 0, files: Some(texts.join(" ")) }
+                AnswerRow { what: Answer::TAKEN, a: files.len() as u64, b: 0, files: Some(texts.join(" ")) }
             }
         }
     }
@@ -39,7 +39,7 @@ impl Told {
         let files = files.split(' ').filter(|word| !word.is_empty()).map(|word| word.parse().ok());
         let reply = Reply::Taken(files.collect::<Option<_>>()?);
         // what is written otherwise, as with a sign, is not of ours
-        Some(reply).filter(|reply| Told::of(reply) == *self)
+        Some(reply).filter(|reply| AnswerRow::of(reply) == *self)
     }
 
     /// The text of docs/SCRIPT.md and docs/LOGS.md. A take whose files are not known has its first word alone.
@@ -56,8 +56,8 @@ impl Told {
 mod tests {
     use super::*;
 
-    fn told(what: u32, a: u64, b: u64, files: Option<&str>) -> Told {
-        Told { what, a, b, files: files.map(str::to_string) }
+    fn told(what: u32, a: u64, b: u64, files: Option<&str>) -> AnswerRow {
+        AnswerRow { what, a, b, files: files.map(str::to_string) }
     }
 
     #[test]
@@ -70,7 +70,10 @@ mod tests {
             (told(18, 3, 0, Some("7 8 18446744073709551615")), "take 7 8 18446744073709551615"),
             (told(18, 0, 0, Some("")), "take none"),
         ] {
-            assert_eq!((kept.reply().map(|reply| Told::of(&reply)), kept.text().as_str()), (Some(kept.clone()), text));
+            assert_eq!(
+                (kept.reply().map(|reply| AnswerRow::of(&reply)), kept.text().as_str()),
+                (Some(kept.clone()), text)
+            );
         }
     }
 

@@ -1,5 +1,5 @@
 //! How much room an SQLite file takes, and its disk has.
-use super::rows::{Disk, Room};
+use super::rows::{Disk, Space};
 use std::ffi::{CString, OsString};
 use std::io::{Error, ErrorKind, Result};
 use std::mem::MaybeUninit;
@@ -7,7 +7,7 @@ use std::os::unix::ffi::OsStrExt;
 use std::path::Path;
 
 /// The room of an SQLite file with its write-ahead log.
-pub fn room_of(path: &Path) -> Result<Room> {
+pub fn space_of(path: &Path) -> Result<Space> {
     let length = |end: &str| {
         let mut name: OsString = path.as_os_str().to_owned();
         name.push(end);
@@ -17,7 +17,7 @@ pub fn room_of(path: &Path) -> Result<Room> {
         Err(error) if error.kind() == ErrorKind::NotFound => 0,
         told => told?,
     };
-    Ok(Room { bytes: length("")? + log, disk: Some(disk(path)?) })
+    Ok(Space { bytes: length("")? + log, disk: Some(disk(path)?) })
 }
 
 /// The disk of a file, and how many bytes a user without privileges may still write to it.

@@ -1,0 +1,351 @@
+//! `relkvanu setup-tls`: makes the tokens, the certificate and the settings with which a service speaks TLS. All is made in a folder of its own, and gets in its
+//! place once it is whole. So after an end at any moment the same command goes on, and nothing is replaced but the settings that were installed.
+use crate::cli;
+use crate::http::{NoTls, Tls, TlsFiles};
+use crate::log;
+use crate::store::sync_folder;
+use openssl::pkey::PKey;
+use openssl::x509::X509;
+use rustix::fs::{flock, FlockOperation};
+use std::fs::{self, DirBuilder, File, OpenOptions, Permissions};
+use std::io::{self, ErrorKind, Write};
+use std::net::IpAddr;
+use std::os::unix::fs::{DirBuilderExt, OpenOptionsExt, PermissionsExt};
+use std::path::{Path, PathBuf};
+use std::process::{Command, ExitCode};
+use thiserror::Error;
+
+/// The folder of what is made; its name once all of it is there; and once all is in its place.
+const NEW: &str = "setup-tls.new";
+const WHOLE: &str = "setup-tls";
+const DONE: &str = "setup-tls.done";
+const SETTINGS: &str = "service.toml";
+/// The settings as they were.
+const BEFORE: &str = "service.toml.before";
+const CERTIFICATE: &str = "certificate.pem";
+const KEY: &str = "key.pem";
+const DROP_IN: &str = "tls.conf";
+const DROP_IN_FOLDER: &str = "relkvanu.service.d";
+const DAYS: &str = "90";
+const BYTES_OF_TOKEN: usize = 20;
+const LONGEST_NAME: usize = 64;
+
+/// A file that is made.
+struct Part {
+    name: &'static str,
+    mode: u32,
+}
+
+/// In the order in which they get in their place. With the settings the service speaks TLS.
+const PARTS: [Part; 7] = [
+    Part { name: "read-token", mode: 0o600 },
+    Part { name: "write-token", mode: 0o600 },
+    Part { name: "token", mode: 0o600 },
+    Part { name: KEY, mode: 0o600 },
+    Part { name: CERTIFICATE, mode: 0o644 },
+    Part { name: DROP_IN, mode: 0o644 },
+    Part { name: SETTINGS, mode: 0o644 },
+];
+
+/// Why nothing was set up, or not all.
+#[derive(Debug, Error)]
+enum NotSet {
+    #[error("{}: it is there, and is not replaced", .0.display())]
+    Taken(PathBuf),
+    #[error("{}: it has no lines `listen`, `# tls_certificate` and `# tls_key` as they are installed", .0.display())]
+    OtherSettings(PathBuf),
+    #[error("{0:?} is no name of a machine")]
+    Name(String),
+    #[error("{}: it is not the key of the certificate", .0.display())]
+    OtherKey(PathBuf),
+    #[error("openssl: {0}")]
+    Openssl(String),
+    #[error(transparent)]
+    Tls(#[from] NoTls),
+    #[error("{}: another setup-tls runs", .0.display())]
+    InUse(PathBuf),
+    #[error("{}: {why}", .path.display())]
+    File { path: PathBuf, why: io::Error },
+}
+
+/// What the system says of this file.
+fn of(path: &Path) -> impl Fn(io::Error) -> NotSet + '_ {
+    |why| NotSet::File { path: path.to_path_buf(), why }
+}
+
+pub fn run(given: &cli::SetupTls) -> ExitCode {
+    match set_up(given) {
+        Ok(()) => {
+            log::info("the service speaks TLS from its next start on: systemctl daemon-reload, and systemctl restart relkvanu");
+            ExitCode::SUCCESS
+        }
+        Err(why) => {
+            log::error(&why.to_string());
+            ExitCode::FAILURE
+        }
+    }
+}
+
+fn set_up(given: &cli::SetupTls) -> Result<(), NotSet> {
+    let setup = Setup::open(given)?;
+    let done = given.settings.join(DONE);
+    if !setup.whole.exists() && !done.exists() {
+        setup.check_free()?;
+        setup.make_or_nothing()?;
+    }
+    if !done.exists() {
+        PARTS.iter().try_for_each(|part| setup.place(part))?;
+        fs::rename(&setup.whole, &done).map_err(of(&done))?;
+    }
+    fs::remove_dir_all(&done).map_err(of(&done))?;
+    sync_folder(&done).map_err(of(&given.settings))
+}
+
+/// Where all is made.
+struct Setup<'a> {
+    given: &'a cli::SetupTls,
+    new: PathBuf,
+    whole: PathBuf,
+    /// No other command makes it.
+    _lock: File,
+}
+
+impl Setup<'_> {
+    fn open(given: &cli::SetupTls) -> Result<Setup<'_>, NotSet> {
+        let lock = File::open(&given.settings).map_err(of(&given.settings))?;
+        flock(&lock, FlockOperation::NonBlockingLockExclusive).map_err(|_| NotSet::InUse(given.settings.clone()))?;
+        Ok(Setup { given, new: given.settings.join(NEW), whole: given.settings.join(WHOLE), _lock: lock })
+    }
+
+    /// Where a part gets.
+    fn target(&self, part: &Part) -> PathBuf {
+        if part.name == DROP_IN {
+            self.given.units.join(DROP_IN_FOLDER).join(DROP_IN)
+        } else {
+            self.given.settings.join(part.name)
+        }
+    }
+
+    fn check_free(&self) -> Result<(), NotSet> {
+        let mut targets = PARTS.iter().filter(|part| part.name != SETTINGS).map(|part| self.target(part));
+        targets.find(|it| it.symlink_metadata().is_ok()).map_or(Ok(()), |it| Err(NotSet::Taken(it)))
+    }
+
+    fn make_or_nothing(&self) -> Result<(), NotSet> {
+        let made = self.make();
+        if made.is_err() && self.new.exists() {
+            fs::remove_dir_all(&self.new).map_err(of(&self.new))?;
+        }
+        made
+    }
+
+    /// Makes all parts, and gives their folder its name once they are on the disk.
+    fn make(&self) -> Result<(), NotSet> {
+        if self.new.exists() {
+            fs::remove_dir_all(&self.new).map_err(of(&self.new))?;
+        }
+        DirBuilder::new().mode(0o700).create(&self.new).map_err(of(&self.new))?;
+        self.make_tokens()?;
+        self.make_certificate()?;
+        self.make_settings()?;
+        PARTS.iter().try_for_each(|part| synced(&self.new.join(part.name)))?;
+        sync_folder(&self.new.join(SETTINGS)).map_err(of(&self.new))?;
+        fs::rename(&self.new, &self.whole).map_err(of(&self.whole))?;
+        sync_folder(&self.whole).map_err(of(&self.given.settings))
+    }
+
+    fn make_tokens(&self) -> Result<(), NotSet> {
+        let (read, write) = (token()?, token()?);
+        self.write("read-token", &format!("{read}\n"))?;
+        self.write("write-token", &format!("{write}\n"))?;
+        self.write("token", &format!("read {read}\nwrite {write}\n"))
+    }
+
+    fn make_certificate(&self) -> Result<(), NotSet> {
+        let files = TlsFiles { certificate: self.new.join(CERTIFICATE), key: self.new.join(KEY) };
+        match (&self.given.certificate, &self.given.key) {
+            (Some(certificate), Some(key)) => {
+                self.copy(certificate, CERTIFICATE)?;
+                self.copy(key, KEY)?;
+            }
+            _ => sign(&self.given.name, &files)?,
+        }
+        for part in PARTS.iter().filter(|part| [CERTIFICATE, KEY].contains(&part.name)) {
+            let path = self.new.join(part.name);
+            fs::set_permissions(&path, Permissions::from_mode(part.mode)).map_err(of(&path))?;
+        }
+        if !fits(&files)? {
+            return Err(NotSet::OtherKey(files.key));
+        }
+        Tls::read(files)?; // as the service will
+        Ok(())
+    }
+
+    fn copy(&self, from: &Path, name: &str) -> Result<(), NotSet> {
+        self.write(name, &fs::read_to_string(from).map_err(of(from))?)
+    }
+
+    fn make_settings(&self) -> Result<(), NotSet> {
+        let path = self.given.settings.join(SETTINGS);
+        let before = fs::read_to_string(&path).map_err(of(&path))?;
+        let listen = self.given.listen.to_string();
+        let settings = with_tls(&before, &listen).ok_or(NotSet::OtherSettings(path))?;
+        self.write(BEFORE, &before)?;
+        self.write(SETTINGS, &settings)?;
+        let folder = self.given.settings.display();
+        let line = |name| format!("LoadCredential={name}:{folder}/{name}\n");
+        self.write(DROP_IN, &format!("[Service]\n{}{}", line(CERTIFICATE), line(KEY)))
+    }
+
+    /// A file that only its owner reads, until it is in its place.
+    fn write(&self, name: &str, text: &str) -> Result<(), NotSet> {
+        written(&self.new.join(name), text.as_bytes(), 0o600)
+    }
+
+    /// Gets a part in its place, unless it is there.
+    fn place(&self, part: &Part) -> Result<(), NotSet> {
+        let (made, target) = (self.whole.join(part.name), self.target(part));
+        let folder = target.parent().unwrap_or(Path::new("."));
+        let contents = fs::read(&made).map_err(of(&made))?;
+        let new = folder.join(format!(".{}.{NEW}", part.name));
+        fs::create_dir_all(folder).map_err(of(folder))?;
+        if new.symlink_metadata().is_ok() {
+            fs::remove_file(&new).map_err(of(&new))?;
+        }
+        if fs::read(&target).is_ok_and(|it| it == contents) {
+            return Ok(());
+        }
+        written(&new, &contents, part.mode)?;
+        if part.name == SETTINGS {
+            self.check_settings(&target)?;
+            fs::rename(&new, &target).map_err(of(&target))?;
+        } else {
+            fs::hard_link(&new, &target).map_err(|why| taken(why, &target))?;
+            fs::remove_file(&new).map_err(of(&new))?;
+        }
+        sync_folder(&target).map_err(of(folder))
+    }
+
+    /// The settings that are replaced are those that were read.
+    fn check_settings(&self, path: &Path) -> Result<(), NotSet> {
+        let before = self.whole.join(BEFORE);
+        let is_same = fs::read(&before).map_err(of(&before))? == fs::read(path).map_err(of(path))?;
+        if is_same {
+            Ok(())
+        } else {
+            Err(NotSet::Taken(path.to_path_buf()))
+        }
+    }
+}
+
+fn taken(why: io::Error, path: &Path) -> NotSet {
+    if why.kind() == ErrorKind::AlreadyExists {
+        NotSet::Taken(path.to_path_buf())
+    } else {
+        of(path)(why)
+    }
+}
+
+/// Makes a file, which is on the disk then.
+fn written(path: &Path, contents: &[u8], mode: u32) -> Result<(), NotSet> {
+    let mut file = OpenOptions::new().write(true).create_new(true).mode(0o600).open(path).map_err(of(path))?;
+    file.write_all(contents).map_err(of(path))?;
+    file.set_permissions(Permissions::from_mode(mode)).map_err(of(path))?;
+    file.sync_all().map_err(of(path))
+}
+
+fn synced(path: &Path) -> Result<(), NotSet> {
+    File::open(path).and_then(|it| it.sync_all()).map_err(of(path))
+}
+
+/// Whether the key is that of the certificate.
+fn fits(files: &TlsFiles) -> Result<bool, NotSet> {
+    let (certificate, key) =
+        (fs::read(&files.certificate).map_err(of(&files.certificate))?, fs::read(&files.key).map_err(of(&files.key))?);
+    let public = X509::from_pem(&certificate).and_then(|it| it.public_key());
+    let private = PKey::private_key_from_pem(&key);
+    public.and_then(|it| Ok(it.public_eq(&*private?))).map_err(|why| NotSet::Openssl(why.to_string()))
+}
+
+fn token() -> Result<String, NotSet> {
+    let mut bytes = [0; BYTES_OF_TOKEN];
+    openssl::rand::rand_bytes(&mut bytes).map_err(|why| NotSet::Openssl(why.to_string()))?;
+    Ok(bytes.map(|it| format!("{it:02x}")).concat())
+}
+
+fn is_name(name: &str) -> bool {
+    let is_sign = |it: u8| it.is_ascii_alphanumeric() || it == b'-' || it == b'.';
+    let is_edge = |it: Option<&u8>| it.is_some_and(u8::is_ascii_alphanumeric);
+    let bytes = name.as_bytes();
+    bytes.len() <= LONGEST_NAME
+        && bytes.iter().all(|it| is_sign(*it))
+        && is_edge(bytes.first())
+        && is_edge(bytes.last())
+}
+
+/// A certificate that the machine signs itself, for this name.
+fn sign(name: &str, files: &TlsFiles) -> Result<(), NotSet> {
+    if !is_name(name) {
+        return Err(NotSet::Name(name.to_string()));
+    }
+    let mut command = Command::new("openssl");
+    command.args(["req", "-x509", "-newkey", "rsa:2048", "-nodes", "-days", DAYS, "-subj", &format!("/CN={name}")]);
+    let kind = if name.parse::<IpAddr>().is_ok() { "IP" } else { "DNS" };
+    command
+        .args(["-addext", &format!("subjectAltName={kind}:{name}"), "-keyout"])
+        .arg(&files.key)
+        .arg("-out")
+        .arg(&files.certificate);
+    let told = command.output().map_err(|why| NotSet::Openssl(why.to_string()))?;
+    if told.status.success() {
+        return Ok(());
+    }
+    Err(NotSet::Openssl(String::from_utf8_lossy(&told.stderr).trim().to_string()))
+}
+
+/// The settings with this address, and with the lines of the certificate. `None` if they are not as they are installed.
+fn with_tls(text: &str, listen: &str) -> Option<String> {
+    let is_address = |line: &&str| line.starts_with("listen = ");
+    let is_certificate = |line: &&str| line.starts_with("# tls_certificate = ") || line.starts_with("# tls_key = ");
+    if (text.lines().filter(is_address).count(), text.lines().filter(is_certificate).count()) != (1, 2) {
+        return None;
+    }
+    let changed = text.lines().map(|line| match line {
+        it if is_address(&it) => format!("listen = \"{listen}\"\n"),
+        it if is_certificate(&it) => format!("{}\n", it.trim_start_matches("# ")),
+        it => format!("{it}\n"),
+    });
+    Some(changed.collect())
+}
+
+#[cfg(test)]
+mod tests {
+    use super::*;
+
+    #[test]
+    fn a_machine_has_a_name() {
+        assert!(["relkvanu.example", "localhost", "a", "10.0.0.5", "a-b.c"].into_iter().all(is_name));
+        let long = "a".repeat(LONGEST_NAME + 1);
+        assert!(["", "a/CN=b", "-a", "a.", "a b", "a,DNS:b", "*.a", &long].into_iter().all(|it| !is_name(it)));
+    }
+
+    #[test]
+    fn the_settings_that_are_installed_get_tls() {
+        let installed = include_str!("../deploy/service.toml");
+        let changed = with_tls(installed, "0.0.0.0:7780").unwrap_or_default();
+        let lines: Vec<(&str, &str)> =
+            installed.lines().zip(changed.lines()).filter(|(before, after)| before != after).collect();
+        assert_eq!(changed.lines().count(), installed.lines().count());
+        let folder = "/run/credentials/relkvanu.service";
+        assert_eq!(
+            lines.iter().map(|it| it.1).collect::<Vec<_>>(),
+            [
+                "listen = \"0.0.0.0:7780\"",
+                &format!("tls_certificate = \"{folder}/certificate.pem\""),
+                &format!("tls_key = \"{folder}/key.pem\""),
+            ]
+        );
+        assert_eq!(with_tls(&changed, "0.0.0.0:7780"), None);
+        assert_eq!(with_tls("", "0.0.0.0:7780"), None);
+    }
+}
