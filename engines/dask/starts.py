@@ -44,7 +44,7 @@ class Driver:
         assert isinstance(self.core.ack(term, ticked.reply.id, (0, 0), files, []), AckCompleted)
 
 
-def ended(work: Callable[[], None], folder: pathlib.Path) -> "tuple[Optional[int], str]":
+def run_apart(work: Callable[[], None], folder: pathlib.Path) -> "tuple[Optional[int], str]":
     """Does the work in a process of its own: its status, or None if SIGKILL ended it, and what it said."""
     told = folder / "told"
     child = os.fork()
@@ -67,7 +67,7 @@ def ended(work: Callable[[], None], folder: pathlib.Path) -> "tuple[Optional[int
 
 
 def start(folder: pathlib.Path) -> str:
-    status, told = ended(lambda: Driver(folder).checkpoint(), folder)
+    status, told = run_apart(lambda: Driver(folder).checkpoint(), folder)
     assert status == 1, (status, told)
     return told
 
@@ -80,13 +80,13 @@ def run_and_kill(folder: pathlib.Path) -> pathlib.Path:
         os.kill(os.getpid(), signal.SIGKILL)
 
     folder.mkdir(exist_ok=True)
-    status, told = ended(work, folder)
+    status, told = run_apart(work, folder)
     assert status is None, told
     return folder
 
 
 def goes_on(folder: pathlib.Path) -> None:
-    status, told = ended(lambda: Driver(folder).checkpoint(), folder)
+    status, told = run_apart(lambda: Driver(folder).checkpoint(), folder)
     assert status == 0, told
 
 
@@ -127,7 +127,7 @@ def check_first_writes(work: pathlib.Path) -> None:
             os.environ.update(STORE_IN=str(folder), STORE_DIE=str(nth))
             Driver(folder)
 
-        status, _ = ended(dies, folder)
+        status, _ = run_apart(dies, folder)
         killed += status is None
         goes_on(folder)
     assert killed >= 4, killed
@@ -173,7 +173,7 @@ def check_no_answer(killed: pathlib.Path, work: pathlib.Path) -> None:
             print("the driver goes on", flush=True)
 
         shutil.copytree(killed, folder)
-        status, told = ended(fails, folder)
+        status, told = run_apart(fails, folder)
         assert status == 1 and "a call has no answer" in told and "goes on" not in told, (status, told)
         goes_on(folder)
 

@@ -108,7 +108,7 @@ class Job:
         if self.process is not None and self.process.poll() is None:
             return
         if self.process is not None and self.process.returncode >= 0 and not self.notes_a_stop():
-            raise AssertionError(f"driver {self.count} ended with {self.process.returncode}: {self.told()[-1][-2000:]}")
+            raise AssertionError(f"driver {self.count} ended with {self.process.returncode}: {self.logs()[-1][-2000:]}")
         self.count += 1
         with open(self.folder / f"driver-{self.count}.log", "wb") as log:
             self.process = subprocess.Popen(self.command(size), stdout=log, stderr=log, env={**os.environ, **self.environment(), "PACE": PACE})
@@ -154,7 +154,7 @@ class Job:
             self.process.kill()
             self.process.wait()
 
-    def told(self):
+    def logs(self):
         return [(self.folder / f"driver-{it}.log").read_text() for it in range(1, self.count + 1)]
 
     def last(self, size):
@@ -247,7 +247,7 @@ def cut(text, lines):
 
 def run_blocks(job, chance, kills, stops):
     told = job_of(job, chance, kills, stops, str(1 << 30))
-    done = [int(it) for log in job.told() for it in re.findall(r"^step (\d+): record ", log, re.M)]
+    done = [int(it) for log in job.logs() for it in re.findall(r"^step (\d+): record ", log, re.M)]
     size = str(max(done, default=0) + LAST)
     assert f"exact {size}" in job.last(size)
     return f"{told}; exact after {size} steps"
@@ -258,8 +258,8 @@ def job_of(job, chance, kills, stops, size):
     if stops:
         more = stop_some(job, chance, stops, size, time.monotonic() + 60 * job.minutes)
         killed = {it: killed.get(it, 0) + more[it] for it in more if killed.get(it, 0) + more[it]}
-        assert job.stops, job.told()[-1][-2000:]
-    backs = sum(it.count("back to the last checkpoint") for it in job.told())
+        assert job.stops, job.logs()[-1][-2000:]
+    backs = sum(it.count("back to the last checkpoint") for it in job.logs())
     return f"killed {killed}; {job.count} drivers, which went back {backs} times besides" + (
         f"; stopped {len(job.stops)} times, found so {job.found} times" if stops else "")
 

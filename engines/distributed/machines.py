@@ -124,7 +124,7 @@ def cut(cuts, seed, folder):
     finally:
         job.kill()
         cluster.stop()
-    backs = sum(it.count("back to the last checkpoint") for it in job.told())
+    backs = sum(it.count("back to the last checkpoint") for it in job.logs())
     print(f"two machines, {took:.0f} ms for a round trip: {cuts} cuts, in which {line.lost} of {line.lost + line.passed} packets were lost; back {backs} "
           f"times; {check_files(job)}")
 

@@ -99,12 +99,12 @@ def main(folder, url=""):
     try:
         with Client(cluster.address) as client:
             client.wait_for_workers(2)
-            told(client, folder, url)
+            print_times(client, folder, url)
     finally:
         cluster.stop()
 
 
-def told(client, folder, url):
+def print_times(client, folder, url):
     print(f"{BLOCKS} blocks of {SIZE * 8 / 1e6:.1f} MB; each way {TIMES} times, in turn")
     place = place_of(url or str(folder / "state"), "measure")
     with Checkpoints(client, place, folder / "job.db", create=True) as checkpoints:

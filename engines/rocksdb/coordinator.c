@@ -140,7 +140,7 @@ static void make(struct coordinator *c, relkvanu_store_call *call) {
     trace_answered(call->place);
 }
 
-static relkvanu_answer made(struct coordinator *c, relkvanu_store_call call) {
+static relkvanu_answer make_noted(struct coordinator *c, relkvanu_store_call call) {
     make(c, &call);
     return noted(c, call.answer);
 }
@@ -157,7 +157,7 @@ static void trace_refusal(relkvanu_store_call call) {
 static relkvanu_answer made_by(struct coordinator *c, struct caller task, relkvanu_store_call call) {
     call.call.index = (uint16_t)task.index;
     call.call.term = task.term;
-    relkvanu_answer answer = made(c, call);
+    relkvanu_answer answer = make_noted(c, call);
     if (answer.code != RELKVANU_DONE && trace_is_on()) {
         trace_refusal(call);
     }
@@ -213,7 +213,7 @@ bool coordinator_is_checkpoint(struct coordinator *c, uint64_t id) {
 }
 
 relkvanu_answer coordinator_savepoint(struct coordinator *c) {
-    return made(c, (relkvanu_store_call){.call = {.kind = RELKVANU_CALL_SAVEPOINT}});
+    return make_noted(c, (relkvanu_store_call){.call = {.kind = RELKVANU_CALL_SAVEPOINT}});
 }
 
 relkvanu_answer coordinator_ack(struct coordinator *c, struct caller task, uint64_t id, const uint64_t *fresh, size_t fresh_len,
@@ -246,7 +246,7 @@ relkvanu_answer coordinator_forfeit(struct coordinator *c, struct caller task, c
 }
 
 relkvanu_answer coordinator_dispose(struct coordinator *c, uint64_t savepoint) {
-    return made(c, (relkvanu_store_call){.call = {.kind = RELKVANU_CALL_DISPOSE, .number = savepoint}});
+    return make_noted(c, (relkvanu_store_call){.call = {.kind = RELKVANU_CALL_DISPOSE, .number = savepoint}});
 }
 
 relkvanu_answer coordinator_restore(struct coordinator *c, uint64_t savepoint, unsigned tasks) {
@@ -258,11 +258,11 @@ relkvanu_answer coordinator_restore(struct coordinator *c, uint64_t savepoint, u
 }
 
 relkvanu_answer coordinator_cancel(struct coordinator *c) {
-    return made(c, (relkvanu_store_call){.call = {.kind = RELKVANU_CALL_CANCEL}});
+    return make_noted(c, (relkvanu_store_call){.call = {.kind = RELKVANU_CALL_CANCEL}});
 }
 
 size_t coordinator_take(struct coordinator *c, uint64_t *files, size_t most) {
-    return made(c, (relkvanu_store_call){.call = {.kind = RELKVANU_CALL_TAKE, .number = most}, .files = files, .files_len = most}).a;
+    return make_noted(c, (relkvanu_store_call){.call = {.kind = RELKVANU_CALL_TAKE, .number = most}, .files = files, .files_len = most}).a;
 }
 
 /* Each subtask of a done record has acknowledged it. */
