@@ -1,9 +1,10 @@
 #!/usr/bin/env python3
 """faults/kill_chained.py KILLS [SEED]: runs chained.py of docs/CUT.md and mini.py and mini-rust of docs/RUNNER.md, kills a process of theirs KILLS times, and
 looks at what they published: each number of each source once, in its order, and the sums of one run. A job whose files were put back, as a backup is, has to
-refuse to publish a number again, and one whose transaction is lost has to refuse to start. Its status tells a supervisor when to start it again. Then
-wrong engines have to be found wrong: of the first one that does not align, one that publishes at its cut, and one that does not publish again at its
-start, and of the second one that publishes what it prepared for records after the one that it begins from. RELKVANU_LIB names the folder of the library."""
+refuse to publish a number again, and one whose transaction is lost has to refuse to start. Its status tells a supervisor when to start it again. One that
+dies between a stop and its publication publishes at the next start. Then wrong engines have to be found wrong: of the first one that does not align, one that
+publishes at its cut, and one that does not publish again at its start, and of the second one that publishes what it prepared for records after the one that
+it begins from. RELKVANU_LIB names the folder of the library."""
 import json
 import os
 import pathlib
@@ -157,6 +158,29 @@ def is_started_again(samples, texts):
     return statuses == [1, 1, 0] and not left
 
 
+def publishes_a_stop(samples, texts):
+    """Whether mini.py publishes what a stop has completed if it dies in between: by the start that finds the job stopped. Once begun, the job goes on."""
+    job, target, statuses, left = Job(samples / "stops", "mini.py", samples, texts), samples / "stops/target", [], []
+    dies = """import os, sys, threading, mini
+it = mini.Engine(*sys.argv[1:])
+publish = it.complete
+it.complete = lambda id: os._exit(9) if it.store.phase().phase.name == "STOPPED" else publish(id)
+threading.Timer(0.5, it.store.stop_job).start()
+it.runner.run()"""
+    begins = "import sys, mini; mini.Engine(*sys.argv[1:]).store.begin_job()"
+    for text, new in ((dies, ["new"]), (None, []), (begins, [])):
+        words = [sys.executable, *(["-c", text] if text else [job.folder / "mini.py"]), job.folder, str(1 << 62), *new]
+        statuses.append(subprocess.run(words, cwd=job.folder, stderr=subprocess.DEVNULL, timeout=SECONDS, check=False).returncode)
+        left.append(sorted(int(it.stem) for it in target.glob("*.prepared")))
+    stopped = job.published()
+    statuses.append(job.start(stopped[-1] + 3).wait(SECONDS))
+    fault = job.fault()
+    right = statuses == [9, 0, 0, 0] and left[0] != [] and left[1:] == [[], []] and stopped[-1] == left[0][-1] and len(job.published()) > len(stopped) and not fault
+    told = "what was prepared is published by the next start" if right else f"statuses {statuses}, prepared {left}, published {stopped}, {fault}"
+    print(f"mini.py, killed at a stop: {told}", flush=True)
+    return right
+
+
 def is_found(samples, why, texts, dice):
     """Whether a wrong engine publishes something wrong within 300 kills. Mostly a few are enough."""
     name, *swaps = WRONG[why]
@@ -196,6 +220,7 @@ def main(kills, seed=None):
         good = [is_right(samples, it, of, int(kills), dice) for it, of in texts.items()]
         good += [refuses(samples, it, of) for it, of in texts.items() if it != "chained.py"]  # which refuses an earlier term
         good.append(is_started_again(samples, texts["mini.py"]))
+        good.append(publishes_a_stop(samples, texts["mini.py"]))
         good += [is_found(samples, why, texts, dice) for why in WRONG]
     print(f"{good.count(True)} engines passed, {good.count(False)} failed")
     return 0 if all(good) else 1

@@ -312,12 +312,12 @@ def tests(samples):
     flags = ["-std=gnu11", "-O2", "-Wall", "-Wextra", "-Werror", "-shared", "-fPIC"]
     subprocess.run(["cc", *flags, HERE / "shim.c", "-o", samples.work / "shim.so"], check=True)
     for name, command in samples.commands.items():
-        yield f"losses of power in {name}", functools.partial(told, name, functools.partial(begins_anew, samples, name, command))
+        yield f"losses of power in {name}", functools.partial(print_result, name, functools.partial(begins_anew, samples, name, command))
     for job in jobs(samples):
-        yield f"losses of power in {job.name}", functools.partial(told, job.name, job.lost)
+        yield f"losses of power in {job.name}", functools.partial(print_result, job.name, job.lost)
 
 
-def told(words, test):
+def print_result(words, test):
     """The test, which says what it has found, and returns nothing that is wrong."""
     began = time.monotonic()
     print(f"faults: losses of power in {words}: {test()}, {time.monotonic() - began:.0f} s", flush=True)

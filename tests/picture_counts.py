@@ -23,7 +23,7 @@ REFUSED = [
 ]
 
 
-def told(job, script):
+def lines_printed(job, script):
     """The lines that the program prints of the script."""
     run = subprocess.run([job], input=script, capture_output=True, timeout=MOST_SECONDS)
     return run.stdout.decode().splitlines()
@@ -59,9 +59,9 @@ def counted(lines):
 
 def wanted(job, script):
     """The numbers that the picture must have."""
-    n = counted(told(job, script))
+    n = counted(lines_printed(job, script))
     asked = b"".join(b"show %d\n" % id for id in range(1, n["records"] + 1))
-    shown = told(job, script + b"\n" + asked)[-n["records"] :] if n["records"] else []
+    shown = lines_printed(job, script + b"\n" + asked)[-n["records"] :] if n["records"] else []
     n["retained"] = sum('"state":"done"' in line for line in shown)
     n["still pending"] = sum('"state":"pending"' in line for line in shown)
     ended = n["records"] - n["retained"] - n["still pending"]
@@ -92,7 +92,7 @@ def main():
         if picture is None:
             # There is no picture of a script that starts no job: then it has no record.
             none += 1
-            holds = counted(told(job, script))["records"] == 0
+            holds = counted(lines_printed(job, script))["records"] == 0
         else:
             want = wanted(job, script)
             holds = picture == want

@@ -50,7 +50,7 @@ void Steps::note_accepted(Message message, bool is_late) {
 }
 
 void Steps::answer_task(Message message, const Answer &answer) {
-    const Told told = !answer.is_done() ? REFUSED : answer.what == RELKVANU_ACK_LATE ? LATE : ACCEPTED;
+    const AckAnswer told = !answer.is_done() ? REFUSED : answer.what == RELKVANU_ACK_LATE ? LATE : ACCEPTED;
     static const char *const words[] = {"", "accepted", "late", "refused"};
     tell("answer to 0.%u %u %s", message.subtask(), message.incarnation(), words[told]);
     for (Task &task : next.tasks) {

@@ -30,7 +30,7 @@ constexpr bool has_stopped(u8 code) {
 }
 
 // What the network brought a task back.
-enum Told : u8 { NOTHING, ACCEPTED, LATE, REFUSED };
+enum AckAnswer : u8 { NOTHING, ACCEPTED, LATE, REFUSED };
 
 // A task of a subtask. Its incarnation is unique. It is not the term that the task was told.
 struct Task {
@@ -41,7 +41,7 @@ struct Task {
     u8 file;    // its new file, or 0
     u8 written; // 1: not durable, 2: durable, or there is nothing to write
     u8 sent;    // how often it sent its acknowledgement
-    Told told;
+    AckAnswer told;
     bool stops; // its barrier is that of a stop's savepoint
     u8 holds;   // the record of a stop that it has taken its snapshot for: it does nothing more, unless the stop fails
     u8 unused;
