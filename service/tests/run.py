@@ -1,5 +1,6 @@
 """Runs the service's tests: run.py [WORD..] runs those whose name has one of the words. Two modules run at a time, each in a process of its
-own. The last line has the counts."""
+own. Many tests wait for what has to come within seconds, which a machine that does much else may miss. So tests that failed are tried once
+more, alone, if they are few: SECOND_TRIES at most. A line says which these were. The last line has the counts."""
 import atexit
 import faulthandler
 import importlib
@@ -18,6 +19,8 @@ HERE = os.path.dirname(os.path.realpath(__file__))
 COUNTS = "counts of the module: "
 # seconds of a test: one that takes longer hangs, and its process ends and says where
 LONGEST = int(os.environ.get("RELKVANU_LONGEST", "3600"))
+# so many failed tests may be tried once more
+SECOND_TRIES = 2
 # the longest first
 MODULES = [
     "test_spread",
@@ -28,7 +31,7 @@ MODULES = [
     "test_start", "test_unit", "test_end_units", "test_stuck", "test_connections", "test_limits", "test_herd", "test_bytes", "test_stop", "test_load", "test_api",
     "test_clients", "test_sizes", "test_jobs_end", "test_payloads", "test_discard", "test_discard_folder", "test_discard_names", "test_memory", "test_metrics", "test_seen",
     "test_names", "test_sweep", "test_places", "test_security", "test_summaries", "test_upkeep", "test_backup", "test_move", "test_dumps", "test_commands", "test_loop", "test_restore",
-    "test_lease_lengths", "test_bounds", "test_disk_order", "test_moves", "test_operate", "test_portable", "test_put_back", "test_setup_tls", "test_stop_begin", "test_stop_rows",
+    "test_lease_lengths", "test_tries", "test_bounds", "test_disk_order", "test_moves", "test_operate", "test_portable", "test_put_back", "test_setup_tls", "test_stop_begin", "test_stop_rows",
 ]
 
 
@@ -116,10 +119,29 @@ def in_process(name, words):
     return lines, (0, 1, 0)
 
 
+def tried_again(done):
+    """How many of the tests that failed pass alone. None is tried if a module ended badly, or if they are many."""
+    failed = sum(counts[1] for _, counts in done)
+    titles = [found[1] for lines, _ in done for line in lines if (found := re.match(r"FAIL (\w+: [\w ]+)$", line))]
+    if len(titles) != failed or failed > SECOND_TRIES:
+        return 0
+    passed = 0
+    for title in titles:
+        name, test = title.replace(" ", "_").split(":_")
+        print(f"tried again, alone: {title}", flush=True)
+        one_passed, one_failed, _ = in_process(f"test_{name}", [f"test_{name}.test_{test}"])[1]
+        if one_passed and not one_failed:
+            passed += 1
+            print(f"service: second try: {title} failed beside others, and passed alone", flush=True)
+    return passed
+
+
 def main(words):
     with ThreadPoolExecutor(2) as pool:
         done = list(pool.map(lambda name: in_process(name, words), MODULES))
     passed, failed = sum(one[1][0] for one in done), sum(one[1][1] for one in done)
+    again = tried_again(done) if failed else 0
+    passed, failed = passed + again, failed - again
     for line in (line for lines, _ in done for line in lines if line.startswith("skipped: ")):
         print(line)
     if passed + failed == 0:

@@ -45,6 +45,11 @@ def status_of(connection):
     return answer.status, answer.read()
 
 
+def has_bodies(server, taken, token=None):
+    """Whether bodies take so many bytes of their room."""
+    return f"relkvanu_http_body_bytes {taken}\n" in server.get("/metrics", token)[2]
+
+
 def test_announced_bodies_take_no_room():
     """Connections that announce large bodies and send a byte: others make their calls."""
     with folder() as at:
@@ -63,35 +68,24 @@ def test_a_token_takes_a_part_of_the_room():
     """One team fills its part by bodies that never end. Another one goes on, with a body of the greatest length too."""
     with folder() as at:
         server = two_teams(at, f"body_bytes = {MIB}\nall_bodies_bytes = {8 * MIB}\nbody_seconds = 3600")
-        slow = [begun(server, "a", MIB, MIB - 1) for _ in range(10)]
-        refused = []
-        # those that found no room were answered; the others wait for their last byte
-        until(lambda: len(told_by(slow, refused)) >= 5)
+        slow = []
+        # four find room, one after another, and wait for their last byte
+        for bodies in range(1, 5):
+            slow.append(begun(server, "a", MIB, MIB - 1))
+            until(lambda: has_bodies(server, bodies * (MIB - 1), READER))
+        late = [begun(server, "a", MIB, MIB - 1) for _ in range(6)]
+        refused = [status_of(it)[0] for it in late]
         large = begun(server, "b", MIB, MIB - len(b'{"calls":[]}'))
         large.sendall(b'{"calls":[]}')
         whole, small = status_of(large)[0], server.request("POST", "/v1/jobs/b/calls", TICK, TOKENS["b"])[0]
-        for it in slow:
+        for it in slow + late:
             it.close()
         # the room is free again
         until(lambda: server.request("POST", "/v1/jobs/a/calls", TICK, TOKENS["a"])[0] == 200)
         server.kill()
-        assert set(refused) == {503} and len(refused) <= 6, refused
+        assert refused == [503] * 6, refused
         assert whole in (200, 400) and small == 200, (whole, small)
-        return f"{10 - len(refused)} of 10 bodies of a team fit, and the other one goes on"
-
-
-def told_by(connections, statuses):
-    """Adds the statuses of the connections that were answered by now."""
-    for it in list(connections):
-        it.settimeout(0.05)
-        try:
-            if it.recv(1, socket.MSG_PEEK):
-                it.settimeout(COMMAND)
-                statuses.append(status_of(it)[0])
-                connections.remove(it)
-        except TimeoutError:
-            pass
-    return statuses
+        return "4 of 10 bodies of a team fit, and the other one goes on"
 
 
 def chunked(part):
@@ -114,17 +108,9 @@ def ends_after(connection):
 
 
 def takes_all_room(server):
-    """A request whose body has come to the last bytes of a room of 1 MiB, and was read: a small one finds no room beside it."""
-    held = []
-
-    def is_read():
-        # the first one too is refused, if it comes beside a small one
-        if not held or told_by(held, []):
-            held[:] = [begun_without_a_length(server, b" " * (MIB - 10))]
-        return server.request("POST", "/v1/jobs/a/calls", TICK)[0] == 503
-
-    until(is_read)
-    [connection] = held
+    """A request whose body has come to the last bytes of a room of 1 MiB, and was read."""
+    connection = begun_without_a_length(server, b" " * (MIB - 10))
+    until(lambda: has_bodies(server, MIB - 10))
     return connection
 
 

@@ -8,6 +8,8 @@ use std::sync::{Arc, Mutex, MutexGuard, PoisonError};
 pub struct Bodies {
     /// Bytes of the greatest body.
     one: usize,
+    /// Bytes of all bodies.
+    all: usize,
     state: Mutex<State>,
 }
 
@@ -20,7 +22,12 @@ struct State {
 impl Bodies {
     pub fn of(limits: &Limits) -> Arc<Bodies> {
         let state = State { free: limits.all_bodies_bytes, of: HashMap::new() };
-        Arc::new(Bodies { one: limits.body_bytes, state: Mutex::new(state) })
+        Arc::new(Bodies { one: limits.body_bytes, all: limits.all_bodies_bytes, state: Mutex::new(state) })
+    }
+
+    /// The bytes that all bodies take now.
+    pub fn taken(&self) -> usize {
+        self.all - self.state().free
     }
 
     fn state(&self) -> MutexGuard<'_, State> {
@@ -100,9 +107,9 @@ mod tests {
         let mut third = BodyRoom::new(&bodies, token("c"));
         assert!(third.grow(10) && !third.grow(14));
         drop((some, other));
-        assert!(more.grow(45) && bodies.state().of.len() == 2);
+        assert!(more.grow(45) && bodies.state().of.len() == 2 && bodies.taken() == 55);
         drop((more, third));
-        assert!(bodies.state().of.is_empty() && bodies.state().free == 100);
+        assert!(bodies.state().of.is_empty() && bodies.taken() == 0);
     }
 
     #[test]

@@ -78,6 +78,7 @@ async fn metrics(app: &App, query: &str) -> Result<HttpReply, Box<HttpReply>> {
     app.metrics.shards(app.board.shards().len());
     app.metrics.queue.length(app.inbox.len());
     app.metrics.process.look();
+    app.metrics.bodies(app.bodies.taken());
     if app.board.is_ready() {
         app.metrics.queue.followed();
     }

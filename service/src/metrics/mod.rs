@@ -64,6 +64,7 @@ pub struct Metrics {
     leader: IntGauge,
     shards: IntGauge,
     connections: IntGauge,
+    bodies: IntGauge,
     commit_takes: Gauge,
     records: Parted<IntCounterVec>,
     durations: Parted<HistogramVec>,
@@ -107,6 +108,10 @@ impl Metrics {
             leader: IntGauge::new("relkvanu_leader", "1 where this process leads.")?,
             shards: IntGauge::new("relkvanu_shards", "Shards of the jobs that this process serves, of 64.")?,
             connections: IntGauge::new("relkvanu_http_connections", "Open connections.")?,
+            bodies: IntGauge::new(
+                "relkvanu_http_body_bytes",
+                "Bytes of requests' bodies that are being read or worked on.",
+            )?,
             commit_takes: Gauge::new(
                 "relkvanu_commit_under_way_seconds",
                 "For how long the commit that is under way has taken; 0 if none is.",
@@ -149,6 +154,7 @@ impl Metrics {
         all.add(&self.leader)?;
         all.add(&self.shards)?;
         all.add(&self.connections)?;
+        all.add(&self.bodies)?;
         all.add(&self.commit_takes)?;
         all.add(&self.durations)?;
         self.upkeep.register(all)?;
@@ -189,6 +195,11 @@ impl Metrics {
     /// The gauge of open connections.
     pub fn connections(&self) -> &IntGauge {
         &self.connections
+    }
+
+    /// The bytes that the bodies of requests take.
+    pub fn bodies(&self, bytes: usize) {
+        self.bodies.set(i64::try_from(bytes).unwrap_or(i64::MAX));
     }
 
     /// For how long the commit that is under way has taken.
