@@ -153,7 +153,7 @@ static bool passes(const char *within, const struct test *test) {
     fflush(NULL);
     pid_t child = fork();
     if (child == 0) {
-        alarm(900); /* on a busy machine, or under valgrind */
+        alarm(getenv("STORE_EVERY_BIT") != NULL ? 14400 : 900); /* on a busy machine, or under valgrind */
         test->run();
         exit(0);
     }
