@@ -1,5 +1,5 @@
 #!/usr/bin/env bash
-# .ci/gate.bash: how the gate runs its parts, what it counts and what it tells. .ci/run has the parts and their order. tests/gate, a part
+# .ci/gate.bash: how the gate runs its parts, what it counts and what it tells. .ci/run has the parts and their order. tests/test_gate, a part
 # too, tries this file with made-up ones.
 #
 # A script that reads this file sets PARTS to the names of all parts, calls `run_marked "$@"` first of all, then `begin`, and `start` with functions that call

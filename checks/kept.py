@@ -1,4 +1,4 @@
-"""What bindings/build_archive and tests/wrong_bodies keep of earlier runs on this machine, so that the same files are not judged twice. `rt ci` keeps its
+"""What bindings/build_archive and tests/try_wrong_bodies keep of earlier runs on this machine, so that the same files are not judged twice. `rt ci` keeps its
 proofs so, in the folder rattle-kept beside the toolchain's. These are in rattle-kept-relkvanu there.
 
 An entry's name is a checksum of all that it was made from, so it is never out of date. One that is not whole, or can't be read, counts
