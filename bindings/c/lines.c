@@ -1,308 +1,320 @@
-/* lines: tries the functions of relkvanu.h that read and write lines of a script. Expected values come from docs/SCRIPT.md and
- * docs/RULES.md. It also runs under AddressSanitizer, so each buffer is a block of its own with the length that the call gets. */
-#include "../../include/relkvanu.h"
+/* lines: lines of scripts and of logs with names through the C interface: what is read, what is refused, and what a line does. Expected values come from
+ * docs/SCRIPT.md and the tables of docs/LOGS.md, by hand. It also runs under AddressSanitizer. */
+#include "logs.h"
 
-#include <inttypes.h>
-#include <stdio.h>
-#include <stdlib.h>
-#include <string.h>
-
-static int faults;
-
-static void wanted(const char *about, relkvanu_answer answer, uint32_t code, uint32_t what, uint64_t a, uint64_t b) {
-    if (answer.code != code || answer.what != what || answer.a != a || answer.b != b) {
-        fprintf(stderr,
-            "lines: %s: %" PRIu32 " %" PRIu32 " %" PRIu64 " %" PRIu64 ", wanted %" PRIu32 " %" PRIu32 " %" PRIu64 " %" PRIu64 "\n", about,
-            answer.code, answer.what, answer.a, answer.b, code, what, a, b);
-        faults++;
-    }
-}
-
-static void same(const char *about, const uint64_t *numbers, const uint64_t *expected, size_t len) {
-    if (memcmp(numbers, expected, len * sizeof *numbers) != 0) {
-        fprintf(stderr, "lines: other numbers than those of %s\n", about);
-        faults++;
-    }
-}
-
-static void *block(size_t size) {
-    void *at = malloc(size);
-    if (at == NULL && size != 0) {
-        perror("malloc");
-        exit(2);
-    }
-    return at;
-}
-
-/* The text in a block of exactly its length. */
-static uint8_t *bytes_of(const char *text, size_t len) {
-    uint8_t *bytes = block(len);
-    if (len != 0) {
-        memcpy(bytes, text, len);
-    }
-    return bytes;
-}
-
-static relkvanu_answer line(relkvanu *job, const char *text, size_t len, size_t places, uint64_t *first) {
-    uint8_t *bytes = bytes_of(text, len);
-    uint64_t *files = block(places * sizeof *files);
-    relkvanu_answer answer = relkvanu_line(job, bytes, len, files, places);
-    if (answer.code == RELKVANU_DONE && answer.what == RELKVANU_TAKEN && answer.a != 0) {
-        *first = files[0];
-    }
-    free(files);
-    free(bytes);
-    return answer;
-}
-
-static relkvanu_answer says(const char *text, size_t len, size_t places, uint64_t *numbers) {
-    uint8_t *bytes = bytes_of(text, len);
-    uint64_t *room = block(places * sizeof *room);
-    relkvanu_answer answer = relkvanu_line_says(bytes, len, room, places);
-    if (answer.code == RELKVANU_DONE && answer.a != 0) {
-        memcpy(numbers, room, answer.a * sizeof *numbers);
-    }
-    free(room);
-    free(bytes);
-    return answer;
-}
-
-/* A job's calls, one line after the other. */
-static void try_calls(void) {
+/* A line with a fault changes nothing, and every function tells the fault. */
+static void faults(void) {
     static const struct {
         const char *text;
-        size_t places;
-        uint32_t code, what;
-        uint64_t a, b;
-    } steps[] = {
-        {"# nothing", 0, RELKVANU_DONE, RELKVANU_SKIPPED, 0, 0},
-        {"", 0, RELKVANU_DONE, RELKVANU_SKIPPED, 0, 0},
-        {"  \r", 0, RELKVANU_DONE, RELKVANU_SKIPPED, 0, 0},
-        {"tick 1000", 0, RELKVANU_DONE, RELKVANU_TICK_TRIGGERED, 0, 1},
-        {"tick 1000\r", 0, RELKVANU_DONE, RELKVANU_TICK_HELD_INTERVAL, 0, 0},
-        {"ack 1001 1 0.0 +11 +12", 0, RELKVANU_DONE, RELKVANU_ACK_PENDING, 2, 0},
-        {"ack 1001 1 0.0 +13", 0, RELKVANU_REFUSED, RELKVANU_ALREADY_ACKNOWLEDGED, 0, 0},
-        {"ack 1001 1 0.1 +11", 0, RELKVANU_REFUSED, RELKVANU_NAME_TAKEN, 11, 0},
-        {"ack 1001 1 0.1 =14", 0, RELKVANU_REFUSED, RELKVANU_FILE_GONE, 14, 0},
-        {"ack 1001 1 65536.0", 0, RELKVANU_BAD_LINE, RELKVANU_FAULT_NUMBER, 0, 0},
-        {"ack 1001 1 0.1 11", 0, RELKVANU_BAD_LINE, RELKVANU_FAULT_WORD, 0, 0},
-        {"tick", 0, RELKVANU_BAD_LINE, RELKVANU_FAULT_MISSING, 0, 0},
-        {"tick 1 2", 0, RELKVANU_BAD_LINE, RELKVANU_FAULT_EXTRA, 0, 0},
-        {"tock 1", 0, RELKVANU_BAD_LINE, RELKVANU_FAULT_WORD, 0, 0},
-        {"start 0", 0, RELKVANU_BAD_LINE, RELKVANU_FAULT_NO_CALL, 0, 0},
-        {"job 1", 0, RELKVANU_BAD_LINE, RELKVANU_FAULT_NO_CALL, 0, 0},
-        {"config 1000 0 1 10000 0 1 keep", 0, RELKVANU_BAD_LINE, RELKVANU_FAULT_NO_CALL, 0, 0},
-        {"all 1001 1 2 100", 0, RELKVANU_BAD_LINE, RELKVANU_FAULT_NO_CALL, 0, 0},
-        {"ack 1001 1 0.1", 0, RELKVANU_DONE, RELKVANU_ACK_PENDING, 1, 0},
-        {"ack 1001 1 1.0", 0, RELKVANU_DONE, RELKVANU_ACK_COMPLETED, 0, 0},
-        {"count 11", 0, RELKVANU_DONE, RELKVANU_COUNTED, 11, 1},
-        {"show 2", 0, RELKVANU_REFUSED, RELKVANU_NO_SUCH_RECORD, 0, 0},
-        {"restore 1002 latest 0", 0, RELKVANU_BAD_ARGUMENT, RELKVANU_BAD_SHAPE, 0, 0},
-        {"restore 1002 7", 0, RELKVANU_REFUSED, RELKVANU_NO_SUCH_SAVEPOINT, 0, 0},
-        {"restore 1002 latest 1 1", 0, RELKVANU_DONE, RELKVANU_RESTORED_CHECKPOINT, 0, 1},
-        {"savepoint 1003", 0, RELKVANU_DONE, RELKVANU_SAVEPOINT_TRIGGERED, 2, 0},
-        {"decline 1003 2 0.0", 0, RELKVANU_DONE, RELKVANU_DECLINE_ABORTED, 0, 0},
-        {"decline 1003 2 0.0", 0, RELKVANU_DONE, RELKVANU_DECLINE_LATE, 0, 0},
-        {"dispose 2", 0, RELKVANU_REFUSED, RELKVANU_NO_SUCH_SAVEPOINT, 0, 0},
-        {"take 5", 0, RELKVANU_DONE, RELKVANU_TAKEN, 0, 0},
-        {"cancel 1004", 0, RELKVANU_DONE, RELKVANU_CANCELLED, 1, 2},
-        {"take 5", 1, RELKVANU_TOO_SHORT, 0, 2, 0},
-        {"take 0", 0, RELKVANU_DONE, RELKVANU_TAKEN, 0, 0},
-        {"take 1", 1, RELKVANU_DONE, RELKVANU_TAKEN, 1, 0},
-        {"undeleted 11", 0, RELKVANU_DONE, RELKVANU_UNDELETED, 11, 0},
-        {"take 9", 2, RELKVANU_DONE, RELKVANU_TAKEN, 2, 0},
-        {"deleted 11", 0, RELKVANU_DONE, RELKVANU_DELETED, 11, 0},
-        {"deleted 11", 0, RELKVANU_REFUSED, RELKVANU_NOT_TAKEN, 0, 0},
-        {"tick 1005", 0, RELKVANU_REFUSED, RELKVANU_NOT_RUNNING, 0, 0},
-        {"tick 4611686018427387904", 0, RELKVANU_REFUSED, RELKVANU_MOMENT_TOO_LARGE, 0, 0},
+        uint32_t fault;
+    } lines[] = {
+        {"fence", RELKVANU_FAULT_MISSING},
+        {"reserve 2 1000 5", RELKVANU_FAULT_EXTRA},
+        {"forfeit 1 +7", RELKVANU_FAULT_NUMBER},
+        {"in 3", RELKVANU_FAULT_MISSING},
+        {"in tick 5", RELKVANU_FAULT_NUMBER},
+        {"in 3 in 3 tick 5", RELKVANU_FAULT_WORD},
+        {"in 3 reserve 3 1", RELKVANU_FAULT_WORD},
+        {"reserved 5", RELKVANU_FAULT_WORD},
+        /* and what follows from the same rules */
+        {"fence x", RELKVANU_FAULT_NUMBER},
+        {"fence 18446744073709551616", RELKVANU_FAULT_NUMBER},
+        {"fence 1 2", RELKVANU_FAULT_EXTRA},
+        {"fences 1", RELKVANU_FAULT_WORD},
+        {"Fence 1", RELKVANU_FAULT_WORD},
+        {"reserve", RELKVANU_FAULT_MISSING},
+        {"reserve 1", RELKVANU_FAULT_MISSING},
+        {"reserve 1 -1", RELKVANU_FAULT_NUMBER},
+        {"forfeit", RELKVANU_FAULT_MISSING},
+        {"forfeit x", RELKVANU_FAULT_NUMBER},
+        {"forfeit 1 7 x", RELKVANU_FAULT_NUMBER},
+        {"in", RELKVANU_FAULT_MISSING},
+        {"in 3 ", RELKVANU_FAULT_MISSING},
+        {"in 3 fence 1", RELKVANU_FAULT_WORD},
+        {"in 3 forfeit 1", RELKVANU_FAULT_WORD},
+        {"in 3 tick", RELKVANU_FAULT_MISSING},
+        {"in 3 tick x", RELKVANU_FAULT_NUMBER},
+        {"in 3 tick 5 6", RELKVANU_FAULT_EXTRA},
+        {"in 3 ack 5 1 0.0 7", RELKVANU_FAULT_WORD},
+        {"Tick 3", RELKVANU_FAULT_WORD},
+        {"tick", RELKVANU_FAULT_MISSING},
+        {"tick x", RELKVANU_FAULT_NUMBER},
+        {"tick 18446744073709551616", RELKVANU_FAULT_NUMBER},
+        {"tick 3 4", RELKVANU_FAULT_EXTRA},
+        {"ack 3 4 1", RELKVANU_FAULT_NUMBER},
+        {"ack 3 4 1.65536", RELKVANU_FAULT_NUMBER},
+        {"ack 3 4 65536.0", RELKVANU_FAULT_NUMBER},
+        {"ack 3 4 1.2 7", RELKVANU_FAULT_WORD},
+        {"restore 3 late", RELKVANU_FAULT_NUMBER},
+        {"in 18446744073709551616 tick 5", RELKVANU_FAULT_NUMBER},
     };
-    relkvanu job = {NULL};
-    uint64_t shape[] = {2, 1}, first = 0;
-    wanted("a closed handle", line(&job, "tick 0", 6, 0, &first), RELKVANU_CLOSED, 0, 0, 0);
-    wanted("a closed handle and a comment", line(&job, "#", 1, 0, &first), RELKVANU_CLOSED, 0, 0, 0);
-    relkvanu_settings settings = {1000, 0, 1, 10000, 0, 1, false};
-    wanted("open", relkvanu_open(&job, &settings, shape, 2, 0, 1, 3, 5), RELKVANU_DONE, RELKVANU_OPENED, 0, 0);
-    for (size_t at = 0; at < sizeof steps / sizeof *steps; at++) {
-        relkvanu_answer answer = line(&job, steps[at].text, strlen(steps[at].text), steps[at].places, &first);
-        wanted(steps[at].text, answer, steps[at].code, steps[at].what, steps[at].a, steps[at].b);
-        if (strcmp(steps[at].text, "show 2") == 0) {
-            answer = line(&job, "show 1", 6, 0, &first);
-            uint8_t *json = block(answer.a);
-            wanted("show 1", relkvanu_show(&job, 1, json, answer.a), RELKVANU_DONE, RELKVANU_SHOWN, answer.a, 0);
-            wanted("show 1 into nothing", relkvanu_show(&job, 1, NULL, 0), RELKVANU_TOO_SHORT, 0, answer.a, 0);
-            free(json);
+    relkvanu job = named(5);
+    struct seen before = look(&job);
+    for (size_t at = 0; at < sizeof lines / sizeof *lines; at++) {
+        struct told it = tell(lines[at].text, PLACES, PLACES);
+        expect(line(&job, lines[at].text), RELKVANU_BAD_LINE, lines[at].fault, 0, 0, __LINE__);
+        expect(says(lines[at].text), RELKVANU_BAD_LINE, lines[at].fault, 0, 0, __LINE__);
+        expect(it.answer, RELKVANU_BAD_LINE, lines[at].fault, 0, 0, __LINE__);
+        CHECK(same_call(&it.call, &OLD) && it.first[0] == OLD.number && it.second[0] == OLD.number);
+    }
+    struct seen after = look(&job);
+    CHECK(same(&before, &after));
+    relkvanu_close(&job);
+}
+
+/* What is read, and makes no call. */
+static void no_calls(void) {
+    static const char *const lines[] = {"start 3", "job 1", "config 1000 0 1 600000 0 1 delete", "all 3 1 1 1", "# tick 5", "in 3 start 3",
+        "in 3 job 1", "in 3 config 1000 0 1 600000 0 1 delete", "in 3 all 3 1 1 1", "in 3 # tick 5", "in 0 start 3", "in 0 #", "", "  \r"};
+    relkvanu jobs[] = {plain(), named(5)};
+    for (size_t nth = 0; nth < 2; nth++) {
+        struct seen before = look(&jobs[nth]);
+        for (size_t at = 0; at < sizeof lines / sizeof *lines; at++) {
+            bool is_comment = strchr("# \r", lines[at][0]) != NULL;
+            struct told it = tell(lines[at], PLACES, PLACES);
+            CHECK(same_answer(line(&jobs[nth], lines[at]), it.answer) && same_call(&it.call, &OLD));
+            if (is_comment) {
+                DONE(it.answer, RELKVANU_SKIPPED, 0, 0);
+            } else {
+                expect(it.answer, RELKVANU_BAD_LINE, RELKVANU_FAULT_NO_CALL, 0, 0, __LINE__);
+            }
+            if (strncmp(lines[at], "in ", 3) == 0) {
+                DONE(says(lines[at]), RELKVANU_LINE_CALL, 0, 0);
+            }
+        }
+        BAD(line(&jobs[nth], "in 3 restore 5 latest 0"), RELKVANU_BAD_SHAPE);
+        static const char *const shapes[] = {"in 3 restore 5 latest 0", "restore 3 latest 0", "restore 3 4 4097", "restore 3 0 0"};
+        for (size_t at = 0; at < sizeof shapes / sizeof *shapes; at++) {
+            BAD(tell(shapes[at], PLACES, 0).answer, RELKVANU_BAD_SHAPE);
+        }
+        static const char *const savepoints[] = {"in 3 restore 5 0", "restore 3 0", "restore 3 00 2 1"};
+        for (size_t at = 0; at < sizeof savepoints / sizeof *savepoints; at++) {
+            expect(tell(savepoints[at], PLACES, 0).answer, RELKVANU_REFUSED, RELKVANU_NO_SUCH_SAVEPOINT, 0, 0, __LINE__);
+        }
+        struct seen after = look(&jobs[nth]);
+        CHECK(same(&before, &after));
+        relkvanu_close(&jobs[nth]);
+    }
+}
+
+/* On a handle without names each term but 0 is refused, whatever the call is. */
+static void no_names(void) {
+    static const char *const lines[] = {"reserve 0 1", "reserve 1 1", "forfeit 0", "forfeit 1 5", "in 1 tick 1000", "in 1 savepoint 1000",
+        "in 1 ack 1000 1 0.0 +5", "in 1 decline 1000 1 0.0", "in 1 dispose 1", "in 1 restore 1000 latest", "in 1 restore 1000 latest 2",
+        "in 1 cancel 1000", "in 1 take 1", "in 1 deleted 5", "in 1 undeleted 5", "in 1 show 1", "in 1 count 5"};
+    relkvanu job = plain(), closed = {NULL};
+    struct seen before = look(&job);
+    for (size_t at = 0; at < sizeof lines / sizeof *lines; at++) {
+        FENCED(line(&job, lines[at]), RELKVANU_NO_NAMES, 0);
+        CLOSED(line(&closed, lines[at]));
+    }
+    struct seen after = look(&job);
+    CHECK(same(&before, &after));
+    CLOSED(line(&closed, "fence 5"));
+    CLOSED(line(&closed, "#"));
+    DONE(line(&job, "in 0 tick 1000"), RELKVANU_TICK_TRIGGERED, 0, 1);
+    DONE(line(&job, "in 0 ack 1000 1 0.0 +5"), RELKVANU_ACK_COMPLETED, 0, 0);
+    DONE(line(&job, "in 0 count 5"), RELKVANU_COUNTED, 5, 1);
+    relkvanu_close(&job);
+}
+
+/* A line with a term does what the function of its call does. */
+static void twins(void) {
+    relkvanu job = named(5), twin = named(5);
+    uint64_t fresh[] = {6, 5}, reused = 5, given_up[] = {8, 7}, shape_of_two[] = {2}, files[PLACES], others[PLACES];
+    relkvanu_settings others_settings = {500, 0, 2, 10000, 3, 2, true}, bad_settings = {9, 0, 2, 10000, 3, 2, true};
+#define TWINS(text, call)                                                          \
+    do {                                                                           \
+        relkvanu_answer left = line_into(&job, text, files, PLACES), right = call; \
+        CHECK(same_answer(left, right));                                           \
+        struct seen one = look(&job), other = look(&twin);                         \
+        CHECK(same(&one, &other));                                                 \
+    } while (0)
+    TWINS("fence 9", relkvanu_fence(&twin, 9));
+    TWINS("reserve 1 4", relkvanu_reserve(&twin, 1, 4));
+    TWINS("in 3 tick 1000", relkvanu_tick(&twin, 1000));
+    TWINS("in 1 ack 1000 1 0.0 +6 +5", relkvanu_ack_in(&twin, 1, 1000, 1, 0, 0, fresh, 2, NULL, 0));
+    TWINS("in 1 ack 1000 1 0.0 +6 +5", relkvanu_ack_in(&twin, 1, 1000, 1, 0, 0, fresh, 2, NULL, 0));
+    TWINS("forfeit 1 8 7", relkvanu_forfeit(&twin, 1, given_up, 2));
+    TWINS("in 3 savepoint 1000", relkvanu_savepoint(&twin, 1000));
+    TWINS("in 1 ack 1000 2 0.0 =5", relkvanu_ack_in(&twin, 1, 1000, 2, 0, 0, NULL, 0, &reused, 1));
+    TWINS("in 3 configure 1500 500 0 2 10000 3 2 keep", relkvanu_configure(&twin, 1500, &others_settings));
+    TWINS("configure 1500 9 0 2 10000 3 2 keep", relkvanu_configure(&twin, 1500, &bad_settings));
+    TWINS("in 3 tick 2000", relkvanu_tick(&twin, 2000));
+    TWINS("in 1 decline 2000 3 0.0", relkvanu_decline_in(&twin, 1, 2000, 3, 0, 0));
+    TWINS("in 3 restore 2100 2 2", relkvanu_restore(&twin, 2100, 2, shape_of_two, 1));
+    TWINS("in 3 trigger 2100", relkvanu_trigger(&twin, 2100));
+    TWINS("trigger 2100", relkvanu_trigger(&twin, 2100));
+    TWINS("trigger 2100", relkvanu_trigger(&twin, 2100));
+    TWINS("in 1 decline 2100 3 0.0", relkvanu_decline_in(&twin, 1, 2100, 3, 0, 0));
+    TWINS("in 3 dispose 2", relkvanu_dispose(&twin, 2));
+    TWINS("in 3 count 5", relkvanu_count(&twin, 5));
+    TWINS("in 3 show 2", relkvanu_show(&twin, 2, NULL, 0));
+    TWINS("in 3 cancel 2200", relkvanu_cancel(&twin, 2200));
+    TWINS("in 3 take 4", relkvanu_take(&twin, others, PLACES));
+    CHECK(files[0] == others[0]);
+    TWINS("in 3 undeleted 5", relkvanu_undeleted(&twin, 5));
+    TWINS("in 3 take 1", relkvanu_take(&twin, others, 1));
+    TWINS("in 3 deleted 5", relkvanu_deleted(&twin, 5));
+#undef TWINS
+    relkvanu_close(&twin);
+    relkvanu_close(&job);
+}
+
+/* A take with a term into too short a buffer fetches nothing. */
+static void short_takes(void) {
+    relkvanu job = named(5);
+    uint64_t files[] = {70, 71};
+    DONE(line(&job, "reserve 1 2"), RELKVANU_RESERVED, 5, 2);
+    DONE(line(&job, "tick 1000"), RELKVANU_TICK_TRIGGERED, 0, 1);
+    DONE(line(&job, "in 1 ack 1000 1 0.0 +5 +6"), RELKVANU_ACK_COMPLETED, 0, 0);
+    DONE(line(&job, "cancel 2000"), RELKVANU_CANCELLED, 1, 2);
+    struct seen before = look(&job);
+    expect(line_into(&job, "in 2 take 5", files, 1), RELKVANU_TOO_SHORT, 0, 2, 0, __LINE__);
+    expect(line_into(&job, "take 5", files, 1), RELKVANU_TOO_SHORT, 0, 2, 0, __LINE__);
+    struct seen after = look(&job);
+    CHECK(same(&before, &after) && files[0] == 70);
+    DONE(line_into(&job, "in 2 take 1", files, 1), RELKVANU_TAKEN, 1, 0);
+    DONE(line_into(&job, "in 2 take 5", files, 2), RELKVANU_TAKEN, 1, 0);
+    CHECK(files[0] == 6 && files[1] == 71);
+    relkvanu_close(&job);
+}
+
+/* Two readers read each prefix of each line in the same way, and a prefix with a fault changes nothing. */
+static void cut_lines(void) {
+    static const char *const texts[] = {"fence 70", "reserve 1 30", "forfeit 1 7 80", "in 1 ack 1000 1 0.0 +5 =6", "in 12 restore 9 4 1 1",
+        "in 0 take 3", "config 1000 0 1 10000 0 1 keep", "job 2 1", "start 0", "tick 1", "savepoint 2", "ack 5 1 0.0 +1 +22 =3",
+        "decline 5 1 0.1", "dispose 7", "restore 9 latest 3 1", "restore 9 4 1", "take 3", "deleted 44", "undeleted 45", "show 1",
+        "count 1", "all 5 1 2 100"};
+    for (size_t at = 0; at < sizeof texts / sizeof *texts; at++) {
+        relkvanu job = named(5);
+        for (size_t len = 0; len <= strlen(texts[at]); len++) {
+            char cut[32];
+            snprintf(cut, sizeof cut, "%.*s", (int)len, texts[at]);
+            struct seen before = look(&job);
+            struct told it = tell(cut, PLACES, PLACES);
+            relkvanu_answer said = says(cut), told = line(&job, cut);
+            struct seen after = look(&job);
+            CHECK(said.code != RELKVANU_BAD_LINE || (same_answer(said, told) && same_answer(said, it.answer) && same(&before, &after)));
+            CHECK(it.answer.what == RELKVANU_LINE_CALL ? told.code != RELKVANU_BAD_LINE : same_answer(it.answer, told));
+        }
+        relkvanu_close(&job);
+    }
+}
+
+/* Each request for memory refused, in turn: nothing has changed, and the same line is made or told the next time. */
+static void without_memory(void) {
+    static const char *const lines[] = {"fence 9", "reserve 1 2", "in 1 tick 1000", "in 1 ack 1000 1 0.0 +9 +10", "reserve 1 3",
+        "forfeit 1 11 13", "in 1 savepoint 1000", "in 1 ack 1000 2 0.0 =9", "in 1 show 2", "in 1 restore 1100 2 2 1", "in 2 cancel 1200",
+        "in 2 take 2"};
+    static const char *const written[] = {
+        "fence 9", "reserve 1 2", "forfeit 1 11 13", "in 1 ack 1000 1 0.0 +9 +10 =7", "in 1 restore 1100 2 2 1"};
+    relkvanu job = plain();
+    uint64_t refused = 0;
+    for (size_t at = 0; at < sizeof lines / sizeof *lines; at++) {
+        for (uint64_t nth = 1;; nth++) {
+            uint64_t files[PLACES] = {70, 71, 72, 73};
+            struct seen before = look(&job);
+            heap_refuse_from(nth);
+            relkvanu_answer told = line_into(&job, lines[at], files, PLACES);
+            heap_refuse(0);
+            if (told.code != RELKVANU_NO_MEMORY) {
+                CHECK(told.code == RELKVANU_DONE || (told.code == RELKVANU_TOO_SHORT && strncmp(lines[at], "in 1 show", 9) == 0));
+                break;
+            }
+            expect(told, RELKVANU_NO_MEMORY, 0, 0, 0, __LINE__);
+            struct seen after = look(&job);
+            CHECK(same(&before, &after) && files[0] == 70);
+            refused++;
         }
     }
-    if (first != 12) {
-        fprintf(stderr, "lines: the last take begins with %" PRIu64 ", not 12\n", first);
-        faults++;
-    }
+    CHECK(refused >= 9);
     relkvanu_close(&job);
+    for (size_t at = 0; at < sizeof written / sizeof *written; at++) {
+        struct told wanted = tell(written[at], PLACES, PLACES);
+        uint64_t told_without = 0, written_without = 0;
+        for (uint64_t nth = 1;; nth++) {
+            heap_refuse_from(nth);
+            relkvanu_answer told = says(written[at]);
+            heap_refuse(0);
+            if (told.code != RELKVANU_NO_MEMORY) {
+                DONE(told, RELKVANU_LINE_CALL, 0, 0);
+                break;
+            }
+            CHECK(wanted.answer.a != 0); /* only lists take memory */
+        }
+        for (uint64_t nth = 1;; nth++) {
+            heap_refuse_from(nth);
+            struct told it = tell(written[at], PLACES, PLACES);
+            heap_refuse(0);
+            if (it.answer.code != RELKVANU_NO_MEMORY) {
+                CHECK(same_answer(it.answer, wanted.answer) && same_call(&it.call, &wanted.call));
+                break;
+            }
+            CHECK(same_call(&it.call, &OLD) && it.first[0] == OLD.number && it.second[0] == OLD.number);
+            told_without++;
+        }
+        for (uint64_t nth = 1;; nth++) {
+            uint8_t text[64] = "?";
+            heap_refuse_from(nth);
+            relkvanu_answer told =
+                relkvanu_call_line(&wanted.call, wanted.first, wanted.answer.a, wanted.second, wanted.answer.b, text, sizeof text);
+            heap_refuse(0);
+            if (told.code != RELKVANU_NO_MEMORY) {
+                DONE(told, RELKVANU_WRITTEN, strlen(written[at]), 0);
+                CHECK(memcmp(text, written[at], told.a) == 0);
+                break;
+            }
+            CHECK(text[0] == '?');
+            written_without++;
+        }
+        CHECK(written_without > 0 && (told_without > 0) == (wanted.answer.a != 0));
+    }
+}
+
+/* What a line says, in a buffer of its own. */
+static void is_said(const char *text, uint32_t what, const uint64_t *wanted, size_t len) {
+    uint64_t *numbers = block(len * sizeof *numbers);
+    DONE(says_into(text, numbers, len), what, len, 0);
+    CHECK(len == 0 || memcmp(numbers, wanted, len * sizeof *numbers) == 0);
+    free(numbers);
 }
 
 /* Lines that open a job are written, and read back. */
-static void try_opening(void) {
+static void opening(void) {
     static const char text[] = "config 10 20 3 40 5 6 keep\njob 2 1\nstart 7\n";
+    static const uint64_t numbers[] = {10, 20, 3, 40, 5, 6, 1}, shape_of_two[] = {2, 1}, none[] = {0}, counted[] = {1, 2, 3, 4};
+    relkvanu_settings given = {10, 20, 3, 40, 5, 6, true};
     size_t len = sizeof text - 1;
-    relkvanu_settings settings = {10, 20, 3, 40, 5, 6, true};
-    uint64_t shape[] = {2, 1}, numbers[8], none[] = {0};
-    uint8_t *lines = block(len);
-    wanted("too short an opening", relkvanu_opening_lines(&settings, shape, 2, 7, lines, len - 1), RELKVANU_TOO_SHORT, 0, len, 0);
-    wanted("an opening into nothing", relkvanu_opening_lines(&settings, shape, 2, 7, NULL, 0), RELKVANU_TOO_SHORT, 0, len, 0);
-    wanted("an opening", relkvanu_opening_lines(&settings, shape, 2, 7, lines, len), RELKVANU_DONE, RELKVANU_WRITTEN, len, 0);
-    if (memcmp(lines, text, len) != 0) {
-        fprintf(stderr, "lines: the opening is\n%.*s", (int)len, (const char *)lines);
-        faults++;
-    }
-    free(lines);
-    wanted("an empty shape", relkvanu_opening_lines(&settings, NULL, 0, 7, NULL, 0), RELKVANU_BAD_ARGUMENT, RELKVANU_BAD_SHAPE, 0, 0);
-    wanted("a bad shape", relkvanu_opening_lines(&settings, none, 1, 7, NULL, 0), RELKVANU_BAD_ARGUMENT, RELKVANU_BAD_SHAPE, 0, 0);
-    uint64_t past = (uint64_t)1 << 62;
-    wanted("a bad moment", relkvanu_opening_lines(&settings, shape, 2, past, NULL, 0), RELKVANU_BAD_ARGUMENT, RELKVANU_BAD_MOMENT, 0, 0);
-    wanted("config", says(text, 26, 7, numbers), RELKVANU_DONE, RELKVANU_LINE_CONFIG, 7, 0);
-    static const uint64_t config[] = {10, 20, 3, 40, 5, 6, 1};
-    same("config", numbers, config, 7);
-    wanted("config into too little", says(text, 26, 6, numbers), RELKVANU_TOO_SHORT, 0, 7, 0);
-    wanted("job", says(text + 27, 7, 2, numbers), RELKVANU_DONE, RELKVANU_LINE_JOB, 2, 0);
-    same("job", numbers, shape, 2);
-    wanted("start", says(text + 35, 7, 1, numbers), RELKVANU_DONE, RELKVANU_LINE_START, 1, 0);
-    same("start", numbers, (uint64_t[]){7}, 1);
-    wanted("all", says("all 1 2 3 4", 11, 4, numbers), RELKVANU_DONE, RELKVANU_LINE_ALL, 4, 0);
-    static const uint64_t all[] = {1, 2, 3, 4};
-    same("all", numbers, all, 4);
-    wanted("a comment", says("# a", 3, 0, numbers), RELKVANU_DONE, RELKVANU_LINE_SKIP, 0, 0);
-    wanted("a call", says("tick 1", 6, 0, numbers), RELKVANU_DONE, RELKVANU_LINE_CALL, 0, 0);
-    wanted("a restore in no shape", says("restore 1 latest 0", 18, 0, numbers), RELKVANU_DONE, RELKVANU_LINE_CALL, 0, 0);
-    wanted("nothing", relkvanu_line_says(NULL, 0, NULL, 0), RELKVANU_DONE, RELKVANU_LINE_SKIP, 0, 0);
-}
-
-/* Each kind of call is written as its line, which says a call. */
-static void try_writing(void) {
-    static const uint64_t fresh[] = {12, 11}, reused[] = {7};
-    static const struct {
-        relkvanu_call call;
-        const char *text;
-    } calls[] = {
-        {{RELKVANU_CALL_TICK, 1, 2, 3, 4, 0}, "tick 3"},
-        {{RELKVANU_CALL_SAVEPOINT, 1, 2, 3, 4, 0}, "savepoint 3"},
-        {{RELKVANU_CALL_ACK, 1, 2, 3, 4, 0}, "ack 3 4 1.2 +11 +12 =7"},
-        {{RELKVANU_CALL_DECLINE, 1, 2, 3, 4, 0}, "decline 3 4 1.2"},
-        {{RELKVANU_CALL_DISPOSE, 1, 2, 3, 4, 0}, "dispose 4"},
-        {{RELKVANU_CALL_RESTORE, 1, 2, 3, 4, 0}, "restore 3 4 12 11"},
-        {{RELKVANU_CALL_RESTORE, 1, 2, 3, 0, 0}, "restore 3 latest 12 11"},
-        {{RELKVANU_CALL_CANCEL, 1, 2, 3, 4, 0}, "cancel 3"},
-        {{RELKVANU_CALL_TAKE, 1, 2, 3, 4, 0}, "take 4"},
-        {{RELKVANU_CALL_DELETED, 1, 2, 3, 4, 0}, "deleted 4"},
-        {{RELKVANU_CALL_UNDELETED, 1, 2, 3, 4, 0}, "undeleted 4"},
-        {{RELKVANU_CALL_SHOW, 1, 2, 3, 4, 0}, "show 4"},
-        {{RELKVANU_CALL_COUNT, 1, 2, 3, 4, 0}, "count 4"},
-    };
-    for (size_t at = 0; at < sizeof calls / sizeof *calls; at++) {
-        size_t len = strlen(calls[at].text);
-        uint8_t *text = block(len);
-        memset(text, '?', len);
-        wanted(calls[at].text, relkvanu_call_line(&calls[at].call, fresh, 2, reused, 1, text, len - 1), RELKVANU_TOO_SHORT, 0, len, 0);
-        if (text[0] != '?') {
-            fprintf(stderr, "lines: too short a buffer for %s has changed\n", calls[at].text);
-            faults++;
-        }
-        wanted(
-            calls[at].text, relkvanu_call_line(&calls[at].call, fresh, 2, reused, 1, text, len), RELKVANU_DONE, RELKVANU_WRITTEN, len, 0);
-        if (memcmp(text, calls[at].text, len) != 0) {
-            fprintf(stderr, "lines: %.*s in place of %s\n", (int)len, (const char *)text, calls[at].text);
-            faults++;
-        }
-        wanted(calls[at].text, relkvanu_line_says(text, len, NULL, 0), RELKVANU_DONE, RELKVANU_LINE_CALL, 0, 0);
-        free(text);
-    }
-    relkvanu_call unknown = {0}, last = {.kind = UINT32_MAX}, restore = {RELKVANU_CALL_RESTORE, 0, 0, 1, 0, 0};
-    static const uint64_t none[] = {0};
-    wanted("no kind", relkvanu_call_line(&unknown, NULL, 0, NULL, 0, NULL, 0), RELKVANU_BAD_ARGUMENT, RELKVANU_BAD_KIND, 0, 0);
-    wanted("the greatest kind", relkvanu_call_line(&last, NULL, 0, NULL, 0, NULL, 0), RELKVANU_BAD_ARGUMENT, RELKVANU_BAD_KIND, 0, 0);
-    wanted("a bad shape", relkvanu_call_line(&restore, none, 1, NULL, 0, NULL, 0), RELKVANU_BAD_ARGUMENT, RELKVANU_BAD_SHAPE, 0, 0);
-    wanted("no shape", relkvanu_call_line(&restore, NULL, 0, NULL, 0, NULL, 0), RELKVANU_TOO_SHORT, 0, 16, 0);
-}
-
-/* A line has at most 131,072 bytes, whether it is read or written. */
-static void try_lengths(void) {
-    enum { LONGEST = 131072, FILES = 6553 };
-    relkvanu job = {NULL};
-    relkvanu_settings settings = {1000, 0, 1, 10000, 0, 1, false};
-    uint64_t shape[] = {1}, first;
-    wanted("open", relkvanu_open(&job, &settings, shape, 1, 0, 1, 3, 5), RELKVANU_DONE, RELKVANU_OPENED, 0, 0);
-    char *spaces = block(LONGEST + 1);
-    memset(spaces, ' ', LONGEST + 1);
-    wanted("the longest line", line(&job, spaces, LONGEST, 0, &first), RELKVANU_DONE, RELKVANU_SKIPPED, 0, 0);
-    wanted("too long a line", line(&job, spaces, LONGEST + 1, 0, &first), RELKVANU_BAD_LINE, RELKVANU_FAULT_TOO_LONG, 0, 0);
-    wanted("too long a line", says(spaces, LONGEST + 1, 0, &first), RELKVANU_BAD_LINE, RELKVANU_FAULT_TOO_LONG, 0, 0);
-    free(spaces);
-    /* 20 bytes for each file, after "ack 1 1 0.0" (11) or "ack 1 1 0.10" (12) */
-    relkvanu_call call = {RELKVANU_CALL_ACK, 0, 0, 1, 1, 0};
-    static uint64_t files[FILES + 1];
-    for (size_t at = 0; at <= FILES; at++) {
-        files[at] = (uint64_t)100000000000000000 + at;
-    }
-    uint8_t *text = block(LONGEST);
-    wanted(
-        "a long ack", relkvanu_call_line(&call, files, FILES, NULL, 0, text, LONGEST), RELKVANU_DONE, RELKVANU_WRITTEN, 11 + 20 * FILES, 0);
-    wanted("a long ack, made", relkvanu_line(&job, text, 11 + 20 * FILES, NULL, 0), RELKVANU_REFUSED, RELKVANU_TOO_MANY_FILES, 0, 0);
-    call.index = 10;
-    wanted("too long an ack", relkvanu_call_line(&call, files, FILES + 1, NULL, 0, text, LONGEST), RELKVANU_BAD_LINE,
-        RELKVANU_FAULT_TOO_LONG, 0, 0);
-    wanted(
-        "too long an ack", relkvanu_call_line(&call, files, FILES + 1, NULL, 0, NULL, 0), RELKVANU_BAD_LINE, RELKVANU_FAULT_TOO_LONG, 0, 0);
-    free(text);
-    relkvanu_close(&job);
-}
-
-/* Both readers read each prefix of each line in the same way, and a prefix with a fault changes nothing. */
-static void try_cut_lines(void) {
-    static const char *const texts[] = {
-        "config 1000 0 1 10000 0 1 keep",
-        "job 2 1",
-        "start 0",
-        "tick 1",
-        "savepoint 2",
-        "ack 5 1 0.0 +1 +22 =3",
-        "decline 5 1 0.1",
-        "dispose 7",
-        "restore 9 latest 3 1",
-        "restore 9 4 1",
-        "take 3",
-        "deleted 44",
-        "undeleted 45",
-        "show 1",
-        "count 1",
-        "all 5 1 2 100",
-    };
-    relkvanu job = {NULL};
-    relkvanu_settings settings = {1000, 0, 1, 10000, 0, 1, false};
-    uint64_t shape[] = {2, 1}, first, numbers[8];
-    wanted("open", relkvanu_open(&job, &settings, shape, 2, 0, 1, 3, 5), RELKVANU_DONE, RELKVANU_OPENED, 0, 0);
-    for (size_t at = 0; at < sizeof texts / sizeof *texts; at++) {
-        for (size_t len = 0; len <= strlen(texts[at]); len++) {
-            relkvanu_answer said = says(texts[at], len, 8, numbers), answer = line(&job, texts[at], len, 8, &first);
-            bool is_call = said.code == RELKVANU_DONE && said.what == RELKVANU_LINE_CALL;
-            bool is_skip = said.code == RELKVANU_DONE && said.what == RELKVANU_LINE_SKIP;
-            if (said.code == RELKVANU_BAD_LINE) {
-                wanted(texts[at], answer, RELKVANU_BAD_LINE, said.what, 0, 0);
-            } else if (is_skip) {
-                wanted(texts[at], answer, RELKVANU_DONE, RELKVANU_SKIPPED, 0, 0);
-            } else if (!is_call) {
-                wanted(texts[at], answer, RELKVANU_BAD_LINE, RELKVANU_FAULT_NO_CALL, 0, 0);
-            } else if (answer.code == RELKVANU_BAD_LINE) {
-                wanted(texts[at], answer, RELKVANU_DONE, RELKVANU_LINE_CALL, 0, 0);
-            }
-        }
-    }
-    relkvanu_close(&job);
+    uint8_t *written = block(len);
+    expect(relkvanu_opening_lines(&given, shape_of_two, 2, 7, written, len - 1), RELKVANU_TOO_SHORT, 0, len, 0, __LINE__);
+    expect(relkvanu_opening_lines(&given, shape_of_two, 2, 7, NULL, 0), RELKVANU_TOO_SHORT, 0, len, 0, __LINE__);
+    DONE(relkvanu_opening_lines(&given, shape_of_two, 2, 7, written, len), RELKVANU_WRITTEN, len, 0);
+    CHECK(memcmp(written, text, len) == 0);
+    free(written);
+    BAD(relkvanu_opening_lines(&given, NULL, 0, 7, NULL, 0), RELKVANU_BAD_SHAPE);
+    BAD(relkvanu_opening_lines(&given, none, 1, 7, NULL, 0), RELKVANU_BAD_SHAPE);
+    BAD(relkvanu_opening_lines(&given, shape_of_two, 2, NAMES_END, NULL, 0), RELKVANU_BAD_MOMENT);
+    is_said("config 10 20 3 40 5 6 keep", RELKVANU_LINE_CONFIG, numbers, 7);
+    expect(says_into("config 10 20 3 40 5 6 keep", (uint64_t[6]){0}, 6), RELKVANU_TOO_SHORT, 0, 7, 0, __LINE__);
+    is_said("job 2 1", RELKVANU_LINE_JOB, shape_of_two, 2);
+    is_said("start 5", RELKVANU_LINE_START, numbers + 4, 1);
+    is_said("all 1 2 3 4", RELKVANU_LINE_ALL, counted, 4);
+    is_said("# a", RELKVANU_LINE_SKIP, NULL, 0);
+    is_said("tick 1", RELKVANU_LINE_CALL, NULL, 0);
+    is_said("restore 1 latest 0", RELKVANU_LINE_CALL, NULL, 0);
+    DONE(relkvanu_line_says(NULL, 0, NULL, 0), RELKVANU_LINE_SKIP, 0, 0);
 }
 
 int main(void) {
-    try_calls();
-    try_opening();
-    try_writing();
-    try_lengths();
-    try_cut_lines();
-    return faults == 0 ? 0 : 1;
+    faults();
+    no_calls();
+    no_names();
+    twins();
+    short_takes();
+    cut_lines();
+    without_memory();
+    opening();
+    printf("lines: all as told\n");
+    return 0;
 }

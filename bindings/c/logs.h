@@ -1,4 +1,4 @@
-/* What the tests of lines of a log share: each line and each buffer is a block of its own with the length that the call gets. */
+/* What the tests of lines share: each line and each buffer is a block of its own with the length that the call gets. */
 #ifndef RELKVANU_LOGS_H
 #define RELKVANU_LOGS_H
 
@@ -36,11 +36,15 @@ static inline relkvanu_answer line(relkvanu *job, const char *text) {
     return line_into(job, text, NULL, 0);
 }
 
-static inline relkvanu_answer says(const char *text) {
+static inline relkvanu_answer says_into(const char *text, uint64_t *numbers, size_t places) {
     uint8_t *bytes = bytes_of(text, strlen(text));
-    relkvanu_answer told = relkvanu_line_says(bytes, strlen(text), NULL, 0);
+    relkvanu_answer told = relkvanu_line_says(bytes, strlen(text), numbers, places);
     free(bytes);
     return told;
+}
+
+static inline relkvanu_answer says(const char *text) {
+    return says_into(text, NULL, 0);
 }
 
 /* What a line tells of its call, with room for so many items. */

@@ -1,4 +1,5 @@
-/* names: calls without a term, names for a job that has none, what is garbage and when, and each request for memory refused. */
+/* names: terms and names through the C interface, beside what the logs of examples/logs say of them: openings, a job that has no names, an older image,
+ * what is garbage, and each request for memory refused. The expected answers come from the header and the table of the layer, by hand. */
 #include "fenced.h"
 #include "refusing_heap.h"
 
@@ -6,68 +7,57 @@ static relkvanu_answer line(relkvanu *job, const char *text) {
     return relkvanu_line(job, (const uint8_t *)text, strlen(text), NULL, 0);
 }
 
-/* Without a term a task is refused, and a restore or cancel ends the term that runs. All else goes on as without names. */
-static void without_a_term(void) {
-    relkvanu job = named(5);
-    uint64_t file = 5, zero = 0;
-    DONE(relkvanu_reserve(&job, 1, 1), RELKVANU_RESERVED, 5, 1);
-    DONE(line(&job, "tick 1000"), RELKVANU_TICK_TRIGGERED, 0, 1);
-    FENCED(relkvanu_ack(&job, 1000, 1, 0, 0, &file, 1, NULL, 0), RELKVANU_OLD_TERM, 0);
-    FENCED(relkvanu_decline(&job, 1000, 1, 0, 0), RELKVANU_OLD_TERM, 0);
-    FENCED(line(&job, "ack 1000 1 0.0 +5"), RELKVANU_OLD_TERM, 0);
-    FENCED(line(&job, "decline 1000 1 0.0"), RELKVANU_OLD_TERM, 0);
-    DONE(relkvanu_missing(&job, 1), RELKVANU_MISSING, 1, 0);
-    DONE(line(&job, "count 5"), RELKVANU_COUNTED, 5, 0);
-    BAD(relkvanu_restore(&job, 1000, 0, &zero, 1), RELKVANU_BAD_SHAPE);
-    DONE(relkvanu_term(&job), RELKVANU_TERM, 1, 6);
-    DONE(line(&job, "restore 1000 latest"), RELKVANU_RESTORED_FRESH, 0, 0);
-    DONE(relkvanu_term(&job), RELKVANU_TERM, 2, 6);
-    DONE(line(&job, "cancel 1000"), RELKVANU_CANCELLED, 0, 0);
-    DONE(relkvanu_term(&job), RELKVANU_TERM, 3, 6);
-    relkvanu_close(&job);
-}
-
-/* A job that is older than its names gets them above each file that it knows: in use, waiting for deletion, or fetched for it. */
-static void names_later(void) {
-    relkvanu job = plain();
-    uint64_t old[] = {3, 9}, kept = 3, fresh = 4, taken;
-    DONE(relkvanu_tick(&job, 1000), RELKVANU_TICK_TRIGGERED, 0, 1);
-    DONE(relkvanu_ack(&job, 1000, 1, 0, 0, old, 2, NULL, 0), RELKVANU_ACK_COMPLETED, 0, 0);
-    BAD(relkvanu_fence(&job, 0), RELKVANU_BAD_NAME);
-    BAD(relkvanu_fence(&job, NAMES_END + 1), RELKVANU_BAD_NAME);
-    FENCED(relkvanu_fence(&job, 9), RELKVANU_NAME_IN_USE, 0);
-    DONE(relkvanu_tick(&job, 2000), RELKVANU_TICK_TRIGGERED, 0, 2);
-    DONE(relkvanu_ack(&job, 2000, 2, 0, 0, &fresh, 1, &kept, 1), RELKVANU_ACK_COMPLETED, 1, 1);
-    FENCED(relkvanu_fence(&job, 9), RELKVANU_NAME_IN_USE, 0);
-    DONE(relkvanu_take(&job, &taken, 1), RELKVANU_TAKEN, 1, 0);
-    CHECK(taken == 9);
-    FENCED(relkvanu_fence(&job, 9), RELKVANU_NAME_IN_USE, 0);
-    DONE(relkvanu_deleted(&job, 9), RELKVANU_DELETED, 9, 0);
-    FENCED(relkvanu_fence(&job, 4), RELKVANU_NAME_IN_USE, 0);
-    FENCED(relkvanu_term(&job), RELKVANU_NO_NAMES, 0);
-    DONE(relkvanu_fence(&job, 5), RELKVANU_NAMED, 0, 0);
+/* The first bad argument decides. */
+static void openings(void) {
+    relkvanu job = {NULL};
+    relkvanu_settings bad = settings;
+    bad.interval = 0;
+    BAD(relkvanu_open_fenced(&job, &bad, NULL, 0, NAMES_END, 0, 0, 3, 4), RELKVANU_BAD_CONFIG);
+    BAD(relkvanu_open_fenced(&job, &settings, NULL, 0, NAMES_END, 0, 0, 3, 4), RELKVANU_BAD_SHAPE);
+    BAD(relkvanu_open_fenced(&job, &settings, shape, 1, NAMES_END, 0, 0, 3, 4), RELKVANU_BAD_NAME);
+    BAD(relkvanu_open_fenced(&job, &settings, shape, 1, NAMES_END, 0, NAMES_END + 1, 3, 4), RELKVANU_BAD_NAME);
+    BAD(relkvanu_open_fenced(&job, &settings, shape, 1, NAMES_END, 0, NAMES_END, 3, 4), RELKVANU_BAD_MOMENT);
+    BAD(relkvanu_open_fenced(&job, &settings, shape, 1, 0, 0, 1, 3, 4), RELKVANU_BAD_FIRST);
+    CHECK(job.state == NULL);
+    job = named(5);
     DONE(relkvanu_term(&job), RELKVANU_TERM, 1, 5);
-    FENCED(relkvanu_fence(&job, 0), RELKVANU_HAS_NAMES, 0);
-    DONE(relkvanu_count(&job, 3), RELKVANU_COUNTED, 3, 1);
-    DONE(relkvanu_reserve(&job, 1, 2), RELKVANU_RESERVED, 5, 2);
-    FENCED(relkvanu_ack(&job, 3000, 3, 0, 0, NULL, 0, NULL, 0), RELKVANU_OLD_TERM, 0);
+    BAD(relkvanu_open_fenced(&job, &bad, NULL, 0, NAMES_END, 0, 0, 3, 4), RELKVANU_ALREADY_OPEN);
+    BAD(relkvanu_open(&job, &settings, shape, 1, 0, 1, 3, 4), RELKVANU_ALREADY_OPEN);
+    DONE(relkvanu_term(&job), RELKVANU_TERM, 1, 5);
     relkvanu_close(&job);
+    CHECK(job.state == NULL);
+    CLOSED(relkvanu_term(&job));
 }
 
-/* A name that is given up is garbage, and no acknowledgement names it. */
-static void given_up(void) {
-    relkvanu job = named(1);
-    uint64_t names[] = {7, 2, 9, 2}, files[] = {2, 3}, left[2], others[2];
-    DONE(relkvanu_reserve(&job, 1, 3), RELKVANU_RESERVED, 1, 3);
-    DONE(relkvanu_garbage(&job, files, 2, left, 2, others, 2), RELKVANU_GARBAGE, 0, 0);
-    DONE(relkvanu_forfeit(&job, 1, names, 4), RELKVANU_FORFEITED, 0, 0);
-    DONE(relkvanu_forfeit(&job, 1, names, 4), RELKVANU_FORFEITED, 0, 0);
-    DONE(relkvanu_forfeit(&job, 1, NULL, 0), RELKVANU_FORFEITED, 0, 0);
-    DONE(relkvanu_garbage(&job, files, 2, left, 2, others, 2), RELKVANU_GARBAGE, 1, 0);
-    CHECK(left[0] == 2);
+static void closed(void) {
+    relkvanu job = {NULL};
+    uint64_t files[] = {7}, left[] = {1}, others[] = {2};
+    CLOSED(relkvanu_fence(&job, 0));
+    CLOSED(relkvanu_term(&job));
+    CLOSED(relkvanu_reserve(&job, 1, 1));
+    CLOSED(relkvanu_forfeit(&job, 1, files, 1));
+    CLOSED(ack(&job, 1, 0, 1, 5));
+    CLOSED(relkvanu_decline_in(&job, 1, 0, 1, 0, 0));
+    CLOSED(relkvanu_garbage(&job, files, 1, left, 1, others, 1));
+    CHECK(job.state == NULL && left[0] == 1 && others[0] == 2);
+}
+
+/* A handle without names makes no call with a term, and all others as ever. */
+static void no_names(void) {
+    relkvanu job = plain();
+    uint64_t file = 5, left[] = {1}, others[] = {2};
+    struct seen before = look(&job), after;
+    FENCED(relkvanu_term(&job), RELKVANU_NO_NAMES, 0);
+    FENCED(relkvanu_reserve(&job, 0, 0), RELKVANU_NO_NAMES, 0);
+    FENCED(relkvanu_forfeit(&job, 0, &file, 1), RELKVANU_NO_NAMES, 0);
+    FENCED(ack(&job, 0, NAMES_END, 1, 5), RELKVANU_NO_NAMES, 0);
+    FENCED(relkvanu_decline_in(&job, 0, NAMES_END, 1, 0, 0), RELKVANU_NO_NAMES, 0);
+    FENCED(relkvanu_garbage(&job, &file, 1, left, 1, others, 1), RELKVANU_NO_NAMES, 0);
+    after = look(&job);
+    CHECK(same(&before, &after) && left[0] == 1 && others[0] == 2);
     DONE(relkvanu_tick(&job, 1000), RELKVANU_TICK_TRIGGERED, 0, 1);
-    FENCED(ack(&job, 1, 1000, 1, 2), RELKVANU_SPENT, 2);
-    DONE(ack(&job, 1, 1000, 1, 3), RELKVANU_ACK_COMPLETED, 0, 0);
+    DONE(relkvanu_ack(&job, 1000, 1, 0, 0, &file, 1, NULL, 0), RELKVANU_ACK_COMPLETED, 0, 0);
+    DONE(relkvanu_cancel(&job, 1000), RELKVANU_CANCELLED, 1, 1);
     relkvanu_close(&job);
 }
 
@@ -113,6 +103,9 @@ static void buffers(void) {
     expect(relkvanu_garbage(&job, files, 2, NULL, 0, NULL, 0), RELKVANU_TOO_SHORT, 0, 2, 2, __LINE__);
     CHECK(left[0] == 70 && left[1] == 71 && others[0] == 80 && others[1] == 81);
     DONE(relkvanu_garbage(&job, NULL, 0, NULL, 0, NULL, 0), RELKVANU_GARBAGE, 0, 0);
+    uint64_t twice[] = {6, 1, 9, 1}, garbage[4], unissued[4];
+    DONE(relkvanu_garbage(&job, twice, 4, garbage, 4, unissued, 4), RELKVANU_GARBAGE, 2, 2);
+    CHECK(garbage[0] == 1 && garbage[1] == 1 && unissued[0] == 6 && unissued[1] == 9);
     DONE(relkvanu_garbage(&job, files, 2, left, 3, others, 3), RELKVANU_GARBAGE, 1, 1);
     CHECK(left[0] == 1 && left[1] == 71 && left[2] == 72 && others[0] == 6 && others[1] == 81 && others[2] == 82);
     relkvanu_close(&job);
@@ -233,9 +226,9 @@ static void memory(void) {
 }
 
 int main(void) {
-    without_a_term();
-    names_later();
-    given_up();
+    openings();
+    closed();
+    no_names();
     from_an_older_image();
     buffers();
     texts();

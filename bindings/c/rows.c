@@ -1,8 +1,8 @@
-/* rows SCRIPT WANTED: opens a coordinator as the script says, makes its calls, and compares each answer with the lines of
+/* rows SCRIPT WANTED [log]: opens a coordinator as the script says, makes its calls, and compares each answer with the lines of
  * the file WANTED. The script has a config and a job line, a start line, and after that only calls and lines with faults
- * (docs/SCRIPT.md). No other script is run: the status is 3. The script is run once with the reads compared after each line,
- * once with all memory, and then once for each request for memory, which is refused once. A call that runs out of memory
- * returns so, and is made again. */
+ * (docs/SCRIPT.md). No other script is run: the status is 3. The script is run once with the reads compared after each line, but
+ * if it is a log (docs/LOGS.md), once with all memory, and then once for each request for memory, which is refused once. A call that
+ * runs out of memory returns so, and is made again. */
 #define _GNU_SOURCE
 #include "refusing_heap.h"
 #include "reads.h"
@@ -129,8 +129,8 @@ static char *contents(const char *path, size_t *len) {
 }
 
 int main(int argc, char **argv) {
-    if (argc != 3) {
-        fprintf(stderr, "rows SCRIPT WANTED\n");
+    if (argc != 3 && (argc != 4 || strcmp(argv[3], "log") != 0)) {
+        fprintf(stderr, "rows SCRIPT WANTED [log]\n");
         return 2;
     }
     if (!is_list_of_calls(argv[1])) {
@@ -140,7 +140,7 @@ int main(int argc, char **argv) {
     char *wanted = contents(argv[2], &len);
     uint64_t requests, ignored;
     static struct reads reads;
-    bool same = runs(argv[1], wanted, len, &reads, 0, &ignored) && runs(argv[1], wanted, len, NULL, 0, &requests);
+    bool same = (argc == 4 || runs(argv[1], wanted, len, &reads, 0, &ignored)) && runs(argv[1], wanted, len, NULL, 0, &requests);
     for (uint64_t refused = 1; same && refused <= requests; refused++) {
         same = runs(argv[1], wanted, len, NULL, refused, &ignored);
     }

@@ -7,22 +7,6 @@
 #include <string.h>
 #include <unistd.h>
 
-static void tell_tick(FILE *to, relkvanu_answer answer) {
-    static const char *const ends[] = {"", "", "held interval", "held at-once", "held pause", "failed"};
-    if (answer.what == RELKVANU_TICK_TRIGGERED) {
-        fprintf(to, "tick expired %" PRIu64 " triggered %" PRIu64 "\n", answer.a, answer.b);
-    } else {
-        fprintf(to, "tick expired %" PRIu64 " %s\n", answer.a, ends[answer.what]);
-    }
-}
-
-/* A reply that has no words of its own here has those of the library. */
-static void tell_other(FILE *to, relkvanu_answer answer) {
-    uint8_t text[RELKVANU_ANSWER_TEXT];
-    size_t len = relkvanu_answer_text(&answer, text, sizeof text);
-    fprintf(to, "%.*s\n", (int)len, (const char *)text);
-}
-
 static void tell_taken(const struct script *script, FILE *to, uint64_t len) {
     fprintf(to, "take%s", len == 0 ? " none" : "");
     for (uint64_t place = 0; place < len; place++) {
@@ -31,58 +15,20 @@ static void tell_taken(const struct script *script, FILE *to, uint64_t len) {
     fprintf(to, "\n");
 }
 
-static void tell_done(const struct script *script, FILE *to, relkvanu_answer answer) {
-    switch (answer.what) {
-    case RELKVANU_OPENED: break;
-    case RELKVANU_SKIPPED: break;
-    case RELKVANU_SAVEPOINT_TRIGGERED: fprintf(to, "savepoint triggered %" PRIu64 "\n", answer.a); break;
-    case RELKVANU_ACK_PENDING: fprintf(to, "ack pending %" PRIu64 "\n", answer.a); break;
-    case RELKVANU_ACK_COMPLETED: fprintf(to, "ack completed %" PRIu64 " %" PRIu64 "\n", answer.a, answer.b); break;
-    case RELKVANU_ACK_LATE: fprintf(to, "ack late %" PRIu64 "\n", answer.a); break;
-    case RELKVANU_DECLINE_ABORTED: fprintf(to, "decline aborted %" PRIu64 "\n", answer.a); break;
-    case RELKVANU_DECLINE_FAILED: fprintf(to, "decline failed %" PRIu64 "\n", answer.a); break;
-    case RELKVANU_DECLINE_LATE: fprintf(to, "decline late\n"); break;
-    case RELKVANU_DISPOSED: fprintf(to, "disposed %" PRIu64 "\n", answer.a); break;
-    case RELKVANU_RESTORED_CHECKPOINT: fprintf(to, "restored checkpoint %" PRIu64 " %" PRIu64 "\n", answer.b, answer.a); break;
-    case RELKVANU_RESTORED_SAVEPOINT: fprintf(to, "restored savepoint %" PRIu64 " %" PRIu64 "\n", answer.b, answer.a); break;
-    case RELKVANU_RESTORED_FRESH: fprintf(to, "restored fresh %" PRIu64 "\n", answer.a); break;
-    case RELKVANU_CANCELLED: fprintf(to, "cancelled %" PRIu64 " %" PRIu64 "\n", answer.a, answer.b); break;
-    case RELKVANU_TAKEN: tell_taken(script, to, answer.a); break;
-    case RELKVANU_DELETED: fprintf(to, "deleted %" PRIu64 "\n", answer.a); break;
-    case RELKVANU_UNDELETED: fprintf(to, "undeleted %" PRIu64 "\n", answer.a); break;
-    case RELKVANU_SHOWN: fprintf(to, "%.*s\n", (int)answer.a, (const char *)script->json); break;
-    case RELKVANU_COUNTED: fprintf(to, "count %" PRIu64 " %" PRIu64 "\n", answer.a, answer.b); break;
-    case RELKVANU_TICK_TRIGGERED:
-    case RELKVANU_TICK_HELD_INTERVAL:
-    case RELKVANU_TICK_HELD_AT_ONCE:
-    case RELKVANU_TICK_HELD_PAUSE:
-    case RELKVANU_TICK_FAILED: tell_tick(to, answer); break;
-    default: tell_other(to, answer); break;
-    }
-}
-
-static void tell_refused(FILE *to, relkvanu_answer answer) {
-    uint8_t name[32];
-    size_t len = relkvanu_refusal_text(answer.what, name, sizeof name);
-    fprintf(to, "refused %.*s", (int)len, (const char *)name);
-    if (answer.what == RELKVANU_NAME_TAKEN || answer.what == RELKVANU_FILE_GONE) {
-        fprintf(to, " %" PRIu64, answer.a);
-    }
-    fprintf(to, "\n");
-}
-
-static void tell_fault(FILE *to, uint64_t number, relkvanu_answer answer) {
-    static const char *const names[] = {"", "TooLong", "Word", "Missing", "Number", "Extra", "NoCall"};
-    fprintf(to, "line %" PRIu64 " fault %s\n", number, names[answer.what]);
-}
-
+/* The text of an answer is the library's, and a fault's has the number of its line before it. A take and a show print what they fetched. */
 void script_tell(const struct script *script, FILE *to, uint64_t number, relkvanu_answer answer) {
-    switch (answer.code) {
-    case RELKVANU_DONE: tell_done(script, to, answer); break;
-    case RELKVANU_REFUSED: tell_refused(to, answer); break;
-    case RELKVANU_BAD_LINE: tell_fault(to, number, answer); break;
-    case RELKVANU_BAD_ARGUMENT: fprintf(to, "refused %s\n", answer.what == RELKVANU_BAD_SHAPE ? "BadShape" : "BadArgument"); break;
-    default: fprintf(to, "code %" PRIu32 "\n", answer.code); break;
+    uint8_t text[RELKVANU_ANSWER_TEXT];
+    size_t len = relkvanu_answer_text(&answer, text, sizeof text);
+    uint32_t what = answer.code == RELKVANU_DONE ? answer.what : UINT32_MAX;
+    if (what == RELKVANU_TAKEN) {
+        tell_taken(script, to, answer.a);
+    } else if (what == RELKVANU_SHOWN) {
+        fprintf(to, "%.*s\n", (int)answer.a, (const char *)script->json);
+    } else if (what != RELKVANU_OPENED && what != RELKVANU_SKIPPED) {
+        if (answer.code == RELKVANU_BAD_LINE) {
+            fprintf(to, "line %" PRIu64 " ", number);
+        }
+        fprintf(to, "%.*s\n", (int)len, (const char *)text);
     }
 }
 
