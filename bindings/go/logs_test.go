@@ -38,16 +38,16 @@ func loggedLines(log string) (lines []loggedLine) {
 	return lines
 }
 
-// logs are those of examples/logs, and the example of the page.
+// logs are those of examples/logs and examples/reads, and the example of the page.
 func logs(t *testing.T) map[string]string {
 	t.Helper()
 	page := string(must(os.ReadFile(logsPage)))
 	_, section, _ := strings.Cut(page, "\n## 5. An example\n")
 	all := map[string]string{"the page": strings.Split(section+"\n```\n\n```\n", "\n```\n")[1]}
-	for _, path := range must(filepath.Glob("../../examples/logs/*.log")) {
+	for _, path := range append(must(filepath.Glob("../../examples/logs/*.log")), must(filepath.Glob("../../examples/reads/*.log"))...) {
 		all[filepath.Base(path)] = string(must(os.ReadFile(path)))
 	}
-	if len(all) < 7 || len(loggedLines(all["the page"])) != 19 {
+	if len(all) < 15 || len(loggedLines(all["the page"])) != 19 {
 		t.Fatal(all)
 	}
 	return all
@@ -67,6 +67,10 @@ func makeLog(t *testing.T, name string, log []loggedLine, call func(*relkvanu.Co
 	job := must(relkvanu.Open(settings, shape, now, 1))
 	defer job.Close()
 	for place, it := range log {
+		if strings.HasPrefix(it.line, "? ") {
+			equal(t, name+": "+it.line+" "+read(job, strings.Fields(it.line)[1:]), name+": "+it.line+" "+strings.TrimSpace(it.answers))
+			continue
+		}
 		printed := call(job, place+1, lines[place])
 		if strings.Count(it.answers, "\n") == 2 {
 			printed += fmt.Sprintf("term %d\n", must(job.Term()).Term)

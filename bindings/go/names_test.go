@@ -13,11 +13,11 @@ import (
 	"relkvanu"
 )
 
-// Terms and names beside what the logs of examples/logs say of them, with values that are worked out from the rules (docs/RULES.md, docs/LOGS.md).
+// Terms and names beside what the logs of examples/logs and examples/reads say of them, with values that are worked out from the rules (docs/RULES.md, docs/LOGS.md).
 
 const namesEnd = 1 << 62
 
-var one, filesOfTasks = []uint64{1}, []uint64{9, 7, 4, 5, 6, 8, 7}
+var one = []uint64{1}
 
 func named(firstName uint64) *relkvanu.Coordinator {
 	return must(relkvanu.OpenFenced(relkvanu.Every(1000), one, 0, 1, firstName))
@@ -92,46 +92,6 @@ func TestNamesOpenings(t *testing.T) {
 	equal(t, must(job.Tick(1050)).ID, 7)
 	missing, _, _ := job.Missing(7)
 	equal(t, missing, 3)
-}
-
-// A coordinator without names makes no call with a term, and all others as ever.
-func TestNamesThatAJobDoesNotHave(t *testing.T) {
-	job := opened(1)
-	defer job.Close()
-	image := string(must(job.Save()))
-	for _, err := range []error{
-		errorOf(job.Term()), errorOf(job.Reserve(0, 0)), job.Forfeit(0, one), errorOf(ackIn(job, 0, namesEnd, 1, 5)), declineIn(job, 0, namesEnd, 1),
-		errorOf(job.Garbage(one)), errorOf(job.Advance(0, 1, 1)),
-	} {
-		fenced(t, err, relkvanu.FencedNoNames, 0)
-	}
-	equal(t, string(must(job.Save())), image)
-	must(job.Tick(1000))
-	equal(t, must(job.Ack(1000, 1, relkvanu.Subtask{}, []uint64{5}, nil)).End, relkvanu.AckCompleted)
-	equal(t, must(job.Cancel(1000)), relkvanu.Cancelled{Dropped: 1, Released: 1})
-}
-
-// What is garbage follows what a term holds: files before the first name are, and those that were not given out are not.
-func TestNamesAndGarbage(t *testing.T) {
-	job := withTask(t)
-	defer job.Close()
-	sorts(t, job, filesOfTasks, "{[4] [9 8]}")
-	equal(t, job.Forfeit(1, []uint64{6, 9}), nil)
-	sorts(t, job, filesOfTasks, "{[4] [9 8]}")
-	equal(t, must(job.Restore(2100, nil)).String(), "restored checkpoint 1 0")
-	runs(t, job, 2, 8)
-	before := seen(job)
-	fenced(t, errorOf(ackIn(job, 1, 2200, 2, 7)), relkvanu.FencedOldTerm, 0)
-	fenced(t, errorOf(ackIn(job, 2, 2200, 2, 7)), relkvanu.FencedSpent, 7)
-	equal(t, seen(job), before)
-	equal(t, must(job.Reserve(2, 1)), relkvanu.Reserved{First: 8, Count: 1})
-	equal(t, must(ackIn(job, 2, 2300, 2, 8)), relkvanu.Acked{End: relkvanu.AckLate, HandedOut: 1})
-	equal(t, fmt.Sprint(must(job.Take(make([]uint64, 2)))), "[8]")
-	sorts(t, job, filesOfTasks, "{[7 4 7] [9]}")
-	sorts(t, job, nil, "{[] []}")
-	equal(t, errorOf(job.Advance(2400, 6, 0)), error(relkvanu.BadName))
-	equal(t, must(job.Advance(2400, 6, 50)).String(), "restored checkpoint 1 0")
-	runs(t, job, 7, 50)
 }
 
 func TestNamesAndMomentsThatAreFarAhead(t *testing.T) {

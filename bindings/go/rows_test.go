@@ -164,7 +164,7 @@ func called(job *relkvanu.Coordinator, words []string) (fmt.Stringer, error) {
 	case "forfeit":
 		return relkvanu.Forfeited{}, job.Forfeit(number(given[0]), numbers(given[1:]))
 	case "advance":
-		return job.Line([]byte(strings.Join(words, " "))) // no method of the package makes it
+		return job.Advance(number(given[0]), number(given[1]), number(given[2]))
 	case "in":
 		return calledIn(job, number(given[0]), given[1:])
 	}

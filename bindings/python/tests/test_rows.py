@@ -10,7 +10,7 @@ import unittest
 
 from relkvanu import (
     AckCompleted, AckLate, AckPending, BadArgument, BadLine, Cancelled, Coordinator, Counted, DeclineAborted, DeclineFailed,
-    DeclineLate, Deleted, Disposed, Failed, FileCounts, HeldAtOnce, HeldInterval, HeldPause, Named, Refused, Reserved, RestoredCheckpoint,
+    DeclineLate, Deleted, Disposed, Failed, FileCounts, Forfeited, HeldAtOnce, HeldInterval, HeldPause, Named, Refused, Reserved, RestoredCheckpoint,
     RestoredFresh, RestoredSavepoint, SavepointTriggered, Settings, Shown, Taken, TooShort, Triggered, Undeleted, calls, lines,
 )
 
@@ -66,10 +66,20 @@ def opened(rows):
     return Coordinator(settings, job.shape, says[2].now)
 
 
-def told(job, number, line):
+def by_method(job, line):
+    """Makes the call of a line by its method, and returns the reply that the line has."""
+    call = calls.line_call(line)
+    name, term = type(call).__name__.lower(), vars(call).get("term")
+    if isinstance(call, (calls.Fence, calls.Reserve, calls.Forfeit, calls.Advance)):
+        reply = getattr(job, name)(*vars(call).values())
+        return {"fence": Named(), "forfeit": Forfeited(), "reserve": reply and Reserved(reply.start, len(reply))}.get(name, reply)
+    return getattr(job, f"{name}_in")(term, *numbers_of(call)) if term else getattr(job, name)(*numbers_of(call))
+
+
+def told(job, number, line, make=Coordinator.line):
     """What a line prints: nothing, or a line."""
     try:
-        reply = job.line(line)
+        reply = make(job, line)
     except BadLine as fault:
         return [] if fault.name == "NoCall" else [f"line {number} fault {fault}"]
     except (Refused, BadArgument) as fault:
@@ -164,7 +174,8 @@ class Lines(unittest.TestCase):
             (b"ack 5 1 1.2 +12 =9 +11 =7", calls.Ack(5, 1, 1, 2, (11, 12), (7, 9))), (b"ack 5 1 0.0", calls.Ack(5, 1, 0, 0, ())),
             (b"restore 5 latest", calls.Restore(5)), (b"restore 5 4 1 2", calls.Restore(5, 4, (1, 2))), (b"dispose 3", calls.Dispose(3)),
             (b"cancel 5", calls.Cancel(5)), (b"take 9", calls.Take(9)), (b"deleted 7", calls.Deleted(7)), (b"undeleted 7", calls.Undeleted(7)),
-            (b"fence 7", calls.Fence(7)), (b"reserve 2 9", calls.Reserve(2, 9)), (b"forfeit 2", calls.Forfeit(2, ())), (b"forfeit 2 7 8", calls.Forfeit(2, (7, 8))),
+            (b"advance 5 3 70", calls.Advance(5, 3, 70)), (b"fence 7", calls.Fence(7)),
+            (b"reserve 2 9", calls.Reserve(2, 9)), (b"forfeit 2", calls.Forfeit(2, ())), (b"forfeit 2 7 8", calls.Forfeit(2, (7, 8))),
             (b"in 3 ack 5 1 1.2 +12 =9 +11 =7", calls.Ack(5, 1, 1, 2, (11, 12), (7, 9), 3)), (b"in 3 decline 5 1 0.3", calls.Decline(5, 1, 0, 3, 3)),
             (b"in 4 tick 5", calls.Tick(5, 4)), (b"in 4 take 9", calls.Take(9, 4)), (b"in 4 restore 5 latest", calls.Restore(5, term=4)), (b"in 0 cancel 5", calls.Cancel(5)),
             (b"show 3", calls.Show(3)), (b"count 18446744073709551615", calls.Count((1 << 64) - 1)), (b"# a comment", None), (b"", None),

@@ -20,10 +20,10 @@ import org.junit.jupiter.api.DynamicTest;
 import org.junit.jupiter.api.Test;
 import org.junit.jupiter.api.TestFactory;
 
-/** Lines of a log with names, with the values of docs/LOGS.md. */
+/** Lines of a log with names, with the values of docs/LOGS.md, and reads in logs. */
 class LogsTest {
     private static final Path PAGE = Path.of(System.getProperty("logs"));
-    private static final Path FOLDER = Path.of(System.getProperty("rows")).resolveSibling("logs");
+    private static final Path FOLDER = Path.of(System.getProperty("rows")).getParent();
     private static final Map<String, BiFunction<Coordinator, byte[], Optional<Reply>>> WAYS =
         Map.of("lines", Coordinator::line, "methods", Words::byMethod, "lines that are written again", Words::writtenAgain);
 
@@ -51,11 +51,17 @@ class LogsTest {
         Script script = new Script(lines);
         try (Coordinator job = script.opened().orElseThrow()) {
             answers.forEach((place, told) -> {
-                List<String> printed = new ArrayList<>(script.printed(line -> make.apply(job, line), place).stream().toList());
+                String line = Lines.text(lines.get(place));
+                List<String> printed = new ArrayList<>();
+                if (line.startsWith("? ")) {
+                    printed.add(Words.read(job, line));
+                } else {
+                    script.printed(it -> make.apply(job, it), place).ifPresent(printed::add);
+                }
                 if (told.size() == 2) {
                     printed.add("term " + job.term().term());
                 }
-                assertEquals(told, printed, Lines.text(lines.get(place)));
+                assertEquals(told, printed, line);
             });
         }
     }
@@ -72,14 +78,16 @@ class LogsTest {
     }
 
     @TestFactory
-    Stream<DynamicTest> logsOfTermsAndNames() throws IOException {
+    Stream<DynamicTest> logsOfNamesAndOfReads() throws IOException {
         Map<String, String> logs = new java.util.TreeMap<>();
-        try (Stream<Path> found = Files.list(FOLDER)) {
-            for (Path log : found.toList()) {
-                logs.put(log.getFileName().toString(), Files.readString(log));
+        for (String folder : List.of("logs", "reads")) {
+            try (Stream<Path> found = Files.list(FOLDER.resolve(folder))) {
+                for (Path log : found.toList()) {
+                    logs.put(log.getFileName().toString(), Files.readString(log));
+                }
             }
         }
-        assertTrue(logs.size() >= 6, logs.keySet().toString());
+        assertTrue(logs.size() >= 14, logs.keySet().toString());
         return logs.entrySet().stream().flatMap(log -> each(log.getKey(), log.getValue()));
     }
 

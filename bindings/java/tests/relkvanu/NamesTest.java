@@ -1,6 +1,5 @@
 package relkvanu;
 
-import static org.junit.jupiter.api.Assertions.assertArrayEquals;
 import static org.junit.jupiter.api.Assertions.assertEquals;
 import static org.junit.jupiter.api.Assertions.assertFalse;
 import static org.junit.jupiter.api.Assertions.assertSame;
@@ -18,13 +17,12 @@ import java.util.stream.LongStream;
 import org.junit.jupiter.api.Test;
 import org.junit.jupiter.api.function.Executable;
 
-/** Terms and names beside what the logs of examples/logs say of them, with values that are worked out from the rules (docs/RULES.md, docs/LOGS.md). */
+/** Terms and names beside what the logs of examples/logs and examples/reads say of them, with values that are worked out from the rules (docs/RULES.md, docs/LOGS.md). */
 class NamesTest {
     private static final long DAY = 24 * 60 * 60 * 1000;
     private static final long END = 1L << 62;
     private static final Settings SETTINGS = Settings.every(1000);
     private static final long[] ONE = {1};
-    private static final long[] FILES = {9, 7, 4, 5, 6, 8, 7};
 
     private static Coordinator named(long firstName) {
         return Coordinator.openFenced(SETTINGS, ONE, 0, 1, firstName);
@@ -83,48 +81,6 @@ class NamesTest {
             assertEquals(50, job.moment());
             assertEquals(new Reply.Triggered(0, 7), job.tick(1050));
             assertEquals(3, job.missing(7).orElseThrow());
-        }
-    }
-
-    /** A coordinator without names makes no call with a term, and all others as ever. */
-    @Test
-    void noNames() {
-        try (Coordinator job = Jobs.opened(SETTINGS, 1)) {
-            byte[] image = job.save();
-            List<Executable> calls = List.of(job::term, () -> job.reserve(0, 0), () -> job.forfeit(0, 5), () -> ack(job, 0, END, 1, 5), () -> job.declineIn(0, END, 1, 0, 0), () -> job.garbage(5), () -> job.advance(0, 1, 1));
-            calls.forEach(it -> fenced(Fenced.NO_NAMES, it));
-            assertArrayEquals(image, job.save());
-            job.tick(1000);
-            assertEquals(new Reply.AckCompleted(0, 0), job.ack(1000, 1, 0, 0, Jobs.files(5)));
-            assertEquals(new Reply.Cancelled(1, 1), job.cancel(1000));
-        }
-    }
-
-    /** What is garbage follows what a term holds: files before the first name are, and those that were not given out are not. */
-    @Test
-    void garbage() {
-        try (Coordinator job = withCheckpoint1()) {
-            Garbage before = new Garbage(new long[] {4}, new long[] {9, 8});
-            assertEquals(before, job.garbage(FILES));
-            assertArrayEquals(new long[] {4}, job.garbage(FILES).garbage());
-            assertArrayEquals(new long[] {9, 8}, job.garbage(FILES).unissued());
-            assertEquals(new Reply.Forfeited(), job.forfeit(1, 6, 9));
-            assertEquals(before, job.garbage(FILES));
-            assertEquals(new Reply.RestoredCheckpoint(1, 0), job.restoreLatest(2100));
-            assertEquals(new RunningTerm(2, 8), job.term());
-            List<Object> seen = seen(job);
-            fenced(Fenced.OLD_TERM, () -> ack(job, 1, 2200, 2, 7));
-            fenced(Fenced.SPENT, 7, () -> ack(job, 2, 2200, 2, 7));
-            fenced(Fenced.BAD_COUNT, () -> job.reserve(2, -1));
-            assertEquals(seen, seen(job));
-            assertEquals(new Reply.Reserved(8, 1), job.reserve(2, 1));
-            assertEquals(new Reply.AckLate(1), ack(job, 2, 2300, 2, 8));
-            assertEquals(new Reply.Taken(Jobs.files(8)), job.take(2));
-            assertEquals(new Garbage(new long[] {7, 4, 7}, new long[] {9}), job.garbage(FILES));
-            assertEquals(new Garbage(new long[] {}, new long[] {}), job.garbage());
-            bad(Argument.BAD_NAME, () -> job.advance(2400, 6, 0));
-            assertEquals(new Reply.RestoredCheckpoint(1, 0), job.advance(2400, 6, 50));
-            assertEquals(new RunningTerm(7, 50), job.term());
         }
     }
 

@@ -3,10 +3,13 @@ package relkvanu;
 import java.lang.reflect.InvocationTargetException;
 import java.nio.charset.StandardCharsets;
 import java.util.Arrays;
+import java.util.Locale;
 import java.util.Optional;
+import java.util.OptionalLong;
+import java.util.stream.Collectors;
 import java.util.stream.LongStream;
 
-/** The words of a line that makes a call, read here: makes the call by its method, or writes it again. */
+/** The words of a line that makes a call, read here: makes the call by its method, or writes it again; and those of a read. */
 final class Words {
     private final String[] words;
 
@@ -90,7 +93,7 @@ final class Words {
             case "fence" -> job.fence(number(1));
             case "reserve" -> job.reserve(number(1), number(2));
             case "forfeit" -> job.forfeit(number(1), numbers(2).toArray());
-            case "advance" -> job.line(Jobs.line(String.join(" ", words))).orElseThrow(); // no method makes it
+            case "advance" -> (Reply) job.advance(number(1), number(2), number(3));
             case "in" -> inTerm().callIn(job, number(1));
             default -> (Reply) byName(Coordinator.class, job);
         };
@@ -144,5 +147,60 @@ final class Words {
             return isLatest ? Lines.restoreLatest(number(1)) : Lines.restoreSavepoint(number(1), number(2));
         }
         return isLatest ? Lines.restoreLatest(number(1), shape()) : Lines.restoreSavepoint(number(1), number(2), shape());
+    }
+
+    /** What a line that begins with ? tells: a read with its numbers. */
+    static String read(Coordinator job, String line) {
+        Words it = new Words(line.substring(2).split(" +"));
+        try {
+            return it.read(job);
+        } catch (CoordinatorException.Fenced fault) {
+            return "fenced " + fault.getMessage();
+        }
+    }
+
+    private String read(Coordinator job) {
+        return switch (words[0]) {
+            case "mode" -> lower(job.mode());
+            case "moment" -> Long.toString(job.moment());
+            case "due" -> Long.toString(job.due());
+            case "oldest_expiry" -> text(job.oldestExpiry());
+            case "choice" -> job.choice().map(it -> lower(it.kind()) + " " + it.id()).orElse("fresh");
+            case "live" -> orNone(Jobs.records(job).stream().map(Words::text).collect(Collectors.joining(" ")));
+            case "live_from" -> job.liveFrom(number(1)).map(Words::text).orElse("none");
+            case "missing" -> text(job.missing(number(1)));
+            case "standing" -> lower(job.standing(number(1)));
+            case "waiting_file" -> text(job.waitingFile(number(1)));
+            case "file_counts" -> job.fileCounts().inUse() + " " + job.fileCounts().waiting() + " " + job.fileCounts().taken();
+            case "files_of" -> job.filesOf(number(1), (int) number(2), (int) number(3)).map(Words::text).orElse("none");
+            case "pins_of" -> text(job.pinsOf(number(1)));
+            case "taken_files" -> text(job.takenFiles());
+            case "term" -> job.term().term() + " " + job.term().nextName();
+            case "garbage" -> {
+                Garbage it = job.garbage(numbers(1).toArray());
+                yield "garbage " + text(it.garbage()) + " unissued " + text(it.unissued());
+            }
+            default -> throw new AssertionError(words[0]);
+        };
+    }
+
+    private static String lower(Enum<?> it) {
+        return it.name().toLowerCase(Locale.ROOT).replace('_', ' ');
+    }
+
+    private static String text(Live it) {
+        return lower(it.kind()) + " " + it.id() + (it.isDone() ? " done" : " pending");
+    }
+
+    private static String text(OptionalLong number) {
+        return number.isPresent() ? FileNumbers.toString(number.getAsLong()) : "none";
+    }
+
+    private static String text(long[] files) {
+        return orNone(Arrays.stream(files).mapToObj(FileNumbers::toString).collect(Collectors.joining(" ")));
+    }
+
+    private static String orNone(String text) {
+        return text.isEmpty() ? "none" : text;
     }
 }

@@ -1,9 +1,7 @@
-//! Terms and names: what a task of the term that runs may do, what one of an ended term may not, and what is garbage.
+//! Terms and names beside what the logs of `examples/logs` and `examples/reads` say of them (`term_lines.rs`).
 mod settings;
 
-use relkvanu::{
-    Answer, Choice, Coordinator, Fault, Fenced, Garbage, Refusal, RunningTerm, Settings, SharedCoordinator,
-};
+use relkvanu::{Answer, Coordinator, Fault, Fenced, Garbage, Refusal, RunningTerm, Settings, SharedCoordinator};
 use settings::SETTINGS;
 use std::error::Error;
 
@@ -45,93 +43,6 @@ fn the_first_bad_argument_of_an_opening_is_told() {
     assert_eq!(open(&SETTINGS, &[1], 0, 1, NAMES_END + 1), Some(Fault::BadName));
     assert_eq!(open(&SETTINGS, &[1], NAMES_END, 0, NAMES_END), Some(Fault::BadMoment));
     assert_eq!(open(&SETTINGS, &[1], 0, 0, 1), Some(Fault::BadFirst));
-}
-
-#[test]
-fn a_restore_ends_the_term() {
-    let mut job = with_checkpoint_1();
-    let files = [9, 7, 4, 5, 6, 8, 7];
-    assert_eq!(job.garbage(&files), sorted(&[4], &[9, 8]));
-    let from = Choice::Checkpoint(1);
-    let restored = Answer::Restored { from, released: 0 };
-    assert_eq!(job.restore(2100, None, None), Ok(restored));
-    assert_eq!(job.term(), term(2, 8));
-    let old = fenced(Fenced::OldTerm);
-    assert_eq!(job.ack_in(1, 2200, 2, (0, 0), &[7], &[]), old);
-    assert_eq!(job.decline_in(1, 2200, 2, (0, 0)), old);
-    assert_eq!(job.forfeit(1, &files), fenced(Fenced::OldTerm));
-    assert_eq!(job.ack_in(2, 2200, 2, (0, 0), &[7], &[]), fenced(Fenced::Spent(7)));
-    assert_eq!((job.term(), job.moment()), (term(2, 8), 2100));
-    assert_eq!(job.file_counts().in_use, 2);
-    assert_eq!(job.reserve(2, 1), Ok(8..9));
-    let late = Answer::AckLate { handed_out: 1 };
-    assert_eq!(job.ack_in(2, 2300, 2, (0, 0), &[8], &[]), Ok(late));
-    assert_eq!(job.take(&mut [0; 2]), Ok(&[8][..]));
-    assert_eq!(job.garbage(&files), sorted(&[7, 4, 7], &[9]));
-}
-
-#[test]
-fn an_advance_goes_on_above_what_was_told() {
-    let mut job = with_checkpoint_1();
-    assert_eq!(job.advance(2100, 9, 0), Err(Fault::BadName));
-    assert_eq!(job.advance(2100, NAMES_END, 20), fenced(Fenced::TermsUsedUp));
-    assert_eq!(job.term(), term(1, 8));
-    let from = Choice::Checkpoint(1);
-    let restored = Answer::Restored { from, released: 0 };
-    assert_eq!(job.advance(2100, 9, 20), Ok(restored));
-    assert_eq!(job.term(), term(10, 20));
-    assert_eq!(job.garbage(&[5, 7, 19, 20]), sorted(&[7, 19], &[20]));
-    assert_eq!(job.reserve(9, 1), fenced(Fenced::OldTerm));
-    assert_eq!(job.reserve(10, 1), Ok(20..21));
-}
-
-#[test]
-fn forfeited_names_are_garbage() {
-    let mut job = with_checkpoint_1();
-    for _ in 0..2 {
-        assert_eq!(job.forfeit(1, &[7, 5, 99]), Ok(()));
-        assert_eq!(job.garbage(&[5, 7, 99]), sorted(&[7], &[99]));
-    }
-    assert_eq!(job.ack_in(1, 2000, 2, (0, 0), &[7], &[]), fenced(Fenced::Spent(7)));
-    assert_eq!(job.forfeit(1, &[]), Ok(()));
-    assert_eq!(job.garbage(&[]), sorted(&[], &[]));
-}
-
-#[test]
-fn a_task_declines_in_its_term() {
-    let mut job = with_checkpoint_1();
-    let failed = Answer::DeclineFailed { released: 0 };
-    assert_eq!(job.decline_in(1, 2000, 2, (0, 0)), Ok(failed));
-    job.cancel(2000).unwrap();
-    assert_eq!(job.term(), term(2, 8));
-    assert_eq!(job.reserve(2, 1), fenced(Fenced::Ended));
-}
-
-#[test]
-fn a_fence_is_above_each_known_file() {
-    let mut job = Coordinator::open(&SETTINGS, &[1], 0, 1).unwrap();
-    job.tick(1000).unwrap();
-    job.ack(1000, 1, (0, 0), &[5], &[]).unwrap();
-    assert_eq!(job.fence(0), Err(Fault::BadName));
-    assert_eq!(job.fence(5), fenced(Fenced::NameInUse));
-    assert_eq!(job.term(), fenced(Fenced::NoNames));
-    assert_eq!((job.fence(6), job.term()), (Ok(()), term(1, 6)));
-    assert_eq!(job.fence(7), fenced(Fenced::HasNames));
-    assert_eq!(job.garbage(&[4, 5, 6]), sorted(&[4], &[6]));
-}
-
-#[test]
-fn a_coordinator_without_names_has_none() {
-    let mut job = Coordinator::open(&SETTINGS, &[1], 0, 1).unwrap();
-    assert_eq!(job.term(), fenced(Fenced::NoNames));
-    assert_eq!(job.reserve(0, 0), fenced(Fenced::NoNames));
-    assert_eq!(job.forfeit(0, &[5]), fenced(Fenced::NoNames));
-    assert_eq!(job.garbage(&[5]), fenced(Fenced::NoNames));
-    let none = fenced(Fenced::NoNames);
-    assert_eq!(job.ack_in(0, 0, 1, (0, 0), &[5], &[]), none);
-    assert_eq!(job.decline_in(0, 0, 1, (0, 0)), none);
-    job.tick(1000).unwrap();
-    assert_eq!(job.ack(1000, 1, (0, 0), &[5], &[]), COMPLETED);
 }
 
 #[test]
