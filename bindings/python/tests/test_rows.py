@@ -72,7 +72,7 @@ def by_method(job, line):
     name, term = type(call).__name__.lower(), vars(call).get("term")
     if isinstance(call, (calls.Fence, calls.Reserve, calls.Forfeit, calls.Advance)):
         reply = getattr(job, name)(*vars(call).values())
-        return {"fence": Named(), "forfeit": Forfeited(), "reserve": reply and Reserved(reply.start, len(reply))}.get(name, reply)
+        return Reserved(reply.start, len(reply)) if name == "reserve" else reply or {"fence": Named(), "forfeit": Forfeited()}[name]
     return getattr(job, f"{name}_in")(term, *numbers_of(call)) if term else getattr(job, name)(*numbers_of(call))
 
 
