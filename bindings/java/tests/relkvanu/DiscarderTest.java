@@ -14,6 +14,7 @@ import java.time.Duration;
 import java.util.ArrayList;
 import java.util.Collections;
 import java.util.List;
+import java.util.concurrent.CopyOnWriteArrayList;
 import java.util.concurrent.CountDownLatch;
 import java.util.concurrent.atomic.AtomicInteger;
 import java.util.function.BooleanSupplier;
@@ -54,7 +55,7 @@ class DiscarderTest {
 
     @Test
     void itDeletesRetriesAndGivesUp() throws Exception {
-        List<Long> tries = Collections.synchronizedList(new ArrayList<>());
+        List<Long> tries = new CopyOnWriteArrayList<>(); // frequency reads it while others add
         Delete delete = file -> {
             tries.add(file);
             if (file == 1 || file == 2 && Collections.frequency(tries, 2L) <= 2) {

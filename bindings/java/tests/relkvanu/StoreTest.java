@@ -20,6 +20,7 @@ import java.util.List;
 import java.util.Map;
 import java.util.Optional;
 import java.util.concurrent.Callable;
+import java.util.concurrent.CopyOnWriteArrayList;
 import java.util.concurrent.ExecutionException;
 import java.util.concurrent.ExecutorService;
 import java.util.concurrent.Executors;
@@ -249,7 +250,7 @@ class StoreTest {
 
     @Test
     void aDiscarder() throws Exception {
-        List<Long> tries = Collections.synchronizedList(new ArrayList<>());
+        List<Long> tries = new CopyOnWriteArrayList<>(); // frequency reads it while others add
         Store job = open(creates().withStorage(storage));
         for (String file : List.of("1", "2", "11", "12")) {
             Files.createFile(storage.resolve(file));
