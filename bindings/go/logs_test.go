@@ -81,9 +81,10 @@ func makeLog(t *testing.T, name string, log []loggedLine, call func(*relkvanu.Co
 	}
 }
 
+var ways = map[string]func(*relkvanu.Coordinator, int, []byte) string{"lines": byLines, "methods": byMethods, "calls": byCalls}
+
 // TestNamesInLogs makes the calls of each log by lines, by methods, and by lines that are written again.
 func TestNamesInLogs(t *testing.T) {
-	ways := map[string]func(*relkvanu.Coordinator, int, []byte) string{"lines": byLines, "methods": byMethods, "calls": byCalls}
 	for name, log := range logs(t) {
 		for how, call := range ways {
 			makeLog(t, name+" by "+how, loggedLines(log), call)

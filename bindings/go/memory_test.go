@@ -5,6 +5,7 @@ package relkvanu_test
 import (
 	"errors"
 	"fmt"
+	"regexp"
 	"testing"
 
 	"relkvanu"
@@ -61,87 +62,49 @@ func told(t *testing.T, job *relkvanu.Coordinator, takesMemory bool, wanted stri
 	}
 }
 
-func TestCallsWithoutMemory(t *testing.T) {
-	job := must(relkvanu.Open(settings, []uint64{2}, 0, 1))
-	defer job.Close()
-	first, second := relkvanu.Subtask{}, relkvanu.Subtask{Index: 1}
-	type it = *relkvanu.Coordinator
-	told(t, job, true, "tick expired 0 triggered 1", said(func(job it) (relkvanu.Ticked, error) { return job.Tick(1000) }))
-	told(t, job, true, "ack pending 1", said(func(job it) (relkvanu.Acked, error) { return job.Ack(1100, 1, first, []uint64{1, 2}, nil) }))
-	must(job.Savepoint(1200))
-	told(t, job, true, "ack completed 0 0", said(func(job it) (relkvanu.Acked, error) { return job.Ack(1300, 1, second, []uint64{3}, nil) }))
-	must(job.Tick(2000))
-	must(job.Ack(2100, 3, first, []uint64{4}, []uint64{1}))
-	told(t, job, true, "ack completed 1 2", said(func(job it) (relkvanu.Acked, error) { return job.Ack(2100, 3, second, []uint64{5}, nil) }))
-	told(t, job, true, "restored checkpoint 3 0", said(func(job it) (relkvanu.Restored, error) { return job.Restore(2200, []uint64{1, 3}) }))
-	told(t, job, true, "[2]", said(func(job it) ([]uint64, error) { return job.Take(make([]uint64, 1)) }))
-	told(t, job, true, "tick expired 0 triggered 4", said(func(job it) (relkvanu.Reply, error) { return job.Line([]byte("tick 3300")) }))
-	told(t, job, true, "ack pending 3", said(func(job it) (relkvanu.Reply, error) { return job.Line([]byte("ack 3300 4 0.0 +7 =1")) }))
-	told(t, job, true, "take 3", said(func(job it) (relkvanu.Reply, error) { return job.Line([]byte("take 5")) }))
-	told(t, job, false, "decline failed 1", said(func(job it) (relkvanu.Declined, error) { return job.Decline(3300, 4, first) }))
-	told(t, job, false, "cancelled 1 3", said(func(job it) (relkvanu.Cancelled, error) { return job.Cancel(3400) }))
-	told(t, job, false, "<nil>", func(job it) (string, error) { err := job.Deleted(2); return fmt.Sprint(err), err })
-}
+// These calls take no memory, but if their lines are written.
+var takesNone = regexp.MustCompile(`^(in \d+ )?(decline|cancel|deleted|undeleted|count) `)
 
-// toldAnew makes the call of a coordinator that is made anew each time, so that it has no room to spare, with all requests from another one on
-// refused: a call that has room for less asks for less.
-func toldAnew(t *testing.T, opened func() *relkvanu.Coordinator, wanted string, make call) {
-	t.Helper()
-	job := opened()
-	heap.Refuse(0)
-	must(make(job))
-	requests, refused := heap.Requests(), 0
-	job.Close()
-	for nth := uint64(1); nth <= requests; nth++ {
-		job := opened()
-		before := string(must(job.Save()))
-		heap.RefuseFrom(nth)
-		answer, err := make(job)
-		heap.Refuse(0)
-		if errors.Is(err, relkvanu.ErrNoMemory) {
-			refused++
-			equal(t, string(must(job.Save())), before)
-			answer, err = make(job)
+// refusing makes the call of a line in this way, and on copies of the job with each request refused, alone and with all after it. A refused call
+// changes nothing, and is made again. It counts the refusals.
+func refusing(t *testing.T, refusals *int, how string) func(*relkvanu.Coordinator, int, []byte) string {
+	call := ways[how]
+	return func(job *relkvanu.Coordinator, number int, line []byte) string {
+		before := copyOf(job)
+		defer before.Close()
+		image, wanted := string(must(before.Save())), call(job, number, line)
+		for _, refuse := range []func(uint64){heap.Refuse, heap.RefuseFrom} {
+			for nth, more := uint64(1), true; more; nth++ {
+				copy := copyOf(before)
+				refuse(nth)
+				answer := call(copy, number, line)
+				more = heap.Requests() >= nth
+				heap.Refuse(0)
+				if answer == "error "+relkvanu.ErrNoMemory.Error()+"\n" {
+					*refusals++
+					equal(t, how != "calls" && takesNone.Match(line), false)
+					equal(t, string(must(copy.Save())), image)
+					answer = call(copy, number, line)
+				}
+				equal(t, answer, wanted)
+				equal(t, string(must(copy.Save())), string(must(job.Save())))
+				copy.Close()
+			}
 		}
-		equal(t, fmt.Sprint(answer, err), wanted+"<nil>")
-		job.Close()
+		return wanted
 	}
-	equal(t, refused > 0, true)
 }
 
-// withNames is a job in which a task has reserved so many names from 5 on, and checkpoint 1 is pending.
-func withNames(held uint64) func() *relkvanu.Coordinator {
-	return func() *relkvanu.Coordinator {
-		job := must(relkvanu.OpenFenced(settings, []uint64{1}, 0, 1, 5))
-		if held > 0 {
-			must(job.Reserve(1, held))
+func TestLogsWithoutMemory(t *testing.T) {
+	for how := range ways {
+		refusals := 0
+		for name, log := range logs(t) {
+			makeLog(t, name+" by "+how, loggedLines(log), refusing(t, &refusals, how))
 		}
-		must(job.Tick(1000))
-		return job
+		if refusals < 500 {
+			t.Errorf("%s: %d refusals", how, refusals)
+		}
 	}
-}
-
-func TestNamesWithoutMemory(t *testing.T) {
-	type it = *relkvanu.Coordinator
-	none := func(err error) (string, error) { return "none", err }
-	toldAnew(t, withNames(0), "reserved 5", said(func(job it) (relkvanu.Reserved, error) { return job.Reserve(1, 3) }))
-	toldAnew(t, withNames(3), "none", func(job it) (string, error) { return none(job.Forfeit(1, []uint64{6})) })
-	toldAnew(t, withNames(3), "ack completed 0 0", said(func(job it) (relkvanu.Acked, error) {
-		return job.AckIn(1, 1000, 1, relkvanu.Subtask{}, []uint64{7, 5}, nil)
-	}))
-	plain := func() *relkvanu.Coordinator {
-		job := must(relkvanu.Open(settings, []uint64{1}, 0, 1))
-		must(job.Tick(1000))
-		must(job.Ack(1000, 1, relkvanu.Subtask{}, []uint64{4}, nil))
-		return job
-	}
-	toldAnew(t, plain, "none", func(job it) (string, error) { return none(job.Fence(5)) })
-	job := withNames(3)()
-	defer job.Close()
-	told(t, job, false, "decline failed 0", said(func(job it) (relkvanu.Declined, error) { return job.DeclineIn(1, 1100, 1, relkvanu.Subtask{}) }))
-	told(t, job, false, "{1 8}", said(func(job it) (relkvanu.RunningTerm, error) { return job.Term() }))
-	told(t, job, false, "{[4] [8]}", said(func(job it) (relkvanu.Garbage, error) { return job.Garbage([]uint64{4, 5, 6, 7, 8}) }))
-	told(t, job, false, "restored fresh 0", said(func(job it) (relkvanu.Restored, error) { return job.Restore(2100, nil) }))
 }
 
 func TestTextsAndReadsWithoutMemory(t *testing.T) {

@@ -94,7 +94,7 @@ func byCalls(job *relkvanu.Coordinator, number int, line []byte) string {
 	}
 	again, err := call.Line()
 	if err != nil {
-		return err.Error()
+		return printed(number, nil, err)
 	}
 	return byLines(job, number, again)
 }
@@ -257,7 +257,7 @@ func TestRows(t *testing.T) {
 			t.Fatal(err)
 		}
 		isOther := strings.Contains("\n"+string(others), "\n"+name+"\n")
-		for how, call := range map[string]func(*relkvanu.Coordinator, int, []byte) string{"lines": byLines, "methods": byMethods, "calls": byCalls} {
+		for how, call := range ways {
 			output, is := run(t, path, call)
 			if is == isOther {
 				t.Errorf("%s: a list of calls: %v", name, is)
