@@ -1,14 +1,20 @@
 """Memory that runs out, over a library whose heap refuses one request after the other (bindings/c/refusing_heap.c): a call that fails for
 that reason says so and has changed nothing, and is made again."""
 import ctypes
+import itertools
 import os
+import re
 import unittest
 
+import test_names
+import test_rows
+
 from relkvanu import (
-    AckCompleted, AckPending, Cancelled, Coordinator, DeclineFailed, Deleted, Fenced, OutOfMemory, RestoredCheckpoint, Settings,
-    Taken, Triggered, calls, lines,
+    AckCompleted, AckPending, BadArgument, BadLine, Coordinator, Fenced, OutOfMemory, Refused, Settings, Triggered, calls, lines,
 )
 
+# These calls take no memory.
+TAKES_NONE = re.compile(rb"(in \d+ )?(decline|cancel|deleted|undeleted|count) ")
 SETTINGS = Settings(interval=1000, at_once=2, timeout=5000)
 HEAP = ctypes.CDLL(os.path.join(os.environ["RELKVANU_LIB"], "librelkvanu.so.0"))
 HEAP.heap_refuse.argtypes = [ctypes.c_uint64]
@@ -65,17 +71,6 @@ class Memory(unittest.TestCase):
         self.told(job, lambda it: it.ack(2100, 3, 0, 0, [4], [1]), AckPending(missing=1))
         self.told(job, lambda it: it.ack(2100, 3, 0, 1, [5]), AckCompleted(dropped=1, released=2))
 
-    def test_calls(self):
-        with Coordinator(SETTINGS, [2], 0) as job:
-            self.with_checkpoint_3(job)
-            self.told(job, lambda it: it.restore(2200, None, [1, 3]), RestoredCheckpoint(id=3, released=0))
-            self.told(job, lambda it: it.take(1), Taken(files=(2,)))
-            self.told(job, lambda it: it.line(b"tick 3300"), Triggered(expired=0, id=4))
-            self.told(job, lambda it: it.line(b"ack 3300 4 0.0 +7 =1"), AckPending(missing=3))
-            self.told(job, lambda it: it.decline(3300, 4, 0, 0), DeclineFailed(released=1), takes_memory=False)
-            self.told(job, lambda it: it.cancel(3400), Cancelled(dropped=1, released=3), takes_memory=False)
-            self.told(job, lambda it: it.deleted(2), Deleted(file=2), takes_memory=False)
-
     def test_texts_and_reads(self):
         with Coordinator(SETTINGS, [2], 0) as job:
             self.with_checkpoint_3(job)
@@ -111,42 +106,40 @@ class Memory(unittest.TestCase):
             with self.opens(lambda: Coordinator.open_saved(job.save())) as again:
                 self.assertEqual((again.save(), again.show(3).files), (job.save(), job.show(3).files))
 
-    def told_with_names(self, held, call, reply):
-        """Makes the call of a job whose term holds so many names from 5 on, each time with all requests from another one on refused."""
-        files = range(4, 10)
+    def refusing(self, make):
+        """Makes the call of a line so, and on copies of the coordinator with each request refused, alone and with all after it."""
+        def outcome(job, line):
+            try:
+                return make(job, line)
+            except (BadArgument, BadLine, Fenced, Refused) as error:
+                return error
 
-        def opened():
-            job = Coordinator.open_fenced(SETTINGS, [1], 0, 1, 5)
-            if held:
-                job.reserve(1, held)
-            job.tick(1000)
-            return job
+        def made(job, line):
+            image = job.save()
+            with Coordinator.open_saved(image) as copy:
+                _, requests = requests_of(lambda: outcome(copy, line))
+            told = outcome(job, line)
+            for refuse, nth in itertools.product((HEAP.heap_refuse, HEAP.heap_refuse_from), range(1, requests + 1)):
+                with Coordinator.open_saved(image) as copy:
+                    again = refused(nth, lambda: (outcome(copy, line),), refuse)
+                    if again is None:
+                        self.refusals += 1
+                        self.assertIsNone(TAKES_NONE.match(line), line)
+                        self.assertEqual(copy.save(), image)
+                        again = (outcome(copy, line),)
+                    self.assertEqual((repr(again[0]), copy.save()), (repr(told), job.save()), line)
+            if isinstance(told, Exception):
+                raise told
+            return told
 
-        with opened() as job:
-            _, requests = requests_of(lambda: call(job))
-        faults = 0
-        for nth in range(1, requests + 1):
-            with opened() as job:
-                before = job.term(), job.garbage(files), job.file_counts()
-                told = refused(nth, lambda: (call(job),), HEAP.heap_refuse_from)
-                if told is None:
-                    faults += 1
-                    self.assertEqual((job.term(), job.garbage(files), job.file_counts()), before)
-                    told = (call(job),)
-                self.assertEqual(told, (reply,), nth)
-        self.assertGreater(faults, 0)
+        return made
 
-    def test_names(self):
-        self.told_with_names(0, lambda it: it.reserve(1, 3), range(5, 8))
-        self.told_with_names(3, lambda it: it.forfeit(1, [6]), None)
-        self.told_with_names(3, lambda it: it.ack_in(1, 1000, 1, 0, 0, [7, 5]), AckCompleted(dropped=0, released=0))
-        with Coordinator(SETTINGS, [1], 0) as job:
-            job.tick(1000)
-            job.ack(1000, 1, 0, 0, [4])
-            self.assertIsNone(refused(1, lambda: (job.fence(5),), HEAP.heap_refuse_from))
-            self.assertRaises(Fenced, job.term)
-            job.fence(5)
-            self.assertEqual(job.term(), (1, 5))
+    def test_logs(self):
+        for make in (Coordinator.line, test_rows.by_method):
+            self.refusals = 0
+            for log in test_names.logs().values():
+                test_names.replay(self, log, self.refusing(make))
+            self.assertGreater(self.refusals, 500)
 
 
 if __name__ == "__main__":

@@ -110,47 +110,46 @@ def read(job, name, *words):
     return texts.get(type(told), lambda: str(told))()
 
 
-class Logs(unittest.TestCase):
+def printed(job, line, make):
+    """What a line prints: a second line has the term that began, if there are names."""
+    if line.startswith("? "):
+        return [read(job, *line.split()[1:])]
+    try:
+        told = test_rows.told(job, 0, line.encode(), make)
+    except Fenced as error:
+        return [f"refused {error}" if error.name in ("NoNames", "HasNames", "NameInUse") else f"fenced {error}"]
+    if told and told[0].startswith(("restored ", "cancelled ")):
+        with contextlib.suppress(Fenced):
+            told.append(f"term {job.term().term}")
+    return told
+
+
+def replay(test, log, make):
+    """Makes the calls of a log so, and compares what each prints."""
+    calls_of_log = [it for it in log.strip().split("\n") if not it.startswith("#")]
+    settings, shape, start = (lines.line_says(line.encode()) for line in calls_of_log[:3])
+    wanted, found = [], []
+    with Coordinator(settings, shape.shape, start.now) as job:
+        for line, _, answer in (it.partition("->") for it in calls_of_log[3:]):
+            wanted.append(answer.strip())
+            found += printed(job, line.strip(), make) if line.strip() else []
+    test.assertEqual(found, wanted)
+    test.assertGreater(len(found), 5)
+
+
+def logs():
     """The example of docs/LOGS.md and the logs of examples/logs and examples/reads, whose answers stand beside their lines."""
+    found = {it.stem: it.read_text() for folder in ("logs", "reads") for it in sorted((TOP / "examples" / folder).glob("*.log"))}
+    return {"page": (TOP / "docs/LOGS.md").read_text().partition("## 5. An example")[2].split("```")[1], **found}
 
-    @staticmethod
-    def printed(job, line, make):
-        """What a line prints: a second line has the term that began, if there are names."""
-        if line.startswith("? "):
-            return [read(job, *line.split()[1:])]
-        try:
-            told = test_rows.told(job, 0, line.encode(), make)
-        except Fenced as error:
-            return [f"refused {error}" if error.name in ("NoNames", "HasNames", "NameInUse") else f"fenced {error}"]
-        if told and told[0].startswith(("restored ", "cancelled ")):
-            with contextlib.suppress(Fenced):
-                told.append(f"term {job.term().term}")
-        return told
 
-    def replay(self, log):
-        for make in (Coordinator.line, test_rows.by_method):
-            self.replay_by(make, log)
-
-    def replay_by(self, make, log):
-        calls_of_log = [it for it in log.strip().split("\n") if not it.startswith("#")]
-        settings, shape, start = (lines.line_says(line.encode()) for line in calls_of_log[:3])
-        wanted, found = [], []
-        with Coordinator(settings, shape.shape, start.now) as job:
-            for line, _, answer in (it.partition("->") for it in calls_of_log[3:]):
-                wanted.append(answer.strip())
-                found += self.printed(job, line.strip(), make) if line.strip() else []
-        self.assertEqual(found, wanted)
-        self.assertGreater(len(found), 5)
-
-    def test_the_example_of_the_page(self):
-        self.replay((TOP / "docs/LOGS.md").read_text().partition("## 5. An example")[2].split("```")[1])
-
+class Logs(unittest.TestCase):
     def test_logs(self):
-        logs = [*sorted((TOP / "examples/logs").glob("*.log")), *sorted((TOP / "examples/reads").glob("*.log"))]
-        self.assertGreater(len(logs), 13)
-        for log in logs:
-            with self.subTest(log.stem):
-                self.replay(log.read_text())
+        self.assertGreater(len(logs()), 14)
+        for name, log in logs().items():
+            for make in (Coordinator.line, test_rows.by_method):
+                with self.subTest(name):
+                    replay(self, log, make)
 
 
 if __name__ == "__main__":

@@ -24,7 +24,7 @@ import org.junit.jupiter.api.TestFactory;
 class LogsTest {
     private static final Path PAGE = Path.of(System.getProperty("logs"));
     private static final Path FOLDER = Path.of(System.getProperty("rows")).getParent();
-    private static final Map<String, BiFunction<Coordinator, byte[], Optional<Reply>>> WAYS =
+    static final Map<String, BiFunction<Coordinator, byte[], Optional<Reply>>> WAYS =
         Map.of("lines", Coordinator::line, "methods", Words::byMethod, "lines that are written again", Words::writtenAgain);
 
     /** The lines of a log, with the answers beside each and below it. */
@@ -45,7 +45,7 @@ class LogsTest {
     }
 
     /** Makes the calls of a log, and compares what each prints. A line with two answers began a term. */
-    private static void makes(String log, BiFunction<Coordinator, byte[], Optional<Reply>> make) {
+    static void makes(String log, BiFunction<Coordinator, byte[], Optional<Reply>> make) {
         List<byte[]> lines = new ArrayList<>();
         Map<Integer, List<String>> answers = answers(log, lines);
         Script script = new Script(lines);
@@ -77,8 +77,8 @@ class LogsTest {
         return each("the page", example);
     }
 
-    @TestFactory
-    Stream<DynamicTest> logsOfNamesAndOfReads() throws IOException {
+    /** Those of names, and of reads. */
+    static Map<String, String> logs() throws IOException {
         Map<String, String> logs = new java.util.TreeMap<>();
         for (String folder : List.of("logs", "reads")) {
             try (Stream<Path> found = Files.list(FOLDER.resolve(folder))) {
@@ -88,7 +88,12 @@ class LogsTest {
             }
         }
         assertTrue(logs.size() >= 14, logs.keySet().toString());
-        return logs.entrySet().stream().flatMap(log -> each(log.getKey(), log.getValue()));
+        return logs;
+    }
+
+    @TestFactory
+    Stream<DynamicTest> eachLog() throws IOException {
+        return logs().entrySet().stream().flatMap(log -> each(log.getKey(), log.getValue()));
     }
 
     @Test
