@@ -39,6 +39,49 @@ relkvanu_store_options storage_options(uint32_t flags, uint64_t image_calls) {
     return options;
 }
 
+bool exists(const char *name) {
+    return access(in(name), F_OK) == 0;
+}
+
+void make_empty(const char *name) {
+    int file = open(in(name), O_CREAT | O_WRONLY | O_EXCL, 0600);
+    CHECK(file >= 0, "%s", name);
+    close(file);
+}
+
+void lose_job(void) {
+    static const char *const names[] = {"x.db", "x.db-wal", "x.db-shm", "x.db.lock"};
+    for (size_t i = 0; i < 4; i++) {
+        CHECK(unlink(in(names[i])) == 0 || errno == ENOENT, "%s", names[i]);
+    }
+}
+
+uint64_t wait_of(relkvanu_store *store) {
+    uint64_t wait;
+    CHECK(relkvanu_store_next_tick(store, &wait) == RELKVANU_STORE_OK, "next_tick");
+    return wait;
+}
+
+relkvanu_store_job_phase phase_of(relkvanu_store *store) {
+    relkvanu_store_job_phase phase;
+    CHECK(relkvanu_store_phase(store, &phase) == RELKVANU_STORE_OK, "the phase");
+    return phase;
+}
+
+relkvanu_counts counts_of(relkvanu_store *store) {
+    relkvanu *handle;
+    CHECK(relkvanu_store_read(store, &handle) == RELKVANU_STORE_OK, "no read");
+    relkvanu_counts counts = relkvanu_file_counts(handle);
+    relkvanu_store_read_end(store);
+    return counts;
+}
+
+relkvanu_answer acked_at_0(relkvanu_store *store, uint64_t term, uint64_t id, uint16_t index, uint64_t file) {
+    relkvanu_answer answer;
+    CHECK(relkvanu_store_ack_in(store, term, 0, id, 0, index, &file, 1, NULL, 0, &answer) == RELKVANU_STORE_OK, "an acknowledgement");
+    return answer;
+}
+
 relkvanu_answer done(relkvanu_store *store, uint32_t kind, uint64_t now, uint64_t number) {
     relkvanu_store_call call = {.call = {.kind = kind, .now = now, .number = number}};
     int status = relkvanu_store_calls(store, &call, 1);

@@ -12,6 +12,18 @@ extern relkvanu_store_report report; /* of the last opening */
 
 relkvanu_store_options storage_options(uint32_t flags, uint64_t image_calls);
 
+bool exists(const char *name);     /* in the folder of the case */
+void make_empty(const char *name); /* a file, which is not there yet */
+void lose_job(void);               /* removes x.db and what SQLite has beside it */
+
+/* What a store says of itself: how long a timer waits, whether the job has stopped, and how many files there are. */
+uint64_t wait_of(relkvanu_store *store);
+relkvanu_store_job_phase phase_of(relkvanu_store *store);
+relkvanu_counts counts_of(relkvanu_store *store);
+
+/* The acknowledgement of subtask 0.index at the moment 0, with one file. */
+relkvanu_answer acked_at_0(relkvanu_store *store, uint64_t term, uint64_t id, uint16_t index, uint64_t file);
+
 /* A call of one kind with a number, and its answer, which has to be RELKVANU_DONE. */
 relkvanu_answer done(relkvanu_store *store, uint32_t kind, uint64_t now, uint64_t number);
 

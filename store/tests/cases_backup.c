@@ -13,10 +13,6 @@ enum { CALLERS = 4, BACKUPS = 5, LISTS = 10 };
 
 static char message[RELKVANU_STORE_MESSAGE];
 
-static bool has(const char *name) {
-    return access(in(name), F_OK) == 0;
-}
-
 static void write_file(const char *name, const char *text) {
     FILE *to = fopen(in(name), "w");
     CHECK(to != NULL && fputs(text, to) >= 0 && fclose(to) == 0, "%s", name);
@@ -39,7 +35,8 @@ static void backs_up(relkvanu_store *store, const char *name, int status) {
 }
 
 static void check_no_part(void) {
-    CHECK(!has("b.db.part") && !has("b.db.part-wal") && !has("b.db.part-journal") && !has("b.db-wal") && !has("b.db-journal"),
+    CHECK(
+        !exists("b.db.part") && !exists("b.db.part-wal") && !exists("b.db.part-journal") && !exists("b.db-wal") && !exists("b.db-journal"),
         "a part is left");
 }
 
@@ -128,7 +125,7 @@ static void a_backup_with_images(void) {
 static void flags_of_a_backup(void) {
     relkvanu_store_options options = job_options(RELKVANU_STORE_CREATE | RELKVANU_STORE_BACKUP, 0);
     opens(&options, RELKVANU_STORE_ABSENT);
-    CHECK(!has("x.db"), "a job");
+    CHECK(!exists("x.db"), "a job");
     options.flags = RELKVANU_STORE_CREATE;
     relkvanu_store *store = opens(&options, RELKVANU_STORE_OK);
     backs_up(store, "b.db", RELKVANU_STORE_OK);
@@ -191,7 +188,7 @@ static void a_job_in_the_way(void) {
     relkvanu_store_close(other);
     relkvanu_store *store = opens(&options, RELKVANU_STORE_OK);
     backs_up(store, "b.db", RELKVANU_STORE_PRESENT);
-    CHECK(!has("b.db"), "a backup");
+    CHECK(!exists("b.db"), "a backup");
     relkvanu_store_close(store);
     CHECK(recovers("b.db.part", RELKVANU_STORE_RECOVER) == 2 * CHECKPOINT_CALLS, "%" PRIu64 " calls", calls_of(&report));
 }
@@ -221,7 +218,7 @@ static void of_a_closed_store(void) {
     relkvanu_store_call call = {.call = {.kind = RELKVANU_CALL_SAVEPOINT}};
     CHECK(relkvanu_store_calls(store, &call, 1) == RELKVANU_STORE_FAILED, "a commit");
     backs_up(store, "b.db", RELKVANU_STORE_CLOSED);
-    CHECK(!has("b.db"), "a backup");
+    CHECK(!exists("b.db"), "a backup");
     check_no_part();
     relkvanu_store_close(store);
 }
@@ -233,7 +230,7 @@ static int backs_up_forked(void *store) {
 static void in_a_forked_child(void) {
     relkvanu_store_options options = job_options(RELKVANU_STORE_CREATE, 0);
     relkvanu_store *store = opens(&options, RELKVANU_STORE_OK);
-    CHECK(in_child(backs_up_forked, store) == RELKVANU_STORE_FORKED && !has("b.db"), "a child");
+    CHECK(in_child(backs_up_forked, store) == RELKVANU_STORE_FORKED && !exists("b.db"), "a child");
     check_no_part();
     relkvanu_store_close(store);
 }
@@ -363,7 +360,7 @@ static bool has_files(uint64_t first) {
     for (uint64_t file = first; file < first + SUBTASKS; file++) {
         char name[40];
         snprintf(name, sizeof name, "storage/%" PRIu64, file);
-        found += has(name);
+        found += exists(name);
     }
     CHECK(found == 0 || found == SUBTASKS, "%u files from %" PRIu64 " on", found, first);
     return found != 0;

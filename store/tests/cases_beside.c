@@ -441,13 +441,6 @@ static void payloads_of_a_stop(void) {
     CHECK(parts_of(0) == SUBTASKS, "%zu rows", parts_of(0));
 }
 
-static void lose_job(void) {
-    static const char *const names[] = {"x.db", "x.db-wal", "x.db-shm", "x.db.lock"};
-    for (size_t i = 0; i < 4; i++) {
-        CHECK(unlink(in(names[i])) == 0 || errno == ENOENT, "%s", names[i]);
-    }
-}
-
 /* Manifests have payloads, and the order of files. So do recoveries, exports and imports. */
 static void payloads_of_manifests(void) {
     relkvanu_store_options options = storage_options(RELKVANU_STORE_CREATE | RELKVANU_STORE_MANIFESTS, 0);

@@ -98,12 +98,6 @@ static void moments(void) {
     relkvanu_store_close(store);
 }
 
-static uint64_t wait_of(relkvanu_store *store) {
-    uint64_t wait;
-    CHECK(relkvanu_store_next_tick(store, &wait) == RELKVANU_STORE_OK, "next_tick");
-    return wait;
-}
-
 /* A job that triggers each minute, one at once, and fails with the first that fails. */
 static void the_next_tick(void) {
     relkvanu_store_options options = job_options(RELKVANU_STORE_CREATE, 0);

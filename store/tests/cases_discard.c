@@ -66,14 +66,6 @@ static void checkpoint_with_files(relkvanu_store *store, uint64_t file) {
     checkpoint(store, file);
 }
 
-static relkvanu_counts counts_of(relkvanu_store *store) {
-    relkvanu *handle;
-    CHECK(relkvanu_store_read(store, &handle) == RELKVANU_STORE_OK, "a read");
-    relkvanu_counts counts = relkvanu_file_counts(handle);
-    relkvanu_store_read_end(store);
-    return counts;
-}
-
 /* Waits until so many files wait or are taken. */
 static void await_released(relkvanu_store *store, uint64_t files) {
     relkvanu_counts counts = {0};

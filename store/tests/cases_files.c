@@ -6,16 +6,6 @@
 #include <sys/stat.h>
 #include <unistd.h>
 
-static bool has(const char *name) {
-    return access(in(name), F_OK) == 0;
-}
-
-static void make_file(const char *name) {
-    int file = open(in(name), O_CREAT | O_WRONLY | O_EXCL, 0600);
-    CHECK(file >= 0, "%s", name);
-    close(file);
-}
-
 static relkvanu_store *opened(void) {
     relkvanu_store_options options = storage_options(RELKVANU_STORE_CREATE, 0);
     return opens(&options, RELKVANU_STORE_OK);
@@ -30,7 +20,7 @@ static void put_and_read(void) {
     int file = openat(relkvanu_store_folder(store), "18446744073709551615", O_RDONLY);
     CHECK(read(file, found, sizeof found) == 5 && memcmp(found, "state", 5) == 0, "%s", found);
     close(file);
-    CHECK(has("storage/0") && !has("storage/0.part"), "the folder");
+    CHECK(exists("storage/0") && !exists("storage/0.part"), "the folder");
     relkvanu_store_close(store);
 }
 
@@ -39,11 +29,11 @@ static void a_number_is_put_once(void) {
     struct stat found;
     CHECK(relkvanu_store_put(store, 7, "first", 5) == RELKVANU_STORE_OK, "put");
     CHECK(relkvanu_store_put(store, 7, "another", 7) == RELKVANU_STORE_PRESENT, "put again");
-    CHECK(stat(in("storage/7"), &found) == 0 && found.st_size == 5 && !has("storage/7.part"), "the first");
-    make_file("storage/8.part"); /* of a task that may go on */
-    CHECK(relkvanu_store_put(store, 8, "state", 5) == RELKVANU_STORE_PRESENT && has("storage/8.part") && !has("storage/8"), "a part");
+    CHECK(stat(in("storage/7"), &found) == 0 && found.st_size == 5 && !exists("storage/7.part"), "the first");
+    make_empty("storage/8.part"); /* of a task that may go on */
+    CHECK(relkvanu_store_put(store, 8, "state", 5) == RELKVANU_STORE_PRESENT && exists("storage/8.part") && !exists("storage/8"), "a part");
     CHECK(symlink(in("elsewhere"), in("storage/9.part")) == 0, "a link");
-    CHECK(relkvanu_store_put(store, 9, "state", 5) == RELKVANU_STORE_PRESENT && !has("elsewhere"), "a link that is followed");
+    CHECK(relkvanu_store_put(store, 9, "state", 5) == RELKVANU_STORE_PRESENT && !exists("elsewhere"), "a link that is followed");
     relkvanu_store_close(store);
 }
 
@@ -55,7 +45,7 @@ static void one_that_can_not_be_written(void) {
     int status = relkvanu_store_put(store, 7, contents, sizeof contents), error = errno;
     limit_files(0);
     CHECK(status == RELKVANU_STORE_NOT_PUT && error == EFBIG, "status %d, errno %d", status, error);
-    CHECK(!has("storage/7") && !has("storage/7.part"), "a file is left");
+    CHECK(!exists("storage/7") && !exists("storage/7.part"), "a file is left");
     CHECK(relkvanu_store_put(store, 7, contents, sizeof contents) == RELKVANU_STORE_OK, "the same number once more");
     relkvanu_store_close(store);
 }
@@ -64,7 +54,7 @@ static void no_marker(void) {
     relkvanu_store *store = opened();
     size_t left = 1;
     CHECK(rename(in("storage/.relkvanu-job"), in("marker")) == 0, "marker");
-    CHECK(relkvanu_store_put(store, 7, "state", 5) == RELKVANU_STORE_STORAGE && !has("storage/7"), "put");
+    CHECK(relkvanu_store_put(store, 7, "state", 5) == RELKVANU_STORE_STORAGE && !exists("storage/7"), "put");
     CHECK(relkvanu_store_sweep(store, &left) == RELKVANU_STORE_STORAGE && left == 0, "sweep");
     relkvanu_store_close(store);
 }
@@ -86,12 +76,12 @@ static void deletes(void) {
     relkvanu_store *store = opened();
     uint64_t files[] = {1, 2, 3, 4};
     uint8_t is_gone[4] = {0};
-    make_file("storage/1");
-    make_file("storage/2.part");
+    make_empty("storage/1");
+    make_empty("storage/2.part");
     CHECK(mkdir(in("storage/3"), 0700) == 0, "a folder");
     relkvanu_store_delete_files(store, files, 4, is_gone);
     CHECK(is_gone[0] && is_gone[1] && !is_gone[2] && is_gone[3], "%d %d %d %d", is_gone[0], is_gone[1], is_gone[2], is_gone[3]);
-    CHECK(!has("storage/1") && !has("storage/2.part") && has("storage/3"), "the folder");
+    CHECK(!exists("storage/1") && !exists("storage/2.part") && exists("storage/3"), "the folder");
     relkvanu_store_close(store);
 }
 
@@ -105,19 +95,19 @@ static void sweeps(void) {
     checkpoint(store, 100);
     for (uint64_t file = 100; file < 500 + 2 * SUBTASKS; file++) {
         snprintf(name, sizeof name, "storage/%" PRIu64 "%s", file, file % 2 == 0 || file < 100 + 2 * SUBTASKS ? "" : ".part");
-        make_file(name);
+        make_empty(name);
     }
-    make_file("storage/notes");
-    make_file("storage/0100");
-    CHECK(relkvanu_store_sweep(store, &left) == RELKVANU_STORE_OK && left == 0 && has("storage/200"), "a sweep while tasks run");
+    make_empty("storage/notes");
+    make_empty("storage/0100");
+    CHECK(relkvanu_store_sweep(store, &left) == RELKVANU_STORE_OK && left == 0 && exists("storage/200"), "a sweep while tasks run");
     done(store, RELKVANU_CALL_RESTORE, RELKVANU_STORE_NOW, 0);
     CHECK(mkdir(in("storage/9"), 0700) == 0, "a folder");
     CHECK(relkvanu_store_sweep(store, &left) == RELKVANU_STORE_OK && left == 1, "%zu are left", left);
     for (uint64_t file = 100; file < 500 + 2 * SUBTASKS; file++) {
         snprintf(name, sizeof name, "storage/%" PRIu64 "%s", file, file % 2 == 0 || file < 100 + 2 * SUBTASKS ? "" : ".part");
-        CHECK(has(name) == (file < 100 + 2 * SUBTASKS), "%s", name);
+        CHECK(exists(name) == (file < 100 + 2 * SUBTASKS), "%s", name);
     }
-    CHECK(has("storage/notes") && has("storage/0100") && has("storage/9"), "other files");
+    CHECK(exists("storage/notes") && exists("storage/0100") && exists("storage/9"), "other files");
     relkvanu_store_close(store);
 }
 

@@ -41,14 +41,6 @@ static void *discards(void *with) {
     return NULL;
 }
 
-static relkvanu_counts counts_of(relkvanu_store *store) {
-    relkvanu *handle;
-    CHECK(relkvanu_store_read(store, &handle) == RELKVANU_STORE_OK, "no read");
-    relkvanu_counts counts = relkvanu_file_counts(handle);
-    relkvanu_store_read_end(store);
-    return counts;
-}
-
 /* How many files are not reported as deleted. */
 static uint64_t left_in(relkvanu_store *store) {
     relkvanu_counts counts = counts_of(store);
@@ -171,10 +163,6 @@ int sqlite3_exec(sqlite3 *db, const char *sql, int (*row)(void *, int, char **, 
     return its(db, sql, row, with, message);
 }
 
-static bool is_there(const char *name) {
-    return access(in(name), F_OK) == 0;
-}
-
 /* A copy that is damaged is no backup, and neither is one that is not synced. */
 static void bad_copies(void) {
     char words[RELKVANU_STORE_MESSAGE];
@@ -182,11 +170,11 @@ static void bad_copies(void) {
     relkvanu_store *store = opens(&options, RELKVANU_STORE_OK);
     is_damaged = true;
     int got = relkvanu_store_backup(store, in("b.db"), words, sizeof words);
-    CHECK(got == RELKVANU_STORE_NOT_PUT && !is_there("b.db") && !is_there("b.db.part"), "status %d: %s", got, words);
+    CHECK(got == RELKVANU_STORE_NOT_PUT && !exists("b.db") && !exists("b.db.part"), "status %d: %s", got, words);
     is_damaged = false;
     fail_syncs("/b.db.part", EIO);
     got = relkvanu_store_backup(store, in("b.db"), words, sizeof words);
-    CHECK(got != RELKVANU_STORE_OK && !is_there("b.db"), "status %d: %s", got, words);
+    CHECK(got != RELKVANU_STORE_OK && !exists("b.db"), "status %d: %s", got, words);
     fail_syncs("", 0);
     CHECK(relkvanu_store_backup(store, in("b.db"), words, sizeof words) == RELKVANU_STORE_OK, "%s", words);
     relkvanu_store_close(store);

@@ -15,10 +15,6 @@ enum { MOST_RECORDS = 32 };
 static relkvanu_store_record records[MOST_RECORDS];
 static size_t records_len;
 
-static bool has(const char *name) {
-    return access(in(name), F_OK) == 0;
-}
-
 static bool note_record(void *with, const relkvanu_store_record *record) {
     CHECK(with == records && records_len < MOST_RECORDS, "a record");
     records[records_len++] = *record;
@@ -33,18 +29,12 @@ static size_t list_records(void) {
     return records_len;
 }
 
-static void lose_job(void) {
-    static const char *const names[] = {"x.db", "x.db-wal", "x.db-shm", "x.db.lock"};
-    for (size_t i = 0; i < 4; i++) {
-        CHECK(unlink(in(names[i])) == 0 || errno == ENOENT, "%s", names[i]);
-    }
-}
-
 static void recovers(uint64_t record, int status) {
     int got = relkvanu_store_recover(in("x.db"), in("storage"), record, &recovered);
     CHECK(got == status, "status %d, not %d: %s", got, status, recovered.message);
     CHECK((recovered.message[0] == 0) == (status == RELKVANU_STORE_OK), "%s", recovered.message);
-    CHECK(!has(".x.db.relkvanu-new") && !has(".x.db.relkvanu-new-wal") && !has(".x.db.relkvanu-new-shm") && !has(".x.db.relkvanu-new.lock"),
+    CHECK(!exists(".x.db.relkvanu-new") && !exists(".x.db.relkvanu-new-wal") && !exists(".x.db.relkvanu-new-shm") &&
+              !exists(".x.db.relkvanu-new.lock"),
         "a new file is left");
 }
 
@@ -132,12 +122,13 @@ static void manifests_of_records(void) {
     CHECK(completes(store, 1, RELKVANU_CALL_SAVEPOINT, &first) == 2, "the number");
     CHECK(says_of(2, "json_extract(?1,'$.kind')='savepoint'") == 1 && says_of(2, "json_extract(?1,'$.chosen')") == 0, "the savepoint");
     CHECK(completes(store, 1, RELKVANU_CALL_TRIGGER, &first) == 3, "the number");
-    CHECK(!has("storage/record-1.manifest") && has("storage/record-2.manifest") && has("storage/record-3.manifest"), "the manifests");
+    CHECK(!exists("storage/record-1.manifest") && exists("storage/record-2.manifest") && exists("storage/record-3.manifest"),
+        "the manifests");
     CHECK(list_records() == 2 && records[0].id == 2 && records[1].id == 3, "%zu records", records_len);
     CHECK(records[0].is_savepoint && !records[1].is_savepoint && !records[0].is_next && records[1].is_next, "what they are");
     CHECK(records[0].is_of_job && records[0].missing == 0 && records[0].files == 8 && records[1].bytes == 36, "their files");
     done(store, RELKVANU_CALL_DISPOSE, 0, 2);
-    CHECK(!has("storage/record-2.manifest") && has("storage/record-3.manifest"), "a manifest of what was disposed of");
+    CHECK(!exists("storage/record-2.manifest") && exists("storage/record-3.manifest"), "a manifest of what was disposed of");
     relkvanu_store_measure(store, &measures, sizeof measures);
     CHECK(measures.manifests == 3 && measures.failed_manifests == 0, "%" PRIu64 " manifests", measures.manifests);
     relkvanu_store_close(store);
@@ -153,9 +144,9 @@ static void manifests_are_asked_for(void) {
     options.flags &= ~RELKVANU_STORE_MANIFESTS;
     store = opens(&options, RELKVANU_STORE_OK);
     completes(store, 1, RELKVANU_CALL_TRIGGER, NULL);
-    CHECK(!has("storage/record-2.manifest") && has("storage/record-1.manifest"), "the manifests");
+    CHECK(!exists("storage/record-2.manifest") && exists("storage/record-1.manifest"), "the manifests");
     CHECK(relkvanu_store_sweep(store, &left) == RELKVANU_STORE_OK && left == 0, "a sweep");
-    CHECK(!has("storage/record-1.manifest") && list_records() == 0, "a manifest is left");
+    CHECK(!exists("storage/record-1.manifest") && list_records() == 0, "a manifest is left");
     relkvanu_store_close(store);
     options.flags |= RELKVANU_STORE_MANIFESTS; /* what should be there is written at an opening */
     store = opens(&options, RELKVANU_STORE_OK);
@@ -181,7 +172,7 @@ static void a_sweep_of_manifests(void) {
     for (size_t i = 0; i < 8; i++) {
         char name[PATHS];
         snprintf(name, sizeof name, "storage/%s", i < 5 ? foreign[i] : stale[i - 5]);
-        CHECK(has(name) == (i < 5), "%s", name);
+        CHECK(exists(name) == (i < 5), "%s", name);
     }
     CHECK(list_records() == 1 && records[0].id == 1, "the manifest of the choice is gone");
     relkvanu_store_close(store);
@@ -197,14 +188,15 @@ static void manifests_that_fail(void) {
     completes(store, 1, RELKVANU_CALL_TRIGGER, NULL);
     relkvanu_store_measure(store, &measures, sizeof measures);
     CHECK(measures.manifests == 1 && measures.failed_manifests >= 1, "%" PRIu64 " failed", measures.failed_manifests);
-    CHECK(has("storage/record-1.manifest") && !has("storage/record-2.manifest") && !has("storage/record-2.manifest.part"), "the manifests");
+    CHECK(exists("storage/record-1.manifest") && !exists("storage/record-2.manifest") && !exists("storage/record-2.manifest.part"),
+        "the manifests");
     fail_syncs("", 0);
-    while (!has("storage/record-2.manifest")) { /* once a commit comes a second later */
+    while (!exists("storage/record-2.manifest")) { /* once a commit comes a second later */
         relkvanu_answer answer;
         CHECK(relkvanu_store_reserve(store, 1, 1, &answer) == RELKVANU_STORE_OK, "a name");
         nanosleep(&(struct timespec){0, 10000000}, NULL);
     }
-    CHECK(!has("storage/record-1.manifest"), "one that ended is left");
+    CHECK(!exists("storage/record-1.manifest"), "one that ended is left");
     uint64_t failed = measures.failed_manifests, id = trigger(store, RELKVANU_CALL_TRIGGER).b, file = 0;
     relkvanu_answer answer;
     for (uint16_t i = 0; i + 1 < SUBTASKS; i++) {
@@ -214,7 +206,7 @@ static void manifests_that_fail(void) {
     int status = relkvanu_store_ack_in(store, 1, RELKVANU_STORE_NOW, id, 0, SUBTASKS - 1, NULL, 0, &file, 1, &answer);
     CHECK(status == RELKVANU_STORE_OK && answer.what == RELKVANU_ACK_COMPLETED, "status %d, what %" PRIu32, status, answer.what);
     relkvanu_store_measure(store, &measures, sizeof measures);
-    CHECK(measures.failed_manifests > failed && has("storage/record-2.manifest"), "the folder is not synced");
+    CHECK(measures.failed_manifests > failed && exists("storage/record-2.manifest"), "the folder is not synced");
     fail_syncs("", 0);
     relkvanu_store_close(store);
 }
@@ -285,7 +277,7 @@ static void a_lost_job(void) {
     goes_on(store, pending, 1, late + 1);
     char left[PATHS];
     snprintf(left, sizeof left, "storage/%" PRIu64, late);
-    CHECK(!has(left) && list_records() == 1 && records[0].missing == 0, "what is left");
+    CHECK(!exists(left) && list_records() == 1 && records[0].missing == 0, "what is left");
     relkvanu_store_close(store);
     lose_job();
     CHECK(rename(in("old.db"), in("x.db")) == 0, "the old file");
@@ -376,7 +368,8 @@ static void damaged_manifests(void) {
     }
     close(file);
     recovers(0, RELKVANU_STORE_DAMAGED);
-    CHECK(strstr(recovered.message, "record-2.manifest") != NULL && strstr(recovered.message, "number of a record") != NULL && !has("x.db"),
+    CHECK(strstr(recovered.message, "record-2.manifest") != NULL && strstr(recovered.message, "number of a record") != NULL &&
+              !exists("x.db"),
         "%s", recovered.message);
     recovers(1, RELKVANU_STORE_OK);
     CHECK(recovered.record == 1 && recovered.is_savepoint && recovered.passed == 1, "record %" PRIu64, recovered.record);
@@ -419,7 +412,7 @@ static void a_job_beside_a_recovery(void) {
     CHECK(relkvanu_store_open(&other, in("x.db.new"), &beside, &report) == RELKVANU_STORE_OK, "%s", report.message);
     relkvanu_store_close(other);
     recovers(0, RELKVANU_STORE_OK);
-    CHECK(has("x.db.new"), "the job beside it is gone");
+    CHECK(exists("x.db.new"), "the job beside it is gone");
 }
 
 /* A process that was told to end may not have ended. It puts nothing more once the record is chosen, also if the recovery then comes to an end. */
@@ -430,7 +423,7 @@ static void a_recovery_fences_first(void) {
     CHECK(relkvanu_store_recover(in("z.db"), in("storage"), 9, &recovered) == RELKVANU_STORE_ABSENT, "%s", recovered.message);
     CHECK(relkvanu_store_put(store, 5000, "x", 1) == RELKVANU_STORE_OK, "a recovery that was refused has fenced it");
     fail_syncs("/.z.db.relkvanu-new", EIO);
-    CHECK(relkvanu_store_recover(in("z.db"), in("storage"), 0, &recovered) != RELKVANU_STORE_OK && !has("z.db"), "no sync fails");
+    CHECK(relkvanu_store_recover(in("z.db"), in("storage"), 0, &recovered) != RELKVANU_STORE_OK && !exists("z.db"), "no sync fails");
     fail_syncs("", 0);
     CHECK(relkvanu_store_put(store, 5001, "x", 1) == RELKVANU_STORE_STORAGE, "the old job puts a file");
     relkvanu_store_close(store);
@@ -445,7 +438,7 @@ static void a_marker_that_cannot_be_read(void) {
     completes(store, 1, RELKVANU_CALL_TRIGGER, NULL);
     relkvanu_store_close(store);
     CHECK(rename(in("storage/.relkvanu-job"), in("storage/kept")) == 0 && symlink("kept", in("storage/.relkvanu-job")) == 0, "a link");
-    CHECK(relkvanu_store_export(in("storage"), 0, in("out"), &carried) == RELKVANU_STORE_STORAGE && !has("out"), "%s", carried.message);
+    CHECK(relkvanu_store_export(in("storage"), 0, in("out"), &carried) == RELKVANU_STORE_STORAGE && !exists("out"), "%s", carried.message);
     CHECK(
         relkvanu_store_claim(in("storage"), 0, in("y.db"), in("elsewhere"), &recovered) == RELKVANU_STORE_STORAGE, "%s", recovered.message);
     CHECK(relkvanu_store_records(in("storage"), note_record, records, message, sizeof message) == RELKVANU_STORE_STORAGE, "%s", message);
@@ -550,7 +543,7 @@ static relkvanu_store_carried carried;
 static void exports(uint64_t record, const char *to, int status) {
     int got = relkvanu_store_export(in("storage"), record, in(to), &carried);
     CHECK(got == status, "status %d, not %d: %s", got, status, carried.message);
-    CHECK((carried.message[0] == 0) == (status == RELKVANU_STORE_OK) && !has("out.part"), "%s", carried.message);
+    CHECK((carried.message[0] == 0) == (status == RELKVANU_STORE_OK) && !exists("out.part"), "%s", carried.message);
 }
 
 /* How many names a folder has, and whether it has a file of so many bytes. */
@@ -585,7 +578,7 @@ static void an_export(void) {
     exports(savepoint, "other/", RELKVANU_STORE_OK);
     CHECK(carried.record == savepoint && carried.is_savepoint, "record %" PRIu64, carried.record);
     exports(9, "none", RELKVANU_STORE_ABSENT);
-    CHECK(!has("none") && mkdir(in("empty"), 0700) == 0, "a folder");
+    CHECK(!exists("none") && mkdir(in("empty"), 0700) == 0, "a folder");
     exports(id, "empty", RELKVANU_STORE_OK);
     completes(store, 1, RELKVANU_CALL_TRIGGER, NULL);
     done(store, RELKVANU_CALL_RESTORE, RELKVANU_STORE_NOW, 0);
@@ -601,7 +594,7 @@ static void an_export(void) {
 static void imports(const char *from, uint64_t record, int status) {
     int got = relkvanu_store_import(in(from), record, in("y.db"), in("elsewhere"), &recovered);
     CHECK(got == status, "status %d, not %d: %s", got, status, recovered.message);
-    CHECK(!has("elsewhere.part") && !has(".y.db.relkvanu-new") && (recovered.message[0] == 0) == (status == RELKVANU_STORE_OK), "%s",
+    CHECK(!exists("elsewhere.part") && !exists(".y.db.relkvanu-new") && (recovered.message[0] == 0) == (status == RELKVANU_STORE_OK), "%s",
         recovered.message);
 }
 
@@ -621,7 +614,7 @@ static void an_import(void) {
     uint64_t first = 0, job[2], id = completes(store, 1, RELKVANU_CALL_TRIGGER, &first);
     memcpy(job, report.job, sizeof job);
     imports("storage", 9, RELKVANU_STORE_ABSENT);
-    CHECK(!has("elsewhere") && !has("y.db"), "something is left");
+    CHECK(!exists("elsewhere") && !exists("y.db"), "something is left");
     imports("storage", 0, RELKVANU_STORE_OK);
     CHECK(recovered.record == id && recovered.files == 8 && recovered.term > 1, "record %" PRIu64, recovered.record);
     imports("storage", 0, RELKVANU_STORE_PRESENT);
@@ -654,13 +647,13 @@ static void an_import_that_goes_on(void) {
     relkvanu_store_close(store);
     CHECK(unlink(in("y.db")) == 0 && rename(in("elsewhere"), in("its")) == 0 && rename(in("storage"), in("elsewhere")) == 0, "the folders");
     imports("its", 0, RELKVANU_STORE_PRESENT);
-    CHECK(!has("y.db") && has_bytes("elsewhere", first, 1), "the folder of another job");
+    CHECK(!exists("y.db") && has_bytes("elsewhere", first, 1), "the folder of another job");
 }
 
 static void claims(const char *from, uint64_t record, const char *folder, int status) {
     int got = relkvanu_store_claim(in(from), record, in("y.db"), in(folder), &recovered);
     CHECK(got == status, "status %d, not %d: %s", got, status, recovered.message);
-    CHECK(!has("elsewhere.part") && !has(".y.db.relkvanu-new") && (recovered.message[0] == 0) == (status == RELKVANU_STORE_OK), "%s",
+    CHECK(!exists("elsewhere.part") && !exists(".y.db.relkvanu-new") && (recovered.message[0] == 0) == (status == RELKVANU_STORE_OK), "%s",
         recovered.message);
 }
 
@@ -678,7 +671,7 @@ static void a_claim(void) {
     int wal = open(in("y.db-wal"), O_WRONLY | O_CREAT | O_CLOEXEC, 0600);
     CHECK(wal >= 0 && write(wal, "x", 1) == 1 && close(wal) == 0, "a -wal");
     claims("storage", 0, "elsewhere", RELKVANU_STORE_PRESENT);
-    CHECK(unlink(in("y.db-wal")) == 0 && !has("elsewhere"), "a claim that was refused has made a folder");
+    CHECK(unlink(in("y.db-wal")) == 0 && !exists("elsewhere"), "a claim that was refused has made a folder");
     CHECK(relkvanu_store_put(store, 5000, "x", 1) == RELKVANU_STORE_OK, "it was fenced by a claim that was refused");
     claims("storage", 0, "elsewhere", RELKVANU_STORE_OK);
     CHECK(recovered.record == last.b && recovered.files == 9, "record %" PRIu64 ", %" PRIu64 " files", recovered.record, recovered.files);
@@ -721,7 +714,7 @@ static void a_claim_that_goes_on(void) {
     relkvanu_store_close(store);
     imports("out", 0, RELKVANU_STORE_OK);
     claims("out", 0, "elsewhere", RELKVANU_STORE_OK);
-    CHECK(recovered.record == id && recovered.files == 8 && !has("out"), "record %" PRIu64, recovered.record);
+    CHECK(recovered.record == id && recovered.files == 8 && !exists("out"), "record %" PRIu64, recovered.record);
     relkvanu_store *other = opens_other();
     CHECK(has_files(other, id, first), "its files");
     relkvanu_store_close(other);
@@ -749,7 +742,7 @@ static void an_export_over_itself(void) {
     completes(store, 1, RELKVANU_CALL_TRIGGER, &first);
     relkvanu_store_close(store);
     CHECK(rename(in("storage"), in("out.part")) == 0, "the folder");
-    CHECK(relkvanu_store_export(in("out.part"), 0, in("out"), &carried) == RELKVANU_STORE_PRESENT && !has("out"), "%s", carried.message);
+    CHECK(relkvanu_store_export(in("out.part"), 0, in("out"), &carried) == RELKVANU_STORE_PRESENT && !exists("out"), "%s", carried.message);
     CHECK(has_bytes("out.part", first, 1), "its files are gone");
 }
 

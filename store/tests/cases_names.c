@@ -18,10 +18,6 @@ static relkvanu_store *named_job(void) {
     return opens(&options, RELKVANU_STORE_OK);
 }
 
-static bool has(const char *name) {
-    return access(in(name), F_OK) == 0;
-}
-
 static void make_file(uint64_t number) {
     char name[40];
     snprintf(name, sizeof name, "storage/%" PRIu64, number);
@@ -33,7 +29,7 @@ static void make_file(uint64_t number) {
 static bool has_file(uint64_t number) {
     char name[40];
     snprintf(name, sizeof name, "storage/%" PRIu64, number);
-    return has(name);
+    return exists(name);
 }
 
 /* One call, and the store's status RELKVANU_STORE_OK. */
@@ -50,12 +46,6 @@ static uint64_t reserved(relkvanu_store *store, uint64_t term, uint64_t count) {
               answer.what == RELKVANU_RESERVED && answer.b == count,
         "code %" PRIu32 ", what %" PRIu32, answer.code, answer.what);
     return answer.a;
-}
-
-static relkvanu_answer acked(relkvanu_store *store, uint64_t term, uint64_t id, uint16_t index, uint64_t file) {
-    relkvanu_answer answer;
-    CHECK(relkvanu_store_ack_in(store, term, 0, id, 0, index, &file, 1, NULL, 0, &answer) == RELKVANU_STORE_OK, "an acknowledgement");
-    return answer;
 }
 
 static void fenced(relkvanu_answer answer, uint32_t why, uint64_t file) {
@@ -84,7 +74,7 @@ static uint64_t trigger(relkvanu_store *store) {
 static uint64_t complete(relkvanu_store *store, uint64_t term, uint64_t name) {
     uint64_t id = trigger(store);
     for (uint16_t i = 0; i < SUBTASKS; i++) {
-        CHECK(acked(store, term, id, i, name + i).code == RELKVANU_DONE, "subtask %u", i);
+        CHECK(acked_at_0(store, term, id, i, name + i).code == RELKVANU_DONE, "subtask %u", i);
     }
     return id;
 }
@@ -98,20 +88,20 @@ static void terms_and_names(void) {
     CHECK(reserved(store, 1, 10) == 1, "the first names");
     uint64_t first = complete(store, 1, 1);
     check_term(store, 1, 11);
-    fenced(acked(store, 1, first, 0, 1), RELKVANU_SPENT, 1);
-    fenced(acked(store, 1, first, 0, 11), RELKVANU_NEVER_RESERVED, 11);
-    fenced(acked(store, 0, first, 0, 9), RELKVANU_OLD_TERM, 0);
-    fenced(acked(store, 2, first, 0, 9), RELKVANU_OLD_TERM, 0);
+    fenced(acked_at_0(store, 1, first, 0, 1), RELKVANU_SPENT, 1);
+    fenced(acked_at_0(store, 1, first, 0, 11), RELKVANU_NEVER_RESERVED, 11);
+    fenced(acked_at_0(store, 0, first, 0, 9), RELKVANU_OLD_TERM, 0);
+    fenced(acked_at_0(store, 2, first, 0, 9), RELKVANU_OLD_TERM, 0);
     fenced(make_call(store, (relkvanu_call){.kind = RELKVANU_CALL_DECLINE, .number = first}).answer, RELKVANU_OLD_TERM, 0);
     fenced(make_call(store, (relkvanu_call){.kind = RELKVANU_CALL_RESERVE, .number = 0, .term = 1}).answer, RELKVANU_BAD_COUNT, 0);
     fenced(make_call(store, (relkvanu_call){.kind = RELKVANU_CALL_RESERVE, .number = 65537, .term = 1}).answer, RELKVANU_BAD_COUNT, 0);
-    relkvanu_answer late = acked(store, 1, first, 0, 9); /* the record is complete */
+    relkvanu_answer late = acked_at_0(store, 1, first, 0, 9); /* the record is complete */
     CHECK(late.code == RELKVANU_DONE && late.what == RELKVANU_ACK_LATE && late.a == 1, "what %" PRIu32 " %" PRIu64, late.what, late.a);
     uint64_t second = trigger(store);
     relkvanu_store_call restore = make_call(store, (relkvanu_call){.kind = RELKVANU_CALL_RESTORE, .now = RELKVANU_STORE_NOW});
     CHECK(restore.answer.what == RELKVANU_RESTORED_CHECKPOINT && restore.answer.b == first && restore.term == 2, "term %" PRIu64,
         restore.term);
-    fenced(acked(store, 1, second, 0, 9), RELKVANU_OLD_TERM, 0);
+    fenced(acked_at_0(store, 1, second, 0, 9), RELKVANU_OLD_TERM, 0);
     CHECK(reserved(store, 2, 3) == 11, "names are given once");
     relkvanu_store_close(store);
     relkvanu_store_options options = named_options(RELKVANU_STORE_RECOVER, 0);
@@ -279,7 +269,7 @@ static void adopts(void) {
     opens(&options, RELKVANU_STORE_STORAGE);
     options.flags |= RELKVANU_STORE_ADOPT;
     opens(&options, RELKVANU_STORE_STORAGE);
-    CHECK(says("2^62") && !has("storage/.relkvanu-job"), "%s", report.message);
+    CHECK(says("2^62") && !exists("storage/.relkvanu-job"), "%s", report.message);
     unlink(in("storage/4611686018427387904"));
     make_file(700);
     make_file(3);

@@ -8,10 +8,6 @@
 #include <sys/wait.h>
 #include <unistd.h>
 
-static bool exists(const char *name) {
-    return access(in(name), F_OK) == 0;
-}
-
 static void check_steps(const uint32_t *steps, size_t len) {
     CHECK(report.steps_len == len && memcmp(report.steps, steps, len * sizeof *steps) == 0, "%zu steps", report.steps_len);
 }

@@ -58,12 +58,6 @@ static int completes(relkvanu_store *store, uint64_t token) {
     return one.status;
 }
 
-static relkvanu_store_job_phase phase_of(relkvanu_store *store) {
-    relkvanu_store_job_phase phase;
-    CHECK(relkvanu_store_phase(store, &phase) == RELKVANU_STORE_OK, "the phase");
-    return phase;
-}
-
 /* A checkpoint now and other settings are calls of a list, and a timer gets the checkpoint. */
 static void submits_a_list(relkvanu_store *store) {
     const uint64_t settings[] = {1 << 30, 0, 2, 1 << 30, 7, 3, 0};

@@ -6,24 +6,14 @@
 #include <sys/stat.h>
 #include <unistd.h>
 
-static void make_file(const char *name) {
-    int file = open(in(name), O_CREAT | O_WRONLY | O_EXCL, 0600);
-    CHECK(file >= 0, "%s", name);
-    close(file);
-}
-
-static bool has(const char *name) {
-    return access(in(name), F_OK) == 0;
-}
-
 static void a_folder_with_files(void) {
     relkvanu_store_options options = storage_options(RELKVANU_STORE_CREATE, 0);
-    make_file("storage/17");
+    make_empty("storage/17");
     opens(&options, RELKVANU_STORE_STORAGE);
-    CHECK(says("17") && !has("x.db") && has("storage/17"), "%s", report.message);
+    CHECK(says("17") && !exists("x.db") && exists("storage/17"), "%s", report.message);
     options.flags |= RELKVANU_STORE_ADOPT;
     relkvanu_store_close(opens(&options, RELKVANU_STORE_OK));
-    CHECK(has("storage/17") && has("storage/.relkvanu-job"), "the folder");
+    CHECK(exists("storage/17") && exists("storage/.relkvanu-job"), "the folder");
     options.flags = RELKVANU_STORE_RECOVER;
     relkvanu_store_close(opens(&options, RELKVANU_STORE_OK));
 }
@@ -45,7 +35,7 @@ static void of_another_job(void) {
     relkvanu_store_close(opens(&options, RELKVANU_STORE_OK));
     CHECK(rename(in("x.db"), in("first.db")) == 0 && unlink(in("x.db-wal")) == 0, "x.db");
     opens(&options, RELKVANU_STORE_STORAGE); /* a new job */
-    CHECK(says("another job") && !has("x.db"), "%s", report.message);
+    CHECK(says("another job") && !exists("x.db"), "%s", report.message);
     CHECK(rename(in("storage/.relkvanu-job"), in("marker")) == 0, "marker");
     relkvanu_store_close(opens(&options, RELKVANU_STORE_OK));
     CHECK(rename(in("marker"), in("storage/.relkvanu-job")) == 0, "marker");
@@ -88,11 +78,11 @@ static void before_the_marker(void) {
     relkvanu_store_close(opens(&options, RELKVANU_STORE_OK));
     run_sql(in("x.db"), "UPDATE job SET storage = 1");
     CHECK(rename(in("storage/.relkvanu-job"), in("storage/.relkvanu-job.new")) == 0, "marker");
-    make_file("storage/5");
+    make_empty("storage/5");
     opens(&options, RELKVANU_STORE_STORAGE);
     unlink(in("storage/5"));
     relkvanu_store_close(opens(&options, RELKVANU_STORE_OK));
-    CHECK(has("storage/.relkvanu-job"), "no marker");
+    CHECK(exists("storage/.relkvanu-job"), "no marker");
     relkvanu_store_close(opens(&options, RELKVANU_STORE_OK));
     run_sql(in("x.db"), "UPDATE job SET storage = 1"); /* it ended after the marker */
     relkvanu_store_close(opens(&options, RELKVANU_STORE_OK));
@@ -131,7 +121,7 @@ static void a_full_storage(void) {
     fail_syncs("/storage/.relkvanu-job.new", ENOSPC);
     uint64_t epoch = report.epoch;
     relkvanu_store_close(opens(&options, RELKVANU_STORE_OK));
-    CHECK(report.epoch == epoch + 1 && has("storage/.relkvanu-job"), "epoch %" PRIu64, report.epoch);
+    CHECK(report.epoch == epoch + 1 && exists("storage/.relkvanu-job"), "epoch %" PRIu64, report.epoch);
 }
 
 /* A file system that can't sync a folder keeps no files of a job. */
@@ -147,7 +137,7 @@ static void a_folder_that_is_not_synced(void) {
     CHECK(relkvanu_store_storage(store, &storage) == RELKVANU_STORE_OK, "the folder");
     CHECK(relkvanu_store_put(store, file, "state", 5) == RELKVANU_STORE_OK, "a put");
     fail_syncs("/storage", EINVAL);
-    CHECK(relkvanu_store_put(store, 8, "state", 5) == RELKVANU_STORE_NOT_PUT && errno == EINVAL && !has("storage/8"), "errno %d", errno);
+    CHECK(relkvanu_store_put(store, 8, "state", 5) == RELKVANU_STORE_NOT_PUT && errno == EINVAL && !exists("storage/8"), "errno %d", errno);
     CHECK(storage.delete_files(storage.with, &file, 1, &outcome) == RELKVANU_STORAGE_FAILED && errno == EINVAL, "errno %d", errno);
     CHECK(outcome == RELKVANU_STORAGE_UNDELETED, "outcome %d", outcome);
     relkvanu_store_close(store);
@@ -157,7 +147,7 @@ static void a_folder_that_is_not_synced(void) {
 static void a_marker_that_is_a_link(void) {
     relkvanu_store_options options = storage_options(RELKVANU_STORE_CREATE, 0);
     struct stat found;
-    make_file("elsewhere");
+    make_empty("elsewhere");
     CHECK(symlink("../elsewhere", in("storage/.relkvanu-job.new")) == 0, "a link");
     opens(&options, RELKVANU_STORE_STORAGE);
     CHECK(says("a symbolic link is in the place of its marker: .relkvanu-job.new"), "%s", report.message);
@@ -166,19 +156,20 @@ static void a_marker_that_is_a_link(void) {
     relkvanu_store *store = opens(&options, RELKVANU_STORE_OK);
     CHECK(relkvanu_store_put(store, 7, "state", 5) == RELKVANU_STORE_OK, "a put");
     CHECK(rename(in("storage/.relkvanu-job"), in("marker")) == 0 && symlink("../marker", in("storage/.relkvanu-job")) == 0, "the marker");
-    CHECK(relkvanu_store_put(store, 8, "state", 5) == RELKVANU_STORE_STORAGE && !has("storage/8"), "a put beside a link");
+    CHECK(relkvanu_store_put(store, 8, "state", 5) == RELKVANU_STORE_STORAGE && !exists("storage/8"), "a put beside a link");
     relkvanu_storage storage;
     uint64_t file = 7;
     uint8_t outcome = 9;
     CHECK(relkvanu_store_storage(store, &storage) == RELKVANU_STORE_OK, "the folder");
-    CHECK(storage.delete_files(storage.with, &file, 1, &outcome) == RELKVANU_STORAGE_NOT_THERE && has("storage/7"), "outcome %d", outcome);
+    CHECK(
+        storage.delete_files(storage.with, &file, 1, &outcome) == RELKVANU_STORAGE_NOT_THERE && exists("storage/7"), "outcome %d", outcome);
     relkvanu_store_close(store);
     opens(&options, RELKVANU_STORE_STORAGE);
     CHECK(says("a symbolic link is in the place of its marker: .relkvanu-job"), "%s", report.message);
     CHECK(unlink(in("x.db")) == 0 && unlink(in("x.db-wal")) == 0 && unlink(in("marker")) == 0, "the job");
     options.flags |= RELKVANU_STORE_ADOPT;
     opens(&options, RELKVANU_STORE_STORAGE); /* the link leads nowhere now */
-    CHECK(says("the marker of another job") && !has("marker"), "%s", report.message);
+    CHECK(says("the marker of another job") && !exists("marker"), "%s", report.message);
 }
 
 /* Earlier versions wrote the first line alone. */
@@ -215,19 +206,20 @@ static void a_task_of_another_process(void) {
     CHECK(opens_task(in("storage"), report.job, epoch - 1) == RELKVANU_STORAGE_OTHER_JOB, "an earlier opening");
     CHECK(relkvanu_storage_open_task(&task, in("storage"), report.job, epoch) == RELKVANU_STORAGE_OK, "a task");
     CHECK(task.delete_files == NULL && task.list == NULL && task.check(task.with) == RELKVANU_STORAGE_OK, "a task deletes nothing");
-    CHECK(task.put(task.with, 7, "state", 5) == RELKVANU_STORAGE_OK && has("storage/7") && !has("storage/7.part"), "a put");
+    CHECK(task.put(task.with, 7, "state", 5) == RELKVANU_STORAGE_OK && exists("storage/7") && !exists("storage/7.part"), "a put");
     CHECK(task.put(task.with, 7, "other", 5) == RELKVANU_STORAGE_PRESENT, "a second put of the number");
     CHECK(task.get(task.with, 7, read, sizeof read, &len) == RELKVANU_STORAGE_OK && len == 5 && strcmp(read, "state") == 0, "%s", read);
     CHECK(task.get(task.with, 8, read, sizeof read, &len) == RELKVANU_STORAGE_ABSENT, "no file 8");
     fail_syncs("/storage", EINVAL);
-    CHECK(task.put(task.with, 9, "state", 5) == RELKVANU_STORAGE_FAILED && errno == EINVAL && !has("storage/9"), "a folder without syncs");
+    CHECK(
+        task.put(task.with, 9, "state", 5) == RELKVANU_STORAGE_FAILED && errno == EINVAL && !exists("storage/9"), "a folder without syncs");
     fail_syncs("/storage", 0);
     CHECK(rename(in("storage/.relkvanu-job"), in("marker")) == 0 && task.put(task.with, 10, "a", 1) == RELKVANU_STORAGE_NOT_THERE, "away");
     CHECK(rename(in("marker"), in("storage/.relkvanu-job")) == 0 && task.put(task.with, 10, "a", 1) == RELKVANU_STORAGE_OK, "back");
     relkvanu_store_close(store);
     store = opens(&options, RELKVANU_STORE_OK);
-    CHECK(
-        task.put(task.with, 11, "a", 1) == RELKVANU_STORAGE_OTHER_JOB && !has("storage/11") && !has("storage/11.part"), "a later opening");
+    CHECK(task.put(task.with, 11, "a", 1) == RELKVANU_STORAGE_OTHER_JOB && !exists("storage/11") && !exists("storage/11.part"),
+        "a later opening");
     CHECK(task.check(task.with) == RELKVANU_STORAGE_OTHER_JOB, "a later opening");
     relkvanu_storage_close_task(&task);
     CHECK(opens_task(in("storage"), report.job, report.epoch) == RELKVANU_STORAGE_OK, "the task of the later opening");

@@ -116,13 +116,6 @@ static bool has_text(const char *name, const char *words) {
     return strstr(text, words) != NULL;
 }
 
-static void lose_job(void) {
-    static const char *const names[] = {"x.db", "x.db-wal", "x.db-shm", "x.db.lock"};
-    for (size_t i = 0; i < 4; i++) {
-        CHECK(unlink(in(names[i])) == 0 || errno == ENOENT, "%s", names[i]);
-    }
-}
-
 /* They are in manifests if the engine asks for them, and not without manifests. */
 static void checksums_of_files(void) {
     uint64_t first;

@@ -16,10 +16,6 @@
 #include <time.h>
 #include <unistd.h>
 
-static bool has(const char *name) {
-    return access(in(name), F_OK) == 0;
-}
-
 static const char *unopened = "";
 static int open_error;
 
@@ -274,10 +270,10 @@ static void put_from_elsewhere(void) {
     struct stat found, given;
     struct source source = {.len = 1000003};
     CHECK(relkvanu_store_put_from(store, 1, gives, &source) == RELKVANU_STORE_OK, "a source");
-    CHECK(stat(in("storage/1"), &found) == 0 && found.st_size == 1000003 && !has("storage/1.part"), "%ld bytes", (long)found.st_size);
+    CHECK(stat(in("storage/1"), &found) == 0 && found.st_size == 1000003 && !exists("storage/1.part"), "%ld bytes", (long)found.st_size);
     source = (struct source){.len = 1000003, .fails_at = 500000};
     CHECK(relkvanu_store_put_from(store, 2, gives, &source) == RELKVANU_STORE_NOT_PUT && errno == EPIPE && why_says(EPIPE), "it fails");
-    CHECK(!has("storage/2") && !has("storage/2.part"), "a part is left");
+    CHECK(!exists("storage/2") && !exists("storage/2.part"), "a part is left");
     source = (struct source){.len = 5};
     CHECK(relkvanu_store_put_from(store, 1, gives, &source) == RELKVANU_STORE_PRESENT, "there is one");
     int file = open(in("made"), O_WRONLY | O_CREAT, 0600);
@@ -293,7 +289,7 @@ static void put_from_elsewhere(void) {
     fail_syncs("/storage", EIO);
     CHECK(relkvanu_store_put_link(store, 4, AT_FDCWD, in("made")) == RELKVANU_STORE_NOT_PUT && errno == EIO, "errno %d", errno);
     fail_syncs("", 0);
-    CHECK(!has("storage/4") && !has("storage/4.part") && has("made"), "a part is left");
+    CHECK(!exists("storage/4") && !exists("storage/4.part") && exists("made"), "a part is left");
     relkvanu_store_close(store);
 }
 
@@ -379,7 +375,7 @@ static void *does_all(void *with) {
         relkvanu_store_put(store, 1, "a", 1) == RELKVANU_STORE_OK && relkvanu_store_reserve(store, 1, 65536, &answer) == RELKVANU_STORE_OK,
         "a put");
     done(store, RELKVANU_CALL_RESTORE, 5, 0);
-    CHECK(relkvanu_store_sweep(store, &left) == RELKVANU_STORE_OK && left == 0 && !has("storage/1"), "a sweep");
+    CHECK(relkvanu_store_sweep(store, &left) == RELKVANU_STORE_OK && left == 0 && !exists("storage/1"), "a sweep");
     CHECK(relkvanu_store_discard_for(store, 0, 1, NULL, NULL) == RELKVANU_STORE_TIMED_OUT, "a discarder");
     CHECK(relkvanu_store_backup(store, in("b.db"), words, sizeof words) == RELKVANU_STORE_OK, "%s", words);
     relkvanu_store_close(store);

@@ -27,22 +27,10 @@ static relkvanu_store *reopened(relkvanu_store *store) {
     return opens(&options, RELKVANU_STORE_OK);
 }
 
-static relkvanu_store_job_phase phase_of(relkvanu_store *store) {
-    relkvanu_store_job_phase phase;
-    CHECK(relkvanu_store_phase(store, &phase) == RELKVANU_STORE_OK, "the phase");
-    return phase;
-}
-
 static void is_in(relkvanu_store *store, uint32_t phase, uint32_t failed, uint64_t savepoint, uint64_t term) {
     relkvanu_store_job_phase is = phase_of(store);
     CHECK(is.phase == phase && is.stop_failed == failed && is.savepoint == savepoint && is.term == term,
         "phase %" PRIu32 " %" PRIu32 ", savepoint %" PRIu64 ", term %" PRIu64, is.phase, is.stop_failed, is.savepoint, is.term);
-}
-
-static relkvanu_answer acked(relkvanu_store *store, uint64_t term, uint64_t id, uint16_t index, uint64_t file) {
-    relkvanu_answer answer;
-    CHECK(relkvanu_store_ack_in(store, term, 0, id, 0, index, &file, 1, NULL, 0, &answer) == RELKVANU_STORE_OK, "an acknowledgement");
-    return answer;
 }
 
 /* Acknowledges a record for the first subtasks, with a new file each. */
@@ -50,7 +38,7 @@ static relkvanu_answer acks(relkvanu_store *store, uint64_t term, uint64_t id, u
     relkvanu_answer names, answer = {0};
     CHECK(relkvanu_store_reserve(store, term, subtasks, &names) == RELKVANU_STORE_OK && names.code == RELKVANU_DONE, "names");
     for (uint16_t i = 0; i < subtasks; i++) {
-        answer = acked(store, term, id, i, names.a + i);
+        answer = acked_at_0(store, term, id, i, names.a + i);
         CHECK(answer.code == RELKVANU_DONE, "subtask %u: code %" PRIu32 ", what %" PRIu32, i, answer.code, answer.what);
     }
     return answer;
@@ -97,12 +85,6 @@ static relkvanu_answer asks(relkvanu_store *store, uint32_t kind, uint64_t now) 
     relkvanu_store_call call = {.call = {.kind = kind, .now = now}};
     CHECK(relkvanu_store_calls(store, &call, 1) == RELKVANU_STORE_OK, "kind %" PRIu32, kind);
     return call.answer;
-}
-
-static uint64_t wait_of(relkvanu_store *store) {
-    uint64_t wait;
-    CHECK(relkvanu_store_next_tick(store, &wait) == RELKVANU_STORE_OK, "next_tick");
-    return wait;
 }
 
 /* The log and the state are those of a second coordinator. */
@@ -291,7 +273,7 @@ static void a_stop(void) {
     relkvanu_answer name;
     CHECK(relkvanu_store_reserve(store, 1, 1, &name) == RELKVANU_STORE_OK, "a name");
     relkvanu_store_count(store, &before);
-    CHECK(acked(store, 1, id, SUBTASKS - 1, name.a).what == RELKVANU_ACK_COMPLETED, "the last acknowledgement");
+    CHECK(acked_at_0(store, 1, id, SUBTASKS - 1, name.a).what == RELKVANU_ACK_COMPLETED, "the last acknowledgement");
     relkvanu_store_count(store, &after);
     CHECK(after.commits == before.commits + 1 && after.calls == before.calls + 2, "one commit has both");
     is_in(store, RELKVANU_STORE_PHASE_STOPPED, 0, id, 2);
@@ -299,7 +281,7 @@ static void a_stop(void) {
         CHECK(awaits(store, i == 0 ? LONG : SHORT, &tick) == RELKVANU_STORE_JOB_STOPPED && tick.answer.a == (i == 0), "%" PRIu64,
             tick.answer.a);
     }
-    CHECK(acked(store, 1, id, 0, 1).code == RELKVANU_FENCED, "the term of the tasks has ended");
+    CHECK(acked_at_0(store, 1, id, 0, 1).code == RELKVANU_FENCED, "the term of the tasks has ended");
     nothing_begins(store);
     CHECK(wait_of(store) == UINT64_MAX, "a tick");
     is_as_logged(&store);
@@ -511,7 +493,7 @@ static void an_older_checkpoint(void) {
     CHECK(in_use(store) == SUBTASKS, "%" PRIu64 " files", in_use(store));
     CHECK(awaits(store, LONG, &tick) == RELKVANU_STORE_OK && tick.answer.what == RELKVANU_RESTORED_SAVEPOINT && tick.term == 2,
         "it is handed over");
-    CHECK(acked(store, 1, 4, 0, 1).code == RELKVANU_FENCED, "the term has ended");
+    CHECK(acked_at_0(store, 1, 4, 0, 1).code == RELKVANU_FENCED, "the term has ended");
     is_as_logged(&store);
     CHECK(report.choice.what == RELKVANU_CHOICE_SAVEPOINT && report.choice.a == 5, "the choice");
     completed(store, 2);
