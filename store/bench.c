@@ -370,24 +370,31 @@ static double complete(uint64_t files) {
     return seconds;
 }
 
-/* The last acknowledgement of a record of one file for each subtask, which were just written. */
-static double measure_record(const char *path, uint32_t flags) {
+/* Opens a new job that writes manifests. Returns its storage. */
+static const char *open_with_manifests(const char *path, uint32_t flags) {
     relkvanu_store_report report;
+    const char *storage = make_folder(path);
     uint64_t shape[VERTICES] = {1024, 1024, 1024, 1024};
     relkvanu_store_options options = {.flags = RELKVANU_STORE_CREATE_ONLY | RELKVANU_STORE_MANIFESTS | flags,
-        .storage = make_folder(path),
+        .storage = storage,
         .settings = {.interval = STEP, .at_once = 1, .timeout = UINT64_C(1) << 40, .retained = 1},
         .shape = shape,
         .shape_len = VERTICES};
     check("open", relkvanu_store_open(&store, path, &options, &report) == RELKVANU_STORE_OK, report.message);
     term = report.term;
+    return storage;
+}
+
+/* The last acknowledgement of a record of one file for each subtask, which were just written. */
+static double measure_record(const char *path, uint32_t flags) {
+    const char *storage = open_with_manifests(path, flags);
     for (uint64_t file = 1; file <= SUBTASKS; file++) {
         make_file(relkvanu_store_folder(store), file);
     }
     double took = complete(SUBTASKS);
     relkvanu_store_close(store);
     remove_job(path);
-    remove_folder(options.storage);
+    remove_folder(storage);
     return took;
 }
 
@@ -406,27 +413,19 @@ static void measure_checksums(const char *path, unsigned seconds) {
 
 /* A job whose file is lost, and made again. */
 static void measure_recovery(const char *path, uint64_t files) {
-    relkvanu_store_report report;
     relkvanu_store_recovered recovered;
-    uint64_t shape[VERTICES] = {1024, 1024, 1024, 1024};
-    relkvanu_store_options options = {.flags = RELKVANU_STORE_CREATE_ONLY | RELKVANU_STORE_MANIFESTS,
-        .storage = make_folder(path),
-        .settings = {.interval = STEP, .at_once = 1, .timeout = UINT64_C(1) << 40, .retained = 1},
-        .shape = shape,
-        .shape_len = VERTICES};
-    check("open", relkvanu_store_open(&store, path, &options, &report) == RELKVANU_STORE_OK, report.message);
-    term = report.term;
+    const char *storage = open_with_manifests(path, 0);
     make_files(relkvanu_store_folder(store), files / SUBTASKS * SUBTASKS);
     complete(files / SUBTASKS * SUBTASKS);
     relkvanu_store_close(store);
     remove_job(path);
     uint64_t began = now_ns();
     double processor = used();
-    check("recover", relkvanu_store_recover(path, options.storage, 0, &recovered) == RELKVANU_STORE_OK, recovered.message);
+    check("recover", relkvanu_store_recover(path, storage, 0, &recovered) == RELKVANU_STORE_OK, recovered.message);
     printf("%" PRIu64 " files: a recovery took %.3f s, %.3f of a processor\n", recovered.files, (double)(now_ns() - began) / 1e9,
         used() - processor);
     remove_job(path);
-    remove_folder(options.storage);
+    remove_folder(storage);
 }
 
 static void insert_rows(sqlite3 *db, sqlite3_stmt *insert, unsigned rows) {
