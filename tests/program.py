@@ -1,5 +1,6 @@
 """What the tests of the built program share: how it is run, over devices that fail, and what they count."""
 import os
+import re
 import shutil
 import subprocess
 import sys
@@ -32,14 +33,14 @@ def skip(tool, what):
 
 
 def examples():
-    """The examples and the rows beside them: a name, the script, its whole output, and the status that the program ends with."""
+    """The examples and the rows beside them: a name, the script, its whole output, and the status that the program ends with: 1 after a faulty line."""
     found = []
     for folder, script, output in [("examples", ".script", ".stdout"), ("examples/rows", ".in", ".out")]:
         for name in sorted(os.listdir(f"{TOP}/{folder}")):
             if name.endswith(script):
                 start = f"{TOP}/{folder}/{name[: -len(script)]}"
-                status = int(bytes_of(f"{start}.status")) if folder.endswith("rows") else 0
-                found.append((os.path.basename(start), bytes_of(start + script), bytes_of(start + output), status))
+                told = bytes_of(start + output)
+                found.append((os.path.basename(start), bytes_of(start + script), told, int(re.search(rb"^line \d+ fault ", told, re.M) is not None)))
     return found
 
 
