@@ -2,10 +2,13 @@
 //! that fails says so and has changed nothing, and is made again. The heap counts for one thread, so
 //! this is one test. It is empty without `--cfg refusing_heap`, since the library that is shipped has another heap.
 #![cfg(refusing_heap)]
+mod logs;
 mod settings;
 
-use relkvanu::{Answer, Call, Choice, Coordinator, Fault, Fenced, Said, Settings};
+use logs::{replay, Make, NO_MEMORY, WAYS};
+use relkvanu::{Answer, Call, Coordinator, Fault, Said, Settings};
 use settings::SETTINGS;
+use std::cell::Cell;
 
 extern "C" {
     fn heap_refuse(nth: u64);
@@ -13,23 +16,14 @@ extern "C" {
     fn heap_requests() -> u64;
 }
 
-/// Makes a call with its nth request for memory refused, or none if n is 0. Also returns how many requests there were.
-fn refused<T>(nth: u64, call: impl FnOnce() -> T) -> (T, u64) {
+/// Makes a call with its nth request for memory refused in one of the two ways, or none if n is 0. Also returns how many requests there were.
+fn refused<T>(way: unsafe extern "C" fn(u64), nth: u64, call: impl FnOnce() -> T) -> (T, u64) {
     // SAFETY: the functions take any number, and this is the only thread that uses the heap.
-    unsafe { heap_refuse(nth) };
+    unsafe { way(nth) };
     let told = call();
     let requests = unsafe { heap_requests() };
     unsafe { heap_refuse(0) };
     (told, requests)
-}
-
-/// Makes a call with all requests for memory from the nth on refused.
-fn refused_from<T>(nth: u64, call: impl FnOnce() -> T) -> T {
-    // SAFETY: as in `refused`.
-    unsafe { heap_refuse_from(nth) };
-    let told = call();
-    unsafe { heap_refuse(0) };
-    told
 }
 
 /// Makes the call of a coordinator; and of copies of it, each with another request refused.
@@ -42,13 +36,13 @@ fn told<T: PartialEq + std::fmt::Debug>(
     let image = job.save().unwrap();
     // A call may reuse room that an earlier one left. A copy has no such room.
     let mut copy = Coordinator::open_saved(image.as_bytes()).unwrap();
-    let (_, requests) = refused(0, || call(&mut copy));
+    let (_, requests) = refused(heap_refuse, 0, || call(&mut copy));
     assert_eq!(call(job).as_ref(), Ok(&wanted));
     let after = job.save().unwrap();
     let mut faults = 0;
     for nth in 1..=requests {
         let mut copy = Coordinator::open_saved(image.as_bytes()).unwrap();
-        let (mut answer, _) = refused(nth, || call(&mut copy));
+        let (mut answer, _) = refused(heap_refuse, nth, || call(&mut copy));
         if answer.is_err() {
             assert_eq!(answer, Err(Fault::Memory), "request {nth}");
             assert_eq!(copy.save().as_ref(), Ok(&image), "request {nth}");
@@ -63,10 +57,10 @@ fn told<T: PartialEq + std::fmt::Debug>(
 
 /// Opens a coordinator, once with all memory and once with each request refused. Returns the first.
 fn opened(open: impl Fn() -> Result<Coordinator, Fault>) -> Coordinator {
-    let (job, requests) = refused(0, || open().unwrap());
+    let (job, requests) = refused(heap_refuse, 0, || open().unwrap());
     let mut faults = 0;
     for nth in 1..=requests {
-        let (again, _) = refused(nth, &open);
+        let (again, _) = refused(heap_refuse, nth, &open);
         if let Err(fault) = &again {
             assert_eq!(*fault, Fault::Memory, "request {nth}");
             faults += 1;
@@ -106,24 +100,12 @@ fn make_checkpoint_3(job: &mut Coordinator) {
     );
 }
 
-fn calls(job: &mut Coordinator) {
-    let restored = Answer::Restored { from: Choice::Checkpoint(3), released: 0 };
-    let cancelled = Answer::Cancelled { dropped: 1, released: 3 };
-    told(job, true, |it| it.restore(2200, None, Some(&[1, 3])), restored);
-    told(job, true, |it| it.take(&mut [0]).map(<[u64]>::to_vec), vec![2]);
-    told(job, true, |it| it.line(b"tick 3300", &mut []).map(called), triggered(4));
+/// Reads that return lists.
+fn lists(job: &mut Coordinator) {
+    job.take(&mut [0]).unwrap();
+    job.tick(3300).unwrap();
     told(job, true, |it| it.pins_of(4), vec![1, 4, 5]);
     told(job, true, |it| it.taken_files(), vec![2]);
-    told(job, false, |it| it.decline(3300, 4, (0, 0)), Answer::DeclineFailed { released: 0 });
-    told(job, false, |it| it.cancel(3400), cancelled);
-    told(job, false, |it| it.deleted(2), Answer::Deleted(2));
-}
-
-fn called(said: Said) -> Answer {
-    match said {
-        Said::Called(answer) => answer,
-        other => panic!("{other:?}"),
-    }
 }
 
 fn texts(job: &mut Coordinator) {
@@ -147,49 +129,37 @@ fn texts(job: &mut Coordinator) {
     told(job, false, |_| said(b"show 3"), show);
 }
 
-/// Makes the call of a job whose term holds so many names from 5 on, each time with all requests from another one on refused.
-fn told_with_names<T: PartialEq + std::fmt::Debug>(
-    held: u64,
-    call: impl Fn(&mut Coordinator) -> Result<T, Fault>,
-    wanted: T,
-) {
-    let seen = |job: &Coordinator| (job.term(), job.garbage(&[4, 5, 6, 7, 8]), job.file_counts());
-    let open = || {
-        let mut job = Coordinator::open_fenced(&SETTINGS, &[1], 0, 1, 5).unwrap();
-        if held > 0 {
-            job.reserve(1, held).unwrap();
+/// Makes the call of a line so, on copies of a job with each request refused, alone and with all after it. A refused call changes nothing, and is made
+/// again. Returns how many were refused.
+fn refusals(job: &Coordinator, line: &str, make: Make) -> usize {
+    let image = job.save().unwrap();
+    let copy = || Coordinator::open_saved(image.as_bytes()).unwrap();
+    let mut whole = copy();
+    let (wanted, requests) = refused(heap_refuse, 0, || logs::told(&mut whole, line, make));
+    let mut refusals = 0;
+    for (way, nth) in
+        [heap_refuse, heap_refuse_from].into_iter().flat_map(|way| (1..=requests).map(move |nth| (way, nth)))
+    {
+        let mut job = copy();
+        let (mut answer, _) = refused(way, nth, || logs::told(&mut job, line, make));
+        if answer == [NO_MEMORY] {
+            assert_eq!(job.save().as_ref(), Ok(&image), "{line}: request {nth}");
+            refusals += 1;
+            answer = logs::told(&mut job, line, make);
         }
-        job.tick(1000).unwrap();
-        job
-    };
-    let (_, requests) = refused(0, || call(&mut open()));
-    let mut faults = 0;
-    for nth in 1..=requests {
-        let mut job = open();
-        let before = seen(&job);
-        let mut answer = refused_from(nth, || call(&mut job));
-        if answer.is_err() {
-            assert_eq!(answer, Err(Fault::Memory), "request {nth}");
-            assert_eq!(seen(&job), before, "request {nth}");
-            faults += 1;
-            answer = call(&mut job);
-        }
-        assert_eq!(answer.as_ref(), Ok(&wanted), "request {nth}");
+        assert_eq!((&answer, job.save()), (&wanted, whole.save()), "{line}: request {nth}");
     }
-    assert!(faults > 0);
+    refusals
 }
 
-fn names() {
-    told_with_names(0, |it| it.reserve(1, 3), 5..8);
-    told_with_names(3, |it| it.forfeit(1, &[6]), ());
-    let completed = Answer::AckCompleted { dropped: 0, released: 0 };
-    told_with_names(3, |it| it.ack_in(1, 1000, 1, (0, 0), &[7, 5], &[]), completed);
-    let mut job = Coordinator::open(&SETTINGS, &[1], 0, 1).unwrap();
-    job.tick(1000).unwrap();
-    job.ack(1000, 1, (0, 0), &[4], &[]).unwrap();
-    assert_eq!(refused_from(1, || job.fence(5)), Err(Fault::Memory));
-    assert_eq!(job.term(), Err(Fenced::NoNames.into()));
-    assert_eq!(job.fence(5), Ok(()));
+fn replayed() {
+    for make in WAYS {
+        let all = Cell::new(0);
+        for log in logs::logs() {
+            replay(&log, make, |job, line, make| all.set(all.get() + refusals(job, line, make)));
+        }
+        assert!(all.get() > 500, "{}", all.get());
+    }
 }
 
 #[test]
@@ -202,6 +172,6 @@ fn each_request_for_memory_is_refused() {
     assert_eq!(again.save().as_ref(), Ok(&image));
     told(&mut job, true, |it| it.save(), image);
     texts(&mut job);
-    calls(&mut job);
-    names();
+    lists(&mut job);
+    replayed();
 }
