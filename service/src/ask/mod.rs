@@ -207,7 +207,7 @@ async fn delete(service: &Service, given: &words::Delete) -> Result<(), Ended> {
     print_answer(given.at.json, &json!({"deleted": job}), |_| format!("job {job} is deleted\n"))
 }
 
-async fn savepoint(job: &Job, given: &words::Savepoint) -> Result<(), Ended> {
+async fn savepoint(job: &Job, given: &words::Awaited) -> Result<(), Ended> {
     let began = Instant::now();
     let reply = call(job, given.at.json, Call::Savepoint).await?;
     if given.wait == 0 {
@@ -218,7 +218,7 @@ async fn savepoint(job: &Job, given: &words::Savepoint) -> Result<(), Ended> {
     print_answer(given.at.json, &json!({"completed": id}), |_| format!("savepoint {id} is complete\n"))
 }
 
-async fn checkpoint(job: &Job, given: &words::Checkpoint) -> Result<(), Ended> {
+async fn checkpoint(job: &Job, given: &words::Awaited) -> Result<(), Ended> {
     let began = Instant::now();
     let reply = job.checkpoint().await?;
     let (id, seq) = (reply["id"].as_u64().unwrap_or(0), reply["seq"].as_u64().unwrap_or(0));

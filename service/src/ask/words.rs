@@ -21,27 +21,27 @@ pub enum Ask {
     /// List the files of a folder that the job does not know
     Orphans(Orphans),
     /// Trigger a savepoint
-    Savepoint(Savepoint),
+    Savepoint(Awaited),
     /// Trigger a checkpoint now, whatever the interval
-    Checkpoint(Checkpoint),
+    Checkpoint(Awaited),
     /// Change settings of a job while it runs
     Set(Set),
     /// Stop a job with a savepoint, until it begins again
     Stop(Stop),
     /// Begin a job again that has stopped
-    Begin(Begin),
+    Begin(OfJob),
     /// Dispose of a savepoint
     Dispose(Dispose),
     /// Begin a job again from its latest record, or from a savepoint
     Restore(Restore),
     /// Show the term that runs, for whoever starts the tasks of a job
-    Term(Term),
+    Term(OfJob),
     /// Make a job give out the names of its files, between the end of all its tasks and their restart
     Fence(Fence),
     /// Let a job go on from a restored backup, above the terms and names that it lost
     Advance(Advance),
     /// Cancel a job permanently: its checkpoints are dropped, unless it has `keep_on_cancel`
-    Cancel(Cancel),
+    Cancel(OfJob),
     /// Delete a job that was cancelled or has failed, with its log and its history
     Delete(Delete),
     /// End a job for good, with all its files: cancel it, delete what it has in a folder, and delete the job
@@ -141,20 +141,9 @@ pub struct Orphans {
     pub at: At,
 }
 
+// (no comment of the documentation: it would be the help of both commands)
 #[derive(Args)]
-pub struct Savepoint {
-    /// The job
-    #[arg(value_parser = job_name)]
-    pub job: String,
-    /// Wait so long until it is complete
-    #[arg(long, value_name = "SECONDS", default_value_t = 0)]
-    pub wait: u64,
-    #[command(flatten)]
-    pub at: At,
-}
-
-#[derive(Args)]
-pub struct Checkpoint {
+pub struct Awaited {
     /// The job
     #[arg(value_parser = job_name)]
     pub job: String,
@@ -197,8 +186,9 @@ pub struct Stop {
     pub at: At,
 }
 
+// (the same)
 #[derive(Args)]
-pub struct Begin {
+pub struct OfJob {
     /// The job
     #[arg(value_parser = job_name)]
     pub job: String,
@@ -247,15 +237,6 @@ pub struct Restore {
 }
 
 #[derive(Args)]
-pub struct Term {
-    /// The job
-    #[arg(value_parser = job_name)]
-    pub job: String,
-    #[command(flatten)]
-    pub at: At,
-}
-
-#[derive(Args)]
 pub struct Advance {
     /// The job
     #[arg(value_parser = job_name)]
@@ -278,15 +259,6 @@ pub struct Fence {
     /// The first name: all numbers of files that the job ever used are below it
     #[arg(value_parser = clap::value_parser!(u64).range(1..=1 << 62))]
     pub first_name: u64,
-    #[command(flatten)]
-    pub at: At,
-}
-
-#[derive(Args)]
-pub struct Cancel {
-    /// The job
-    #[arg(value_parser = job_name)]
-    pub job: String,
     #[command(flatten)]
     pub at: At,
 }
@@ -326,17 +298,14 @@ impl Ask {
             Ask::Files(given) => &given.at,
             Ask::Savepoints(given) => &given.at,
             Ask::Orphans(given) => &given.at,
-            Ask::Savepoint(given) => &given.at,
-            Ask::Checkpoint(given) => &given.at,
+            Ask::Savepoint(given) | Ask::Checkpoint(given) => &given.at,
             Ask::Set(given) => &given.at,
             Ask::Stop(given) => &given.at,
-            Ask::Begin(given) => &given.at,
+            Ask::Begin(given) | Ask::Term(given) | Ask::Cancel(given) => &given.at,
             Ask::Dispose(given) => &given.at,
             Ask::Restore(given) => &given.at,
-            Ask::Term(given) => &given.at,
             Ask::Fence(given) => &given.at,
             Ask::Advance(given) => &given.at,
-            Ask::Cancel(given) => &given.at,
             Ask::Delete(given) => &given.at,
             Ask::End(given) => &given.at,
         }
