@@ -32,7 +32,7 @@ BUILT = $(wildcard $(PROGRAMS:%=build/bin/%) $(foreach it,$(PROGRAMS),crates/$(i
 
 # The sources of the packages of Rust and Go are installed, and so the samples that name their folders find them there.
 GO_SOURCES = $(filter-out %_test.go,$(wildcard bindings/go/*.go)) bindings/go/example_test.go
-OF_CRATES = Cargo.toml durable-rust/Cargo.toml mini-rust/Cargo.toml go/go.mod
+OF_CRATES = Cargo.toml durable-rust/Cargo.toml count-rust/Cargo.toml mini-rust/Cargo.toml go/go.mod
 
 # The manual pages of the service, which a release may have.
 MANUAL = $(wildcard service/deploy/man/*.1)
