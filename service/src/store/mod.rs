@@ -44,6 +44,6 @@ pub use rows::Disk;
 pub use rows::Space;
 #[cfg(test)]
 pub use rows::IS_EVENT;
-pub use rows::{steps_after, Committed, GoneJob, Group, Keyed, Lead, SavedImage, Store};
+pub use rows::{steps_after, Committed, GoneJob, Group, Keyed, Lead, SavedImage, Store, UnderKey};
 pub use space::space_of;
 pub use tables::{are_alike, bytes_of, Cells, Table, TABLES};
