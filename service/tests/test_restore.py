@@ -1,15 +1,17 @@
 """A backup that is restored: which records have all their files, which files nobody knows, and the page's commands for PostgreSQL."""
 import base64
 import glob
+import http.server
 import json
 import os
 import re
 import shlex
 import shutil
 import subprocess
+import threading
 import time
 
-from harness import COMMAND, PROGRAM, SERVICE, TOP, Server, caught_up, folder, lose_history, served, until
+from harness import COMMAND, PROGRAM, SERVICE, TOP, Server, caught_up, folder, free_port, lose_history, served, until
 from places import Bucket, around
 from places import files as files_in
 from postgres import postgres
@@ -246,10 +248,10 @@ def test_the_page_restores_files_of_a_bucket():
         return "a savepoint that has its files"
 
 
-def copied(server, at, *record, status=0):
+def copied(server, at, *record, status=0, urls=None):
     """The script that copies the files of a savepoint to another machine, over folders: that of a number, or the newest that is noted."""
     settings = {"FOLDER": f"{at}/files", "PREFIX": "state-", "SUFFIX": ".bin", "TO": f"{at}/backup/orders", "BACKUPS_TO": f"{at}/backup/relkvanu",
-                "URL": server.url, "NOTES": f"{at}/notes", "BACKUPS": f"{at}/backups", "METRICS": f"{at}/metrics"}
+                "URL": urls or server.url, "PATIENCE": "0", "NOTES": f"{at}/notes", "BACKUPS": f"{at}/backups", "METRICS": f"{at}/metrics"}
     words = [f"{SERVICE}/deploy/copy", "orders", f"{at}/token", *map(str, record)]
     told = subprocess.run(words, env={**os.environ, **settings}, stdout=subprocess.PIPE, stderr=subprocess.STDOUT, text=True, timeout=COMMAND, check=False)
     assert told.returncode == status, told
@@ -320,6 +322,39 @@ def test_state_files_are_copied_and_brought_back():
         assert set(os.listdir(files)) == {f"state-{number}.bin" for number in range(1, 5)}, os.listdir(files)
         assert (content(f"{files}/state-3.bin"), content(f"{files}/state-2.bin")) == ("of files/state-3.bin", "of")
         return "two savepoints"
+
+
+class Standby(http.server.BaseHTTPRequestHandler):
+    """Says that another process leads."""
+
+    def do_GET(self):
+        self.send_response(503)
+        self.end_headers()
+
+    def log_message(self, *_):
+        pass
+
+
+def test_several_addresses_of_a_copy():
+    """One is of a machine that is off, and one of a standby."""
+    if not shutil.which("rsync") or not shutil.which("curl"):
+        raise Skipped("rsync or curl", "one of them is not here")
+    with served() as server, http.server.HTTPServer(("127.0.0.1", 0), Standby) as standby:
+        threading.Thread(target=standby.serve_forever, daemon=True).start()
+        at, off, waits = server.folder, f"http://127.0.0.1:{free_port()}", f"http://127.0.0.1:{standby.server_port}"
+        job = Service(server.url).open("orders", SETTINGS, [1])
+        job.calls([savepoint(), ack(1, "0.0", [1]), savepoint()])
+        touched(f"{at}/token", f"{at}/files/state-1.bin")
+        os.makedirs(f"{at}/backups")
+        for urls in (f"{off} {server.url}", f"{waits} {off} {server.url}", f"{server.url} {waits}"):
+            shutil.rmtree(f"{at}/backup", ignore_errors=True)
+            copied(server, at, 1, urls=urls)
+            assert set(os.listdir(f"{at}/backup/orders/1")) == {"state-1.bin", "savepoint-1.json"}
+        copied(server, at, 2, urls=f"{waits} {server.url} {off}", status=22)  # it is not complete
+        copied(server, at, 1, urls=off, status=7)
+        copied(server, at, 1, urls=f"{off} {waits}", status=22)
+        standby.shutdown()
+        return "three addresses"
 
 
 def touched(*paths):
