@@ -827,7 +827,7 @@ def test_the_commands_of_the_page():
         os.mkdir(f"{at}/bin")
         os.symlink(PROGRAM, f"{at}/bin/relkvanu")
         with open(f"{at}/bin/systemctl", "w", encoding="utf-8") as it:
-            it.write(f'#!/bin/sh\necho "$@" > {at}/asked.part\nmv {at}/asked.part {at}/asked\nwhile [ -e {at}/asked ]; do sleep 0.05; done\n')
+            it.write(f'#!/bin/sh\n[ "$1" != is-active ] || exit 3\necho "$@" > {at}/asked.part\nmv {at}/asked.part {at}/asked\nwhile [ -e {at}/asked ]; do sleep 0.05; done\n')
         os.chmod(f"{at}/bin/systemctl", 0o755)
 
         def act():

@@ -54,7 +54,13 @@ fn whole(record: &Metadata, states: &[SubtaskState]) -> String {
     let one = |(subtask, ascending)| {
         let (files, given) = said.get(subtask).map_or((ascending, &none), |it| (it.files.as_slice(), &it.given));
         let files = files.iter().map(u64::to_string).collect();
-        One { subtask, files, payload: &given.payload, bytes: given.bytes.unwrap_or(0), millis: given.millis.unwrap_or(0) }
+        One {
+            subtask,
+            files,
+            payload: &given.payload,
+            bytes: given.bytes.unwrap_or(0),
+            millis: given.millis.unwrap_or(0),
+        }
     };
     let (id, kind, shape) = record.head();
     serde_json::to_string(&Whole { id, kind, shape, subtasks: record.acks().map(one).collect() }).unwrap_or_default()
