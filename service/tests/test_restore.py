@@ -417,6 +417,7 @@ def page_commands(after, port):
     """A block of docs/SERVICE-BACKUP.md, over the PostgreSQL of the tests."""
     with open(f"{TOP}/docs/SERVICE-BACKUP.md", encoding="utf-8") as it:
         block = it.read().partition(after)[2].split("```")[1]
+    block = block.replace("/usr/local/lib/relkvanu/", f"{SERVICE}/deploy/")
     return re.sub(r"@db\.example/(\w+)\?passfile=pgpass", rf"@127.0.0.1:{port}/\1", block)
 
 
@@ -429,9 +430,10 @@ def test_the_page_restores_a_dump():
             **os.environ, "PGHOST": "127.0.0.1", "PGPORT": str(database.port), "PGUSER": "postgres", "PATH": f"{at}:{database.bin}:{os.environ['PATH']}",
         }
 
-        def run(text):
+        def run(text, status=0):
             told = subprocess.run(["bash", "-euc", text], cwd=at, env=environment, stdout=subprocess.PIPE, stderr=subprocess.STDOUT, text=True, check=False)
-            assert told.returncode == 0, told.stdout
+            assert told.returncode == status, told.stdout
+            return told.stdout
 
         server = Server(at, f"postgres://relkvanu@127.0.0.1:{database.port}/relkvanu").start()
         job = Service(server.url).open("orders", SETTINGS, [1])
@@ -442,7 +444,9 @@ def test_the_page_restores_a_dump():
         server.stop()
         for name in (name for name in os.listdir(at) if name.startswith("history")):
             os.rename(f"{at}/{name}", f"{at}/aside-{name}")
-        run(page_commands("With PostgreSQL the copy gets a database of its own first.", database.port))
+        commands = page_commands("Then, where the program and `pgpass` are:", database.port)
+        run(commands)
+        assert "is the copy already" in run(commands)
         server.args.append("--accept-clock")
         server.start()
         after = job.state()
@@ -450,4 +454,9 @@ def test_the_page_restores_a_dump():
         aside = f"postgres://postgres@127.0.0.1:{database.port}/relkvanu_aside"
         assert database.run("psql", "-XAtq", aside, "-c", "select count(*) from call").strip() == "2"
         server.stop()
-        return "the damaged database is set aside"
+        assert "there is a database relkvanu_aside already" in run(commands, status=1)  # a service has run over the copy
+        run(commands.replace("copy.dump", "--back"))
+        server.start()
+        assert job.state()["seq"] == 2
+        server.stop()
+        return "the damaged database is set aside, and comes back"
