@@ -39,7 +39,7 @@ def commands():
         "try savepoints": "**Try it once** while", "mail": "- **By mail**, with", "metric": "- **By Prometheus**, with",
         "copies": "**The state files need a copy",
         "address": "**The address.**", "go back": "These commands go back to the files that were set aside", "all units": "**With many jobs**",
-        "moved": "**Keep the old machine from starting the service again.**",
+        "moved": "**Keep the old machine from starting the service again.**", "try": "## To try a restore\n",
     }
     steps = ("Install", "Set up TLS", "Start")
     places |= {f"TLS: {step}": f"{number}. **{step}**" for number, step in enumerate(steps, 1)}
