@@ -97,7 +97,7 @@ def check_the_end_of_a_job():
 
 def by_its_user(command, *words):
     """What the engine does, as the user whose files they are, who can't read what is root's."""
-    told = run("runuser", "-u", "orders", "--", "relkvanu", command, "orders", *words, "--folder", FOLDER, "--prefix", "state-", "--suffix", ".bin", "--token-file", TOKEN)
+    told = run("setpriv", "--reuid=orders", "--clear-groups", "relkvanu", command, "orders", *words, "--folder", FOLDER, "--prefix", "state-", "--suffix", ".bin", "--token-file", TOKEN)
     return int(re.search(r"record (\d+) has a manifest", told)[1])
 
 
@@ -111,7 +111,7 @@ def check_a_lost_database():
     assert f"orders goes on from checkpoint {last}" in as_the_page_says("recover")
     job = service().job("orders")
     job.claim(FOLDER)
-    run("systemctl", "enable", "--now", *UNITS)
+    run("systemctl", "enable", "--now", *UNITS, "relkvanu-backup.timer")
     task, before = job.begin().session(block=10), files()
     for _ in range(3):
         until(lambda: pending(job))

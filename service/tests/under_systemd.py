@@ -310,8 +310,8 @@ def check_a_restore_is_tried():
         return request("GET", "/v1/jobs/orders")[1]["seq"], sorted(os.listdir("/srv/orders")), copies(), sorted(os.listdir("/var/tmp")), property_of("MainPID")
 
     before = found()
-    rows = [line.split() for line in as_the_page_says("try").splitlines() if " savepoint " in line]
-    assert [row[-1] for row in rows] == ["31", "none"], rows
+    rows = re.findall(r"^\d+ +savepoint.* (\S+)$", as_the_page_says("try"), re.MULTILINE)
+    assert rows == ["31", "none"], rows
     assert run("systemctl", "is-active", "relkvanu-try", check=False) == "inactive" and found() == before, (found(), before)
 
 
