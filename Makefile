@@ -126,7 +126,7 @@ install: $(LIBRARY) $(STORE) $(PAGES)/docs
 	    $(INSTALL) -m 755 build/bin/relkvanu $(into)/bin && $(INSTALL) -m 644 $(MANUAL) $(into)/share/man/man1 && \
 	    $(INSTALL) -d $(into)/share/doc/relkvanu/deploy && \
 	    $(INSTALL) -m 644 service/deploy/*.service service/deploy/*.timer service/deploy/*.toml service/deploy/*.yml $(into)/share/doc/relkvanu/deploy && \
-	    $(INSTALL) -m 755 service/deploy/savepoint service/deploy/copy $(into)/share/doc/relkvanu/deploy || exit 1; \
+	    $(INSTALL) -m 755 service/deploy/savepoint service/deploy/copy service/deploy/operate service/deploy/bring-back service/deploy/put-back-dump $(into)/share/doc/relkvanu/deploy || exit 1; \
 	fi
 	@[ -n "$(DESTDIR)" ] || echo "If programs are to find librelkvanu.so.0 in $(LIBDIR), run ldconfig as root, or set LD_LIBRARY_PATH."
 

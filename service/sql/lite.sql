@@ -53,7 +53,8 @@ create table if not exists phase(
 create table if not exists subtask_state(
     job integer not null, record integer not null, vertex integer not null, place integer not null, files text not null,
     payload text not null, bytes integer not null, millis integer not null, primary key(job, record, vertex, place)) strict;
--- What the acknowledgements of the log told for the history: the bytes and milliseconds of a snapshot; and why a subtask declined.
+-- What the acknowledgements of the log told for the history: the bytes and milliseconds of a snapshot; and why a subtask declined. The reason of an
+-- acknowledgement that told one of both alone is the word for that one: `bytes` or `millis`.
 create table if not exists figure(
     job integer not null, seq integer not null, bytes integer not null, millis integer not null, reason text,
     primary key(job, seq)) strict, without rowid;

@@ -1,4 +1,4 @@
-//! `relkvanu keep`, `export`, `import` and `recover`: manifests of a job's records. The Python package does the work, in this process's place: it
+//! `relkvanu keep`, `export`, `import`, `recover` and `records`: manifests of a job's records. The Python package does the work, in this process's place: it
 //! has the format, the client of S3, and what makes a job of a manifest.
 use crate::cli::job_name;
 use crate::exit::NOT_TO_START;
@@ -18,10 +18,10 @@ pub fn run() -> ExitCode {
     ExitCode::from(NOT_TO_START)
 }
 
-/// Where the files of the job are, and the service.
+/// Where the files of the job are.
 #[derive(Args)]
 #[allow(dead_code, reason = "the Python package reads the words")]
-pub struct FilesAndService {
+pub struct Files {
     /// The folder of the job's files
     #[arg(long, value_name = "DIR", required_unless_present = "bucket", conflicts_with = "bucket")]
     folder: Option<PathBuf>,
@@ -40,6 +40,14 @@ pub struct FilesAndService {
     /// The region of the S3 server
     #[arg(long)]
     region: Option<String>,
+}
+
+/// Where the files of the job are, and the service.
+#[derive(Args)]
+#[allow(dead_code, reason = "the Python package reads the words")]
+pub struct FilesAndService {
+    #[command(flatten)]
+    files: Files,
     /// The service; given again, its next address
     #[arg(long = "url", value_name = "URL", default_value = "http://127.0.0.1:7780")]
     urls: Vec<String>,
@@ -111,6 +119,19 @@ pub struct Recover {
     record: Option<u64>,
     #[command(flatten)]
     at: FilesAndService,
+}
+
+#[derive(Args)]
+#[allow(dead_code, reason = "the Python package reads the words")]
+pub struct Records {
+    /// The job
+    #[arg(value_parser = job_name)]
+    job: String,
+    /// Read the files, and compare them with the checksums of the manifests
+    #[arg(long)]
+    whole: bool,
+    #[command(flatten)]
+    at: Files,
 }
 
 /// The number of a record, or the word for the last one.

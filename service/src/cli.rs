@@ -1,6 +1,6 @@
 //! The command line.
 use crate::ask::Ask;
-use crate::carry::{Export, Import, Keep, Recover};
+use crate::carry::{Export, Import, Keep, Records, Recover};
 use crate::config::LogForm;
 use crate::files::{FileNames, Where};
 use crate::http::{is_name, NO_NAME};
@@ -42,6 +42,8 @@ pub enum Command {
     Import(Import),
     /// Make a job again that the database has lost, of the manifests beside its files
     Recover(Recover),
+    /// List the records of which a job has manifests beside its files, without a service
+    Records(Records),
     /// Make the tokens, the certificate and the settings with which the service speaks TLS
     SetupTls(SetupTls),
     #[command(flatten)]

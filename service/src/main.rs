@@ -46,7 +46,9 @@ fn main() -> ExitCode {
         Command::PutBack(given) => put_back::run(&given),
         Command::Check(given) => check::run(&given),
         Command::Move(given) => moving::run(&given),
-        Command::Keep(_) | Command::Export(_) | Command::Import(_) | Command::Recover(_) => carry::run(),
+        Command::Keep(_) | Command::Export(_) | Command::Import(_) | Command::Recover(_) | Command::Records(_) => {
+            carry::run()
+        }
         Command::SetupTls(given) => setup_tls::run(&given),
         Command::Ask(given) => ask::run(&given),
         Command::Completions { shell } => {

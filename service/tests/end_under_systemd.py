@@ -65,13 +65,10 @@ def worked(**settings):
 
 
 def no_savepoints_before_backups():
-    """The part of step 1 that has no block: the lines of the job go out of the drop-in, and its folder goes. Then a backup needs no savepoint of it."""
+    """The job is in no drop-in any more, and its notes are gone. Then a backup needs no savepoint of it."""
     with open(DROP_IN, encoding="utf-8") as it:
-        lines = [line for line in it.read().splitlines() if "orders" not in line]
-    with open(DROP_IN, "w", encoding="utf-8") as it:
-        it.write("\n".join([*lines, ""]))
-    run("systemctl", "daemon-reload")
-    shutil.rmtree(NOTES)
+        text = it.read()
+    assert "orders" not in text and "[Service]" in text and not os.path.exists(NOTES), text
     run("systemctl", "start", "relkvanu-backup")
 
 
@@ -88,9 +85,9 @@ def is_gone():
 def check_the_end_of_a_job():
     worked()
     os.makedirs(NOTES, exist_ok=True)
-    no_savepoints_before_backups()
     assert "job orders has ended" in as_the_page_says("end")
     are_disabled()
+    no_savepoints_before_backups()
     assert is_gone() and not os.listdir(FOLDER), os.listdir(FOLDER)
     return RECORDS + 1
 
@@ -111,7 +108,7 @@ def check_a_lost_database():
     assert f"orders goes on from checkpoint {last}" in as_the_page_says("recover")
     job = service().job("orders")
     job.claim(FOLDER)
-    run("systemctl", "enable", "--now", *UNITS, "relkvanu-backup.timer")
+    run("/usr/local/lib/relkvanu/operate", "start")
     task, before = job.begin().session(block=10), files()
     for _ in range(3):
         until(lambda: pending(job))

@@ -31,7 +31,8 @@ MODULES = [
     "test_start", "test_unit", "test_end_units", "test_stuck", "test_connections", "test_limits", "test_herd", "test_bytes", "test_stop", "test_load", "test_api",
     "test_clients", "test_sizes", "test_jobs_end", "test_payloads", "test_discard", "test_discard_folder", "test_discard_names", "test_memory", "test_metrics", "test_seen",
     "test_names", "test_sweep", "test_places", "test_security", "test_summaries", "test_upkeep", "test_backup", "test_move", "test_dumps", "test_commands", "test_loop", "test_restore",
-    "test_lease_lengths", "test_tries", "test_bounds", "test_disk_order", "test_moves", "test_operate", "test_portable", "test_put_back", "test_setup_tls", "test_stop_begin", "test_stop_rows",
+    "test_lease_lengths", "test_tries", "test_bounds", "test_disk_order", "test_moves", "test_operate", "test_portable",
+    "test_procedures", "test_put_back", "test_setup_tls", "test_stop_begin", "test_stop_rows",
 ]
 
 

@@ -194,6 +194,46 @@ def damaged_and_mended(server, database, start, stop):
     return f"{len(DAMAGES)} damages, {len(REQUESTS)} kinds of requests"
 
 
+def damaged_key(server, database, damage):
+    """A key whose answer can't be read: its request alone is refused, and nothing is made under it again. The process goes on."""
+    job = Service(server.url).open("orders", SETTINGS, SHAPE, names=False)
+    path, body = "/v1/jobs/orders/calls", {"calls": [{"call": "savepoint"}]}
+
+    def told(key):
+        return server.request("POST", path, body, headers={"Idempotency-Key": key})
+
+    first = told("first")
+    assert first[0] == 200 and told("first")[2] == first[2] and told("second")[0] == 200
+    database.sql(damage)
+    seq = job.state()["seq"]
+    for _ in range(2):
+        status, headers, answer = told("first")
+        assert status == 503 and answer["reason"] == "damaged" and "a row of request has" in answer["error"] and int(headers["retry-after"]) > 0, answer
+    assert "can't be read: a row of request has" in server.log()
+    assert job.state()["seq"] == seq and told("second")[0] == 200 and told("third")[0] == 200 and job.state()["seq"] == seq + 1
+    assert server.process.poll() is None and Service(server.url).damaged() == {}
+    return "one of three keys"
+
+
+def test_a_key_that_is_damaged_over_sqlite():
+    with folder() as at:
+        server = Server(at).start()
+        try:
+            return damaged_key(server, Lite(server.database), "update request set answers = cast(x'ff' as text) where key = 'first'")
+        finally:
+            server.stop()
+
+
+def test_a_key_that_is_damaged_over_postgres():
+    with postgres() as database, folder() as at:
+        server = Server(at, database.url).start()
+        try:
+            database.sql("alter table request alter column answers drop not null")
+            return damaged_key(server, database, "update request set answers = null where key = 'first'")
+        finally:
+            server.stop()
+
+
 def test_over_sqlite():
     with folder() as at:
         server = Server(at, args=["--image-calls", "5"]).start()

@@ -12,7 +12,7 @@ from test_unit import BOOT, booted, commands
 # The text before each block.
 PLACES = {
     "end": "2. **End the job.** If the command is killed", "abandon": "**To delete them**, delete all files",
-    "save": "**To keep them**, [export each record]", "move": "1. **Stop the old machine for good.**",
+    "save": "**To keep them**, [export each record]", "move": "1. **Leave the old machine.**",
     "new database": "**1. End everything, and start the service with a new database.**", "recover": "**2. Recover each job.**",
 }
 

@@ -11,7 +11,7 @@ import threading
 import time
 from contextlib import contextmanager
 
-from harness import COMMAND, LOCKED, PROGRAM, TOP, Server, caught_up, check_log, configured, folder, free_port, lose_history, over_copy, small_disk, until
+from harness import COMMAND, LOCKED, PROGRAM, SERVICE, TOP, Server, caught_up, check_log, configured, folder, free_port, lose_history, over_copy, small_disk, until
 from postgres import postgres
 from relkvanu_service import Service, ack, cancel, decline, deleted, dispose, restore, savepoint
 from test_disks import fill
@@ -811,7 +811,12 @@ def page_commands(after, at, port):
     with open(f"{TOP}/docs/SERVICE-MOVE.md", encoding="utf-8") as it:
         block = it.read().partition(after)[2].split("```")[1]
     block = re.sub(r"@db\.example/(\w+)\?passfile=pgpass", rf"@127.0.0.1:{port}/\1", block)
-    return block.replace("/var/lib/relkvanu", at)
+    with open(f"{SERVICE}/deploy/operate", encoding="utf-8") as it:
+        script = it.read().replace("/var/lib/relkvanu-units", f"{at}/noted").replace("/etc/systemd/system", f"{at}/units")
+    with open(f"{at}/operate", "w", encoding="utf-8") as it:
+        it.write(script.replace("/var/lib/relkvanu", at))
+    os.chmod(f"{at}/operate", 0o755)
+    return block.replace("/usr/local/lib/relkvanu/operate", f"{at}/operate").replace("/var/lib/relkvanu", at)
 
 
 def test_the_commands_of_the_page():
@@ -822,7 +827,7 @@ def test_the_commands_of_the_page():
         os.mkdir(f"{at}/bin")
         os.symlink(PROGRAM, f"{at}/bin/relkvanu")
         with open(f"{at}/bin/systemctl", "w", encoding="utf-8") as it:
-            it.write(f'#!/bin/sh\necho "$@" > {at}/asked.part\nmv {at}/asked.part {at}/asked\nwhile [ -e {at}/asked ]; do sleep 0.05; done\n')
+            it.write(f'#!/bin/sh\n[ "$1" != is-active ] || exit 3\necho "$@" > {at}/asked.part\nmv {at}/asked.part {at}/asked\nwhile [ -e {at}/asked ]; do sleep 0.05; done\n')
         os.chmod(f"{at}/bin/systemctl", 0o755)
 
         def act():
@@ -842,8 +847,8 @@ def test_the_commands_of_the_page():
             return told
 
         before = filled.orders.state()
-        told = ran(page_commands("The commands of the move:", at, database.port))
-        assert "job orders: " in told and "disable --now relkvanu" in asked_for, (told, asked_for)
+        ran(page_commands("The command of the move stops", at, database.port))
+        assert "disable --now relkvanu" in asked_for, asked_for
         assert os.path.exists(f"{at}/before-move.db") and state_of(database, url, source) == (True, True)
         told = ran(page_commands("**To go back**", at, database.port))
         assert "is taken back" in told and state_of(database, url, source) == (False, False), told
@@ -852,7 +857,7 @@ def test_the_commands_of_the_page():
         assert (after["seq"], after["live"]) == (before["seq"], before["live"]), (before, after)
         server.stop()
         os.remove(f"{at}/before-move.db")
-        ran(page_commands("The commands of the move:", at, database.port))
+        ran(page_commands("The command of the move stops", at, database.port))
         server.database = url
         server.start()
         after = filled.orders.state()

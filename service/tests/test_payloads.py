@@ -227,6 +227,24 @@ def test_the_history_has_figures_and_reasons():
         return "2 records, after a kill and without the history"
 
 
+def test_the_history_says_nothing_that_nobody_told():
+    """Of a record whose tasks told one of both figures alone, the other is null; a 0 that a task told is one. What its new files have stands for the bytes."""
+    with served() as server:
+        job = Service(server.url).open("orders", SETTINGS, [2])
+        told = [({"millis": 9}, {"millis": 4}), ({"size": 6}, {"size": 8}), ({"size": 0}, {"millis": 0}), ({"payload": b"x"}, {}), ({"millis": 3}, {"size": 2, "millis": 1})]
+        for record, (first, second) in enumerate(told, 1):
+            job.calls([savepoint(), ack(record, "0.0", **first), ack(record, "0.1", **second)])
+        job.calls([savepoint(), ack(6, "0.0", [61], sizes=[40]), ack(6, "0.1", millis=7)])
+        wanted = [(None, 9), (14, None), (0, 0), (None, None), (2, 3), (40, 7)]
+        for lost in (False, True):
+            found = [(it["bytes"], it["millis"]) for it in reversed(figures(job))]
+            assert found == wanted, (lost, found)
+            server.kill()
+            lose_history(server)
+            server.start()
+        return f"{len(wanted)} records"
+
+
 def test_payloads_and_figures_outlive_a_take_over():
     with postgres() as database, folder() as at:
         servers = [Server(at, database.url, configured(at, "lease_seconds = 3\n")) for _ in range(2)]

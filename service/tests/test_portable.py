@@ -6,6 +6,7 @@ import json
 import os
 import pathlib
 import random
+import re
 import shutil
 import signal
 import subprocess
@@ -473,6 +474,90 @@ def with_payloads(server, at):
     last = completes(job.checkpoint()["id"], {"0.0": ([five], [four], bytes(4096)), "0.1": ([], [one], b"z"), "1.0": ([], [], None)})
     assert all(whole(job, record) == wanted[record] for record in (alone, ordered, last)), wanted
     return job, alone, ordered, last, wanted
+
+
+def test_figures_go_with_their_records():
+    """What tasks told of their snapshots is in manifests, each if it was told, and so in a job of the durable coordinator, and in one that is recovered. Manifests without
+    it, or with what it can't be."""
+    from relkvanu import Settings
+    from relkvanu.manifest import sealed
+    from relkvanu.store import Store
+
+    with served(names=True) as server:
+        at = pathlib.Path(server.folder) / "state"
+        at.mkdir()
+        job = Service(server.url).open("orders", SETTINGS, [3, 1])
+        job.claim(at)
+        task = job.begin().session(block=4)
+        name = task.name()
+        write(at / f"{PREFIX}{name}{SUFFIX}", "state")
+        record = job.checkpoint()["id"]
+        task.ack(record, "0.0", payload=b"small", size=5, millis=7)
+        task.ack(record, "0.1", millis=9)
+        task.ack(record, "0.2", [name], sizes=[5])
+        task.ack(record, "1.0", size=40)
+        wanted = {"0.0": {"bytes": 5, "millis": 7}, "0.1": {"millis": 9}, "0.2": {}, "1.0": {"bytes": 40}}
+
+        def figures(subtasks):
+            return {key: {it: value[it] for it in ("bytes", "millis") if value.get(it)} for key, value in subtasks.items()}
+
+        out, store, state = (at.parent / it for it in ("out", "store.db", "store"))
+        did([PROGRAM, "export", "orders", record, out, *place_of(server, at)])
+        path = out / f"record-{record}.manifest"
+        text = path.read_bytes()
+        with open(f"{TOP}/docs/manifest.schema.json", encoding="utf-8") as it:
+            import jsonschema
+            jsonschema.validate(json.loads(text), json.load(it))
+        assert figures({f"{it['vertex']}.{it['index']}": it for it in json.loads(text)["subtasks"]}) == wanted, text
+        for wrong, why in ((-1, ""), ("7", ""), (1.5, ""), (1 << 64, ""), (True, "can't be bytes or milliseconds")):
+            found = json.loads(text)
+            del found["sum"]
+            found["subtasks"][0]["millis"] = wrong
+            path.write_bytes(sealed(found))
+            if not why:  # SQLite reads `true` as a number
+                did([STORE, "import", out, store, state], 1)
+            did([PROGRAM, "import", out, "other", *place_of(server, at.parent / "other")], 1, why)
+        path.write_bytes(text)
+        did([STORE, "import", out, store, state])
+        settings = Settings(interval=SETTINGS["interval"], timeout=SETTINGS["timeout"], tolerable=1000, retained=2)
+        with Store(store, settings, [3, 1], storage=state, manifests=True) as durable:
+            parts = {f"{it.vertex}.{it.index}": {"bytes": it.bytes, "millis": it.millis} for it in durable.load(record).parts}
+        assert figures(parts) == wanted, parts
+        # what the durable coordinator writes says the same
+        (kept,) = state.glob("record-*.manifest")
+        assert figures({f"{it['vertex']}.{it['index']}": it for it in json.loads(kept.read_text())["subtasks"]}) == wanted, kept.read_text()
+        did([PROGRAM, "keep", "orders", *place_of(server, at)])
+        lose(server)
+        did([PROGRAM, "recover", "orders", *place_of(server, at)])
+        assert figures(job.load(record)["subtasks"]) == wanted, job.load(record)
+        return "four subtasks"
+
+
+def test_a_look_at_the_records_of_a_job():
+    """It needs no service. It names what is missing and what has changed, of a manifest that has checksums."""
+    with served(names=True) as server:
+        base = Base(server)
+        job, state = Service(server.url).job("orders"), base.folder / "state"
+        record = job.state()["choice"]["id"]
+        (one,), (other,), *_ = job._held(record).values()
+        did([PROGRAM, "keep", "orders", "--checksums", *place_of(server, state)])
+        server.kill()
+        words = [PROGRAM, "records", "orders", "--folder", state, "--prefix", PREFIX, "--suffix", SUFFIX]
+        told = did(words)
+        assert re.search(rf"^{record} +checkpoint .* whole; a recovery or an import begins from it$", told, re.MULTILINE), told
+        assert "each checksum is right" in did([*words, "--whole"])
+        first, second = (state / f"{PREFIX}{it}{SUFFIX}" for it in (one, other))
+        text = first.read_text()
+        first.write_text("x" * len(text))
+        assert "whole" in did(words)
+        assert f"record {record}: file {one} has another checksum" in did([*words, "--whole"], 1, "not all files are as the manifests say")
+        first.write_text(text)
+        second.unlink()
+        assert "1 files are missing" in did(words)
+        did([*words, "--whole"], 1, "is missing")
+        did([*words[:3], "--folder", base.folder], 78, "there is no marker of the job")
+        did([*words[:3]], 2)
+        return f"record {record}"
 
 
 def test_payloads_go_with_their_records():

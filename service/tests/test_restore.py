@@ -1,17 +1,17 @@
 """A backup that is restored: which records have all their files, which files nobody knows, and the page's commands for PostgreSQL."""
 import base64
 import glob
-import itertools
+import http.server
 import json
 import os
-import pathlib
 import re
 import shlex
 import shutil
 import subprocess
+import threading
 import time
 
-from harness import COMMAND, PROGRAM, SERVICE, TOP, Server, caught_up, folder, lose_history, served, until
+from harness import COMMAND, PROGRAM, SERVICE, TOP, Server, caught_up, folder, free_port, lose_history, served, until
 from places import Bucket, around
 from places import files as files_in
 from postgres import postgres
@@ -248,150 +248,23 @@ def test_the_page_restores_files_of_a_bucket():
         return "a savepoint that has its files"
 
 
-# the copy of these tests is no database
-PUTS = f'#!/bin/sh\n[ "$1" != put-back ] || case "$*" in *--checked*) exec {PROGRAM} "$@" ;; *) exec {PROGRAM} "$@" --checked ;; esac\n'
-DAMAGED = {name: f"damaged {name}" for name in ("relkvanu.db", "relkvanu.db-wal", "relkvanu.db.history")}
-
-
-class Place:
-    """A folder in which the commands of docs/SERVICE-BACKUP.md and SERVICE-MOVE.md that put a copy in place run, with a program that does nothing else, and a service
-    that writes a log beside its database."""
-
-    def __init__(self, at, after):
-        self.at, self.lib = at, f"{at}/lib/relkvanu"
-        pages = [pathlib.Path(TOP, "docs", page).read_text(encoding="utf-8") for page in ("SERVICE-BACKUP.md", "SERVICE-MOVE.md")]
-        block = "".join(pages).partition(after)[2].split("```")[1].strip()
-        for old, new in (("/var/lib", f"{at}/lib"), ("/usr/local/bin", f"{at}/bin"), ("/run/", f"{at}/run/")):
-            block = block.replace(old, new)
-        self.lines = block.splitlines()
-
-    def fill(self, damaged=tuple(DAMAGED)):
-        shutil.rmtree(self.at, ignore_errors=True)
-        for name in ("lib/relkvanu", "bin", "run"):
-            os.makedirs(f"{self.at}/{name}")
-        told = {f"{self.lib}/{name}": DAMAGED[name] for name in damaged}
-        told |= {f"{self.at}/bin/{name}": PUTS for name in ("relkvanu", "relkvanu-before")}
-        told[f"{self.at}/bin/systemctl"] = f"#!/bin/sh\n[ $1 != enable ] || printf 'log of the copy' > {self.lib}/relkvanu.db-wal\n[ $1 != is-failed ]\n"
-        for path, text in {**told, f"{self.at}/copy.db": "copy", f"{self.at}/before-upgrade-1.db": "copy"}.items():
-            with open(path, "w", encoding="utf-8") as it:
-                it.write(text)
-            os.chmod(path, 0o755)
-
-    def run(self, count=None, aside=None):
-        """Runs these commands, or this many lines of them. Returns the status, and what they say."""
-        lines = self.lines if count is None else [*self.lines[:count], "exit 9)"]
-        text = "\n".join(lines)
-        if aside:
-            text = text.replace("/aside", f"/{aside}") if "/aside" in text else text.replace("put-back ", f"put-back --aside {self.lib}/{aside} ")
-        environment = {**os.environ, "PATH": f"{self.at}/bin:{os.environ['PATH']}"}
-        told = subprocess.run(["bash", "-c", text], cwd=self.at, env=environment, stdout=subprocess.PIPE, stderr=subprocess.STDOUT, text=True, check=False)
-        return told.returncode, told.stdout
-
-    def is_in_place(self, aside):
-        """The copy is there, without the log of another database, and these files are set aside, each from the same database."""
-        files, found = self.there()
-        return files in ({"relkvanu.db": "copy"}, {"relkvanu.db": "copy", "relkvanu.db-wal": "log of the copy"}) and found == aside
-
-    def there(self):
-        """The files of the folder, and those that were set aside."""
-        files = {entry.name: content(entry.path) for entry in os.scandir(self.lib) if entry.is_file() and entry.name != "relkvanu.db.lock"}
-        [aside] = [entry.path for entry in os.scandir(self.lib) if entry.is_dir() and re.fullmatch("aside(-upgrade)?", entry.name)]
-        return files, {entry.name: content(entry.path) for entry in os.scandir(aside)}
-
-
-def ends(lines):
-    """How many lines of a block may run before it ends: none within a loop."""
-    return [count for count in range(1, len(lines)) if not lines[count].startswith((" ", "done"))]
-
-
-def test_an_upgrade_that_ends_at_each_line():
-    """There is a program at each moment. All commands again put the new one in place, and the old one stays for the way back."""
-    with folder() as at:
-        place = Place(f"{at}/place", "## To upgrade")
-        program, before, old, new = f"{place.at}/bin/relkvanu", f"{place.at}/bin/relkvanu-before", PUTS, "#!/bin/sh\n# new\n"
-        for count in ends(place.lines):
-            place.fill()
-            os.remove(before)
-            with open(f"{place.at}/relkvanu-new", "w", encoding="utf-8") as it:
-                it.write(new)
-            os.chmod(f"{place.at}/relkvanu-new", 0o755)
-            told = place.run(count)
-            assert told[0] == 9 and os.access(program, os.X_OK) and content(program) in (old, new), (place.lines[count - 1], told)
-            told = place.run()
-            assert told[0] == 0 and (content(program), content(before)) == (new, old), (place.lines[count - 1], told)
-            assert sorted(os.listdir(f"{place.at}/bin")) == ["relkvanu", "relkvanu-before", "systemctl"], os.listdir(f"{place.at}/bin")
-        return f"{len(ends(place.lines))} ends"
-
-
-def test_a_restore_that_ends_at_each_line():
-    """As by a loss of power, also when some files are set aside. All commands again put the copy in place and keep all that was set aside."""
-    tried = 0
-    with folder() as at:
-        for after in ("Here for SQLite and the job", "If the start ends with 78 all the same"):
-            place = Place(f"{at}/place", after)
-            for count in ends(place.lines):
-                place.fill()
-                assert place.run(count)[0] == 9, place.lines[count - 1]
-                again = place.run()
-                if "already: name another folder" in again[1]:
-                    # the copy was in place
-                    assert again[0] == 1 and place.is_in_place(DAMAGED), (place.lines[count - 1], place.there())
-                    again = place.run(aside="another")
-                assert again[0] == 0 and place.is_in_place(DAMAGED), (place.lines[count - 1], again, place.there())
-                assert not os.listdir(f"{place.at}/run"), os.listdir(f"{place.at}/run")
-                tried += 1
-            for moved in itertools.chain.from_iterable(itertools.combinations(DAMAGED, size) for size in range(4)):
-                place.fill()
-                aside = f"{place.lib}/aside{'-upgrade' if 'aside-upgrade' in ''.join(place.lines) else ''}"
-                os.mkdir(aside)
-                for name in moved:
-                    os.rename(f"{place.lib}/{name}", f"{aside}/{name}")
-                assert place.run()[0] == 0 and place.is_in_place(DAMAGED), (moved, place.there())
-                tried += 1
-            for damaged in ((), ("relkvanu.db",)):
-                place.fill(damaged)
-                assert place.run()[0] == 0 and place.is_in_place({name: DAMAGED[name] for name in damaged}), place.there()
-            # a log of the copy does not get beside the database that was set aside without one
-            assert place.run()[0] == 1 and place.is_in_place({"relkvanu.db": DAMAGED["relkvanu.db"]}), place.there()
-        return f"{tried} ends"
-
-
-def test_no_wait_of_the_page_is_endless():
-    """A service that runs and never lists its jobs. The copy or the program is in place then, and what the way back needs is there."""
-    with folder() as at:
-        for after in ("Here for SQLite and the job", "## To upgrade", "If the start ends with 78 all the same"):
-            place = Place(f"{at}/place", after)
-            place.fill()
-            asked = f"{place.at}/asked"
-            says = PUTS.replace("\n", f"\nif [ $1 = jobs ]; then echo >> {asked}; [ $(wc -l < {asked}) -gt 300 ]; exit; fi\n", 1)
-            for path in (f"{place.at}/bin/relkvanu", f"{place.at}/bin/relkvanu-before", f"{place.at}/relkvanu-new"):
-                with open(path, "w", encoding="utf-8") as it:
-                    it.write(says)
-                os.chmod(path, 0o755)
-            told = place.run()
-            assert told[0] == 1 and content(asked).count("\n") == 300, (after, told)
-            assert os.path.exists(f"{place.at}/bin/relkvanu-before") and not os.listdir(f"{place.at}/run"), (after, os.listdir(f"{place.at}/run"))
-        return "300 questions each"
-
-
-def copied(server, at, *record, status=0):
+def copied(server, at, *record, status=0, urls=None):
     """The script that copies the files of a savepoint to another machine, over folders: that of a number, or the newest that is noted."""
     settings = {"FOLDER": f"{at}/files", "PREFIX": "state-", "SUFFIX": ".bin", "TO": f"{at}/backup/orders", "BACKUPS_TO": f"{at}/backup/relkvanu",
-                "URL": server.url, "NOTES": f"{at}/notes", "BACKUPS": f"{at}/backups", "METRICS": f"{at}/metrics"}
+                "URL": urls or server.url, "PATIENCE": "0", "NOTES": f"{at}/notes", "BACKUPS": f"{at}/backups", "METRICS": f"{at}/metrics"}
     words = [f"{SERVICE}/deploy/copy", "orders", f"{at}/token", *map(str, record)]
     told = subprocess.run(words, env={**os.environ, **settings}, stdout=subprocess.PIPE, stderr=subprocess.STDOUT, text=True, timeout=COMMAND, check=False)
     assert told.returncode == status, told
     return told.stdout
 
 
-def brought_back(at, record):
-    """The block of docs/SERVICE-BACKUP.md that brings the files of savepoint 12 back, over folders and for this savepoint."""
-    with open(f"{TOP}/docs/SERVICE-BACKUP.md", encoding="utf-8") as it:
-        block = it.read().partition("**If the files of a savepoint were [copied to another machine]")[2].split("```")[1]
-    for old, new in {"backup.example:/srv/backup": f"{at}/backup", "/srv/orders": f"{at}/files", "/orders/12/": f"/orders/{record}/"}.items():
-        block = block.replace(old, new)
-    told = subprocess.run(["bash", "-euc", block], cwd=at, stdout=subprocess.PIPE, stderr=subprocess.STDOUT, text=True, timeout=COMMAND, check=False)
-    assert told.returncode == 0 and "/12/" not in block, (block, told.stdout)
+def brought_back(at, record, status=0):
+    """The script that brings the files of a savepoint back."""
+    with open(f"{at}/copy-orders.conf", "w", encoding="utf-8") as it:
+        it.write(f"FOLDER={at}/files\nPREFIX=state-\nSUFFIX=.bin\nTO={at}/backup/orders\n")
+    words = [f"{SERVICE}/deploy/bring-back", "orders", str(record)]
+    told = subprocess.run(words, env={**os.environ, "SETTINGS": at}, stdout=subprocess.PIPE, stderr=subprocess.STDOUT, text=True, timeout=COMMAND, check=False)
+    assert told.returncode == status, told
     return told.stdout
 
 
@@ -443,11 +316,45 @@ def test_state_files_are_copied_and_brought_back():
         with open(f"{files}/state-2.bin", "w", encoding="utf-8") as it:
             it.write("of")
         brought_back(at, 3)
-        told = [brought_back(at, 2) for _ in range(2)]
+        told = [brought_back(at, 2, status=1) for _ in range(2)]
+        assert all("no marker of orders" in text for text in told), told
         assert all("state-2.bin" in text and "state-1.bin" not in text and "state-4.bin" not in text for text in told), told
         assert set(os.listdir(files)) == {f"state-{number}.bin" for number in range(1, 5)}, os.listdir(files)
         assert (content(f"{files}/state-3.bin"), content(f"{files}/state-2.bin")) == ("of files/state-3.bin", "of")
         return "two savepoints"
+
+
+class Standby(http.server.BaseHTTPRequestHandler):
+    """Says that another process leads."""
+
+    def do_GET(self):
+        self.send_response(503)
+        self.end_headers()
+
+    def log_message(self, *_):
+        pass
+
+
+def test_several_addresses_of_a_copy():
+    """One is of a machine that is off, and one of a standby."""
+    if not shutil.which("rsync") or not shutil.which("curl"):
+        raise Skipped("rsync or curl", "one of them is not here")
+    with served() as server, http.server.HTTPServer(("127.0.0.1", 0), Standby) as standby:
+        threading.Thread(target=standby.serve_forever, daemon=True).start()
+        at, off, waits = server.folder, f"http://127.0.0.1:{free_port()}", f"http://127.0.0.1:{standby.server_port}"
+        job = Service(server.url).open("orders", SETTINGS, [1])
+        job.calls([savepoint(), ack(1, "0.0", [1]), savepoint()])
+        touched(f"{at}/token", f"{at}/files/state-1.bin")
+        os.makedirs(f"{at}/backups")
+        for urls in (f"{off} {server.url}", f"{waits} {off} {server.url}", f"{server.url} {waits}"):
+            shutil.rmtree(f"{at}/backup", ignore_errors=True)
+            copied(server, at, 1, urls=urls)
+            assert set(os.listdir(f"{at}/backup/orders/1")) == {"state-1.bin", "savepoint-1.json"}
+        copied(server, at, 2, urls=f"{waits} {server.url} {off}", status=22)  # it is not complete
+        copied(server, at, 1, urls=off, status=7)
+        copied(server, at, 1, urls=f"{off} {waits}", status=22)
+        standby.shutdown()
+        return "three addresses"
 
 
 def touched(*paths):

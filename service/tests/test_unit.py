@@ -32,14 +32,14 @@ def commands():
         with open(path, encoding="utf-8") as it:
             text += it.read()
     places = {
-        "install": "## The unit", "backup": "**SQLite**, while", "timer": "relkvanu-backup.timer) makes", "restore": "Here for SQLite and the job",
+        "install": "## The unit", "backup": "**SQLite**, while", "timer": "relkvanu-backup.timer) makes", "restore": "Step 2 over SQLite.",
         "savepoints": "**To choose the record yourself**", "from backup": "**Restore each job.**", "orphans": "**Files that nobody acknowledged, of a job", "discard": "### As a service",
-        "sweep": "runs the sweeper likewise", "init": "For an option that is for one", "upgrade": "## To upgrade",
+        "sweep": "runs the sweeper likewise", "init": "For an option that is for one", "upgrade": "`operate upgrade` is for a program",
         "way back": "If the start ends with 78 all the same", "savepoint units": "**The timer takes no savepoint.**", "savepoints over TLS": "**Over TLS, or if the service",
         "try savepoints": "**Try it once** while", "mail": "- **By mail**, with", "metric": "- **By Prometheus**, with",
         "copies": "**The state files need a copy",
-        "address": "**The address.**", "go back": "These commands go back to the files that were set aside", "all units": "**With many jobs**",
-        "moved": "**Keep the old machine from starting the service again.**", "try": "## To try a restore\n",
+        "address": "**The address.**", "discarders": "**Let the discarders run**", "moved": "1. **Leave the old machine.**",
+        "try": "## To try a restore\n",
     }
     steps = ("Install", "Set up TLS", "Start")
     places |= {f"TLS: {step}": f"{number}. **{step}**" for number, step in enumerate(steps, 1)}

@@ -98,6 +98,7 @@ def install():
     with open("/etc/systemd/system/relkvanu-backup.timer.d/later.conf", "w", encoding="utf-8") as it:
         it.write("[Timer]\nOnCalendar=\nOnCalendar=2090-01-01\n")
     as_the_page_says("install")
+    assert os.access("/usr/local/lib/relkvanu/operate", os.X_OK)
     # the pages that the units name
     for unit in ("relkvanu.service", "relkvanu-discard@.service", "relkvanu-sweep@.service", "relkvanu-backup.service", "relkvanu-savepoint@.service", "relkvanu-copy@.service"):
         with open(f"/deploy/{unit}", encoding="utf-8") as it:
@@ -225,7 +226,7 @@ def check_files_set_aside(before):
     told = as_the_page_says("restore", status=1)
     assert "aside has relkvanu.db already" in told and sorted(os.listdir(aside)) == there, (told, there, os.listdir(aside))
     assert "relkvanu.db.restored" not in os.listdir("/var/lib/relkvanu")
-    as_the_page_says("go back")
+    run("/usr/local/lib/relkvanu/operate", "back")
     until(is_ready)
     assert request("GET", "/v1/jobs/orders")[1]["mode"] == "cancelled" and not os.path.exists(aside)
     # the power was lost when one of the files was moved
@@ -247,17 +248,23 @@ def check_files_set_aside(before):
 
 def check_all_units_are_stopped():
     """Those that are enabled are written down once, and all start again."""
-    units = ["relkvanu-discard@orders.service", "relkvanu-sweep@orders.service"]
+    units = ["relkvanu-backup.timer", "relkvanu-discard@orders.service", "relkvanu-sweep@orders.service"]
+    operate, noted = "/usr/local/lib/relkvanu/operate", "/var/lib/relkvanu-units"
     run("systemctl", "enable", *units)
     for _ in range(2):
-        as_the_page_says("all units")
-        with open("/root/units", encoding="utf-8") as it:
+        run(operate, "stop")
+        with open(noted, encoding="utf-8") as it:
             assert it.read().split() == units
-        assert all(run("systemctl", "is-enabled", unit, check=False) == "disabled" for unit in units)
-    os.remove("/root/units")
+        assert all(run("systemctl", "is-enabled", unit, check=False) == "disabled" for unit in (*units, "relkvanu"))
+    run(operate, "serve")
+    as_the_page_says("discarders")
+    run(operate, "start")
+    assert not os.path.exists(noted) and all(run("systemctl", "is-enabled", unit) == "enabled" for unit in (*units, "relkvanu"))
+    assert is_ready()
 
 
 def check_the_old_machine_starts_no_service():
+    os.remove("copy.db")  # the service has run since
     as_the_page_says("moved")
     told = subprocess.run(["systemctl", "start", "relkvanu"], stdout=subprocess.PIPE, stderr=subprocess.STDOUT, text=True, check=False)
     assert told.returncode != 0 and property_of("ActiveState") != "active", told

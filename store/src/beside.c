@@ -51,7 +51,7 @@ bool rks_add_part(struct rks_text *text, const struct rks_subtask *part) {
     uint64_t last = 0;
     size_t files_len = is_ascending(part->files, part->files_len, &last) ? 0 : part->files_len;
     const struct head head = {part->vertex, part->index, (uint32_t)files_len, part->payload_len, part->bytes, part->millis};
-    if (files_len == 0 && part->payload_len == 0) {
+    if (files_len == 0 && part->payload_len == 0 && part->bytes == 0 && part->millis == 0) {
         return true; /* it says nothing that the coordinator does not */
     }
     if (!rks_room(text, sizeof head + files_len * sizeof *part->files + padded(part->payload_len))) {

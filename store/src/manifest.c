@@ -163,6 +163,15 @@ static bool add_payload(struct rks_writing *w, const struct rks_subtask *part) {
     return add(&w->text, "\"");
 }
 
+/* What the task told of its snapshot. */
+static bool add_figures(struct rks_writing *w, const struct rks_subtask *part) {
+    if (part == NULL) {
+        return true;
+    }
+    bool is_added = part->bytes == 0 || add(&w->text, ",\"bytes\":%" PRIu64, part->bytes);
+    return is_added && (part->millis == 0 || add(&w->text, ",\"millis\":%" PRIu64, part->millis));
+}
+
 /* A file with its length, which is null if the folder has none of this name. */
 static bool add_file(struct rks_writing *w, uint64_t file, bool is_first) {
     char name[32];
@@ -208,7 +217,8 @@ static bool add_subtask(struct rks_writing *w, uint16_t vertex, uint16_t index, 
     for (size_t i = 0; i < len && is_added; i++) {
         is_added = add_file(w, ordered[i], i == 0);
     }
-    return is_added && add(&w->text, "}") && add_sums(w, ordered, len) && add_payload(w, part) && add(&w->text, "}");
+    return is_added && add(&w->text, "}") && add_sums(w, ordered, len) && add_payload(w, part) && add_figures(w, part) &&
+           add(&w->text, "}");
 }
 
 static bool add_subtasks(struct rks_writing *w) {

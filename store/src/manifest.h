@@ -35,13 +35,14 @@ struct rks_manifests {
 };
 
 /* A file of a subtask; has_bytes, has_sum: whether its length and its checksum are known. A subtask without files is one call, whose is_file is false. The payload is the same in each call
- * of a subtask: hexadecimal digits, or NULL. Returns a status. */
+ * of a subtask: hexadecimal digits, or NULL; and so is what its task told of its snapshot, or 0. Returns a status. */
 struct rks_part {
     uint16_t vertex, index;
     uint64_t file, bytes;
     uint32_t sum;
     bool is_file, has_bytes, has_sum;
     const char *payload;
+    uint64_t told_bytes, told_millis;
 };
 typedef int (*rks_each_part)(void *with, const struct rks_part *part);
 

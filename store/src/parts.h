@@ -355,7 +355,7 @@ int rks_read_parts(relkvanu_store *s, uint64_t record, struct rks_parts *parts);
 const struct rks_subtask *rks_part_of(const struct rks_parts *parts, uint16_t vertex, uint16_t index);
 void rks_free_parts(struct rks_parts *parts);
 
-/* Appends a part to a text, unless it has neither a payload nor an order. Returns false without memory. */
+/* Appends a part to a text, unless it has neither a payload nor an order nor figures. Returns false without memory. */
 bool rks_add_part(struct rks_text *text, const struct rks_subtask *part);
 
 /* Writes the parts of a record of a recovery, in a transaction of their own. */

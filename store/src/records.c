@@ -163,7 +163,7 @@ struct reading {
     sqlite3_stmt *subtasks, *files, *sums;
     bool has_sums;
 };
-enum { VERTEX, INDEX, FILES, PAYLOAD, SUMS }; /* of a subtask */
+enum { VERTEX, INDEX, FILES, PAYLOAD, SUMS, BYTES, MILLIS }; /* of a subtask */
 
 /* Binds what a subtask has. Checksums may be missing. */
 static int bind_files(struct reading *r) {
@@ -209,19 +209,28 @@ static int each_file(struct reading *r, struct rks_part part, rks_each_part each
     return status == RELKVANU_STORE_OK && !has_files ? each(with, &part) : status;
 }
 
+/* What a task told of its snapshot; 0 if it told nothing. */
+static bool is_figure(sqlite3_stmt *subtasks, int column, uint64_t *figure) {
+    int type = sqlite3_column_type(subtasks, column);
+    *figure = (uint64_t)sqlite3_column_int64(subtasks, column);
+    return type == SQLITE_NULL || (type == SQLITE_INTEGER && *figure <= INT64_MAX);
+}
+
 static int each_subtask(struct reading *r, rks_each_part each, void *with) {
     sqlite3_int64 vertex = sqlite3_column_int64(r->subtasks, VERTEX), index = sqlite3_column_int64(r->subtasks, INDEX);
     bool is_valid = vertex >= 0 && vertex < RKS_VERTICES && index >= 0 && index <= UINT16_MAX;
     struct rks_part part = {
         .vertex = (uint16_t)vertex, .index = (uint16_t)index, .payload = (const char *)sqlite3_column_text(r->subtasks, PAYLOAD)};
     is_valid = is_valid && (part.payload != NULL || sqlite3_column_type(r->subtasks, PAYLOAD) == SQLITE_NULL);
+    is_valid = is_valid && is_figure(r->subtasks, BYTES, &part.told_bytes) && is_figure(r->subtasks, MILLIS, &part.told_millis);
     return is_valid ? each_file(r, part, each, with) : RELKVANU_STORE_DAMAGED;
 }
 
 /* The files of all subtasks. */
 static int each_part(sqlite3 *db, const struct rks_text *text, rks_each_part each, void *with) {
     static const char SUBTASKS_OF[] = "SELECT json_extract(value,'$.vertex'),json_extract(value,'$.index'),json_extract(value,'$.files'),"
-                                      "json_extract(value,'$.payload'),json_extract(value,'$.sums')"
+                                      "json_extract(value,'$.payload'),json_extract(value,'$.sums'),"
+                                      "json_extract(value,'$.bytes'),json_extract(value,'$.millis')"
                                       " FROM json_each(?1,'$.subtasks')";
     int status = RELKVANU_STORE_OK, code = SQLITE_DONE;
     struct reading r = {.subtasks = asked(db, SUBTASKS_OF, (const char *)text->at, text->len, &status)};

@@ -18,10 +18,12 @@ enum { LIST = 4096, LIST_FILES = 65536 }; /* calls, and files, of a list */
 /* Numbers that may be told before a manifest says so again; numbers that a recovery passes at most for a manifest that can't be read. */
 enum { SOME_NUMBERS = 1024, MOST_PASSED = 1 << 20 };
 
-/* The acknowledgement of a subtask: its files that no record has had, and the others; all of them in their order; and its payload. */
+/* The acknowledgement of a subtask: its files that no record has had, and the others; all of them in their order; its payload; and what its task told of
+ * its snapshot. */
 struct ack {
     uint16_t vertex, index;
     size_t first, first_len, second, second_len, all, all_len, payload, payload_len;
+    uint64_t bytes, millis;
 };
 
 struct numbers {
@@ -103,7 +105,9 @@ static struct ack *ack_of(struct recovery *r, const struct rks_part *part) {
         .first = r->fresh.len,
         .second = r->reused.len,
         .all = r->ordered.len,
-        .payload = r->payloads.len};
+        .payload = r->payloads.len,
+        .bytes = part->told_bytes,
+        .millis = part->told_millis};
     return last;
 }
 
@@ -206,7 +210,8 @@ static int carry_parts(struct recovery *r, uint64_t id) {
     for (size_t at = 0; at < r->acks_len && has_all; at++) {
         const struct ack *it = &r->acks[at];
         const uint64_t *files = r->ordered.at + it->all;
-        const struct rks_subtask part = {it->vertex, it->index, files, it->all_len, r->payloads.at + it->payload, it->payload_len, 0, 0};
+        const struct rks_subtask part = {
+            it->vertex, it->index, files, it->all_len, r->payloads.at + it->payload, it->payload_len, it->bytes, it->millis};
         has_all = rks_add_part(&text, &part);
     }
     int status = has_all ? rks_carry_parts(r->job, id, &text) : RELKVANU_STORE_NO_MEMORY;

@@ -4,7 +4,7 @@
 #include <errno.h>
 #include <unistd.h>
 
-enum { ENDED = RELKVANU_STORE_MOST_ENDED };
+enum { ENDED = RELKVANU_STORE_MOST_ENDED, BYTES = 10, MILLIS = 3 };
 
 /* A call with more, and what it told. */
 static uint64_t ended[ENDED];
@@ -13,7 +13,7 @@ static relkvanu_answer answer;
 
 static relkvanu_store_more with_payload(const char *payload) {
     return (relkvanu_store_more){
-        .payload = payload, .payload_len = strlen(payload), .bytes = 10, .millis = 3, .ended = ended, .ended_room = ENDED};
+        .payload = payload, .payload_len = strlen(payload), .bytes = BYTES, .millis = MILLIS, .ended = ended, .ended_room = ENDED};
 }
 
 static uint64_t term_of(relkvanu_store *store) {
@@ -78,6 +78,8 @@ static bool note_part(void *with, const relkvanu_store_part *part) {
     CHECK(part->payload_len == (loaded.of == 0 ? 0 : strlen(payload)), "%zu bytes", part->payload_len);
     CHECK(part->payload_len == 0 || memcmp(part->payload, payload, part->payload_len) == 0, "%.*s", (int)part->payload_len,
         (const char *)part->payload);
+    CHECK(part->bytes == (loaded.of == 0 ? 0 : BYTES) && part->millis == (loaded.of == 0 ? 0 : MILLIS), "%" PRIu64 " bytes, %" PRIu64 " ms",
+        part->bytes, part->millis);
     for (size_t i = 0; i < part->files_len; i++) {
         loaded.files[loaded.files_len++] = part->files[i];
     }
@@ -441,7 +443,19 @@ static void payloads_of_a_stop(void) {
     CHECK(parts_of(0) == SUBTASKS, "%zu rows", parts_of(0));
 }
 
-/* Manifests have payloads, and the order of files. So do recoveries, exports and imports. */
+/* Whether the manifest of a record has this text. */
+static bool manifest_has(uint64_t id, const char *words) {
+    char name[60];
+    static char text[1 << 16];
+    snprintf(name, sizeof name, "storage/record-%" PRIu64 ".manifest", id);
+    FILE *from = fopen(in(name), "r");
+    CHECK(from != NULL, "%s", name);
+    text[fread(text, 1, sizeof text - 1, from)] = 0;
+    fclose(from);
+    return strstr(text, words) != NULL;
+}
+
+/* Manifests have payloads, the order of files, and figures. So do recoveries, exports and imports. */
 static void payloads_of_manifests(void) {
     relkvanu_store_options options = storage_options(RELKVANU_STORE_CREATE | RELKVANU_STORE_MANIFESTS, 0);
     relkvanu_store_recovered recovered;
@@ -457,6 +471,7 @@ static void payloads_of_manifests(void) {
         acks(store, id, i, text_of(id, i));
     }
     relkvanu_store_close(store);
+    CHECK(manifest_has(id, "\"bytes\":10,\"millis\":3}") && !manifest_has(id, "\"millis\":0"), "no figures");
     int status = relkvanu_store_export(in("storage"), savepoint, in("exported"), &carried);
     CHECK(status == RELKVANU_STORE_OK, "status %d: %s", status, carried.message);
     lose_job();

@@ -3,8 +3,9 @@ no library. Those of a durable coordinator are written by the library, which als
 import contextlib
 import functools
 import json
+import posixpath
 import zlib
-from typing import Any, Dict, Iterable, List, Optional, Tuple
+from typing import Any, Container, Dict, Iterable, List, Optional, Tuple
 
 PIECE = 1 << 20  # bytes of a file that are read at once
 
@@ -13,10 +14,20 @@ def name_of(record: int) -> str:
     return f"record-{record}.manifest"
 
 
+def record_of(name: str) -> int:
+    return int(posixpath.basename(name)[len("record-"):-len(".manifest")])
+
+
 def sealed(found: Dict[str, Any]) -> bytes:
     """The text of these members, with the checksum of all that comes before it."""
     body = json.dumps(found, separators=(",", ":"))[:-1].encode()
     return body + b',"sum":"%08x"}\n' % zlib.crc32(body)
+
+
+def is_sealed(text: bytes) -> bool:
+    """Whether the text has its checksum."""
+    body, _, told = text.rpartition(b',"sum":"')
+    return told == b'%08x"}\n' % zlib.crc32(body)
 
 
 def of_job(manifest: bytes, job: str) -> bytes:
@@ -61,3 +72,55 @@ def files_in(manifest: bytes) -> Dict[int, Optional[int]]:
     with contextlib.suppress(ValueError, KeyError, TypeError):
         return {int(file): size for it in json.loads(manifest)["subtasks"] for file, size in it["files"].items()}
     return {}
+
+
+class Sums:
+    """The checksums of a job's files, as the manifests of its records have them. The number of a file is given out once, so each file is read once, or not at
+    all."""
+
+    def __init__(self, place: Any, *, reads: bool) -> None:
+        self._place, self._reads = place, reads
+        self._known: Dict[int, Dict[int, int]] = {}  # of each record
+
+    def note(self, record: int, manifest: bytes) -> None:
+        self._known[record] = sums_in(manifest)
+
+    def note_all(self) -> None:
+        """What the place has from before."""
+        for it in self._place.names():
+            text = self._place.read(it) or b""
+            if is_sealed(text):
+                self.note(record_of(it), text)
+
+    def drop(self, record: int) -> None:
+        """It has ended."""
+        self._known.pop(record, None)
+
+    def keep(self, records: Container[int]) -> None:
+        """The others have ended."""
+        self._known = {record: it for record, it in self._known.items() if record in records}
+
+    def of(self, file: int) -> Optional[int]:
+        """Raises Gone if it is read, and is not there."""
+        known = next((it[file] for it in self._known.values() if file in it), None)
+        if known is not None or not self._reads:
+            return known
+        with contextlib.closing(self._place.opened(file)) as contents:
+            return sum_of(iter(functools.partial(contents.read, PIECE), b""))
+
+    def member(self, files: List[int]) -> Dict[str, Any]:
+        """That of a subtask with these files."""
+        found = [self.of(file) for file in files]
+        is_known = any(it is not None for it in found)
+        return {"sums": [None if it is None else f"{it:08x}" for it in found]} if is_known else {}
+
+    def added(self, record: int, manifest: bytes) -> bytes:
+        """The manifest with the checksums of its files."""
+        found = json.loads(manifest)
+        del found["sum"]
+        for part in found["subtasks"]:
+            payload = {"payload": part.pop("payload")} if "payload" in part else {}
+            part.update(**self.member([int(file) for file in part["files"]]), **payload)
+        text = sealed(found)
+        self.note(record, text)
+        return text

@@ -9,6 +9,7 @@ import boto3  # type: ignore[import]
 from botocore.config import Config  # type: ignore[import]
 from botocore.exceptions import BotoCoreError, ClientError  # type: ignore[import]
 
+from relkvanu.manifest import Sums, record_of
 from relkvanu.places import OWNER
 from relkvanu.storage import PAGE, Contents, Exists, FileNames, KeepsVersions, Marker, NotThere, OtherJob, StorageError, check_marker
 
@@ -244,16 +245,30 @@ class UncheckedBucket(Bucket):
         return _Contents(self._ask(self._s3.get_object, Key=key)["Body"], f"{self.bucket}/{key}")
 
 
+class _Checksums(Sums):
+    """Those of a bucket. An object that can't be read has none."""
+
+    def of(self, file: int) -> Optional[int]:
+        try:
+            return super().of(file)
+        except StorageError:
+            return None
+
+
 class StateBucket(Bucket):
     """The state files of a job of relkvanu.store that has no `storage`, with its manifests: of them `relkvanu-store recover JOB s3://BUCKET/PREFIX` makes
     the job again if its file is lost. Made right after each opening. Its marker names the opening, so what an earlier one deletes is refused. The prefix ends
-    with a slash, or is empty. Raises OtherJob for the place of another job, or of a later opening: then the job's file is an older copy."""
+    with a slash, or is empty. Raises OtherJob for the place of another job, or of a later opening: then the job's file is an older copy. A store that was opened
+    with `checksums` has one of each object in its manifests, for which the object is read once."""
 
     def __init__(self, store: "Store", bucket: str, prefix: str = "", s3: Any = None, keeps_versions: bool = False) -> None:
         if prefix and not prefix.endswith("/"):
             raise ValueError("the prefix of a job's manifests ends with a slash")
         self._report = store.report
         super().__init__(bucket, store.report.job, True, prefix, s3=s3, keeps_versions=keeps_versions, marker=store.marker())
+        self._sums = _Checksums(_Beside(self), reads=True) if store.checksums else None
+        if self._sums is not None:
+            self._sums.note_all()
         store.keep_manifests(self)
 
     def _begin(self) -> None:
@@ -272,10 +287,24 @@ class StateBucket(Bucket):
         self._ask(self._s3.put_object, Key=self.marker.name, Body=self.marker.text.encode())
 
     def put_manifest(self, name: str, contents: bytes) -> None:
-        self.write_beside(name, contents)
+        self.write_beside(name, contents if self._sums is None else self._sums.added(record_of(name), contents))
 
     def remove_manifest(self, name: str) -> None:
         self.remove_beside(name)
+        if self._sums is not None and name.endswith(".manifest"):
+            self._sums.drop(record_of(name))
 
     def manifests(self) -> List[str]:
         return self.beside("record-")
+
+    def contents(self, file: int) -> _Contents:
+        """An object, which is read in pieces."""
+        key = self.names.of(file)
+        return _Contents(self._ask(self._s3.get_object, Key=key)["Body"], f"{self.bucket}/{key}")
+
+
+class _Beside:
+    """The manifests and the objects of a bucket, as checksums are made of them."""
+
+    def __init__(self, bucket: StateBucket) -> None:
+        self.names, self.read, self.opened = bucket.manifests, bucket.read_beside, bucket.contents

@@ -5,15 +5,13 @@ writes one for each record before anybody is told that the record is complete:
     manifests.keep()  # after begin(), before tasks start; after each completed checkpoint, before sinks are told
 
 It needs the client of the service, and no library. docs/SERVICE-RECOVERY.md has the rest."""
-import contextlib
-import functools
 import hashlib
 import posixpath
 import time
-from typing import Any, Container, Dict, Iterator, List, NamedTuple, Optional, Tuple
+from typing import Any, Dict, Iterator, List, NamedTuple, Optional, Tuple
 
 from relkvanu.errors import Error
-from relkvanu.manifest import PIECE, files_in, parts_in, sealed, sum_of, sums_in
+from relkvanu.manifest import Sums, files_in, parts_in, record_of, sealed, sums_in
 from relkvanu.places import Gone, InBucket, InFolder, Owner, Path
 from relkvanu.storage import FileNames, NotThere, OtherJob
 
@@ -91,45 +89,6 @@ class Below(NamedTuple):
     name: int
 
 
-class Sums:
-    """The checksums of a job's files, as the manifests of its records have them. The number of a file is given out once, so each file is read once, or not at
-    all."""
-
-    def __init__(self, place: Any, *, reads: bool) -> None:
-        self._place, self._reads = place, reads
-        self._known: Dict[int, Dict[int, int]] = {}  # of each record
-
-    def note(self, record: int, manifest: bytes) -> None:
-        self._known[record] = sums_in(manifest)
-
-    def note_all(self) -> None:
-        """What the place has from before."""
-        for it in self._place.names():
-            self.note(_record_of(it), self._place.read(it) or b"")
-
-    def keep(self, records: Container[int]) -> None:
-        """The others have ended."""
-        self._known = {record: it for record, it in self._known.items() if record in records}
-
-    def of(self, file: int) -> Optional[int]:
-        """Raises Gone if it is read, and is not there."""
-        known = next((it[file] for it in self._known.values() if file in it), None)
-        if known is not None or not self._reads:
-            return known
-        with contextlib.closing(self._place.opened(file)) as contents:
-            return sum_of(iter(functools.partial(contents.read, PIECE), b""))
-
-    def member(self, files: List[int]) -> Dict[str, Any]:
-        """That of a subtask with these files."""
-        found = [self.of(file) for file in files]
-        is_known = any(it is not None for it in found)
-        return {"sums": [None if it is None else f"{it:08x}" for it in found]} if is_known else {}
-
-
-def _record_of(name: str) -> int:
-    return int(posixpath.basename(name)[len("record-"):-len(".manifest")])
-
-
 class Manifests:
     """Those of a job of the service (relkvanu_service.Job) in a place of service_folder() or service_bucket(). Raises NotThere or OtherJob if the place
     does not have the job's marker, and NotKept if the job may lose the files of the record before a manifest is there."""
@@ -172,7 +131,7 @@ class Manifests:
     def _keep(self, state: Dict[str, Any]) -> Optional[int]:
         choice: Optional[int] = state["choice"].get("id")
         live = {int(it["id"]): it["kind"] for it in state["live"] if it["done"]}
-        there = {_record_of(it) for it in self._place.names()}
+        there = {record_of(it) for it in self._place.names()}
         if self._is_first:
             self._sums.note_all()
         missing = [it for it in live if it == choice or it not in there or (self._is_first and self._differs(it))]
@@ -228,7 +187,8 @@ def _part(storage: Any, vertex: int, index: int, state: Dict[str, Any], sums: Op
     payload = {"payload": state["payload"].hex()} if state["payload"] else {}
     files = {str(file): storage.size(file) for file in state["files"]}
     checksums = {} if sums is None else sums.member(state["files"])
-    return {"vertex": vertex, "index": index, "files": files, **checksums, **payload}
+    figures = {name: state[name] for name in ("bytes", "millis") if state.get(name)}
+    return {"vertex": vertex, "index": index, "files": files, **checksums, **payload, **figures}
 
 
 def _subtasks(shape: List[int]) -> Iterator[Tuple[int, int]]:

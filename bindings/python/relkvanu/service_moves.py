@@ -1,4 +1,4 @@
-"""relkvanu keep|export|import|recover ..: what the service's command does with manifests. It runs this. A job of the service is made of a record by ordinary
+"""relkvanu keep|export|import|recover|records ..: what the service's command does with manifests. It runs this. A job of the service is made of a record by ordinary
 calls, as relkvanu_store_recover makes one of the durable coordinator: without names, so that its first acknowledgements may name the files that are there
 by the numbers that they have; then it gets names above all that were told. Until it has all, its settings are such that no engine can open it."""
 import argparse
@@ -16,10 +16,10 @@ from typing import Any, Dict, Iterator, List, Optional, Sequence, Set
 from relkvanu import manifests
 from relkvanu.errors import Error
 from relkvanu.jobs import LONGEST, lists_of
-from relkvanu.manifest import members
+from relkvanu.manifest import Sums, members
 from relkvanu.places import Gone, InBucket, Place, place
 from relkvanu.service_manifests import (
-    MARK, Below, Manifests, ServiceFolder, Sums, identity_of, imported_marker, manifest_of, service_bucket, service_folder,
+    MARK, Below, Manifests, ServiceFolder, identity_of, imported_marker, manifest_of, service_bucket, service_folder,
 )
 from relkvanu.storage import NotThere, OtherJob
 from relkvanu.store import Carried, Store, StoreError
@@ -96,9 +96,17 @@ def make_calls(job: Any, calls: Sequence[Dict[str, Any]]) -> List[Dict[str, Any]
 
 
 def has_order(part: Dict[str, Any]) -> bool:
-    """Whether the service was told the order of a subtask's files. A payload says so, though it is empty; otherwise they ascend."""
+    """Whether the service was told the order of a subtask's files. A payload says so, though it is empty, and so do figures; otherwise they ascend."""
     files = [int(file) for file in part["files"]]
-    return bool(part.get("payload")) or files != sorted(files)
+    return any(part.get(it) for it in ("payload", "bytes", "millis")) or files != sorted(files)
+
+
+def sizes_of(part: Dict[str, Any], fresh: List[int]) -> Dict[str, Any]:
+    """The lengths of its new files, if they are known. Otherwise the bytes of the snapshot, if its task told them."""
+    sizes = [part["files"][str(file)] for file in fresh]
+    if sizes and None not in sizes:
+        return {"sizes": sizes}
+    return {"size": part["bytes"]} if part.get("bytes") else {}
 
 
 class Making:
@@ -118,10 +126,9 @@ class Making:
             files = {int(file): size for file, size in it["files"].items()}
             fresh = [file for file in files if file not in self.known]
             reused = [file for file in files if file in self.known]
-            sizes = [files[file] for file in fresh]
             self.known.update(fresh)
             payload = bytes.fromhex(it.get("payload", "")) if has_order(it) else None
-            yield self.client.ack(record, f"{it['vertex']}.{it['index']}", fresh, reused, sizes=None if None in sizes else sizes, payload=payload)
+            yield self.client.ack(record, f"{it['vertex']}.{it['index']}", fresh, reused, payload=payload, millis=it.get("millis"), **sizes_of(it, fresh))
 
     def is_mixed(self, manifest: Dict[str, Any]) -> bool:
         """Whether a subtask with an order has files that no record has had behind others. The service keeps new files before others."""
@@ -208,11 +215,17 @@ def found_in(source: Place, record: int) -> Found:
     return Found(one.id, texts[one.id], savepoints, below, sum(it.damage is not None or it.missing != 0 for it in all))
 
 
+def is_figure(it: Any) -> bool:
+    return type(it) is int and 0 <= it < 1 << 63
+
+
 def check_payloads(source: Place, found: List[Dict[str, Any]]) -> None:
     """Before anything changes. The library reads them when it makes a job itself."""
     for it in found:
         if not all(PAYLOAD.fullmatch(str(part.get("payload", ""))) for part in it["subtasks"]):
             raise StoreError("Damaged", f"{source.url}: record-{it['record']}.manifest has what can't be a payload", False)
+        if not all(is_figure(part.get(name, 0)) for part in it["subtasks"] for name in ("bytes", "millis")):
+            raise StoreError("Damaged", f"{source.url}: record-{it['record']}.manifest has what can't be bytes or milliseconds of a snapshot", False)
 
 
 def forget(source: Any, identity: str) -> None:
@@ -406,18 +419,19 @@ def goes_on(recovery: Recovery, source: Place) -> Imported:
 
 
 def parser() -> argparse.ArgumentParser:
-    where = argparse.ArgumentParser(add_help=False)
+    place = argparse.ArgumentParser(add_help=False)
+    files = place.add_mutually_exclusive_group(required=True)
+    files.add_argument("--folder", metavar="DIR", help="the folder of the job's files")
+    files.add_argument("--bucket", metavar="NAME", help="the bucket of the job's files")
+    place.add_argument("--prefix", default="", help="the part of a file's name before its number; in a bucket of its key")
+    place.add_argument("--suffix", default="", help="the part of a file's name after its number")
+    place.add_argument("--endpoint", metavar="URL", help="another S3 server than that of AWS")
+    place.add_argument("--region", help="its region")
+    where = argparse.ArgumentParser(add_help=False, parents=[place])
     where.add_argument("--url", metavar="URL", action="append", help="the service, by default http://127.0.0.1:7780; again: its next address")
     where.add_argument("--token-file", metavar="FILE", help="a file whose first line is a write token")
     where.add_argument("--ca", metavar="FILE", help="certificates that https trusts, by default the system's")
     where.add_argument("--within", metavar="SECONDS", type=int, default=60, help="for how long a request that is not answered is made again")
-    files = where.add_mutually_exclusive_group(required=True)
-    files.add_argument("--folder", metavar="DIR", help="the folder of the job's files")
-    files.add_argument("--bucket", metavar="NAME", help="the bucket of the job's files")
-    where.add_argument("--prefix", default="", help="the part of a file's name before its number; in a bucket of its key")
-    where.add_argument("--suffix", default="", help="the part of a file's name after its number")
-    where.add_argument("--endpoint", metavar="URL", help="another S3 server than that of AWS")
-    where.add_argument("--region", help="its region")
     it = argparse.ArgumentParser(prog="relkvanu", epilog=USAGE, formatter_class=argparse.RawDescriptionHelpFormatter)
     commands = it.add_subparsers(dest="command", required=True)
     for name, words in (("keep", ("job",)), ("export", ("job", "id", "to")), ("import", ("source", "job")), ("recover", ("job",))):
@@ -430,6 +444,9 @@ def parser() -> argparse.ArgumentParser:
             command.add_argument("--checksums", action="store_true", help="manifests have a checksum of each file, which is read once")
         if name == "import":
             command.add_argument("--claim", action="store_true", help="the files leave SOURCE, whose job is refused from then on")
+    looks = commands.add_parser("records", parents=[place])  # it needs no service
+    looks.add_argument("job")
+    looks.add_argument("--whole", action="store_true", help="reads the files, and compares them with the checksums of the manifests")
     return it
 
 
@@ -458,15 +475,11 @@ def number(text: str) -> int:
     return 0 if text == "latest" else int(text)
 
 
-class Given:
-    """What the words of a command stand for."""
+class Looked:
+    """What the words of a command stand for, of the files of a job."""
 
     def __init__(self, given: argparse.Namespace) -> None:
         self.given = given
-        self.client = module("relkvanu_service", "the client of the service is service/client/python/relkvanu_service.py, and needs python3-requests")
-        urls = given.url or ["http://127.0.0.1:7780"]
-        self.service = self.client.Service(*urls, token=token(given.token_file), patience=given.within, ca=given.ca)
-        self.job = self.service.job(given.job)
 
     def s3(self) -> Any:
         return module("relkvanu.s3", "a bucket needs boto3, python3-boto3 of Debian").client(self.given.endpoint, self.given.region)
@@ -476,6 +489,28 @@ class Given:
         if it.folder is None:
             return service_bucket(it.job, it.bucket, it.prefix, it.suffix, self.s3())
         return service_folder(it.job, it.folder, it.prefix, it.suffix)
+
+    def show(self) -> None:
+        source = self.files()
+        marker = source.text()
+        if marker is None:
+            raise NotThere(2, "there is no marker of the job", f"{source.url}/{source.marker}")
+        source.of(identity_of(marker))
+        if not self.given.whole:
+            manifests.show(source)
+        elif not manifests.show_whole(source):
+            raise Stop(FAILED, f"{source.url}: not all files are as the manifests say")
+
+
+class Given(Looked):
+    """The same with the service."""
+
+    def __init__(self, given: argparse.Namespace) -> None:
+        super().__init__(given)
+        self.client = module("relkvanu_service", "the client of the service is service/client/python/relkvanu_service.py, and needs python3-requests")
+        urls = given.url or ["http://127.0.0.1:7780"]
+        self.service = self.client.Service(*urls, token=token(given.token_file), patience=given.within, ca=given.ca)
+        self.job = self.service.job(given.job)
 
     def place(self, url: str) -> Place:
         return place(url, self.s3() if url.startswith("s3://") else None)
@@ -504,7 +539,19 @@ class Given:
             manifests.tell(it.job, import_job(self.recovery(), self.place(it.source), it.record, it.claim))
 
 
+def look(given: argparse.Namespace) -> None:
+    try:
+        Looked(given).show()
+        sys.stdout.flush()
+    except (NotThere, OtherJob) as error:
+        raise Stop(LOOK_FIRST, str(error)) from error
+    except (Error, OSError) as error:
+        raise Stop(FAILED, str(error)) from error
+
+
 def run(given: argparse.Namespace) -> None:
+    if given.command == "records":
+        return look(given)
     it = Given(given)
     try:
         it.do()

@@ -533,6 +533,7 @@ class Store:
         self._token = 0
         self._places: List[Tuple[Any, ...]] = []  # the functions of keep_manifests(), which C calls
         self.manifest_fault: Optional[BaseException] = None
+        self.checksums = checksums  # whether its manifests have them
         flags = create * store_header.CREATE | only_create * store_header.CREATE_ONLY | adopt * store_header.ADOPT
         words, found = _words(shape), store_header.relkvanu_store_report()
         options = store_header.relkvanu_store_options(

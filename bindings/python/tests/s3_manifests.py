@@ -11,6 +11,7 @@ import sys
 import tempfile
 import unittest
 import uuid
+import zlib
 
 import boto3
 from botocore.config import Config
@@ -78,8 +79,8 @@ class OnAServer(unittest.TestCase):
         return sorted(int(it) for it in self.keys(prefix) if it.isdecimal())
 
     @contextlib.contextmanager
-    def opened(self, name="job.db", prefix="orders/", create=False):
-        with Store(self.work / name, SETTINGS, [TASKS], create=create) as job:
+    def opened(self, name="job.db", prefix="orders/", create=False, checksums=False):
+        with Store(self.work / name, SETTINGS, [TASKS], create=create, manifests=checksums, checksums=checksums) as job:
             yield job, StateBucket(job, self.bucket, prefix, s3=self.s3)
 
     @contextlib.contextmanager
@@ -143,6 +144,57 @@ class AJobOverABucket(OnAServer):
             self.assertEqual([it for it in self.keys("orders/") if it.startswith("record-")], [f"record-{later}.manifest"])
             (text,) = [it["Body"].read() for it in [self.s3.get_object(Bucket=self.bucket, Key=f"orders/record-{later}.manifest")]]
             self.assertEqual({file for it in json.loads(text)["subtasks"] for file in it["files"]}, set(map(str, names)))
+
+    def sums(self, record, prefix="orders/"):
+        """The checksum that a manifest has of each file."""
+        text = self.s3.get_object(Bucket=self.bucket, Key=f"{prefix}record-{record}.manifest")["Body"].read()
+        body, _, told = text.rpartition(b',"sum":')
+        self.assertEqual(told, b'"%08x"}\n' % zlib.crc32(body))
+        return {int(file): it for part in json.loads(text)["subtasks"] for file, it in zip(part["files"], part.get("sums", ()))}
+
+    def test_checksums_of_objects(self):
+        """Each object is read once, also over openings; what changes later is found by a look."""
+        gets = []
+        self.s3.meta.events.register("before-send.s3.GetObject", lambda request, **_: gets.append(request.url.rpartition("/")[2]))
+        with self.opened(create=True, checksums=True) as (job, files):
+            kept, first = completes(job, files, job.report.term, savepoint=True)
+            record, second = completes(job, files, job.report.term, reused=first[:1])
+            self.assertEqual(self.sums(kept), {file: f"{zlib.crc32(contents_of(file)):08x}" for file in first})
+            self.assertEqual(self.sums(record), {file: f"{zlib.crc32(contents_of(file)):08x}" for file in [*first[:1], *second]})
+        with self.opened(checksums=True) as (job, files):
+            later, third = completes(job, files, job.restore().term, reused=second[:1])
+            self.assertEqual(self.sums(later), {file: f"{zlib.crc32(contents_of(file)):08x}" for file in [*second[:1], *third]})
+        self.assertEqual(sorted(int(it) for it in gets if it.isdecimal()), sorted([*first, *second, *third]))
+        status, told = self.runs("show", "--whole", self.url("orders"))
+        self.assertEqual((status, told.count("each checksum is right")), (0, 2), told)
+        self.s3.put_object(Bucket=self.bucket, Key=f"orders/{third[0]}", Body=b"damage" + contents_of(third[0])[6:])
+        self.s3.delete_object(Bucket=self.bucket, Key=f"orders/{first[2]}")
+        status, told = self.runs("show", "--whole", self.url("orders"))
+        self.assertEqual(status, 1, told)
+        self.assertIn(f"record {later}: file {third[0]} has another checksum", told)
+        self.assertIn(f"record {kept}: file {first[2]} is missing", told)
+        self.assertEqual(self.runs("show", self.url("orders"))[0], 0)  # it reads none
+
+    def test_an_object_without_a_checksum(self):
+        """One that can't be read has none; a store that does not ask for them writes none, and a look says so."""
+        with self.opened(create=True, checksums=True) as (job, files):
+            def fail(request, **_):
+                if request.url.rpartition("/")[2].isdecimal():
+                    raise OSError("no network")
+
+            self.s3.meta.events.register("before-send.s3.GetObject", fail, unique_id="fail")
+            record, names = completes(job, files, job.report.term)
+            self.assertIsNone(job.manifest_fault)
+            self.s3.meta.events.unregister("before-send.s3.GetObject", unique_id="fail")
+            self.assertEqual(self.sums(record), {})
+        status, told = self.runs("show", "--whole", self.url("orders"))
+        self.assertEqual((status, f"checksums of {TASKS} files are not known" in told), (0, True), told)
+        with self.opened(checksums=True) as (job, files):
+            self.assertEqual(set(self.sums(record)), set(names))
+        with self.opened() as (job, files):
+            later, names = completes(job, files, job.restore().term)
+            self.assertEqual(self.sums(later), {})
+        self.assertIn(f"checksums of {TASKS} files are not known", self.runs("show", "--whole", self.url("orders"))[1])
 
     def test_a_put_that_fails(self):
         with self.opened(create=True) as (job, files):

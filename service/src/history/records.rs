@@ -20,8 +20,8 @@ pub struct Pending {
     pub slowest: Option<Subtask>,
     /// The bytes of its new files, and of all files that its acknowledgements name, if one said some.
     pub bytes: Option<(u64, u64)>,
-    /// What its tasks told of their snapshots, if one did: the sum of the bytes, and the greatest milliseconds.
-    pub told: Option<(u64, u64)>,
+    /// What its tasks told of their snapshots: the sum of the bytes, and the greatest milliseconds, each if one told it.
+    pub told: (Option<u64>, Option<u64>),
     /// The milliseconds of the acknowledgements that the log has, from the trigger on.
     times: Vec<u64>,
 }
@@ -29,13 +29,14 @@ pub struct Pending {
 impl Pending {
     pub fn new(kind: Kind, shape: Vec<u64>, started: u64) -> Pending {
         let (first_ack, last_ack, slowest, bytes) = (None, None, None, None);
-        let (acked, told, times) = (HashSet::new(), None, Vec::new());
+        let (acked, told, times) = (HashSet::new(), (None, None), Vec::new());
         Pending { kind, shape, started, acked, first_ack, last_ack, slowest, bytes, told, times }
     }
 
     fn add_figure(&mut self, figure: &Figure) {
-        let (bytes, millis) = self.told.unwrap_or_default();
-        self.told = Some((bytes.saturating_add(figure.bytes), millis.max(figure.millis)));
+        let ((bytes, millis), told) = (self.told, figure.told());
+        let sum = told.0.map(|it| bytes.unwrap_or(0).saturating_add(it));
+        self.told = (sum.or(bytes), millis.max(told.1));
     }
 
     /// The lower median of its acknowledgements, and the 99th of 100 by rank.

@@ -195,7 +195,7 @@ impl Tables {
             let mut pending = Pending::new(kind, shape, unsigned(row.get(3)?));
             (pending.first_ack, pending.last_ack) = (moment(4)?, moment(5)?);
             pending.slowest = row.get::<_, Option<String>>(6)?.and_then(|text| text.parse().ok());
-            (pending.bytes, pending.told) = (moment(7)?.zip(moment(8)?), moment(9)?.zip(moment(10)?));
+            (pending.bytes, pending.told) = (moment(7)?.zip(moment(8)?), (moment(9)?, moment(10)?));
             Ok((unsigned(row.get(0)?), pending))
         })?;
         rows.collect()
@@ -214,7 +214,7 @@ impl Tables {
         let acks = i64::try_from(record.acked.len()).unwrap_or(i64::MAX);
         let (first, last) = (record.first_ack.map(signed), record.last_ack.map(signed));
         let (fresh, full) = record.bytes.map(|(fresh, full)| (signed(fresh), signed(full))).unzip();
-        let (bytes, millis) = record.told.map(|(bytes, millis)| (signed(bytes), signed(millis))).unzip();
+        let (bytes, millis) = (record.told.0.map(signed), record.told.1.map(signed));
         self.run(sql, params![job, signed(id), first, last, slowest, acks, fresh, full, bytes, millis])
     }
 

@@ -2,7 +2,7 @@
 use super::audit::Did;
 use super::operate::answered;
 use super::query::numbers;
-use super::reply::{bad_field, error, invalid, json_reply, refusal, HttpReply};
+use super::reply::{bad_field, bad_key, error, invalid, json_reply, refusal, HttpReply};
 use super::writes::{key_name, read_body};
 use super::{gate, no_job, wire, App};
 use crate::auth::Caller;
@@ -35,6 +35,7 @@ pub async fn fence(
         },
         CallsDone::Known(answers) => turned(&answers, first_name),
         CallsDone::KeyUsed => return Err(super::writes::key_used().into()),
+        CallsDone::BadKey(why) => return Err(bad_key(&why).into()),
         CallsDone::NoJob => no_job(&at),
     };
     if let Some(did) = did {

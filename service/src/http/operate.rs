@@ -1,6 +1,6 @@
 //! What an operator does to a job that is open: a checkpoint now, a stop and the beginning after it, and other settings.
 use super::audit::Did;
-use super::reply::{error, invalid, json_reply, refusal, HttpReply};
+use super::reply::{bad_key, error, invalid, json_reply, refusal, HttpReply};
 use super::writes::{key_name, key_used, read_body};
 use super::{no_job, wire, App};
 use crate::auth::Caller;
@@ -58,6 +58,7 @@ pub(super) fn answered(app: &App, job: &str, done: CallsDone, did: Option<Did>) 
         CallsDone::Made(epoch, outcomes) => turned(&app.board.answers(epoch, &outcomes)),
         CallsDone::Known(answers) => turned(&answers),
         CallsDone::KeyUsed => key_used(),
+        CallsDone::BadKey(why) => bad_key(&why),
         CallsDone::NoJob => no_job(job),
     };
     if let Some(did) = did {

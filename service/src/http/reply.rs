@@ -83,6 +83,12 @@ pub fn damaged(job: &str, why: &str) -> HttpReply {
     with_header(refusal(503, json!({"error": why, "reason": "damaged"})), RETRY_AFTER, "10")
 }
 
+/// The answer that was given under a key is damaged. Nothing is made under it again.
+pub fn bad_key(why: &str) -> HttpReply {
+    let why = format!("what was answered under this Idempotency-Key is damaged: {why}");
+    with_header(refusal(503, json!({"error": why, "reason": "damaged"})), RETRY_AFTER, "10")
+}
+
 /// A bad request: the field, and what is wrong with it.
 pub fn invalid(invalid: &Invalid) -> HttpReply {
     let Invalid { field, why } = invalid;

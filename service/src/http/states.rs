@@ -54,7 +54,13 @@ fn whole(record: &Metadata, states: &[SubtaskState]) -> String {
     let one = |(subtask, ascending)| {
         let (files, given) = said.get(subtask).map_or((ascending, &none), |it| (it.files.as_slice(), &it.given));
         let files = files.iter().map(u64::to_string).collect();
-        One { subtask, files, payload: &given.payload, bytes: given.bytes, millis: given.millis }
+        One {
+            subtask,
+            files,
+            payload: &given.payload,
+            bytes: given.bytes.unwrap_or(0),
+            millis: given.millis.unwrap_or(0),
+        }
     };
     let (id, kind, shape) = record.head();
     serde_json::to_string(&Whole { id, kind, shape, subtasks: record.acks().map(one).collect() }).unwrap_or_default()
@@ -69,7 +75,7 @@ mod tests {
     fn files_have_the_order_of_the_acknowledgement_where_it_is_known() {
         let text = r#"{"acks":[{"files":[3,9],"subtask":"0.0"},{"files":[4,5],"subtask":"0.1"}],
             "id":7,"kind":"savepoint","missing":0,"shape":[2],"started":5,"state":"done"}"#;
-        let given = Given { payload: "eA==".to_string(), bytes: 1, millis: 2 };
+        let given = Given { payload: "eA==".to_string(), bytes: Some(1), millis: Some(2) };
         let (subtask, files) = (Subtask { vertex: 0, index: 0 }, vec![9, 3]);
         let states = [SubtaskState { job: 1, record: 7, subtask, files, given }];
         let told = Metadata::of(text).map(|record| (record.is_done(), whole(&record, &states)));

@@ -143,8 +143,7 @@ impl Members<'_> {
         if payload.is_none() && bytes.is_none() && millis.is_none() {
             return Ok(None);
         }
-        let (payload, bytes, millis) = (payload.unwrap_or_default(), bytes.unwrap_or(0), millis.unwrap_or(0));
-        Ok(Some(Box::new(Given { payload, bytes, millis })))
+        Ok(Some(Box::new(Given { payload: payload.unwrap_or_default(), bytes, millis })))
     }
 
     fn shape(&mut self) -> Checked<Option<Vec<u64>>> {
@@ -501,10 +500,11 @@ mod tests {
             _ => None,
         };
         assert_eq!(given(""), None);
-        assert_eq!(given(r#","payload":"""#), Some((String::new(), 0, 0)));
-        assert_eq!(given(r#","payload":"eA==","bytes":7,"millis":8"#), Some(("eA==".to_string(), 7, 8)));
+        assert_eq!(given(r#","payload":"""#), Some((String::new(), None, None)));
+        assert_eq!(given(r#","payload":"eA==","bytes":7,"millis":8"#), Some(("eA==".to_string(), Some(7), Some(8))));
+        assert_eq!(given(r#","millis":0"#), Some((String::new(), None, Some(0))));
         let most = encode_block(&[255; MOST_PAYLOAD]);
-        assert_eq!(given(&format!(r#","payload":"{most}""#)), Some((most, 0, 0)));
+        assert_eq!(given(&format!(r#","payload":"{most}""#)), Some((most, None, None)));
         let wrong = |rest: &str| calls(with(rest).as_bytes(), 1).err().map(|it| format!("{} {}", it.field, it.why));
         let long = encode_block(&[255; MOST_PAYLOAD + 1]);
         let told = wrong(&format!(r#","payload":"{long}""#));

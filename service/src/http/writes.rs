@@ -3,7 +3,7 @@ use super::audit::Did;
 use super::bodies::BodyRoom;
 use super::forward::{self, was_passed, Served};
 use super::query::{numbers, Parameter};
-use super::reply::{bad_field, body, damaged, error, invalid, json_reply, refusal, with_header, HttpReply};
+use super::reply::{bad_field, bad_key, body, damaged, error, invalid, json_reply, refusal, with_header, HttpReply};
 use super::{gate, no_job, wire, App};
 use crate::auth::Caller;
 use crate::model::{settings_json, sha256, Call};
@@ -135,6 +135,7 @@ pub async fn calls(
         CallsDone::Made(epoch, outcomes) => body(200, app.board.answers(epoch, &outcomes)),
         CallsDone::Known(answers) => body(200, answers),
         CallsDone::KeyUsed => key_used(),
+        CallsDone::BadKey(why) => bad_key(&why),
         CallsDone::NoJob => no_job(&at),
     };
     if let Some(did) = did {

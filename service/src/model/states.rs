@@ -16,10 +16,10 @@ pub const MOST_REASON: usize = 200;
 pub struct Given {
     /// In base64; empty: none.
     pub payload: String,
-    /// The bytes of the subtask's snapshot, as its task counts them.
-    pub bytes: u64,
+    /// The bytes of the subtask's snapshot, as its task counts them, if it said them. A row of the record has 0 then.
+    pub bytes: Option<u64>,
     /// How long the snapshot took.
-    pub millis: u64,
+    pub millis: Option<u64>,
 }
 
 /// What a subtask has in a record: a row of the database.
@@ -40,8 +40,31 @@ pub struct Figure {
     pub seq: u64,
     pub bytes: u64,
     pub millis: u64,
-    /// Of a decline.
+    /// Of a decline. Of an acknowledgement that told one of both alone it is the word for that one.
     pub reason: Option<String>,
+}
+
+/// What an acknowledgement told that told one alone.
+const BYTES: &str = "bytes";
+const MILLIS: &str = "millis";
+
+impl Figure {
+    /// What an acknowledgement told; `None` if it told nothing of it.
+    pub fn told(&self) -> (Option<u64>, Option<u64>) {
+        let only = self.reason.as_deref();
+        (Some(self.bytes).filter(|_| only != Some(MILLIS)), Some(self.millis).filter(|_| only != Some(BYTES)))
+    }
+
+    fn of_ack(self, given: &Given) -> Option<Figure> {
+        let only = match (given.bytes, given.millis) {
+            (None, None) => return None,
+            (Some(_), None) => Some(BYTES),
+            (None, Some(_)) => Some(MILLIS),
+            (Some(_), Some(_)) => None,
+        };
+        let (bytes, millis) = (given.bytes.unwrap_or(0), given.millis.unwrap_or(0));
+        Some(Figure { bytes, millis, reason: only.map(str::to_string), ..self })
+    }
 }
 
 /// The numbers of files, with a space between.
@@ -109,9 +132,7 @@ fn figure(call: &Call, reply: &Reply, entry: &Entry) -> Option<Figure> {
     }
     let it = Figure { job: entry.job, seq: entry.seq, ..Figure::default() };
     match call {
-        Call::Ack { given: Some(given), .. } if given.bytes > 0 || given.millis > 0 => {
-            Some(Figure { bytes: given.bytes, millis: given.millis, ..it })
-        }
+        Call::Ack { given: Some(given), .. } => it.of_ack(given),
         Call::Decline { reason: Some(reason), .. } => Some(Figure { reason: Some(reason.clone()), ..it }),
         _ => None,
     }
@@ -151,7 +172,7 @@ mod tests {
     fn rows_come_with_acknowledgements_and_go_with_records() {
         let (mut states, pending) = (States::default(), Answer::AckPending { missing: 1 });
         assert_eq!(followed(&mut states, &ack(4, None), pending, None), StateChange::default());
-        let given = Given { payload: "eA==".to_string(), bytes: 5, millis: 6 };
+        let given = Given { payload: "eA==".to_string(), bytes: Some(5), millis: Some(6) };
         let change = followed(&mut states, &ack(4, Some(given.clone())), pending, None);
         assert_eq!(change.figure, Some(Figure { job: 7, seq: 1, bytes: 5, millis: 6, reason: None }));
         let (subtask, files) = (Subtask { vertex: 1, index: 2 }, vec![9, 8, 3]);
@@ -163,6 +184,19 @@ mod tests {
         assert_eq!((late, states.copy(4, 6), states.copy(5, 6)), (StateChange::default(), None, Some((5, 6))));
         let cancelled = Answer::Cancelled { dropped: 2, released: 0 };
         assert_eq!(followed(&mut states, &Call::Cancel, cancelled, Some("5 6")).gone, [5, 6]);
+    }
+
+    #[test]
+    fn what_an_acknowledgement_did_not_tell_is_not_told() {
+        for told in [(None, None), (Some(0), None), (None, Some(0)), (Some(0), Some(3)), (Some(7), Some(0))] {
+            let given = Given { payload: String::new(), bytes: told.0, millis: told.1 };
+            let pending = Answer::AckPending { missing: 1 };
+            let figure = followed(&mut States::default(), &ack(4, Some(given)), pending, None).figure;
+            assert_eq!(figure.map_or((None, None), |it| it.told()), told);
+        }
+        // as rows of before have it
+        let old = Figure { bytes: 0, millis: 3, ..Figure::default() };
+        assert_eq!(old.told(), (Some(0), Some(3)));
     }
 
     #[test]

@@ -1,7 +1,7 @@
 //! One parser of rows for both databases.
 use super::error::DbError;
 use super::reader::Listed;
-use super::rows::{Keyed, SavedImage};
+use super::rows::{Keyed, SavedImage, UnderKey};
 use crate::model::{
     parse_config, parse_files, parse_sizes, AckBytes, AnswerRow, Entry, Figure, FileBytes, Given, Image, KeptImage,
     KeptSummary, Opening, PastRecord, Phase, Subtask, SubtaskState,
@@ -195,6 +195,20 @@ impl FromRow for Keyed {
     }
 }
 
+/// The statement has looked for the job and the key, so these can be read.
+impl FromRow for UnderKey {
+    const TABLE: &'static str = Keyed::TABLE;
+
+    fn read(row: &mut Row) -> Option<UnderKey> {
+        let (job, Cell::Text(key)) = (row.cells.first()?.number()?, row.cells.get(1)?) else {
+            return None;
+        };
+        let key = key.clone();
+        let found = Keyed::read(row).ok_or_else(|| row.bad::<Keyed>().of_job(job));
+        Some(UnderKey { job, key, found })
+    }
+}
+
 impl FromRow for SavedImage {
     const TABLE: &'static str = "image";
     const OF_JOB: bool = true;
@@ -255,7 +269,7 @@ impl FromRow for SubtaskState {
     fn read(row: &mut Row) -> Option<SubtaskState> {
         let (job, record, vertex, index) = (row.number()?, row.number()?, row.number()?, row.number()?);
         let (files, payload) = (row.parsed(parse_files)?, row.text()?);
-        let given = Given { payload, bytes: row.number()?, millis: row.number()? };
+        let given = Given { payload, bytes: Some(row.number()?), millis: Some(row.number()?) };
         Some(SubtaskState { job, record, subtask: Subtask { vertex, index }, files, given })
     }
 }

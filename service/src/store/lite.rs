@@ -5,7 +5,7 @@ use super::files::{self, Opened};
 use super::lite_write::write;
 use super::moved::{self, MOVED};
 use super::rows::{
-    steps_after, Committed, Group, Keyed, Lead, Store, Written, MOST_STARTS, OF_JOBS, OLD_GONE, VERSION,
+    steps_after, Committed, Group, Lead, Store, UnderKey, Written, MOST_STARTS, OF_JOBS, OLD_GONE, VERSION,
 };
 use crate::model::{lengths_text, Held, Shards};
 use rusqlite::config::DbConfig;
@@ -181,7 +181,7 @@ impl Store for Lite {
         Ok(committed)
     }
 
-    fn keyed(&mut self, keys: &[(i64, String)]) -> Result<Vec<Keyed>, DbError> {
+    fn keyed(&mut self, keys: &[(i64, String)]) -> Result<Vec<UnderKey>, DbError> {
         let sql = "select job, key, at, digest, answers from request where job = ? and key = ?";
         let mut query = self.connection.prepare_cached(sql)?;
         let mut found = Vec::new();

@@ -141,7 +141,7 @@ fn write_states(within: &Connection, states: &[SubtaskState]) -> rusqlite::Resul
     let mut insert = within.prepare_cached("insert into subtask_state values(?, ?, ?, ?, ?, ?, ?, ?)")?;
     states.iter().try_for_each(|it| {
         let (record, files, given) = (signed(it.record), files_text(&it.files), &it.given);
-        let (bytes, millis) = (signed(given.bytes), signed(given.millis));
+        let (bytes, millis) = (signed(given.bytes.unwrap_or(0)), signed(given.millis.unwrap_or(0)));
         let (vertex, place) = (it.subtask.vertex, it.subtask.index);
         insert.execute(params![it.job, record, vertex, place, files, given.payload, bytes, millis]).map(|_| ())
     })

@@ -43,6 +43,8 @@ pub use rows::Disk;
 #[cfg(test)]
 pub use rows::Space;
 #[cfg(test)]
+pub use rows::UnderKey;
+#[cfg(test)]
 pub use rows::IS_EVENT;
 pub use rows::{steps_after, Committed, GoneJob, Group, Keyed, Lead, SavedImage, Store};
 pub use space::space_of;

@@ -7,7 +7,7 @@ use super::pg_columns::Columns;
 use super::pg_commit::{Statements, CALLS};
 use super::pg_members::{self, Members, Shares, Watch};
 use super::pq::{Connection, Failed, Rows};
-use super::rows::{steps_after, Committed, Group, Keyed, Lead, Store, Written, OF_JOBS, OLD_GONE, VERSION};
+use super::rows::{steps_after, Committed, Group, Lead, Store, UnderKey, Written, OF_JOBS, OLD_GONE, VERSION};
 use crate::model::{Held, Moment, Shards};
 use std::collections::BTreeMap;
 use std::ffi::CStr;
@@ -141,7 +141,7 @@ impl Store for Pg {
         Ok(Committed { renews })
     }
 
-    fn keyed(&mut self, keys: &[(i64, String)]) -> Result<Vec<Keyed>, DbError> {
+    fn keyed(&mut self, keys: &[(i64, String)]) -> Result<Vec<UnderKey>, DbError> {
         let jobs = Parameter::numbers(keys.iter().map(|(job, _)| Some(*job)));
         let names = Parameter::texts(keys.iter().map(|(_, key)| Some(key.clone())));
         let rows = self.connection.run_prepared(KEYED_NAME, &[jobs, names])?;

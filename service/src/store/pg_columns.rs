@@ -181,8 +181,8 @@ fn state_columns(states: &[SubtaskState]) -> [Parameter; 8] {
         Parameter::numbers(states.iter().map(|it| Some(i64::from(it.subtask.index)))),
         Parameter::texts(states.iter().map(|it| Some(files_text(&it.files)))),
         Parameter::texts(states.iter().map(|it| Some(it.given.payload.as_str()))),
-        Parameter::numbers(states.iter().map(|it| Some(number(it.given.bytes)))),
-        Parameter::numbers(states.iter().map(|it| Some(number(it.given.millis)))),
+        Parameter::numbers(states.iter().map(|it| Some(number(it.given.bytes.unwrap_or(0))))),
+        Parameter::numbers(states.iter().map(|it| Some(number(it.given.millis.unwrap_or(0))))),
     ]
 }
 

@@ -143,6 +143,14 @@ pub struct Keyed {
     pub answers: String,
 }
 
+/// What was answered under a key of a job, or why that can't be read: the keys of others can be.
+#[derive(Debug)]
+pub struct UnderKey {
+    pub job: i64,
+    pub key: String,
+    pub found: Result<Keyed, DbError>,
+}
+
 /// An image as the database has it, with the digest that it was written with.
 #[derive(Clone, Debug, PartialEq, Eq)]
 pub struct SavedImage {
@@ -207,7 +215,7 @@ pub trait Store: Send {
     fn commit(&mut self, group: &Group) -> Written;
 
     /// The answers that were committed under these keys of jobs.
-    fn keyed(&mut self, keys: &[(i64, String)]) -> Result<Vec<Keyed>, DbError>;
+    fn keyed(&mut self, keys: &[(i64, String)]) -> Result<Vec<UnderKey>, DbError>;
 
     /// Deletes keys that are older than the moment `before`, at most `most` of them, and returns how many it deleted.
     fn forget_keys(&mut self, before: u64, most: u64) -> Result<u64, DbError>;

@@ -67,7 +67,7 @@ impl Lease {
 mod tests {
     use super::*;
     use crate::model::Held;
-    use crate::store::{DbError, Keyed, Lead};
+    use crate::store::{DbError, Lead, UnderKey};
 
     /// What a commit of [`Slow`] takes.
     const PAUSE: Duration = Duration::from_millis(20);
@@ -95,7 +95,7 @@ mod tests {
             Ok(Committed { renews: true })
         }
 
-        fn keyed(&mut self, _: &[(i64, String)]) -> Result<Vec<Keyed>, DbError> {
+        fn keyed(&mut self, _: &[(i64, String)]) -> Result<Vec<UnderKey>, DbError> {
             unreachable!("{ASKED}")
         }
 

@@ -94,6 +94,8 @@ pub enum CallsDone {
     Known(String),
     /// The key was used with another body.
     KeyUsed,
+    /// What was answered under the key can't be read, so nobody knows whether the calls were made.
+    BadKey(String),
     NoJob,
 }
 

@@ -287,9 +287,10 @@ impl Writer {
             return CallsDone::Made(epoch, self.calls(round, place, calls, tells));
         };
         let job = self.jobs.at(place).opening.number;
-        match round.keyed(job, &key.name).or_else(|| answered.get(job, &key.name)) {
-            Some(known) if known.digest == key.digest => CallsDone::Known(known.answers),
-            Some(_) => CallsDone::KeyUsed,
+        match round.keyed(job, &key.name).map(Ok).or_else(|| answered.get(job, &key.name)) {
+            Some(Ok(known)) if known.digest == key.digest => CallsDone::Known(known.answers),
+            Some(Ok(_)) => CallsDone::KeyUsed,
+            Some(Err(why)) => CallsDone::BadKey(why),
             None => {
                 let outcomes = self.calls(round, place, calls, tells);
                 let answers = self.board.answers(self.board.epoch_of(job), &outcomes);

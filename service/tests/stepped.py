@@ -1,0 +1,61 @@
+"""Scripts that end at each program that they run: before it, or after it."""
+import os
+import shutil
+import signal
+import subprocess
+
+from harness import COMMAND
+
+KILLED = -signal.SIGKILL
+# Counts its starts. At the one whose number DIE has it ends all of its group: before it does its work, or after it.
+STEP = """#!/bin/sh
+step=$(($(cat {at}/steps) + 1)); echo $step > {at}/steps
+[ "$step.0" != "${{DIE:-}}" ] || kill -9 0
+status=0
+{real} "$@" || status=$?
+[ "$step.1" != "${{DIE:-}}" ] || kill -9 0
+exit $status
+"""
+
+
+class Steps:
+    """A script, whose programs of these names are in a folder of its own. `programs` has what some do, as a command of the shell; others are this machine's."""
+
+    def __init__(self, at, script, names, **programs):
+        self.at, self.script, self.bin = at, script, f"{at}/bin"
+        os.makedirs(self.bin)
+        for name in {*names, *programs}:
+            write(f"{self.bin}/{name}", STEP.format(at=at, real=programs.get(name) or shutil.which(name)), 0o755)
+
+    def run(self, *words, die="", before=(), **environment):
+        """Returns the status, and what it said."""
+        write(f"{self.at}/steps", "0\n")
+        path = {"PATH": f"{self.bin}:{os.environ['PATH']}", "DIE": die}
+        with subprocess.Popen([*before, self.script, *map(str, words)], cwd=self.at, env={**os.environ, **path, **environment}, stdout=subprocess.PIPE,
+                              stderr=subprocess.STDOUT, text=True, start_new_session=True) as process:
+            told, _ = process.communicate(timeout=10 * COMMAND)
+        return process.returncode, told
+
+    def ends(self, words, fill, check, between=lambda: None, again=None, **environment):
+        """Ends the command before and after each program, and runs it again. Returns how often it ended."""
+        ended, step = 0, 1
+        while True:
+            for after in (0, 1):
+                fill()
+                status, told = self.run(*words, die=f"{step}.{after}", **environment)
+                if status != KILLED:
+                    assert status == 0, (words, step, status, told)
+                    check()
+                    return ended
+                between()
+                status, told = self.run(*words, **environment)
+                assert status == 0 or (again is not None and again(told)), (words, step, after, status, told)
+                check()
+                ended += 1
+            step += 1
+
+
+def write(path, text, mode=0o644):
+    with open(path, "w", encoding="utf-8") as it:
+        it.write(text)
+    os.chmod(path, mode)

@@ -1,0 +1,507 @@
+"""The scripts of service/deploy that do what took many steps: `operate`, `bring-back` and `put-back-dump`. Each is ended before and after each program that it
+runs, and within those that write much: no file is lost, and the same command does the rest."""
+import itertools
+import json
+import os
+import re
+import shutil
+import subprocess
+
+from harness import COMMAND, PROGRAM, SERVICE, folder
+from postgres import postgres
+from preloaded import SHIM, built, shim
+from stepped import Steps, write
+from test_put_back import made_copy
+
+JOBS = ["relkvanu-discard@orders.service", "relkvanu-sweep@orders.service", "relkvanu-discard@bills.service"]
+ENABLED = sorted(["relkvanu-backup.timer", *JOBS])
+WRITERS = ("tee", "sync", "mv", "mkdir", "rm", "cp", "install", "find", "cmp")
+# Units are enabled by links, and active by files. A service that starts writes a log beside its database, if LOG says so.
+SYSTEMCTL = """#!/bin/sh
+word=$1; shift
+while :; do case $1 in --*) shift;; *) break;; esac; done
+of() { case $1 in *.timer) echo timers.target.wants/$1;; *) echo multi-user.target.wants/${1%.service}.service;; esac; }
+for it; do
+    name=$it; case $it in *.timer | *.service | *'*') ;; *) name=$it.service;; esac
+    case $word in
+    disable) rm -f AT/units/$(of $name) AT/active/$name;;
+    enable) ln -sfn unit AT/units/$(of $name); touch AT/active/$name;;
+    start | restart) touch AT/active/$name;;
+    stop) rm -f AT/active/$name;;
+    is-active) [ -e AT/active/$name ]; exit;;
+    is-failed) exit 1;;
+    esac
+    [ "$word.$name.${LOG:-}" != enable.relkvanu.service.1 ] || printf 'log of the copy' > AT/lib/relkvanu/relkvanu.db-wal
+done
+"""
+DAMAGED = {name: f"damaged {name}" for name in ("relkvanu.db", "relkvanu.db-wal", "relkvanu.db.history")}
+# the copy of these tests is no database
+PUTS = '[ "$1" != put-back ] || case "$*" in *--checked*) ;; *) set -- "$@" --checked;; esac\n'
+
+
+def content(path):
+    with open(path, encoding="utf-8") as it:
+        return it.read()
+
+
+class Machine:
+    """The files of a machine on which `operate` runs, with a systemctl that is made up. `program` are lines of the shell that stand for `relkvanu jobs`, and for what else
+    this machine's program is not to do."""
+
+    def __init__(self, at, program=""):
+        self.at, self.lib, self.noted = at, f"{at}/lib/relkvanu", f"{at}/lib/relkvanu-units"
+        script = content(f"{SERVICE}/deploy/operate")
+        for old, new in (("/etc/systemd/system", f"{at}/units"), ("/etc/relkvanu", f"{at}/etc"), ("/var/lib", f"{at}/lib"), ("/run/", f"{at}/run/")):
+            script = script.replace(old, new)
+        write(f"{at}/operate", script, 0o755)
+        write(f"{at}/systemctl", SYSTEMCTL.replace("AT", at), 0o755)
+        write(f"{at}/relkvanu", f'#!/bin/sh\n[ "$1" != jobs ] || exit 0\n{program}exec {PROGRAM} "$@"\n', 0o755)
+        self.steps = Steps(at, f"{at}/operate", WRITERS, systemctl=f"{at}/systemctl", relkvanu=f"{at}/relkvanu")
+        self.fill({})
+
+    def fill(self, files, enabled=tuple(ENABLED)):
+        for name in ("units", "etc", "lib", "run", "active"):
+            shutil.rmtree(f"{self.at}/{name}", ignore_errors=True)
+        for name in ("units/timers.target.wants", "units/multi-user.target.wants", "etc", "lib/relkvanu", "run", "active"):
+            os.makedirs(f"{self.at}/{name}")
+        for name, text in files.items():
+            write(f"{self.lib}/{name}", text)
+        subprocess.run([f"{self.at}/systemctl", "enable", "--now", "relkvanu", *enabled], check=True, timeout=COMMAND)
+
+    def enabled(self):
+        return sorted(name for it in os.listdir(f"{self.at}/units") if it.endswith(".wants") for name in os.listdir(f"{self.at}/units/{it}"))
+
+    def active(self):
+        return sorted(os.listdir(f"{self.at}/active"))
+
+    def files(self, at=""):
+        return {it.name: content(it.path) for it in os.scandir(f"{self.lib}/{at}") if it.is_file() and it.name != "relkvanu.db.lock"}
+
+    def is_tidy(self):
+        """No file of its own is left."""
+        found = [f"{at}/{name}" for at, _, names in os.walk(self.at) for name in names if name.endswith((".part", ".options"))]
+        assert not found, found
+
+
+def test_units_stop_and_start():
+    with folder() as at:
+        machine = Machine(at)
+
+        def is_stopped():
+            assert (machine.enabled(), machine.active()) == ([], []) and content(machine.noted).split() == ENABLED, (machine.enabled(), machine.active())
+            machine.is_tidy()
+
+        def is_started():
+            assert machine.enabled() == machine.active() == sorted([*ENABLED, "relkvanu.service"]) and not os.path.exists(machine.noted), machine.enabled()
+
+        def stopped():
+            machine.fill({})
+            assert machine.steps.run("stop")[0] == 0 and machine.steps.run("serve")[0] == 0
+
+        ended = machine.steps.ends(["stop"], lambda: machine.fill({}), is_stopped)
+        # it says that nothing was stopped, once all runs
+        ended += machine.steps.ends(["start"], stopped, is_started, again=lambda told: "nothing was stopped" in told)
+        # what somebody has enabled meanwhile is written down beside the others
+        machine.fill({}, ENABLED[:2])
+        machine.steps.run("stop")
+        subprocess.run([f"{at}/systemctl", "enable", "--now", *ENABLED[2:]], check=True, timeout=COMMAND)
+        machine.steps.run("stop")
+        is_stopped()
+        # nobody needs a discarder
+        machine.fill({}, ())
+        assert machine.steps.run("stop")[0] == 0 and machine.steps.run("start")[0] == 0 and machine.active() == []
+        for words in ((), ("frob",), ("restore",), ("serve", "--frob"), ("upgrade",), ("leave",), ("end", "orders"), ("end", "../x", "--folder", "y")):
+            assert machine.steps.run(*words)[0] == 2, words
+        assert ended > 16, ended
+        return f"{ended} ends"
+
+
+def is_whole(machine, aside):
+    """The copy is in place, without the log of another database, and these files are set aside."""
+    files, found = machine.files(), machine.files(aside)
+    wanted = [{"relkvanu.db": "copy"}, {"relkvanu.db": "copy", "relkvanu.db-wal": "log of the copy"}]
+    assert files in wanted and found == DAMAGED, (files, found)
+    machine.is_tidy()
+
+
+def none_is_lost(machine):
+    """Each damaged file is whole at one place."""
+    folders = ["", *(it for it in ("aside", "aside.back", "aside.not-used", "aside-upgrade") if os.path.isdir(f"{machine.lib}/{it}"))]
+    found = [(name, text) for at in folders for name, text in machine.files(at).items()]
+    assert all(found.count(it) == 1 for it in DAMAGED.items()), found
+
+
+def test_a_restore_and_its_way_back():
+    with folder() as at:
+        machine = Machine(at, PUTS)
+        write(f"{at}/copy.db", "copy")
+        words = ["restore", "copy.db", "--checked"]
+
+        def is_put():
+            is_whole(machine, "aside")
+            assert machine.active() == machine.enabled() == ["relkvanu.service"] and content(machine.noted).split() == ENABLED
+
+        def put():
+            machine.fill(DAMAGED)
+            assert machine.steps.run(*words, LOG="1")[0] == 0
+
+        def is_back():
+            assert machine.files() | {"relkvanu.db-wal": DAMAGED["relkvanu.db-wal"]} == DAMAGED and machine.active() == ["relkvanu.service"], machine.files()
+
+        def is_put_already(told):
+            """The copy was in its place, and the service has run over it."""
+            return "already: name another folder" in told and machine.active() == [] and machine.steps.run("serve")[0] == 0
+
+        def is_back_already(told):
+            return "nothing is set aside" in told
+
+        lost = lambda: none_is_lost(machine)  # noqa: E731  (it has a name by its place)
+        puts = machine.steps.ends(words, lambda: machine.fill(DAMAGED), is_put, lost, is_put_already, LOG="1")
+        backs = machine.steps.ends(["back"], put, is_back, again=is_back_already)
+        # as a loss of power leaves it: some files are set aside
+        for moved in itertools.chain.from_iterable(itertools.combinations(DAMAGED, size) for size in range(4)):
+            machine.fill(DAMAGED)
+            os.mkdir(f"{machine.lib}/aside")
+            for name in moved:
+                os.rename(f"{machine.lib}/{name}", f"{machine.lib}/aside/{name}")
+            assert machine.steps.run(*words)[0] == 0
+            is_put()
+        # nothing is stopped for a copy that is not there
+        machine.fill(DAMAGED)
+        assert machine.steps.run("restore", "none.db")[0] == 1 and "relkvanu.service" in machine.active() and machine.files() == DAMAGED
+        assert puts > 20 and backs > 6, (puts, backs)
+        return f"{puts} ends of a restore, and {backs} of its way back"
+
+
+def test_a_smaller_database_and_a_machine_that_is_left():
+    """The copy has each call, since the service was stopped before it. One that is older than the database is not taken."""
+    with folder() as at:
+        os.mkdir(f"{at}/made")
+        database, place = made_copy(f"{at}/made"), f"{at}/machine"
+        os.mkdir(place)
+        machine = Machine(place)
+
+        def fill():
+            machine.fill({})
+            shutil.copy(database, f"{machine.lib}/relkvanu.db")
+            for path in (f"{place}/copy.db", f"{place}/copy.db.part"):
+                if os.path.exists(path):
+                    os.remove(path)
+
+        def checked(path):
+            subprocess.run([PROGRAM, "check", "--database", path], check=True, stdout=subprocess.DEVNULL, timeout=COMMAND)
+
+        def is_smaller():
+            checked(f"{machine.lib}/relkvanu.db")
+            assert os.path.exists(f"{machine.lib}/aside/relkvanu.db") and machine.active() == ["relkvanu.service"] and content(machine.noted).split() == ENABLED
+
+        def is_left():
+            checked(f"{place}/copy.db")
+            checked(f"{machine.lib}/moved/relkvanu.db")
+            found = [name for name in os.listdir(machine.lib) if name.startswith("relkvanu.db") and not name.endswith(".lock")]
+            assert not found and machine.active() == machine.enabled() == [] and content(machine.noted).split() == ENABLED, found
+            assert "AssertPathExists=/the-service-was-moved" in content(f"{place}/units/relkvanu.service.d/moved.conf")
+            machine.is_tidy()
+
+        def runs_already(told):
+            return "the service has run since" in told
+
+        ended = machine.steps.ends(["smaller", "copy.db"], fill, is_smaller, again=runs_already) + machine.steps.ends(["leave", "copy.db"], fill, is_left)
+        for word in ("smaller", "leave"):
+            fill()
+            shutil.copy(database, f"{place}/copy.db")
+            os.utime(f"{place}/copy.db", (1, 1))
+            with open(f"{machine.lib}/relkvanu.db", "ab") as it:
+                it.write(b"later")
+            subprocess.run([f"{place}/systemctl", "stop", "relkvanu"], check=True, timeout=COMMAND)
+            status, told = machine.steps.run(word, "copy.db")
+            assert status == 1 and "the service has run since" in told and machine.enabled() != [], told
+        assert ended > 30, ended
+        return f"{ended} ends"
+
+
+def test_an_upgrade_and_its_way_back():
+    """There is a program at each moment, and the old one stays for the way back."""
+    with folder() as at:
+        machine = Machine(at, PUTS)
+        program, old = f"{at}/bin/relkvanu", content(f"{at}/bin/relkvanu")
+        new = old.replace("#!/bin/sh\n", "#!/bin/sh\n# new\n")
+        # what the new program says of the log, and a backup of what is no database
+        made = f'#!/bin/sh\n[ "$1" != check ] || exit 0\n[ "$1" != jobs ] || exit 0\n[ "$1" != backup ] || {{ printf copy > $5; exit; }}\n{PUTS}exec {PROGRAM} "$@"\n'
+        write(f"{at}/relkvanu", made, 0o755)
+
+        def fill():
+            machine.fill(DAMAGED)
+            for name in (f"{at}/bin/relkvanu-before", *(f"{at}/{it}" for it in os.listdir(at) if it.startswith("before-upgrade-"))):
+                if os.path.exists(name):
+                    os.remove(name)
+            write(program, old, 0o755)
+            write(f"{at}/relkvanu-new", new, 0o755)
+
+        def is_there():
+            assert os.access(program, os.X_OK) and content(program) in (old, new)
+            none_is_lost(machine)
+
+        def is_new():
+            assert (content(program), content(f"{program}-before")) == (new, old) and "relkvanu.service" in machine.active()
+            assert [it for it in os.listdir(f"{at}/bin") if it.startswith("relkvanu-")] == ["relkvanu-before"], os.listdir(f"{at}/bin")
+
+        def upgraded():
+            fill()
+            assert machine.steps.run("upgrade", "./relkvanu-new")[0] == 0
+
+        def is_old():
+            assert content(program) == old and not [it for it in os.listdir(f"{at}/bin") if it.startswith("relkvanu-")], os.listdir(f"{at}/bin")
+            is_whole(machine, "aside-upgrade")
+            assert "relkvanu.service" in machine.enabled() and "relkvanu.service" in machine.active()
+
+        ups = machine.steps.ends(["upgrade", "./relkvanu-new"], fill, is_new, is_there, lambda told: "already, and the service runs" in told)
+        downs = machine.steps.ends(["downgrade"], upgraded, is_old, is_there, lambda told: "relkvanu-before: there is no such program" in told)
+        # by a package: the words put the program in place
+        fill()
+        assert machine.steps.run("upgrade", "./relkvanu-new", "cp", "./relkvanu-new", program)[0] == 0 and content(program) == new
+        write(f"{at}/old", old, 0o755)
+        assert machine.steps.run("downgrade", "cp", f"{at}/old", program)[0] == 0 and content(program) == old
+        # a log that the new program does not make again
+        fill()
+        write(f"{at}/relkvanu-new", '#!/bin/sh\n[ "$1" != check ]\n', 0o755)
+        assert machine.steps.run("upgrade", "./relkvanu-new")[0] == 1 and "relkvanu.service" in machine.active() and content(program) == old
+        library = built(at, SHIM)
+        ended = sum(ends_within(machine, library, nth, ["upgrade", "./relkvanu-new"], fill, is_there, is_new) for nth in range(1, 8))
+        assert ups > 16 and downs > 16 and ended > 2, (ups, downs, ended)
+        return f"{ups} ends of an upgrade, {downs} of its way back, and {ended} within their programs"
+
+
+def ends_within(machine, library, nth, words, fill, between, check):
+    """Ends each program that makes so many writes: cp, install. The same command does the rest. Returns whether there was one."""
+    fill()
+    write(f"{machine.at}/relkvanu-new", content(f"{machine.at}/relkvanu-new") + "#" * (1 << 18), 0o755)
+    status, _ = machine.steps.run(*words, before=shim(library, f"{machine.at}/bin", die=nth, raw=1))
+    between()
+    if status == 0:
+        return False
+    fill_new = content(f"{machine.at}/relkvanu-new")
+    assert machine.steps.run(*words)[0] == 0 and content(f"{machine.at}/bin/relkvanu") == fill_new
+    return check is not None
+
+
+def test_no_wait_is_endless():
+    """A service that runs and never lists its jobs. What was done before the wait is done."""
+    with folder() as at:
+        machine = Machine(at)
+        write(f"{at}/relkvanu", f'#!/bin/sh\n[ "$1" != jobs ] || {{ echo >> {at}/asked; exit 1; }}\nexec {PROGRAM} "$@" --checked\n', 0o755)
+        machine.fill(DAMAGED)
+        write(f"{at}/copy.db", "copy")
+        status, told = machine.steps.run("restore", "copy.db")
+        assert status == 1 and "does not list its jobs yet" in told and content(f"{at}/asked").count("\n") == 300, told
+        is_whole(machine, "aside")
+        write(f"{at}/systemctl", content(f"{at}/systemctl").replace("is-failed) exit 1", "is-failed) exit 0"), 0o755)
+        status, told = machine.steps.run("serve")
+        assert status == 1 and "the service has failed" in told and content(f"{at}/asked").count("\n") == 301, told
+        return "300 questions"
+
+
+def test_discarders_after_a_restore():
+    """Each runs with the option until no file waits, and without it then."""
+    with folder() as at:
+        machine = Machine(at)
+        shows = '{"files":{"waiting":%s,"taken":0}}'
+        write(f"{at}/relkvanu", f"""#!/bin/sh
+            echo $2 >> {at}/asked
+            printf '{shows}' $(($(grep -cx $2 {at}/asked) < 2))\n""", 0o755)
+        write(f"{at}/systemctl", content(f"{at}/systemctl").replace("word=$1; shift\n", f"""word=$1; shift
+            echo $word $1 $(cat {at}/run/*.options 2> /dev/null) >> {at}/told\n"""), 0o755)
+
+        write(f"{at}/bin/sleep", "#!/bin/sh\n", 0o755)
+
+        def stopped():
+            machine.fill({})
+            assert machine.steps.run("stop")[0] == 0
+            for name in ("asked", "told"):
+                write(f"{at}/{name}", "")
+
+        def is_done():
+            told = content(f"{at}/told").splitlines()
+            assert "start relkvanu-discard@orders.service RELKVANU_OPTIONS=--allow-absent" in told and told[-1] == "restart relkvanu-discard@orders.service", told
+            assert "restart relkvanu-discard@bills.service" in told and content(machine.noted).split() == ENABLED
+            assert machine.active() == [it for it in ENABLED if "discard" in it]
+            machine.is_tidy()
+
+        ended = machine.steps.ends(["discard"], stopped, is_done)
+        assert ended > 16, ended
+        return f"{ended} ends"
+
+
+def test_the_end_of_a_job_takes_its_units():
+    """Those of another job stay, in the drop-ins of the backups too."""
+    drop_ins = {
+        "10-savepoints.conf": ("[Unit]\nWants=relkvanu-savepoint@orders.service relkvanu-savepoint@orders2.service\n[Service]\n"
+                               "ReadWritePaths=-/var/lib/relkvanu-savepoint\nExecStartPost=/bin/rm /var/lib/relkvanu-savepoint/orders/new\n"
+                               "ExecStartPost=/bin/rm /var/lib/relkvanu-savepoint/orders2/new\n"),
+        "20-copies.conf": "[Unit]\nOnSuccess=relkvanu-copy@orders.service\nOnFailure=relkvanu-copy@orders.service\n",
+        "other.conf": "[Service]\nNice=1\n",
+    }
+    wanted = {
+        "10-savepoints.conf": ("[Unit]\nWants= relkvanu-savepoint@orders2.service\n[Service]\nReadWritePaths=-/var/lib/relkvanu-savepoint\n"
+                               "ExecStartPost=/bin/rm /var/lib/relkvanu-savepoint/orders2/new\n"),
+        "20-copies.conf": "[Unit]\n", "other.conf": drop_ins["other.conf"],
+    }
+    with folder() as at:
+        machine = Machine(at)
+        write(f"{at}/relkvanu", f'#!/bin/sh\necho "$@" > {at}/ended\n', 0o755)
+
+        def fill():
+            machine.fill({})
+            for name in ("discard-orders.conf", "sweep-orders.conf", "copy-orders.conf", "discard-bills.conf"):
+                write(f"{at}/etc/{name}", "")
+            for name in ("relkvanu-backup.service.d", "relkvanu-discard@orders.service.d", "relkvanu-discard@bills.service.d"):
+                os.mkdir(f"{at}/units/{name}")
+            for name, text in drop_ins.items():
+                write(f"{at}/units/relkvanu-backup.service.d/{name}", text.replace("/var/lib", f"{at}/lib"))
+            os.makedirs(f"{at}/lib/relkvanu-savepoint/orders")
+
+        def is_gone():
+            units = f"{at}/units/relkvanu-backup.service.d"
+            assert {name: content(f"{units}/{name}").replace(f"{at}/lib", "/var/lib") for name in os.listdir(units)} == wanted, os.listdir(units)
+            assert os.listdir(f"{at}/etc") == ["discard-bills.conf"] and os.listdir(f"{at}/lib/relkvanu-savepoint") == []
+            assert sorted(it for it in os.listdir(f"{at}/units") if it.endswith(".d")) == ["relkvanu-backup.service.d", "relkvanu-discard@bills.service.d"]
+            assert machine.enabled() == ["relkvanu-backup.timer", "relkvanu-discard@bills.service", "relkvanu.service"], machine.enabled()
+            assert content(f"{at}/ended") == f"end orders --folder /srv/orders --token-file {at}/etc/write-token\n"
+
+        ended = machine.steps.ends(["end", "orders", "--folder", "/srv/orders"], fill, is_gone)
+        assert ended > 20, ended
+        return f"{ended} ends"
+
+
+def test_savepoint_files_come_back():
+    """All that are absent, or none. One that is there is not replaced, though it differs."""
+    with folder() as at:
+        files, backup = f"{at}/files", f"{at}/backup/12"
+        steps = Steps(at, f"{SERVICE}/deploy/bring-back", ("mkdir", "rsync", "sync", "mv", "rm"))
+        names = [f"state-{number}.bin" for number in (3, 5, 7)]
+        parts = [{"subtask": f"0.{nth}", "files": [str(number)], "payload": ""} for nth, number in enumerate((3, 5, 7))]
+        os.makedirs(f"{at}/etc")
+        write(f"{at}/etc/copy-orders.conf", f'FOLDER={files}\nPREFIX=state-\nSUFFIX=".bin"\nTO={at}/backup\n')
+        words, settings = ("orders", 12), {"SETTINGS": f"{at}/etc"}
+
+        def fill(there=()):
+            for path in (files, backup):
+                shutil.rmtree(path, ignore_errors=True)
+                os.makedirs(path)
+            for name in names:
+                write(f"{backup}/{name}", f"of {name} {'.' * 300000}")
+            write(f"{backup}/savepoint-12.json", json.dumps({"subtasks": parts}))
+            for name in (".relkvanu-orders", "state-9.bin", *there):
+                write(f"{files}/{name}", f"mine {name}")
+
+        def there():
+            return {it.name: content(it.path).rstrip(".") for it in os.scandir(files) if it.is_file()}
+
+        mine = {name: f"mine {name}" for name in (".relkvanu-orders", "state-9.bin")}
+
+        def is_back():
+            assert there() == mine | {name: f"of {name} " for name in names} and not os.path.exists(f"{files}/.bring-back-12"), there()
+
+        def is_none_or_whole():
+            found = there()
+            assert all(found[name] == text for name, text in mine.items()) and all(found.get(name) in (None, f"of {name} ") for name in names), found
+
+        ended = steps.ends(words, fill, is_back, is_none_or_whole, **settings)
+        library, within, nth = built(at, SHIM), 0, 0
+        while nth < 60:
+            nth += 1
+            fill()
+            status, told = steps.run(*words, before=shim(library, files, die=nth), **settings)
+            is_none_or_whole()
+            if status == 0:
+                break
+            within += 1
+            assert steps.run(*words, **settings)[0] == 0, told
+            is_back()
+        # one that is there differs: the others come, and it is told
+        fill(["state-5.bin"])
+        status, told = steps.run(*words, **settings)
+        assert status == 1 and re.search(r"differ from their copies.*: state-5\.bin$", told, re.MULTILINE), told
+        assert there() == mine | {name: f"of {name} " for name in names} | {"state-5.bin": "mine state-5.bin"}, there()
+        # a copy that is not whole brings nothing
+        for lost in ("state-7.bin", "savepoint-12.json"):
+            fill()
+            os.remove(f"{backup}/{lost}")
+            assert steps.run(*words, **settings)[0] == 1 and there() == mine, there()
+        assert steps.run("orders", **settings)[0] == 2 and steps.run("bills", 12, **settings)[0] == 78
+        assert ended > 16 and within > 3, (ended, within)
+        return f"{ended} ends, and {within} within its programs"
+
+
+def test_a_dump_gets_in_its_place():
+    """Both databases have their names at each moment but for one transaction, and the one that was there is never lost."""
+    with folder() as at, postgres() as server:
+        environment = {"PGHOST": "127.0.0.1", "PGPORT": str(server.port), "PGUSER": "postgres"}
+        url = f"postgres://postgres@127.0.0.1:{server.port}/relkvanu"
+        programs = {name: f"{server.bin}/{name}" for name in ("createdb", "dropdb", "pg_restore", "psql")}
+        steps = Steps(at, f"{SERVICE}/deploy/put-back-dump", (), relkvanu=f"{at}/check", **programs)
+        write(f"{at}/check", f'#!/bin/sh\necho "$@" > {at}/checked\n', 0o755)
+
+        def sql(text, database="postgres"):
+            return server.run("psql", "-XAtq", server.url.rsplit("/", 1)[0] + f"/{database}", "-c", text).strip()
+
+        def databases():
+            return set(sql("select datname from pg_database where datname like 'relkvanu%'").split())
+
+        def drop():
+            for name in databases():
+                sql(f"drop database {name}")
+
+        def make(what):
+            sql("create database relkvanu")
+            sql(f"create table log_start(number bigint); insert into log_start values(1); create table call(text text); insert into call values('{what}')", "relkvanu")
+
+        def of(name):
+            return sql("select text from call", name) if name in databases() else None
+
+        make("dumped")
+        with open(f"{at}/copy.dump", "wb") as it:
+            subprocess.run([f"{server.bin}/pg_dump", "--format=custom", url], stdout=it, check=True, timeout=COMMAND)
+
+        def fill():
+            server.quiet()
+            drop()
+            make("damaged")
+
+        def is_put():
+            assert databases() == {"relkvanu", "relkvanu_aside"} and (of("relkvanu"), of("relkvanu_aside")) == ("dumped", "damaged"), databases()
+            assert content(f"{at}/checked").split() == ["check", "--database", f"{url}_restored"]
+
+        def is_known():
+            assert sorted([of("relkvanu"), of("relkvanu_aside") or "none"]) in (["damaged", "none"], ["damaged", "dumped"]), databases()
+
+        def put():
+            fill()
+            assert steps.run("copy.dump", url, **environment)[0] == 0
+
+        def is_back():
+            assert (of("relkvanu"), of("relkvanu_not_used")) == ("damaged", "dumped"), databases()
+
+        puts = steps.ends(("copy.dump", url), fill, is_put, is_known, **environment)
+        backs = steps.ends(("--back", url), put, is_back, **environment)
+        assert steps.run("copy.dump", url, **environment)[0] == 0 and (of("relkvanu"), of("relkvanu_aside")) == ("dumped", "damaged")
+        # a service has run over it
+        sql("insert into log_start values(2)", "relkvanu")
+        status, told = steps.run("copy.dump", url, **environment)
+        assert status == 1 and "there is a database relkvanu_aside already" in told, told
+        # a database of somebody, and a log over which no service can run
+        fill()
+        sql("create database relkvanu_restored")
+        sql("create table x(y int)", "relkvanu_restored")
+        status, told = steps.run("copy.dump", url, **environment)
+        assert status == 1 and "which is not of this command" in told and of("relkvanu") == "damaged", told
+        sql("drop database relkvanu_restored")
+        write(f"{at}/check", "#!/bin/sh\nexit 1\n", 0o755)
+        assert steps.run("copy.dump", url, **environment)[0] == 1 and of("relkvanu") == "damaged" and "relkvanu_aside" not in databases()
+        # the disk was lost, and the copy was checked before
+        drop()
+        assert steps.run("copy.dump", url, "--checked", **environment)[0] == 0 and (databases(), of("relkvanu")) == ({"relkvanu"}, "dumped")
+        for words in ((), ("copy.dump",), ("copy.dump", "relkvanu.db"), ("copy.dump", "postgres://db/relkvanu")):
+            assert steps.run(*words, **environment)[0] == 2, words
+        assert puts > 10 and backs > 4, (puts, backs)
+        return f"{puts} ends, and {backs} of its way back"
