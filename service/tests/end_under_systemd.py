@@ -14,7 +14,7 @@ from relkvanu_service import Service, cancel, dispose, savepoint  # noqa: E402
 FOLDER, MARKER = "/srv/orders", ".relkvanu-orders"
 UNITS = ("relkvanu-discard@orders", "relkvanu-sweep@orders")
 SETTINGS = [f"/etc/systemd/system/{unit}.service.d" for unit in UNITS] + ["/etc/relkvanu/discard-orders.conf", "/etc/relkvanu/sweep-orders.conf"]
-NOTES = "/var/lib/relkvanu-savepoint/orders"
+NOTES, TOKEN = "/var/lib/relkvanu-savepoint/orders", "/srv/token-orders"
 # How many records a job has here. The pages carry the last one out, and one before it is savepoint 12.
 RECORDS = 40
 DROP_IN = "/etc/systemd/system/relkvanu-backup.service.d/10-savepoints.conf"
@@ -92,6 +92,35 @@ def check_the_end_of_a_job():
     return RECORDS + 1
 
 
+def by_its_user(command, *words):
+    """What the engine does, as the user whose files they are, who can't read what is root's."""
+    told = run("setpriv", "--reuid=orders", "--clear-groups", "relkvanu", command, "orders", *words, "--folder", FOLDER, "--prefix", "state-", "--suffix", ".bin", "--token-file", TOKEN)
+    return int(re.search(r"record (\d+) has a manifest", told)[1])
+
+
+def check_a_lost_database():
+    """The job goes on from the record that has a manifest. Its engine's user writes the next one, and the discarder deletes what that releases."""
+    job = worked(retained=2)
+    last = by_its_user("keep")
+    as_the_page_says("new database")
+    until(is_ready)
+    assert is_gone() and "relkvanu.db" in os.listdir("/var/lib/relkvanu/lost")
+    assert f"orders goes on from checkpoint {last}" in as_the_page_says("recover")
+    job = service().job("orders")
+    job.claim(FOLDER)
+    run("/usr/local/lib/relkvanu/operate", "start")
+    task, before = job.begin().session(block=10), files()
+    for _ in range(3):
+        until(lambda: pending(job))
+        [record] = pending(job)
+        acknowledge(task, record)
+        assert by_its_user("keep") >= record > last, (record, last)
+    until(lambda: len(set(before) & set(files())) == 1)  # that of the savepoint
+    shutil.rmtree("/var/lib/relkvanu/lost")
+    as_the_page_says("end")
+    return last
+
+
 def check_a_job_that_keeps_its_checkpoints():
     """The end of a job is refused once it was cancelled so. Its record is carried out, and the job goes without its file, which stays until somebody deletes it."""
     job = worked(keep_on_cancel=True)
@@ -134,11 +163,15 @@ def main():
     run("useradd", "--system", "orders")
     os.makedirs(FOLDER)
     os.makedirs("/srv/kept")
-    os.environ.update(PYTHONPATH="/try", RELKVANU_LIB="/try/library")
     shutil.chown(FOLDER, "orders")
+    shutil.copytree("/try", "/srv/python", ignore=lambda at, names: set(names) - {"relkvanu_service.py", "relkvanu", "library"} if at == "/try" else [])
+    os.environ.update(PYTHONPATH="/srv/python", RELKVANU_LIB="/srv/python/library")
+    os.chmod("/srv/python", 0o755)
+    with open(TOKEN, "w", encoding="utf-8") as it:
+        it.write(f"{WRITE}\n")
     as_the_page_says("timer")
     as_the_page_says("savepoint units")
-    told = {"ended": check_the_end_of_a_job(), "kept": check_a_job_that_keeps_its_checkpoints(), "calls": check_the_old_machine_of_a_move()}
+    told = {"recovered": check_a_lost_database(), "ended": check_the_end_of_a_job(), "kept": check_a_job_that_keeps_its_checkpoints(), "calls": check_the_old_machine_of_a_move()}
     print(json.dumps(told))
 
 

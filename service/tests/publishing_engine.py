@@ -1,4 +1,4 @@
-"""publishing_engine.py URL FOLDER INPUTS: an engine over the service with manifests, as docs/SERVICE-RECOVERY.md has it. Its job `orders` has two tasks, which
+"""publishing_engine.py URL FOLDER INPUTS: an engine over the service with manifests, as docs/SERVICE-ENGINE.md has it. Its job `orders` has two tasks, which
 read the numbers below INPUTS, the even and the odd ones. A sink prepares what each read for a record, and publishes it once the record has a manifest. So each
 number is published once, whenever the process is killed or the database of the service is lost. It prints each record that it has published, and ends when all
 numbers are. It begins from its files in FOLDER/state and from payloads that say the same."""

@@ -13,6 +13,7 @@ from test_unit import BOOT, booted, commands
 PLACES = {
     "end": "2. **End the job.** If the command is killed", "abandon": "**To delete them**, delete all files",
     "save": "**To keep them**, [export each record]", "move": "1. **Leave the old machine.**",
+    "new database": "**1. End everything, and start the service with a new database.**", "recover": "**2. Recover each job.**",
 }
 
 
@@ -48,4 +49,5 @@ def test_the_end_of_a_job_and_a_move():
         errors = text_of(f"{at}/errors")
         assert not errors, errors[-3000:]
         told = json.loads(text_of(f"{at}/told"))
-        return f"a job ended with its {told['ended']} files, one kept {told['kept']}, and a copy for another machine has {told['calls']} calls"
+        return (f"a lost job goes on from record {told['recovered']}, a job ended with its {told['ended']} files, one kept {told['kept']}, and a copy for another "
+                f"machine has {told['calls']} calls")

@@ -39,6 +39,7 @@ def commands():
         "try savepoints": "**Try it once** while", "mail": "- **By mail**, with", "metric": "- **By Prometheus**, with",
         "copies": "**The state files need a copy",
         "address": "**The address.**", "discarders": "**Let the discarders run**", "moved": "1. **Leave the old machine.**",
+        "try": "## To try a restore\n",
     }
     steps = ("Install", "Set up TLS", "Start")
     places |= {f"TLS: {step}": f"{number}. **{step}**" for number, step in enumerate(steps, 1)}

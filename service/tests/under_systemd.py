@@ -308,6 +308,18 @@ def check_backups_of_each_night():
     assert len(names) == 14 and names[0] == "20200112T000000Z.db" and names[-1] > "2026", names
     assert run("relkvanu", "check", "--database", f"/var/backups/relkvanu/{names[-1]}").startswith("job orders: ")
     assert run("systemctl", "is-active", "relkvanu-backup.timer") == "active"
+    check_a_restore_is_tried()
+
+
+def check_a_restore_is_tried():
+    """Beside the service, over the newest copy: of the two savepoints that it has, one has its file. Nothing is changed, and nothing is left."""
+    def found():
+        return request("GET", "/v1/jobs/orders")[1]["seq"], sorted(os.listdir("/srv/orders")), copies(), sorted(os.listdir("/var/tmp")), property_of("MainPID")
+
+    before = found()
+    rows = re.findall(r"^\d+ +savepoint.* (\S+)$", as_the_page_says("try"), re.MULTILINE)
+    assert rows == ["31", "none"], rows
+    assert run("systemctl", "is-active", "relkvanu-try", check=False) == "inactive" and found() == before, (found(), before)
 
 
 class Engine(threading.Thread):
