@@ -11,7 +11,8 @@ import threading
 import time
 
 WRITE = "w" * 20
-JOB = {"name": "orders", "settings": {"interval": 60000}, "shape": [1], "names": False}
+# no checkpoint is due between two looks at the job
+JOB = {"name": "orders", "settings": {"interval": 1 << 40}, "shape": [1], "names": False}
 
 
 def run(*words, check=True):
