@@ -2,14 +2,15 @@
 """faults/kill_chained.py KILLS [SEED]: runs chained.py of docs/CUT.md and mini.py and mini-rust of docs/RUNNER.md, kills a process of theirs KILLS times, and
 looks at what they published: each number of each source once, in its order, and the sums of one run. A job whose files were put back, as a backup is, has to
 refuse to publish a number again, and one whose transaction is lost has to refuse to start. Its status tells a supervisor when to start it again. One that
-dies between a stop and its publication publishes at the next start. Then wrong engines have to be found wrong: of the first one that does not align, one that
-publishes at its cut, and one that does not publish again at its start, and of the second one that publishes what it prepared for records after the one that
-it begins from. RELKVANU_LIB names the folder of the library."""
+dies between a stop and its publication publishes at the next start. SIGTERM and Ctrl-C stop an engine by the runner with all published. Then wrong engines
+have to be found wrong: of the first one that does not align, one that publishes at its cut, and one that does not publish again at its start, and of the
+second one that publishes what it prepared for records after the one that it begins from. RELKVANU_LIB names the folder of the library."""
 import json
 import os
 import pathlib
 import random
 import shutil
+import signal
 import subprocess
 import sys
 import tempfile
@@ -61,18 +62,24 @@ class Job:
     def published(self):
         return sorted(int(it.stem) for it in (self.folder / "target").glob("*.published"))
 
-    def start(self, last):
+    def start(self, last, *words):
         new = [] if (self.folder / "job.db").exists() else ["new"]
-        # what is left of a job that was killed says so on its standard error
-        return subprocess.Popen([*self.words, self.folder, str(last), *new], stderr=subprocess.DEVNULL)
+        # what is left of a job that was killed says so on its standard error; a shell that runs this beside others may ignore Ctrl-C
+        return subprocess.Popen([*self.words, self.folder, str(last), *new, *words], stderr=subprocess.DEVNULL,
+                                preexec_fn=lambda: signal.signal(signal.SIGINT, signal.SIG_DFL))
 
-    def kill_one(self, dice):
-        """Starts it, waits until it has published once more, and kills its driver or its worker a moment later. What is left ends by itself."""
-        before, process = self.published(), self.start(1 << 62)
+    def publishing(self, *words):
+        """Starts it, and waits until it has published once more."""
+        before, process = self.published(), self.start(1 << 62, *words)
         until = time.monotonic() + SECONDS
         while self.published() == before and process.poll() is None:
             assert time.monotonic() < until, f"nothing was published in {SECONDS} s"
             time.sleep(0.005)
+        return process
+
+    def kill_one(self, dice):
+        """Starts it, waits until it has published once more, and kills its driver or its worker a moment later. What is left ends by itself."""
+        process = self.publishing()
         time.sleep(dice.random() * 0.06)
         if dice.random() < 0.5 or subprocess.run(["pkill", "-KILL", "-P", str(process.pid)], check=False).returncode:
             process.kill()
@@ -145,7 +152,7 @@ def refuses(samples, sample, texts):
 
 
 def is_started_again(samples, texts):
-    """Whether the status of mini.py sends a supervisor back to it: after a restart, and after a cancel until no file is left."""
+    """Whether the status of mini.py sends a supervisor back to it: after a restart, and not after a cancel, when no file is left."""
     job, statuses, new = Job(samples / "ends", "mini.py", samples, texts), [], ["new"]
     for call in ("runner.restart", "store.cancel"):
         text = f"import sys, threading, mini; it = mini.Engine(*sys.argv[1:]); threading.Timer(0.5, it.{call}).start(); it.runner.run()"
@@ -155,7 +162,7 @@ def is_started_again(samples, texts):
     statuses.append(job.start(1 << 62).wait(SECONDS))
     left = [it.name for it in (job.folder / "state").iterdir() if not it.name.startswith(".")]
     print(f"mini.py, restarted, cancelled and started again: statuses {statuses}, {len(left)} files left", flush=True)
-    return statuses == [1, 1, 0] and not left
+    return statuses == [1, 0, 0] and not left
 
 
 def publishes_a_stop(samples, texts):
@@ -178,6 +185,24 @@ it.runner.run()"""
     right = statuses == [9, 0, 0, 0] and left[0] != [] and left[1:] == [[], []] and stopped[-1] == left[0][-1] and len(job.published()) > len(stopped) and not fault
     told = "what was prepared is published by the next start" if right else f"statuses {statuses}, prepared {left}, published {stopped}, {fault}"
     print(f"mini.py, killed at a stop: {told}", flush=True)
+    return right
+
+
+def is_stopped(samples, sample, texts, dice):
+    """Whether each signal stops an engine by the runner with all published, and the job stays stopped until it is begun."""
+    job, statuses, left = Job(samples / f"signals {sample}", sample, samples, texts), [], []
+    for number, words in ((signal.SIGTERM, []), (signal.SIGINT, ["begin"])):
+        process = job.publishing(*words)
+        time.sleep(dice.random() * 0.06)
+        process.send_signal(number)
+        statuses.append(process.wait(SECONDS))
+        published = job.published()
+        statuses.append(job.start(1 << 62).wait(SECONDS))  # it finds the job stopped
+        left.append([*(job.folder / "target").glob("*.prepared"), *(it for it in job.published() if it not in published)])
+    statuses.append(job.start(job.published()[-1] + 3, "begin").wait(SECONDS))
+    fault = job.fault()
+    right = statuses == [0] * 5 and left == [[], []] and not fault
+    print(f"{sample}, stopped by signals: {'all is published' if right else f'statuses {statuses}, left {left}, {fault}'}", flush=True)
     return right
 
 
@@ -221,6 +246,7 @@ def main(kills, seed=None):
         good += [refuses(samples, it, of) for it, of in texts.items() if it != "chained.py"]  # which refuses an earlier term
         good.append(is_started_again(samples, texts["mini.py"]))
         good.append(publishes_a_stop(samples, texts["mini.py"]))
+        good += [is_stopped(samples, it, of, dice) for it, of in texts.items() if it != "chained.py"]
         good += [is_found(samples, why, texts, dice) for why in WRONG]
     print(f"{good.count(True)} engines passed, {good.count(False)} failed")
     return 0 if all(good) else 1

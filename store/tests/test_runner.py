@@ -3,18 +3,39 @@ import itertools
 import json
 import os
 import pathlib
+import signal
+import subprocess
+import sys
 import tempfile
 import threading
 import time
 import unittest
 from unittest import mock
 
-from relkvanu import Fenced, Kind, OutOfMemory, Refused, Settings
-from relkvanu.runner import Ended, FileLost, Record, Runner
-from relkvanu.store import Store, StoreError
+from relkvanu import BadStep, Fenced, Kind, OutOfMemory, Refused, Settings
+from relkvanu.runner import Barrier, Ended, Ending, FileLost, Inputs, Record, Runner, SavepointFailed
+from relkvanu.store import Phase, Store, StoreError
 
 TASKS = 2
 LONGEST = 600  # seconds that a busy machine may take for a step
+HANGS = """
+import sys
+from relkvanu import Settings
+from relkvanu.runner import Runner
+from relkvanu.store import Store
+
+class Engine:
+    def start(self, term, record):
+        print("started", flush=True)
+    def barrier(self, it):
+        print("barrier", flush=True)  # and nobody acknowledges
+    def end(self):
+        print("ended", flush=True)
+
+runner = Runner(Store(f"{sys.argv[1]}/job.db", Settings(interval=1 << 39), [1], storage=f"{sys.argv[1]}/state", create=True), Engine())
+runner.stop_at_signals()
+runner.run()
+"""
 
 
 class Words:
@@ -53,7 +74,7 @@ class Words:
         for index in range(TASKS):
             if self.declined == it.kind:
                 self.declined = None
-                self.runner.decline(it.term, it.id, 0, index)
+                self.runner.decline(it.term, it.id, 0, index, "no disk")
                 self.then()
                 return
             [name] = self.runner.store.reserve(it.term, 1)
@@ -559,6 +580,281 @@ class Running(unittest.TestCase):
             _, _, await_end = self.begin(engine)
             self.assertIsInstance(await_end(), LookupError)
 
+    def idle(self, **settings):
+        """A job that triggers nothing by itself."""
+        store, engine, await_end = self.begin(interval=1 << 39, **settings)
+        engine.await_word("start", 1, None, None)
+        return store, engine, await_end
+
+    def test_a_savepoint(self):
+        """Its barrier goes the way of a checkpoint's. It is complete when the answer comes, and publishes nothing."""
+        store, engine, await_end = self.idle()
+        first = store.trigger().reply.id
+        engine.await_word("complete", first)
+        id = engine.runner.savepoint()
+        self.assertEqual((store.history(1)[0].id, store.history(1)[0].ending), (id, Ending.COMPLETED))
+        self.assertEqual([len(it.files) for it in store.load(id).parts], [1, 1])
+        last = store.trigger().reply.id
+        engine.await_word("complete", last)
+        engine.runner.close()
+        self.assertEqual(await_end(), Ended.CLOSED)
+        self.assertEqual(engine.said[1:], [
+            ("barrier", first, Kind.CHECKPOINT, False), ("complete", first), ("barrier", id, Kind.SAVEPOINT, False),
+            ("barrier", last, Kind.CHECKPOINT, False), ("complete", last), ("end",)])
+
+    def test_savepoints_of_several_threads(self):
+        store, engine, await_end = self.begin()
+        found = []
+        threads = [threading.Thread(target=lambda: found.append(engine.runner.savepoint())) for _ in range(5)]
+        for it in threads:
+            it.start()
+        for it in threads:
+            it.join(LONGEST)
+        engine.runner.close()
+        await_end()
+        sent = [it[1] for it in engine.said if it[:1] == ("barrier",) and it[2] == Kind.SAVEPOINT]
+        self.assertEqual((len(set(found)), sorted(found)), (5, sent))
+
+    def fails(self, runner, id, ending, reason=""):
+        with self.assertRaises(SavepointFailed) as caught:
+            runner.savepoint()
+        why = caught.exception
+        self.assertEqual((why.id, why.ending, why.reason), (id, ending, reason))
+        return str(why)
+
+    def test_a_savepoint_that_is_declined(self):
+        store, engine, await_end = self.idle(tolerable=10)
+        engine.declined = Kind.SAVEPOINT
+        self.assertEqual(self.fails(engine.runner, 1, Ending.DECLINED, "no disk"), "savepoint 1 was declined: no disk")
+
+    def test_a_savepoint_that_expires(self):
+        store, engine, await_end = self.idle(timeout=50)
+        engine.take_part = lambda it: None
+        self.assertEqual(self.fails(engine.runner, 1, Ending.EXPIRED), "savepoint 1 was expired")
+
+    def test_a_savepoint_that_a_restart_drops(self):
+        store, engine, await_end = self.idle()
+        engine.take_part = lambda it: engine.runner.restart()
+        self.fails(engine.runner, 1, Ending.DROPPED)
+        self.assertEqual([it[1] for it in engine.said if it[0] == "start"], [1, 2])
+
+    def test_a_savepoint_of_a_job_that_is_being_stopped(self):
+        store, engine, await_end = self.idle()
+        engine.take_part = lambda it: None
+        store.stop_job()
+        engine.await_word("barrier", 1, Kind.SAVEPOINT, True)
+        with self.assertRaises(Refused) as caught:
+            engine.runner.savepoint()
+        self.assertEqual(caught.exception.name, "NotRunning")
+
+    def asked(self, engine):
+        """Asks for a savepoint in a thread, and returns once the loop has to do it."""
+        found = []
+
+        def ask():
+            try:
+                found.append(engine.runner.savepoint())
+            except SavepointFailed as why:
+                found.append((why.id, why.ending))
+        thread = threading.Thread(target=ask)
+        thread.start()
+        while not engine.runner._asked and not engine.runner._savepoints:
+            time.sleep(0.001)
+        return thread, found
+
+    def test_a_savepoint_that_waits_for_a_restore(self):
+        """It is asked for while the job fails, and taken once the job was restored."""
+        store, engine, await_end = self.idle()
+        engine.declined, asked = Kind.CHECKPOINT, []
+        engine.then = lambda: asked.append(self.asked(engine))
+        store.trigger()
+        engine.await_word("barrier", 2, Kind.SAVEPOINT, False)
+        [(thread, found)] = asked
+        thread.join(LONGEST)
+        self.assertEqual((found, [it[1] for it in engine.said if it[0] == "start"]), ([2], [1, 2]))
+
+    def test_a_savepoint_right_after_a_way_back(self):
+        """It is triggered in the term of tasks that do not run yet: these get its barrier too."""
+        store, engine, await_end = self.idle(retained=3)
+        first = store.trigger().reply.id
+        engine.await_word("complete", first)
+        store.trigger()
+        engine.await_word("complete", first + 1)
+        savepoint, once = Store.savepoint, iter([lambda: store.go_back(first, accept_published=True)])
+
+        def behind(it):
+            next(once, lambda: None)()
+            return savepoint(it)
+        with mock.patch.object(Store, "savepoint", behind):
+            id = engine.runner.savepoint()
+        sent = [it for it in engine.said if it[0] in ("start", "fenced") or it[:2] == ("barrier", id)]
+        barrier = ("barrier", id, Kind.SAVEPOINT, False)
+        self.assertEqual(sent, [("start", 1, None, None), barrier, ("fenced",), ("start", 2, id - 1, TASKS), barrier])
+
+    def test_savepoints_when_the_run_ends(self):
+        store, engine, await_end = self.idle()
+        engine.take_part = lambda it: None
+        thread, found = self.asked(engine)
+        engine.await_word("barrier", 1, Kind.SAVEPOINT, False)
+        engine.runner.close()
+        thread.join(LONGEST)
+        self.assertEqual((found, await_end()), ([(1, None)], Ended.CLOSED))
+        self.assertEqual(self.fails(engine.runner, None, None), "run() has ended, and no savepoint was triggered")
+
+    def test_a_savepoint_when_the_run_fails(self):
+        engine = Words()
+        engine.take_part = lambda it: {}["nothing"]
+        store, engine, await_end = self.begin(engine, interval=1 << 39)
+        thread, found = self.asked(engine)
+        thread.join(LONGEST)
+        self.assertIsInstance(await_end(), KeyError)
+        self.assertEqual(found, [(1, None)])
+
+    def test_a_savepoint_that_would_wait_for_itself(self):
+        """In the thread of run(), and inside complete()."""
+        faults = []
+
+        class Asking(Words):
+            def ask(self):
+                try:
+                    self.runner.savepoint()
+                except StoreError as why:
+                    faults.append(why.name)
+
+            def start(self, term, record):
+                self.ask()
+                super().start(term, record)
+
+            def barrier(self, it):
+                task = threading.Thread(target=lambda: super(Asking, self).barrier(it))
+                task.start()
+                task.join()
+
+            def complete(self, id):
+                self.ask()
+                super().complete(id)
+
+        store, engine, await_end = self.begin(Asking())
+        engine.await_more("complete")
+        engine.runner.close()
+        await_end()
+        self.assertEqual(faults, ["NotNow"] * (1 + sum(it[0] == "complete" for it in engine.said)))
+
+    def stops(self, engine, ended, savepoint):
+        self.assertEqual(ended, Ended.STOPPED)
+        stop = [("barrier", savepoint, Kind.SAVEPOINT, True), ("complete", savepoint), ("end",), ("stopped", savepoint, TASKS)]
+        self.assertEqual(engine.said[-4:], stop)
+
+    def test_a_stop_that_is_asked_for(self):
+        store, engine, await_end = self.idle()
+        engine.runner.ask_to_stop()
+        self.stops(engine, await_end(), 1)
+
+    def test_a_stop_that_is_asked_for_is_tried_again(self):
+        store, engine, await_end = self.idle(tolerable=10)
+        engine.declined = Kind.SAVEPOINT
+        engine.runner.ask_to_stop()
+        self.stops(engine, await_end(), 2)
+        self.assertEqual(sum(it == ("go on",) for it in engine.said), 1)
+
+    def test_a_stop_that_is_asked_for_of_a_job_that_fails(self):
+        store, engine, await_end = self.idle()
+        engine.declined, engine.then = Kind.CHECKPOINT, engine.runner.ask_to_stop
+        store.trigger()
+        self.stops(engine, await_end(), 2)
+        self.assertEqual([it[1] for it in engine.said if it[0] == "start"], [1, 2])
+
+    def test_a_stop_by_a_signal(self):
+        before = signal.getsignal(signal.SIGTERM)
+        self.addCleanup(lambda: signal.signal(signal.SIGTERM, before))
+        store, engine, await_end = self.idle()
+        engine.runner.stop_at_signals(signal.SIGTERM)
+        self.assertNotEqual(signal.getsignal(signal.SIGTERM), before)
+        os.kill(os.getpid(), signal.SIGTERM)
+        self.stops(engine, await_end(), 1)
+        self.assertEqual(signal.getsignal(signal.SIGTERM), before)
+
+    def test_a_second_signal_ends_the_process(self):
+        for first, second in ((signal.SIGTERM, signal.SIGTERM), (signal.SIGINT, signal.SIGTERM), (signal.SIGTERM, signal.SIGINT)):
+            words = [sys.executable, "-c", HANGS, self.folder]
+            with subprocess.Popen(words, stdout=subprocess.PIPE, stderr=subprocess.DEVNULL, text=True,
+                                  preexec_fn=lambda: signal.signal(signal.SIGINT, signal.SIG_DFL)) as process:
+                said = iter(process.stdout.readline, "started\n")
+                self.assertIn(list(said), ([], ["ended\n"]))  # what an earlier process has begun is ended first
+                process.send_signal(first)
+                self.assertEqual(process.stdout.readline(), "barrier\n")
+                process.send_signal(second)
+                self.assertEqual((process.wait(LONGEST), process.stdout.read()), (-second, ""))
+
+    def test_signals_that_are_ignored_or_come_late(self):
+        said = []
+        for number, handler in ((signal.SIGUSR1, signal.SIG_IGN), (signal.SIGUSR2, lambda *_: said.append("the handler before"))):
+            self.addCleanup(signal.signal, number, signal.signal(number, handler))
+        store, engine, await_end = self.idle()
+        engine.runner.stop_at_signals(signal.SIGUSR1, signal.SIGUSR2)
+        self.assertEqual(signal.getsignal(signal.SIGUSR1), signal.SIG_IGN)
+        engine.runner.close()
+        self.assertEqual(await_end(), Ended.CLOSED)
+        os.kill(os.getpid(), signal.SIGUSR2)
+        self.assertEqual(said, ["the handler before"])
+
+    def test_a_begin_by_the_runner(self):
+        """It has no effect on a job that runs. A job that was stopped when its file was opened goes on."""
+        store, engine, await_end = self.begin()
+        engine.await_more("complete")
+        engine.runner.begin_job()
+        id = store.stop_job().reply.id
+        self.stops(engine, await_end(), id)
+        self.assertEqual(sum(it[0] == "start" for it in engine.said), 1)
+        store = Store(self.folder / "job.db", Settings(interval=20), [TASKS], storage=self.folder / "state")
+        engine = Words()
+        engine.runner = Runner(store, engine)
+        engine.runner.begin_job()
+        engine.runner.close_after(id + 2)
+        self.assertEqual((store.phase().phase, engine.runner.run()), (Phase.RUNNING, Ended.CLOSED))
+        store.close()
+        self.assertEqual([it[0] for it in engine.said[:3]], ["end", "start", "barrier"])
+        self.assertEqual(engine.said[1][2:], (id, TASKS))
+
+    def test_a_last_record(self):
+        engine = Words()
+        store = Store(self.folder / "job.db", Settings(interval=20), [TASKS], storage=self.folder / "state", create=True)
+        engine.runner = Runner(store, engine)
+        engine.runner.close_after(3)
+        self.assertEqual(engine.runner.run(), Ended.CLOSED)
+        store.close()
+        self.assertEqual([it[1] for it in engine.said if it[0] == "complete"][:3], [1, 2, 3])
+        self.assertNotIn(("complete", 5), engine.said)
+        store = Store(self.folder / "job.db", Settings(interval=20), [TASKS], storage=self.folder / "state")
+        engine = Words()
+        engine.runner = Runner(store, engine)
+        engine.runner.close_after(3)
+        self.assertEqual((engine.runner.run(), [it[0] for it in engine.said]), (Ended.CLOSED, ["end", "start", "end"]))
+        store.close()
+
+    def test_tasks_that_fail_and_tasks_of_an_old_term(self):
+        store, engine, await_end = self.idle()
+        engine.runner.restart()
+        engine.await_more("start")
+        old = engine.runner.spawn(lambda: engine.runner.ack(1, 1, 0, 0))
+        old.join()
+        store.trigger()
+        engine.await_word("complete", 1)  # the run goes on
+
+        def fails(word):
+            raise LookupError(word)
+        engine.runner.spawn(fails, "no input").join()
+        fault = await_end()
+        self.assertIsInstance(fault, LookupError)
+        self.assertEqual(fault.args, ("no input",))
+
+    def test_a_payload_of_a_barrier(self):
+        engine = Words()
+        engine.take_part = lambda it: [engine.runner.ack_payload(it, 0, index, b"state %d" % index) for index in range(TASKS)]
+        store, engine, await_end = self.begin(engine)
+        engine.await_word("complete", 1)
+        self.assertEqual([it.payload for it in store.load().parts], [b"state 0", b"state 1"])
+
     def test_two_completions_in_another_order(self):
         store, engine, await_end = self.begin()
         engine.await_more("complete")
@@ -569,6 +865,65 @@ class Running(unittest.TestCase):
         told = [it[1] for it in engine.said if it[0] == "complete"]
         self.assertEqual(told, sorted(set(told)))
         self.assertLess(told[-1], 1 << 30)
+
+
+def barrier(id):
+    return Barrier(id, Kind.CHECKPOINT, None, 1, False)
+
+
+class Taking(unittest.TestCase):
+    def test_what_comes_behind_a_barrier_waits(self):
+        """Each input has its turn, and the one with the barrier has none until the cut."""
+        inputs = Inputs(2)
+        for it in ("a", barrier(1), "b", "c"):
+            inputs.put(0, it)
+        for it in ("p", "q", "r", barrier(1), "s"):
+            inputs.put(1, it)
+        taken = [inputs.take() for _ in range(8)]
+        self.assertEqual(taken, [(0, "a"), (1, "p"), (1, "q"), (1, "r"), (1, barrier(1)), (0, "b"), (1, "s"), (0, "c")])
+
+    def test_an_input_that_is_full(self):
+        inputs, said = Inputs(1, room=2), []
+
+        def put():
+            for it in range(4):
+                inputs.put(0, it)
+                said.append(it)
+        thread = threading.Thread(target=put)
+        thread.start()
+        while len(said) < 2:
+            time.sleep(0.001)
+        time.sleep(0.05)
+        self.assertEqual(said, [0, 1])
+        self.assertEqual([inputs.take() for _ in range(4)], [(0, it) for it in range(4)])
+        thread.join(LONGEST)
+        self.assertEqual(said, [0, 1, 2, 3])
+
+    def test_a_task_that_waits(self):
+        inputs, taken = Inputs(2), []
+        thread = threading.Thread(target=lambda: taken.extend(inputs.take() for _ in range(2)))
+        thread.start()
+        inputs.put(0, barrier(1))
+        inputs.put(0, "behind")
+        time.sleep(0.05)
+        self.assertEqual(taken, [])
+        inputs.put(1, barrier(1))
+        thread.join(LONGEST)
+        self.assertEqual(taken, [(1, barrier(1)), (0, "behind")])
+
+    def test_barriers_in_two_orders(self):
+        inputs = Inputs(2)
+        inputs.put(0, barrier(1))
+        inputs.put(1, barrier(2))
+        with self.assertRaises(BadStep) as caught:
+            inputs.take()
+        self.assertEqual(caught.exception.name, "TwoOrders")
+
+    def test_a_barrier_that_comes_twice(self):
+        inputs = Inputs(1)
+        for it in (barrier(1), barrier(1), "a", barrier(2)):
+            inputs.put(0, it)
+        self.assertEqual([inputs.take() for _ in range(3)], [(0, barrier(1)), (0, "a"), (0, barrier(2))])
 
 
 if __name__ == "__main__":

@@ -50,7 +50,8 @@ Stepped = Union[Step, Cut, Abandon]
 
 
 class BadStep(Error, ValueError):
-    """The engine broke the rules, and nothing has changed. `name` says how: "UnknownInput", "HeldInput" or "EndedInput"."""
+    """The engine broke the rules, and nothing has changed. `name` says how: "UnknownInput", "HeldInput" or "EndedInput". Of relkvanu.runner.Inputs also
+    "TwoOrders"."""
 
     def __init__(self, name: str) -> None:
         super().__init__(name)

@@ -1,20 +1,24 @@
 """The loop of an engine over a durable coordinator: what an opening, a tick, a failure, a stop and an end ask of it, in the right order. An engine says how
 its tasks start, how a barrier reaches them, and what its sinks are told."""
+import collections
 import contextlib
+import signal
 import threading
 import time
-from dataclasses import dataclass
+from concurrent.futures import Future
 from enum import Enum
-from typing import Any, Callable, Iterator, Optional, Protocol, Sequence, Set, Tuple, TypeVar
+from typing import Any, Callable, Deque, Dict, Iterator, Optional, Protocol, Sequence, Set, Tuple, TypeVar
 
-from relkvanu.coordinator import OutOfMemory, Refused
+from relkvanu.coordinator import Fenced, OutOfMemory, Refused
 from relkvanu.errors import Error
+from relkvanu.inputs import Barrier, Inputs
 from relkvanu.reads import Chosen, Kind, Mode
 from relkvanu.replies import AckCompleted, RestoredCheckpoint, RestoredFresh, RestoredSavepoint, SavepointTriggered, Triggered
 from relkvanu.store import Made, Phase, Step, Store, StoreError
-from relkvanu.whole import Part, Whole as Record
+from relkvanu.store_header import MOST_HISTORY
+from relkvanu.whole import Ending, Part, Whole as Record
 
-__all__ = ["Barrier", "Ended", "Engine", "FileLost", "Part", "Record", "Runner"]
+__all__ = ["Barrier", "Ended", "Ending", "Engine", "FileLost", "Inputs", "Part", "Record", "Runner", "SavepointFailed"]
 
 RESTORES = (RestoredCheckpoint, RestoredSavepoint, RestoredFresh)
 LOOKS_AGAIN = 200  # ms after which the loop looks whether it shall end or restart
@@ -25,16 +29,19 @@ class FileLost(Error):
     """A file of the record from which the job begins is not in the storage. The process ends, and sweeps nothing."""
 
 
-@dataclass(frozen=True)
-class Barrier:
-    """A barrier of the record `id`. Files of `base` may be reused in it: what has changed since `base` is in fresh files. If it `holds`, the job is being
-    stopped: a task waits after its acknowledgement until it is ended, or until Engine.go_on()."""
+class SavepointFailed(Error):
+    """What Runner.savepoint() has asked for is not complete. `ending` says what became of it, and `reason` why a task has declined it. Without an `ending`
+    run() has returned or failed before that was known, and without an `id` before it was triggered."""
 
-    id: int
-    kind: Kind
-    base: Optional[Chosen]
-    term: int
-    holds: bool
+    def __init__(self, id: Optional[int], ending: Optional[Ending], reason: str = "") -> None:
+        super().__init__(id, ending, reason)
+        self.id, self.ending, self.reason = id, ending, reason
+
+    def __str__(self) -> str:
+        if self.id is None:
+            return "run() has ended, and no savepoint was triggered"
+        words = f"was {self.ending.name.lower()}" if self.ending is not None else "was pending when run() ended"
+        return f"savepoint {self.id} {words}" + (f": {self.reason}" if self.reason else "")
 
 
 class Ended(Enum):
@@ -81,7 +88,7 @@ def _with_memory(call: Callable[[], T]) -> T:
 class Runner:
     """Runs an engine over a store with a storage folder. Tasks call `ack` and `decline` of the runner, and `reserve`, `put` and `forfeit` of the store,
     each with the term that they were started with. Any thread may call trigger(), stop_job(), configure() or go_back() of the store: the engine sees the
-    barrier or the restart that it brings.
+    barrier or the restart that it brings. A savepoint is asked of the runner.
 
     An engine that has stopped(record) is told that the job is stopped with this record, while no task runs: when a stop has ended, after Engine.end(), and
     when run() finds the job stopped. Its sinks publish what the record's state lists, as at a start: the process may have died before they did.
@@ -101,6 +108,13 @@ class Runner:
         self._swept = time.monotonic()
         self._holds = False  # tasks wait for the end of a stop
         self._closes = threading.Event()
+        self._last: Optional[int] = None  # the record after which it closes
+        self._stops = False  # no Event: the handler of a signal sets it
+        self._loop: Optional[int] = None  # the thread of run()
+        self._asking = threading.Lock()
+        self._is_over = False
+        self._asked: Deque["Future[int]"] = collections.deque()  # savepoints that are to be triggered
+        self._savepoints: Dict[int, Tuple["Future[int]", Optional[Chosen]]] = {}  # and those that were, each with the base of its barrier
         self._failed: Optional[BaseException] = None  # what was raised first in another thread
         self._discarder: Optional[threading.Thread] = None
 
@@ -115,9 +129,13 @@ class Runner:
         if isinstance(made.reply, AckCompleted):
             self._pending.discard(id)
             if made.kind == Kind.CHECKPOINT:
-                self._noting(self._tell, term, id)
+                self._noting(self._complete, term, id)
         self._abort(term, made.ended)
         return made
+
+    def ack_payload(self, barrier: Barrier, vertex: int, index: int, payload: bytes) -> Made:
+        """ack() of a task with this barrier whose whole state is the payload, at most 4096 bytes."""
+        return self.ack(barrier.term, barrier.id, vertex, index, payload=payload)
 
     def decline(self, term: int, id: int, vertex: int, index: int, reason: str = "") -> Made:
         """Declines. Raises as Store.decline_in, and StoreError("NotNow") inside complete() and aborted(). If the job has failed by that, the loop restarts
@@ -132,19 +150,87 @@ class Runner:
         report about an earlier term is ignored. Without a term it is about the tasks that run. May be called by any thread."""
         self._lost.add(self.term if term is None else term)
 
+    def spawn(self, task: Callable[..., Any], *words: Any) -> threading.Thread:
+        """Starts a thread of a task, which ends with the process. What the task raises ends run(). But Fenced("OldTerm") only ends the task: the job was
+        restored, stopped or cancelled meanwhile."""
+        thread = threading.Thread(target=self._noting, args=(self._run_task, task, *words), daemon=True)
+        thread.start()
+        return thread
+
+    def _run_task(self, task: Callable[..., Any], *words: Any) -> None:
+        try:
+            task(*words)
+        except Fenced as fenced:
+            if fenced.name != "OldTerm":
+                raise
+
     def close(self) -> None:
         """Lets run() return once all tasks were told to end. May be called by any thread."""
         self._closes.set()
 
+    def close_after(self, id: int) -> None:
+        """As close(), once a checkpoint with this number or a greater one is complete and published, or the job has begun from such a record. Call it
+        before run()."""
+        self._last = id
+
+    def ask_to_stop(self) -> None:
+        """Lets run() stop the job with a savepoint, and return Ended.STOPPED. A stop that fails is tried again, as long as run() goes on. May be called by any
+        thread, and by the handler of a signal."""
+        self._stops = True
+
+    def stop_at_signals(self, *numbers: int) -> None:
+        """Lets SIGTERM and SIGINT (Ctrl-C), or these signals, ask to stop. Whichever comes next has the effect that it had before: it ends a process that takes
+        too long. One that is ignored stays so. The main thread calls this, before run()."""
+        given = {number: signal.getsignal(number) for number in numbers or (signal.SIGTERM, signal.SIGINT)}
+        before = {number: handler or signal.SIG_DFL for number, handler in given.items() if handler is not signal.SIG_IGN}
+
+        def asked(number: int, _: object) -> None:
+            for it, handler in before.items():
+                signal.signal(it, handler)
+            if self._is_over:
+                signal.raise_signal(number)
+            self.ask_to_stop()
+
+        for number in before:
+            signal.signal(number, asked)
+
+    def begin_job(self) -> None:
+        """Begins the job if it is stopped: call it before run()."""
+        if self.store.phase().phase == Phase.STOPPED:
+            _with_memory(self.store.begin_job)
+
+    def savepoint(self) -> int:
+        """Takes a savepoint, and returns its number once it is complete. Its barrier goes the way of a checkpoint's. Any thread may call it but a task: one
+        that is to acknowledge would wait for itself. Raises SavepointFailed if it is not completed, and Refused, as Store.savepoint, if it is not triggered, as
+        while the job is being stopped. In the thread of run(), and inside complete() and aborted(), it is StoreError("NotNow")."""
+        if threading.get_ident() in (self._loop, self._teller):
+            raise StoreError("NotNow", "this thread would wait for itself: ask for a savepoint in another one", False)
+        asked: "Future[int]" = Future()
+        with self._asking:
+            if self._is_over:
+                raise SavepointFailed(None, None)
+            self._asked.append(asked)
+        return asked.result()
+
     def run(self) -> Ended:
-        """Runs the job until it is closed, stopped or cancelled. Raises FileLost if a file of the record is missing, and what the store and the engine
-        raise: then the process ends, and the next one recovers the job."""
+        """Runs the job until it is closed, stopped or cancelled. Raises FileLost if a file of the record is missing, and what the store, the engine and its
+        tasks raise: then the process ends, and the next one recovers the job."""
+        self._loop = threading.get_ident()
+        try:
+            return self._run()
+        finally:
+            self._loop = None
+            self._end_savepoints()
+
+    def _run(self) -> Ended:
         if self.store.phase().phase == Phase.STOPPED:
             return self._ended(Ended.STOPPED)
-        if Step.START_TASKS not in self.store.report.steps:
-            return self._ended(Ended.CANCELLED)
         ended = None
-        if Step.RESTORE in self.store.report.steps:
+        if self.store.report.phase.phase == Phase.STOPPED:
+            pass  # somebody has begun the job since, and the first tick hands that over
+        elif Step.START_TASKS not in self.store.report.steps:
+            ended = Ended.CANCELLED
+        elif Step.RESTORE in self.store.report.steps:
             ended = self._restore()
         else:
             self._begin(self.store.report.term)
@@ -160,8 +246,65 @@ class Runner:
         if self.term in self._lost:
             return self._over() or self._restore()
         self._sweep_again()
+        self._look_at_commands()
         made = self._awaited()
         return self._act(made) if made is not None else self._look()
+
+    def _look_at_commands(self) -> None:
+        """What other threads have asked for."""
+        while self._asked and self._is_triggered(self._asked[0]):
+            self._asked.popleft()
+        self._answer_savepoints()
+        if self._stops and self.store.phase().phase == Phase.RUNNING:
+            self._stop_job()
+
+    def _is_triggered(self, asked: "Future[int]") -> bool:
+        """Whether the savepoint is triggered, or was refused. A job that has failed is restored first."""
+        try:
+            made = _with_memory(self.store.savepoint)
+        except Refused as refused:
+            if refused.name == "NotRunning" and self._mode() == Mode.FAILED:
+                return False
+            asked.set_exception(refused)
+            return True
+        assert isinstance(made.reply, SavepointTriggered), made
+        self._savepoints[made.reply.id] = asked, made.choice
+        self._send(made.reply.id, Kind.SAVEPOINT, made.choice, False)
+        return True
+
+    def _answer_savepoints(self) -> None:
+        """Those that have ended."""
+        if not self._savepoints:
+            return
+        for past in _with_memory(lambda: self.store.history(MOST_HISTORY)):
+            if past.id not in self._savepoints:
+                continue
+            asked, _ = self._savepoints.pop(past.id)
+            if past.ending == Ending.COMPLETED:
+                asked.set_result(past.id)
+            else:
+                asked.set_exception(SavepointFailed(past.id, past.ending, past.reason))
+
+    def _end_savepoints(self) -> None:
+        """No answer comes any more."""
+        with self._asking:
+            self._is_over = True
+        for id, (asked, _) in self._savepoints.items():
+            asked.set_exception(SavepointFailed(id, None))
+        for asked in self._asked:
+            if not asked.done():
+                asked.set_exception(SavepointFailed(None, None))
+
+    def _stop_job(self) -> None:
+        """A failed job is restored first. Somebody else may be faster."""
+        try:
+            _with_memory(self.store.stop_job)
+        except Refused as refused:
+            if refused.name != "NotRunning":
+                raise
+        except StoreError as why:
+            if why.name != "NotNow":
+                raise
 
     def _awaited(self) -> Optional[Made]:
         """None: nothing is due, or the job has failed or is being stopped since the tick was."""
@@ -176,18 +319,20 @@ class Runner:
         """What a tick, or a call of an operator, asks of the engine."""
         reply = made.reply
         self._abort(self.term, made.ended)
-        if isinstance(reply, (Triggered, SavepointTriggered)):
-            self._go_on()  # nobody may have said that the stop has failed for which tasks hold
-            self._pending.add(reply.id)
         if isinstance(reply, Triggered):
-            self.engine.barrier(Barrier(reply.id, Kind.CHECKPOINT, made.choice, self.term, False))
+            self._send(reply.id, Kind.CHECKPOINT, made.choice, False)
         elif isinstance(reply, SavepointTriggered):
-            self._holds = self.store.phase().phase != Phase.RUNNING
-            self.engine.barrier(Barrier(reply.id, Kind.SAVEPOINT, made.choice, self.term, self._holds))
+            self._send(reply.id, Kind.SAVEPOINT, made.choice, self.store.phase().phase != Phase.RUNNING)
         elif isinstance(reply, RESTORES):
             self.engine.end()
             self._begin(made.term)
         return None
+
+    def _send(self, id: int, kind: Kind, base: Optional[Chosen], holds: bool) -> None:
+        self._go_on()  # nobody may have said that the stop has failed for which tasks hold
+        self._pending.add(id)
+        self._holds = holds
+        self.engine.barrier(Barrier(id, kind, base, self.term, holds))
 
     def _look(self) -> Optional[Ended]:
         """No tick is due: the job waits, or has failed, was stopped or cancelled, or a stop has failed."""
@@ -242,6 +387,14 @@ class Runner:
         self._lost.clear()  # no task of this term has begun
         self._discard()
         self.engine.start(term, record)
+        self._close_at(record.id if record is not None else 0)
+        self._answer_savepoints()
+        for id, (_, base) in self._savepoints.items():
+            self._send(id, Kind.SAVEPOINT, base, False)  # the earlier tasks had this barrier, in a term that had just ended
+
+    def _close_at(self, id: int) -> None:
+        if self._last is not None and id >= self._last:
+            self.close()
 
     def _load(self) -> Optional[Record]:
         """The record from which the job begins."""
@@ -271,6 +424,12 @@ class Runner:
             chosen = reads.choice()
         if chosen is not None and chosen.id == self.store.phase().savepoint:
             self._tell(self.term, chosen.id)
+
+    def _complete(self, term: int, id: int) -> None:
+        """A checkpoint is complete."""
+        self._tell(term, id)
+        if term == self.term:
+            self._close_at(id)
 
     @contextlib.contextmanager
     def _in_turn(self) -> Iterator[None]:
@@ -318,6 +477,7 @@ class Runner:
         """Ends the tasks, and publishes what a stop has. Then one sweep, and all deletions that are due: a task that still writes may leave a file, which a
         later sweep deletes."""
         self.engine.end()
+        self._answer_savepoints()
         if ended == Ended.STOPPED:
             self._stopped()
         if ended != Ended.CLOSED:

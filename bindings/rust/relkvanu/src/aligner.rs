@@ -57,6 +57,8 @@ pub enum AlignFault {
     EndedInput,
     /// A task has 1 to [`MOST_INPUTS`] inputs.
     BadInputs,
+    /// Barriers have come in another order on another input. Of the inputs of a `runner` alone: an [`Aligner`] abandons the earlier record.
+    TwoOrders,
     /// The linked library is of another version, this one.
     OtherLibrary { library: &'static str },
     /// A number that this crate does not know: the library is of another version.
@@ -70,6 +72,7 @@ impl fmt::Display for AlignFault {
             AlignFault::HeldInput => f.write_str("the input is held"),
             AlignFault::EndedInput => f.write_str("the input has ended"),
             AlignFault::BadInputs => f.write_str("bad number of inputs"),
+            AlignFault::TwoOrders => f.write_str("barriers in two orders"),
             AlignFault::OtherLibrary { library } => write!(f, "the library is version {library}"),
             AlignFault::Unknown(what) => write!(f, "unknown step {what}"),
         }

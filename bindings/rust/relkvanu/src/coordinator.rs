@@ -29,6 +29,12 @@ pub struct Settings {
 }
 
 impl Settings {
+    /// A checkpoint each so many milliseconds, one at a time, of which the last one is kept. One that is not complete after ten minutes expires, and the first
+    /// failure fails the job.
+    pub const fn every(interval: u64) -> Settings {
+        Settings { interval, pause: 0, at_once: 1, timeout: 600_000, tolerable: 0, retained: 1, keep_on_cancel: false }
+    }
+
     /// The seven values in the order of the fields; the last is 0 or 1.
     pub fn numbers(&self) -> [u64; 7] {
         [

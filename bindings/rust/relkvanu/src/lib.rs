@@ -26,10 +26,14 @@ mod call;
 mod coordinator;
 mod discarder;
 mod fault;
+#[cfg(feature = "store")]
+mod inputs;
 mod lines;
 #[cfg(feature = "store")]
 pub mod runner;
 mod shared;
+#[cfg(feature = "store")]
+mod signals;
 #[cfg(feature = "store")]
 pub mod storage;
 #[cfg(feature = "store")]

@@ -2,17 +2,22 @@
 //! its tasks start, how a barrier reaches them, and what its sinks are told. `docs/RUNNER.md` has one.
 use crate::answer::{Answer, Choice, Kind, Mode};
 use crate::call::Call;
-use crate::fault::{Fault, Refusal};
+use crate::fault::{Fault, Fenced, Refusal};
+use crate::signals;
 use crate::store::{CallError, Made, More, Next, Phase, Step, Store, StoreError, StoreErrorKind, NOW};
-use std::collections::BTreeSet;
+use relkvanu_sys::store::RELKVANU_STORE_MOST_HISTORY as MOST_HISTORY;
+use std::collections::{BTreeMap, BTreeSet, VecDeque};
 use std::error::Error;
 use std::fmt;
+use std::panic::{catch_unwind, AssertUnwindSafe};
 use std::sync::atomic::{AtomicBool, AtomicU64, Ordering::SeqCst};
+use std::sync::mpsc::{channel, Sender};
 use std::sync::{Arc, Mutex, MutexGuard, PoisonError};
 use std::thread::{self, JoinHandle, ThreadId};
 use std::time::{Duration, Instant};
 
-pub use crate::store::{Part, Whole as Record};
+pub use crate::inputs::{Inputs, Taken};
+pub use crate::store::{Ending, Part, Whole as Record};
 
 /// Milliseconds after which the loop looks whether it shall end or restart.
 const LOOKS_AGAIN: u64 = 200;
@@ -74,6 +79,32 @@ impl From<StoreError> for RunFault {
     }
 }
 
+/// Why a savepoint of [`Runner::savepoint`] is not complete.
+#[derive(Clone, Debug, PartialEq, Eq)]
+pub enum SavepointFault {
+    /// It was not triggered: the call was refused, as [`Call::Savepoint`] is, or `NotNow`.
+    Call(CallError),
+    /// It has ended otherwise, and the reason is that of a task which has declined it.
+    Ended { id: u64, ending: Ending, reason: String },
+    /// [`Runner::run`] has returned before that was known, and without a number before it was triggered.
+    Over { id: Option<u64> },
+}
+
+impl fmt::Display for SavepointFault {
+    fn fmt(&self, f: &mut fmt::Formatter<'_>) -> fmt::Result {
+        match self {
+            SavepointFault::Call(why) => why.fmt(f),
+            SavepointFault::Ended { id, ending, reason } => write!(f, "savepoint {id}: {ending:?} {reason}"),
+            SavepointFault::Over { id: Some(id) } => write!(f, "savepoint {id} was pending when the run ended"),
+            SavepointFault::Over { id: None } => f.write_str("the run has ended, and no savepoint was triggered"),
+        }
+    }
+}
+
+impl Error for SavepointFault {}
+
+type Asked = Sender<Result<u64, SavepointFault>>;
+
 /// What an engine's function returns. An error ends [`Runner::run`].
 pub type Told = Result<(), Box<dyn Error + Send + Sync>>;
 
@@ -128,7 +159,7 @@ impl Drop for Turn<'_> {
 
 /// Runs an engine over a store with names and a storage folder. Tasks call [`ack`](Self::ack) and [`decline`](Self::decline) of the runner, and `reserve`, `put`
 /// and `forfeit` of the [`store`](Self::store), each with the term that they were started with. Any thread may call `trigger`, `stop_job`, `configure`
-/// or `go_back` of the store: the engine sees the barrier or the restart that it brings.
+/// or `go_back` of the store: the engine sees the barrier or the restart that it brings. A savepoint is asked of the runner.
 pub struct Runner<E> {
     store: Store,
     engine: E,
@@ -139,7 +170,12 @@ pub struct Runner<E> {
     pending: Mutex<BTreeSet<u64>>, // records whose barriers were sent
     lost: AtomicU64,               // the last term of which a task has died
     closes: AtomicBool,
-    failed: Mutex<Option<RunFault>>, // by another thread
+    last: AtomicU64, // the record after which it closes
+    stops: AtomicBool,
+    listens: AtomicBool, // signals ask it to stop
+    looper: Mutex<Option<ThreadId>>,
+    asked: Mutex<Option<VecDeque<Asked>>>, // savepoints that are to be triggered; None: the run is over
+    failed: Mutex<Option<RunFault>>,       // by another thread
 }
 
 impl<E> fmt::Debug for Runner<E> {
@@ -182,6 +218,11 @@ impl<E: Engine> Runner<E> {
             pending: Mutex::new(BTreeSet::new()),
             lost: AtomicU64::new(0),
             closes: AtomicBool::new(false),
+            last: AtomicU64::new(u64::MAX),
+            stops: AtomicBool::new(false),
+            listens: AtomicBool::new(false),
+            looper: Mutex::new(None),
+            asked: Mutex::new(Some(VecDeque::new())),
             failed: Mutex::new(None),
         })
     }
@@ -213,10 +254,15 @@ impl<E: Engine> Runner<E> {
             locked(&self.pending).remove(&id);
         }
         if is_complete && made.kind == Some(Kind::Checkpoint) {
-            self.note(self.tell(term, id));
+            self.note(self.complete(term, id));
         }
         self.abort(term, &made.ended);
         Ok(made)
+    }
+
+    /// [`ack`](Self::ack) of a task with this barrier whose whole state is the payload, at most 4096 bytes.
+    pub fn ack_payload(&self, barrier: &Barrier, subtask: (u16, u16), payload: &[u8]) -> Result<Made, CallError> {
+        self.ack(barrier.term, barrier.id, subtask, &[], &[], More { payload, ..More::default() })
     }
 
     /// Declines, with a reason for the history. If the job has failed by that, the loop restarts it. `NotNow` as of [`ack`](Self::ack).
@@ -247,12 +293,71 @@ impl<E: Engine> Runner<E> {
         self.closes.store(true, SeqCst);
     }
 
+    /// As [`close`](Self::close), once a checkpoint with this number or a greater one is complete and published, or the job has begun from such a record.
+    /// Call it before [`run`](Self::run).
+    pub fn close_after(&self, id: u64) {
+        self.last.store(id, SeqCst);
+    }
+
+    /// Lets [`run`](Self::run) stop the job with a savepoint, and return [`Ended::Stopped`]. A stop that fails is tried again, as long as it goes on. Any
+    /// thread may call it.
+    pub fn ask_to_stop(&self) {
+        self.stops.store(true, SeqCst);
+    }
+
+    /// Lets SIGTERM and SIGINT (Ctrl-C) [ask to stop](Self::ask_to_stop). Whichever comes next ends the process, if it takes too long. One that is
+    /// ignored stays so. Call it before [`run`](Self::run), of one runner in a process that has no handlers of its own for these signals.
+    pub fn stop_at_signals(&self) {
+        self.listens.store(true, SeqCst);
+        signals::listen();
+    }
+
+    /// Begins the job if it is stopped: call it before [`run`](Self::run).
+    pub fn begin_job(&self) -> Result<(), CallError> {
+        if self.store.phase()?.phase == Phase::Stopped {
+            with_memory(|| self.store.begin_job())?;
+        }
+        Ok(())
+    }
+
+    /// Starts a thread of a task. An error that it returns, and a panic, ends [`run`](Self::run). But if its term has ended, that only ends the task: the
+    /// job was restored, stopped or cancelled meanwhile.
+    pub fn spawn(self: &Arc<Self>, task: impl FnOnce(&Arc<Self>) -> Told + Send + 'static) -> JoinHandle<()> {
+        const OLD_TERM: CallError = CallError::Fault(Fault::Fenced(Fenced::OldTerm));
+        let runner = self.clone();
+        thread::spawn(move || match catch_unwind(AssertUnwindSafe(|| task(&runner))) {
+            Ok(Err(why)) if why.downcast_ref() == Some(&OLD_TERM) => {}
+            Ok(told) => runner.note(told.map_err(RunFault::Engine)),
+            Err(_) => runner.note(Err(RunFault::Engine("a task has panicked".into()))),
+        })
+    }
+
+    /// Takes a savepoint, and returns its number once it is complete. Its barrier goes the way of a checkpoint's. Any thread may call it but a task: one
+    /// that is to acknowledge would wait for itself. Its call is refused while the job is being stopped. In the thread of [`run`](Self::run), and inside
+    /// [`complete`](Engine::complete) and [`aborted`](Engine::aborted), it is `NotNow`.
+    pub fn savepoint(&self) -> Result<u64, SavepointFault> {
+        let of_call = |why: StoreError| SavepointFault::Call(why.into());
+        self.outside().map_err(of_call)?;
+        if *locked(&self.looper) == Some(thread::current().id()) {
+            let message = "this thread would wait for itself: ask for a savepoint in another one".to_owned();
+            return Err(of_call(StoreError { kind: StoreErrorKind::NotNow, message }));
+        }
+        let (asked, answer) = channel();
+        match &mut *locked(&self.asked) {
+            Some(all) => all.push_back(asked),
+            None => return Err(SavepointFault::Over { id: None }),
+        }
+        answer.recv().unwrap_or(Err(SavepointFault::Over { id: None }))
+    }
+
     /// Runs the job until it is closed, stopped or cancelled. Afterwards the store's timers and discarders have ended.
     pub fn run(self: &Arc<Self>) -> Result<Ended, RunFault> {
-        let mut running = Running { runner: self, discarder: None, holds: false, swept: Instant::now() };
+        *locked(&self.looper) = Some(thread::current().id());
+        let mut running =
+            Running { runner: self, discarder: None, holds: false, swept: Instant::now(), savepoints: BTreeMap::new() };
         let ended = running.work();
         self.store.stop();
-        if let Some(discarder) = running.discarder {
+        if let Some(discarder) = running.discarder.take() {
             let _ = discarder.join(); // what it failed with ends the loop, and here it ends anyway
         }
         ended
@@ -309,6 +414,25 @@ impl<E: Engine> Runner<E> {
         self.engine.complete(id).map_err(RunFault::Engine)
     }
 
+    /// A checkpoint is complete.
+    fn complete(&self, term: u64, id: u64) -> Result<(), RunFault> {
+        self.tell(term, id)?;
+        if term == self.term.load(SeqCst) {
+            self.close_at(id);
+        }
+        Ok(())
+    }
+
+    fn close_at(&self, id: u64) {
+        if id >= self.last.load(SeqCst) {
+            self.close();
+        }
+    }
+
+    fn stops(&self) -> bool {
+        self.stops.load(SeqCst) || self.listens.load(SeqCst) && signals::is_asked()
+    }
+
     /// Tasks hold for this savepoint. Another record may be the choice by now, by a way back: its number says nothing of what is prepared.
     fn tell_of_stop(&self) -> Result<(), RunFault> {
         match (self.store.read(|job| job.choice())?, self.store.phase()?.savepoint) {
@@ -342,6 +466,21 @@ struct Running<'a, E> {
     discarder: Option<JoinHandle<()>>,
     holds: bool, // tasks wait for the end of a stop
     swept: Instant,
+    savepoints: BTreeMap<u64, (Asked, Choice)>, // that somebody waits for, with the base of the barrier
+}
+
+impl<E> Drop for Running<'_, E> {
+    /// No answer comes any more, also after a panic.
+    fn drop(&mut self) {
+        let asked = locked(&self.runner.asked).take();
+        for (id, (it, _)) in std::mem::take(&mut self.savepoints) {
+            let _ = it.send(Err(SavepointFault::Over { id: Some(id) })); // nobody may wait any more
+        }
+        drop(asked); // whoever waits for those is told so by that
+        if self.runner.listens.load(SeqCst) {
+            signals::leave();
+        }
+    }
 }
 
 impl<E: Engine> Running<'_, E> {
@@ -351,11 +490,12 @@ impl<E: Engine> Running<'_, E> {
         if runner.store.phase()?.phase == Phase::Stopped {
             return self.end_tasks(Ended::Stopped);
         }
-        if !report.steps.contains(&Step::StartTasks) {
-            return self.end_tasks(Ended::Cancelled);
-        }
         let mut ended = None;
-        if report.steps.contains(&Step::Restore) {
+        if report.phase.phase == Phase::Stopped {
+            // somebody has begun the job since, and the first tick hands that over
+        } else if !report.steps.contains(&Step::StartTasks) {
+            ended = Some(Ended::Cancelled);
+        } else if report.steps.contains(&Step::Restore) {
             ended = self.restore()?;
         } else {
             self.begin(report.names.term)?;
@@ -383,14 +523,74 @@ impl<E: Engine> Running<'_, E> {
             };
         }
         self.sweep_again()?;
+        self.look_at_commands()?;
         let awaited = with_memory(|| runner.store.await_next(LOOKS_AGAIN))?;
         runner.abort(term, &awaited.ended);
         self.act(awaited.next)
     }
 
+    /// What other threads have asked for.
+    fn look_at_commands(&mut self) -> Result<(), RunFault> {
+        let runner = self.runner;
+        while locked(&runner.asked).as_ref().is_some_and(|it| !it.is_empty()) && self.is_triggered()? {}
+        self.answer_savepoints()?;
+        if !runner.stops() || runner.store.phase()?.phase != Phase::Running {
+            return Ok(());
+        }
+        match with_memory(|| runner.store.stop_job()) {
+            // a failed job is restored first, and somebody else may be faster
+            Err(CallError::Fault(Fault::Refused(Refusal::NotRunning))) => Ok(()),
+            Err(CallError::Store(why)) if why.kind == StoreErrorKind::NotNow => Ok(()),
+            told => Ok(told.map(drop)?),
+        }
+    }
+
+    /// Whether the first savepoint that somebody waits for is triggered, or was refused. A job that has failed is restored first.
+    fn is_triggered(&mut self) -> Result<bool, RunFault> {
+        let runner = self.runner;
+        let told = with_memory(|| runner.store.call(Call::Savepoint { now: NOW }));
+        if let Err(CallError::Fault(Fault::Refused(Refusal::NotRunning))) = told {
+            if runner.store.read(|job| job.mode())? == Mode::Failed {
+                return Ok(false);
+            }
+        }
+        let Some(asked) = locked(&runner.asked).as_mut().and_then(VecDeque::pop_front) else { return Ok(false) };
+        match told {
+            Ok(made) => {
+                let Some(Answer::SavepointTriggered(id)) = made.called() else { unreachable!("{made:?}") };
+                let base = made.choice.unwrap_or(Choice::Fresh);
+                self.savepoints.insert(id, (asked, base));
+                self.send(id, Kind::Savepoint, base, false)?;
+            }
+            Err(why @ CallError::Fault(_)) => {
+                let _ = asked.send(Err(SavepointFault::Call(why))); // nobody may wait any more
+            }
+            Err(why) => return Err(why.into()),
+        }
+        Ok(true)
+    }
+
+    /// Those that have ended.
+    fn answer_savepoints(&mut self) -> Result<(), RunFault> {
+        if self.savepoints.is_empty() {
+            return Ok(());
+        }
+        for past in with_memory(|| Ok(self.runner.store.history(MOST_HISTORY)?))? {
+            let Some((asked, _)) = self.savepoints.remove(&past.id) else { continue };
+            let _ = asked.send(match past.ending {
+                Ending::Completed => Ok(past.id),
+                ending => Err(SavepointFault::Ended { id: past.id, ending, reason: past.reason }),
+            });
+        }
+        Ok(())
+    }
+
     fn act(&mut self, next: Next) -> Result<Option<Ended>, RunFault> {
         match next {
-            Next::Barrier { id, kind, base } => self.send(id, kind, base)?,
+            Next::Barrier { id, kind, base } => {
+                let holds = kind == Kind::Savepoint && self.runner.store.phase()?.phase != Phase::Running;
+                self.send(id, kind, base, holds)?;
+            }
             Next::Begun { term, .. } => {
                 self.runner.engine.end().map_err(RunFault::Engine)?;
                 self.begin(term)?;
@@ -412,14 +612,13 @@ impl<E: Engine> Running<'_, E> {
         Ok(None)
     }
 
-    fn send(&mut self, id: u64, kind: Kind, base: Choice) -> Result<(), RunFault> {
+    fn send(&mut self, id: u64, kind: Kind, base: Choice, holds: bool) -> Result<(), RunFault> {
         self.go_on()?; // nobody may have said that the stop has failed for which tasks hold
         let runner = self.runner;
         let term = runner.term.load(SeqCst);
         locked(&runner.pending).insert(id);
-        self.holds = kind == Kind::Savepoint && runner.store.phase()?.phase != Phase::Running;
-        let barrier = Barrier { id, kind, base, term, holds: self.holds };
-        runner.engine.barrier(barrier).map_err(RunFault::Engine)
+        self.holds = holds;
+        runner.engine.barrier(Barrier { id, kind, base, term, holds }).map_err(RunFault::Engine)
     }
 
     fn go_on(&mut self) -> Result<(), RunFault> {
@@ -456,8 +655,12 @@ impl<E: Engine> Running<'_, E> {
             locked(&runner.pending).clear();
         }
         self.discard();
-        let told = runner.engine.start(runner, term, record.as_ref());
-        told.map_err(RunFault::Engine)
+        runner.engine.start(runner, term, record.as_ref()).map_err(RunFault::Engine)?;
+        runner.close_at(record.map_or(0, |it| it.id));
+        self.answer_savepoints()?;
+        let pending: Vec<(u64, Choice)> = self.savepoints.iter().map(|(id, (_, base))| (*id, *base)).collect();
+        // the earlier tasks had these barriers, in a term that had just ended
+        pending.into_iter().try_for_each(|(id, base)| self.send(id, Kind::Savepoint, base, false))
     }
 
     fn sweep(&mut self) -> Result<(), CallError> {
@@ -481,6 +684,7 @@ impl<E: Engine> Running<'_, E> {
     fn end_tasks(&mut self, ended: Ended) -> Result<Ended, RunFault> {
         let runner = self.runner;
         runner.engine.end().map_err(RunFault::Engine)?;
+        self.answer_savepoints()?;
         if ended == Ended::Stopped {
             self.stopped()?;
         }

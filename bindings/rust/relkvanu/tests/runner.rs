@@ -3,11 +3,14 @@
 mod common;
 
 use common::{new_job, triggered, Place, SETTINGS};
-use relkvanu::runner::{Barrier, Ended, Engine, Record, RunFault, Runner, Told};
-use relkvanu::store::{Awaited, CallError, Ending, More, Next, Options, Store, StoreError, StoreErrorKind, NOW};
-use relkvanu::{Answer, Call, Choice, Fault, Fenced, Kind, Refusal, Settings};
+use relkvanu::runner::{Barrier, Ended, Engine, Inputs, Record, RunFault, Runner, SavepointFault, Taken, Told};
+use relkvanu::store::{Awaited, CallError, Ending, More, Next, Options, Phase, Store, StoreError, StoreErrorKind, NOW};
+use relkvanu::{AlignFault, Answer, Call, Choice, Fault, Fenced, Kind, Refusal, Settings};
 use std::fs;
+use std::io::{BufRead, BufReader};
 use std::num::NonZeroU64;
+use std::os::unix::process::ExitStatusExt;
+use std::process::{Command, Stdio};
 use std::sync::{Arc, Condvar, Mutex};
 use std::thread::{self, JoinHandle};
 use std::time::{Duration, Instant};
@@ -42,6 +45,7 @@ struct Words {
     calls_inside: Mutex<Option<Vec<StoreErrorKind>>>, // what calls inside complete and aborted got, if they are made
     after: Mutex<Option<After>>,                      // what happens when each task has acknowledged
     then: Mutex<Option<Call<'static>>>,               // what an operator calls while the tasks are told to end
+    takes_no_part: Mutex<bool>,                       // no task acknowledges
 }
 
 /// The payloads that are those of the tasks.
@@ -126,7 +130,8 @@ impl Engine for Words {
 
     fn barrier(&self, it: Barrier) -> Told {
         self.note(Barrier(it.id, it.kind, it.holds))?;
-        for index in 0..TASKS {
+        let count = if *self.takes_no_part.lock().unwrap() { 0 } else { TASKS };
+        for index in 0..count {
             match self.takes_part(&it, index) {
                 Err(CallError::Fault(Fault::Fenced(_) | Fault::Refused(_))) => break, // an operator was faster
                 told => told?,
@@ -505,6 +510,340 @@ fn a_cancel_leaves_no_file() {
     assert_eq!(job.store().history(1).unwrap().len(), 1);
     assert_eq!(ended(job).last(), Some(&End));
     assert_eq!(fs::read_dir(place.state()).unwrap().count(), 1);
+}
+
+/// A job that triggers nothing by itself.
+const IDLE: Settings = Settings { interval: 1 << 39, ..QUICK };
+
+fn idle(name: &str, settings: Settings) -> (Place, Arc<Runner<Words>>, Run) {
+    let place = Place::new(name);
+    let (job, run) = begin(&place, settings);
+    job.engine().await_words(1, is_start);
+    (place, job, run)
+}
+
+/// Its barrier goes the way of a checkpoint's. It is complete when the answer comes, and publishes nothing.
+#[test]
+fn a_savepoint() {
+    let (_place, job, run) = idle("runner-savepoint", IDLE);
+    job.store().trigger().unwrap();
+    job.engine().await_word(Complete(1));
+    assert_eq!(job.savepoint(), Ok(2));
+    let past = &job.store().history(1).unwrap()[0];
+    assert_eq!((past.id, past.kind, past.ending), (2, Kind::Savepoint, Ending::Completed));
+    job.store().trigger().unwrap();
+    job.engine().await_word(Complete(3));
+    let barrier = |id, kind| Barrier(id, kind, false);
+    let [first, savepoint, last] = [(1, Kind::Checkpoint), (2, Kind::Savepoint), (3, Kind::Checkpoint)];
+    let [first, savepoint, last] = [first, savepoint, last].map(|(id, kind)| barrier(id, kind));
+    assert_eq!(close(job, run)[1..], [first, Complete(1), savepoint, last, Complete(3), End]);
+}
+
+#[test]
+fn savepoints_of_several_threads() {
+    let place = Place::new("runner-savepoints");
+    let (job, run) = begin(&place, QUICK);
+    let asks: Vec<_> = (0..5).map(|_| job.clone()).map(|job| thread::spawn(move || job.savepoint().unwrap())).collect();
+    let mut found: Vec<u64> = asks.into_iter().map(|it| it.join().unwrap()).collect();
+    found.sort_unstable();
+    let id = |it: Word| if let Barrier(id, Kind::Savepoint, _) = it { Some(id) } else { None };
+    let sent: Vec<u64> = close(job, run).into_iter().filter_map(id).collect();
+    assert_eq!((found.len(), found), (5, sent));
+}
+
+fn ended_savepoint(id: u64, ending: Ending, reason: &str) -> Result<u64, SavepointFault> {
+    Err(SavepointFault::Ended { id, ending, reason: reason.to_owned() })
+}
+
+#[test]
+fn savepoints_that_are_not_completed() {
+    let (_place, job, run) = idle("runner-savepoint-declined", Settings { tolerable: 10, ..IDLE });
+    *job.engine().declines.lock().unwrap() = Some(Kind::Savepoint);
+    assert_eq!(job.savepoint(), ended_savepoint(1, Ending::Declined, "as it was told"));
+    close(job, run);
+    let (_place, job, run) = idle("runner-savepoint-expired", Settings { timeout: 50, ..IDLE });
+    *job.engine().takes_no_part.lock().unwrap() = true;
+    assert_eq!(job.savepoint(), ended_savepoint(1, Ending::Expired, ""));
+    close(job, run);
+    let (_place, job, run) = idle("runner-savepoint-dropped", IDLE);
+    *job.engine().takes_no_part.lock().unwrap() = true;
+    *job.engine().after.lock().unwrap() = Some(|job, term| job.restart_of(term));
+    assert_eq!(job.savepoint(), ended_savepoint(1, Ending::Dropped, ""));
+    assert_eq!(job.engine().starts(), [1, 2]);
+    close(job, run);
+}
+
+#[test]
+fn a_savepoint_of_a_job_that_is_being_stopped() {
+    let (_place, job, run) = idle("runner-savepoint-stop", IDLE);
+    *job.engine().takes_no_part.lock().unwrap() = true;
+    assert_eq!(stops(&job), 1);
+    job.engine().await_word(Barrier(1, Kind::Savepoint, true));
+    let refused = CallError::Fault(Fault::Refused(Refusal::NotRunning));
+    assert_eq!(job.savepoint(), Err(SavepointFault::Call(refused)));
+    close(job, run);
+}
+
+/// One that is pending then, and one that is asked for afterwards.
+#[test]
+fn savepoints_when_the_run_ends() {
+    let (_place, job, run) = idle("runner-savepoint-ends", IDLE);
+    *job.engine().takes_no_part.lock().unwrap() = true;
+    let asks = job.clone();
+    let pending = thread::spawn(move || asks.savepoint());
+    job.engine().await_word(Barrier(1, Kind::Savepoint, false));
+    job.close();
+    assert_eq!(run.join().unwrap().unwrap(), Ended::Closed);
+    assert_eq!(pending.join().unwrap(), Err(SavepointFault::Over { id: Some(1) }));
+    assert_eq!(job.savepoint(), Err(SavepointFault::Over { id: None }));
+    ended(job);
+}
+
+#[test]
+fn a_savepoint_when_the_run_fails() {
+    let (_place, job, run) = idle("runner-savepoint-fails", IDLE);
+    *job.engine().takes_no_part.lock().unwrap() = true;
+    *job.engine().after.lock().unwrap() = Some(|_, _| panic!("as a fault of the engine"));
+    assert_eq!(job.savepoint(), Err(SavepointFault::Over { id: Some(1) }));
+    assert!(run.join().is_err());
+    assert_eq!(job.savepoint(), Err(SavepointFault::Over { id: None }));
+}
+
+fn is_not_now(told: &Result<u64, SavepointFault>) -> bool {
+    matches!(told, Err(SavepointFault::Call(CallError::Store(why))) if why.kind == StoreErrorKind::NotNow)
+}
+
+/// In the thread of the run.
+#[test]
+fn a_savepoint_that_would_wait_for_itself() {
+    let (_place, job, run) = idle("runner-savepoint-inside", IDLE);
+    *job.engine().after.lock().unwrap() = Some(|job, term| {
+        if is_not_now(&job.savepoint()) {
+            job.restart_of(term);
+        }
+    });
+    job.store().trigger().unwrap();
+    job.engine().await_words(2, is_start);
+    close(job, run);
+}
+
+fn assert_stops(job: Arc<Runner<Words>>, run: Run, id: u64) -> Vec<Word> {
+    assert_eq!(run.join().unwrap().unwrap(), Ended::Stopped);
+    let said = ended(job);
+    let last = [Barrier(id, Kind::Savepoint, true), Complete(id), End, Stopped(id, TASKS.into())];
+    assert_eq!(said[said.len() - 4..], last);
+    said
+}
+
+#[test]
+fn a_stop_that_is_asked_for() {
+    let (place, job, run) = idle("runner-asks", IDLE);
+    job.begin_job().unwrap(); // it runs, so this has no effect
+    job.ask_to_stop();
+    assert_stops(job, run, 1);
+    let job = Runner::new(opened(&place, IDLE), Words::default());
+    job.begin_job().unwrap();
+    assert_eq!(job.store().phase().unwrap().phase, Phase::Running);
+    let runs = job.clone();
+    let run = thread::spawn(move || runs.run());
+    job.engine().await_words(1, is_start);
+    let said = close(job, run);
+    assert!(matches!(said[..], [End, Start(_, Some(1), 2), End]), "{said:?}");
+}
+
+#[test]
+fn a_stop_that_is_asked_for_is_tried_again() {
+    let (_place, job, run) = idle("runner-asks-again", Settings { tolerable: 10, ..IDLE });
+    *job.engine().declines.lock().unwrap() = Some(Kind::Savepoint);
+    job.ask_to_stop();
+    let said = assert_stops(job, run, 2);
+    assert_eq!(said.iter().filter(|it| **it == GoOn).count(), 1);
+}
+
+#[test]
+fn a_stop_that_is_asked_for_of_a_job_that_fails() {
+    let (_place, job, run) = idle("runner-asks-failed", IDLE);
+    *job.engine().declines.lock().unwrap() = Some(Kind::Checkpoint);
+    *job.engine().after.lock().unwrap() = Some(|job, _| job.ask_to_stop());
+    job.store().trigger().unwrap();
+    let said = assert_stops(job, run, 2);
+    assert_eq!(said.iter().filter(|it| is_start(it)).count(), 2);
+}
+
+/// An engine in a process of its own, which says what it is asked, and whose tasks acknowledge if the second word says so.
+#[test]
+#[ignore = "it is started by another test"]
+fn an_engine_with_signals() {
+    let place = Place(std::env::var_os("RELKVANU_PLACE").unwrap().into());
+    let job = Runner::new(opened(&place, IDLE), Words::default());
+    *job.engine().takes_no_part.lock().unwrap() = std::env::var_os("RELKVANU_HANGS").is_some();
+    job.stop_at_signals();
+    let runs = job.clone();
+    let run = thread::spawn(move || runs.run());
+    for count in 1.. {
+        job.engine().await_words(count, |_| true);
+        let word = job.engine().said()[count - 1].clone();
+        println!("said {word:?}");
+        if matches!(word, Stopped(..)) {
+            break;
+        }
+    }
+    println!("said {:?}", run.join().unwrap().unwrap());
+    std::process::exit(0);
+}
+
+/// Sends the first signal once tasks run, and the second one once the barrier of the stop was sent. Returns how it ends, and what it says.
+fn with_signals(name: &str, first: &str, second: Option<&str>) -> (Option<i32>, Option<i32>, Vec<String>) {
+    let place = Place::new(name);
+    let mut child = Command::new(std::env::current_exe().unwrap());
+    child.args(["--exact", "an_engine_with_signals", "--ignored", "--nocapture"]).env("RELKVANU_PLACE", &place.0);
+    if second.is_some() {
+        child.env("RELKVANU_HANGS", "1");
+    }
+    let mut process = child.stdout(Stdio::piped()).spawn().unwrap();
+    let id = process.id().to_string();
+    let kill = |signal: &str| assert!(Command::new("kill").args([signal, &id]).status().unwrap().success());
+    let mut said = Vec::new();
+    for line in BufReader::new(process.stdout.take().unwrap()).lines() {
+        let Some(word) = line.unwrap().strip_prefix("said ").map(str::to_owned) else { continue };
+        match (word.split('(').next(), second) {
+            (Some("Start"), _) => kill(first),
+            (Some("Barrier"), Some(second)) => kill(second),
+            _ => {}
+        }
+        said.push(word);
+    }
+    let status = process.wait().unwrap();
+    (status.code(), status.signal(), said)
+}
+
+#[test]
+fn a_stop_by_a_signal() {
+    let words = ["Start(1, None, 0)", "Barrier(1, Savepoint, true)", "Complete(1)", "End", "Stopped(1, 2)", "Stopped"];
+    for signal in ["-TERM", "-INT"] {
+        let (code, _, said) = with_signals(&format!("runner-signal{signal}"), signal, None);
+        assert_eq!((code, said), (Some(0), words.map(str::to_owned).to_vec()), "{signal}");
+    }
+}
+
+#[test]
+fn a_second_signal_ends_the_process() {
+    let words = ["Start(1, None, 0)", "Barrier(1, Savepoint, true)"];
+    for (first, second, number) in [("-TERM", "-TERM", 15), ("-TERM", "-INT", 2), ("-INT", "-TERM", 15)] {
+        let (_, signal, said) = with_signals(&format!("runner-second{first}{second}"), first, Some(second));
+        assert_eq!((signal, said), (Some(number), words.map(str::to_owned).to_vec()));
+    }
+}
+
+#[test]
+fn a_last_record() {
+    let place = Place::new("runner-last");
+    let job = Runner::new(opened(&place, QUICK), Words::default());
+    job.close_after(3);
+    assert_eq!(job.run().unwrap(), Ended::Closed);
+    let said = ended(job);
+    assert!(said.contains(&Complete(3)) && !said.contains(&Complete(5)), "{said:?}");
+    let job = Runner::new(opened(&place, QUICK), Words::default());
+    job.close_after(3);
+    assert_eq!(job.run().unwrap(), Ended::Closed);
+    let said = ended(job);
+    assert!(matches!(said[..], [End, Start(2, Some(3 | 4), 2), End]), "{said:?}");
+}
+
+#[test]
+fn tasks_that_fail_and_tasks_of_an_old_term() {
+    for panics in [false, true] {
+        let (_place, job, run) = idle("runner-tasks", IDLE);
+        job.restart();
+        job.engine().await_words(2, is_start);
+        let old = job.spawn(|job| Ok(job.ack(1, 1, (0, 0), &[], &[], More::default()).map(drop)?));
+        old.join().unwrap();
+        job.store().trigger().unwrap();
+        job.engine().await_word(Complete(1)); // the run goes on
+        let fails = move || if panics { panic!("as a fault of the task") } else { Err("no input".into()) };
+        job.spawn(move |_| fails()).join().unwrap();
+        let told = if panics { "a task has panicked" } else { "no input" };
+        assert_eq!(run.join().unwrap().unwrap_err().to_string(), told);
+        ended(job);
+    }
+}
+
+#[test]
+fn a_payload_of_a_barrier() {
+    let (_place, job, run) = idle("runner-payload", IDLE);
+    *job.engine().takes_no_part.lock().unwrap() = true;
+    job.store().trigger().unwrap();
+    job.engine().await_word(Barrier(1, Kind::Checkpoint, false));
+    let barrier = barrier(1);
+    for index in 0..TASKS {
+        job.ack_payload(&barrier, (0, index), &[index as u8]).unwrap();
+    }
+    let whole = job.store().load(None).unwrap().unwrap();
+    assert_eq!([whole.payload_of(0, 0), whole.payload_of(0, 1), whole.payload_of(7, 0)], [&[0][..], &[1], &[]]);
+    close(job, run);
+}
+
+fn barrier(id: u64) -> Barrier {
+    Barrier { id, kind: Kind::Checkpoint, base: Choice::Fresh, term: 1, holds: false }
+}
+
+/// Each input has its turn, and the one with the barrier has none until the cut.
+#[test]
+fn what_comes_behind_a_barrier_waits() {
+    let inputs = Inputs::new(2, 100).unwrap();
+    inputs.put(0, "a");
+    inputs.put_barrier(0, barrier(1));
+    ["b", "c"].into_iter().for_each(|it| inputs.put(0, it));
+    ["p", "q", "r"].into_iter().for_each(|it| inputs.put(1, it));
+    inputs.put_barrier(1, barrier(1));
+    inputs.put(1, "s");
+    let element = Taken::Element;
+    let before = [element(0, "a"), element(1, "p"), element(1, "q"), element(1, "r")];
+    let expected = [&before[..], &[Taken::Cut(barrier(1)), element(0, "b"), element(1, "s"), element(0, "c")]].concat();
+    let taken: Vec<Taken<&str>> = (0..8).map(|_| inputs.take().unwrap()).collect();
+    assert_eq!(taken, expected);
+}
+
+#[test]
+fn an_input_that_is_full_and_a_task_that_waits() {
+    let inputs = Arc::new(Inputs::new(2, 2).unwrap());
+    let said = Arc::new(Mutex::new(Vec::new()));
+    let (puts, says) = (inputs.clone(), said.clone());
+    let putter = thread::spawn(move || {
+        for it in 0..4 {
+            puts.put(0, it);
+            says.lock().unwrap().push(it);
+        }
+        puts.put_barrier(0, barrier(1));
+    });
+    while said.lock().unwrap().len() < 2 {
+        thread::sleep(Duration::from_millis(1));
+    }
+    thread::sleep(Duration::from_millis(50));
+    assert_eq!(*said.lock().unwrap(), [0, 1]);
+    let taken: Vec<Taken<u64>> = (0..4).map(|_| inputs.take().unwrap()).collect();
+    assert_eq!(taken, [0, 1, 2, 3].map(|it| Taken::Element(0, it)));
+    putter.join().unwrap();
+    let takes = inputs.clone();
+    let taker = thread::spawn(move || takes.take().unwrap());
+    thread::sleep(Duration::from_millis(50));
+    assert!(!taker.is_finished());
+    inputs.put_barrier(1, barrier(1));
+    assert_eq!(taker.join().unwrap(), Taken::Cut(barrier(1)));
+}
+
+#[test]
+fn barriers_in_two_orders_and_one_that_comes_twice() {
+    let inputs: Inputs<()> = Inputs::new(2, 2).unwrap();
+    inputs.put_barrier(0, barrier(1));
+    inputs.put_barrier(1, barrier(2));
+    assert_eq!(inputs.take(), Err(AlignFault::TwoOrders));
+    let inputs = Inputs::new(1, 100).unwrap();
+    [1, 1].into_iter().for_each(|it| inputs.put_barrier(0, barrier(it)));
+    inputs.put(0, "a");
+    let taken = [inputs.take().unwrap(), inputs.take().unwrap()];
+    assert_eq!(taken, [Taken::Cut(barrier(1)), Taken::Element(0, "a")]);
+    assert_eq!(Inputs::<()>::new(0, 1).unwrap_err(), AlignFault::BadInputs);
 }
 
 fn named(store: &Store, term: u64, id: u64, index: u16, payload: &[u8]) -> u64 {

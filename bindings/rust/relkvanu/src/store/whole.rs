@@ -40,6 +40,11 @@ impl Whole {
         let place = self.parts.binary_search_by_key(&subtask, |it| it.subtask);
         place.ok().map(|place| &self.parts[place])
     }
+
+    /// The payload of this subtask, empty if it has none, also if the record has no such subtask.
+    pub fn payload_of(&self, vertex: u16, index: u16) -> &[u8] {
+        self.part(vertex, index).map_or(&[], |it| &it.payload)
+    }
 }
 
 /// Where the job begins: the term of its tasks, and the record of their states. `None`: it begins fresh.
