@@ -12,7 +12,7 @@ import time
 import unittest
 from unittest import mock
 
-from relkvanu import BadStep, Fenced, Kind, OutOfMemory, Refused, Settings
+from relkvanu import BadStep, Chosen, Fenced, Kind, OutOfMemory, Refused, Settings
 from relkvanu.runner import Barrier, Ended, Ending, FileLost, Inputs, Record, Runner, SavepointFailed
 from relkvanu.store import Phase, Store, StoreError
 
@@ -589,6 +589,8 @@ class Running(unittest.TestCase):
     def test_a_savepoint(self):
         """Its barrier goes the way of a checkpoint's. It is complete when the answer comes, and publishes nothing."""
         store, engine, await_end = self.idle()
+        take_part, bases = engine.take_part, []
+        engine.take_part = lambda it: (bases.append(it.base), take_part(it))
         first = store.trigger().reply.id
         engine.await_word("complete", first)
         id = engine.runner.savepoint()
@@ -601,6 +603,7 @@ class Running(unittest.TestCase):
         self.assertEqual(engine.said[1:], [
             ("barrier", first, Kind.CHECKPOINT, False), ("complete", first), ("barrier", id, Kind.SAVEPOINT, False),
             ("barrier", last, Kind.CHECKPOINT, False), ("complete", last), ("end",)])
+        self.assertEqual(bases, [None, Chosen(first, Kind.CHECKPOINT), Chosen(first, Kind.CHECKPOINT)])
 
     def test_savepoints_of_several_threads(self):
         store, engine, await_end = self.begin()
@@ -637,6 +640,17 @@ class Running(unittest.TestCase):
         engine.take_part = lambda it: engine.runner.restart()
         self.fails(engine.runner, 1, Ending.DROPPED)
         self.assertEqual([it[1] for it in engine.said if it[0] == "start"], [1, 2])
+
+    def test_a_savepoint_that_a_stop_drops(self):
+        store, engine, await_end = self.idle()
+        take_part = engine.take_part
+        engine.take_part = lambda it: take_part(it) if it.holds else None
+        thread, found = self.asked(engine)
+        engine.await_word("barrier", 1, Kind.SAVEPOINT, False)
+        engine.runner.ask_to_stop()
+        self.stops(engine, await_end(), 2)
+        thread.join(LONGEST)
+        self.assertEqual(found, [(1, Ending.DROPPED)])
 
     def test_a_savepoint_of_a_job_that_is_being_stopped(self):
         store, engine, await_end = self.idle()
@@ -700,6 +714,12 @@ class Running(unittest.TestCase):
         thread.join(LONGEST)
         self.assertEqual((found, await_end()), ([(1, None)], Ended.CLOSED))
         self.assertEqual(self.fails(engine.runner, None, None), "run() has ended, and no savepoint was triggered")
+
+    def test_a_savepoint_that_is_complete_as_the_run_ends(self):
+        store, engine, await_end = self.idle()
+        take_part = engine.take_part
+        engine.take_part = lambda it: threading.Timer(0.05, lambda: (take_part(it), engine.runner.close())).start()
+        self.assertEqual((engine.runner.savepoint(), await_end()), (1, Ended.CLOSED))
 
     def test_a_savepoint_when_the_run_fails(self):
         engine = Words()

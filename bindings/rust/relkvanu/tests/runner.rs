@@ -31,7 +31,7 @@ enum Word {
 use Word::*;
 
 /// With the term of the tasks.
-type After = fn(&Runner<Words>, u64);
+type After = fn(&Arc<Runner<Words>>, u64);
 
 /// An engine whose tasks acknowledge in the thread of the barrier, with a payload each. It notes what it is asked.
 #[derive(Default)]
@@ -46,6 +46,7 @@ struct Words {
     after: Mutex<Option<After>>,                      // what happens when each task has acknowledged
     then: Mutex<Option<Call<'static>>>,               // what an operator calls while the tasks are told to end
     takes_no_part: Mutex<bool>,                       // no task acknowledges
+    bases: Mutex<Vec<Choice>>,                        // of the barriers
 }
 
 /// The payloads that are those of the tasks.
@@ -130,6 +131,7 @@ impl Engine for Words {
 
     fn barrier(&self, it: Barrier) -> Told {
         self.note(Barrier(it.id, it.kind, it.holds))?;
+        self.bases.lock().unwrap().push(it.base);
         let count = if *self.takes_no_part.lock().unwrap() { 0 } else { TASKS };
         for index in 0..count {
             match self.takes_part(&it, index) {
@@ -529,6 +531,7 @@ fn a_savepoint() {
     job.store().trigger().unwrap();
     job.engine().await_word(Complete(1));
     assert_eq!(job.savepoint(), Ok(2));
+    assert_eq!(job.engine().bases.lock().unwrap()[..], [Choice::Fresh, Choice::Checkpoint(1)]);
     let past = &job.store().history(1).unwrap()[0];
     assert_eq!((past.id, past.kind, past.ending), (2, Kind::Savepoint, Ending::Completed));
     job.store().trigger().unwrap();
@@ -584,6 +587,46 @@ fn a_savepoint_of_a_job_that_is_being_stopped() {
     close(job, run);
 }
 
+#[test]
+fn a_savepoint_that_a_stop_drops() {
+    let (_place, job, run) = idle("runner-savepoint-stopped", IDLE);
+    *job.engine().takes_no_part.lock().unwrap() = true;
+    let asks = job.clone();
+    let pending = thread::spawn(move || asks.savepoint());
+    job.engine().await_word(Barrier(1, Kind::Savepoint, false));
+    *job.engine().takes_no_part.lock().unwrap() = false;
+    job.ask_to_stop();
+    assert_eq!(pending.join().unwrap(), ended_savepoint(1, Ending::Dropped, ""));
+    assert_stops(job, run, 2);
+}
+
+/// It is triggered in the term of tasks that do not run yet: these get its barrier too.
+#[test]
+fn a_savepoint_right_after_a_way_back() {
+    let (_place, job, run) = idle("runner-savepoint-back", IDLE);
+    job.store().trigger().unwrap();
+    job.engine().await_word(Complete(1));
+    *job.engine().after.lock().unwrap() = Some(|job, term| {
+        if term != 1 || job.store().read(|job| job.term()).unwrap().unwrap().term != 1 {
+            return;
+        }
+        let asks = job.clone();
+        thread::spawn(move || {
+            let id = asks.savepoint().unwrap();
+            asks.engine().note(Complete(id * 100)) // what comes after the answer
+        });
+        thread::sleep(Duration::from_millis(300));
+        job.store().go_back(1, true).unwrap();
+    });
+    job.store().trigger().unwrap();
+    job.engine().await_word(Complete(400));
+    let barrier = Barrier(4, Kind::Savepoint, false);
+    let is_of_it = |it: &Word| is_start(it) || *it == barrier;
+    let said: Vec<Word> = job.engine().said().into_iter().filter(is_of_it).collect();
+    assert_eq!(said, [Start(1, None, 0), barrier.clone(), Start(2, Some(3), 2), barrier.clone()]);
+    close(job, run);
+}
+
 /// One that is pending then, and one that is asked for afterwards.
 #[test]
 fn savepoints_when_the_run_ends() {
@@ -597,6 +640,24 @@ fn savepoints_when_the_run_ends() {
     assert_eq!(pending.join().unwrap(), Err(SavepointFault::Over { id: Some(1) }));
     assert_eq!(job.savepoint(), Err(SavepointFault::Over { id: None }));
     ended(job);
+}
+
+#[test]
+fn a_savepoint_that_is_complete_as_the_run_ends() {
+    let (_place, job, run) = idle("runner-savepoint-closes", IDLE);
+    *job.engine().takes_no_part.lock().unwrap() = true;
+    *job.engine().after.lock().unwrap() = Some(|job, term| {
+        job.spawn(move |job| {
+            thread::sleep(Duration::from_millis(50));
+            for index in 0..TASKS {
+                job.ack(term, 1, (0, index), &[], &[], More::default())?;
+            }
+            job.close();
+            Ok(())
+        });
+    });
+    assert_eq!(job.savepoint(), Ok(1));
+    close(job, run);
 }
 
 #[test]
