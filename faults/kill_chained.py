@@ -2,9 +2,10 @@
 """faults/kill_chained.py KILLS [SEED]: runs chained.py of docs/CUT.md and mini.py and mini-rust of docs/RUNNER.md, kills a process of theirs KILLS times, and
 looks at what they published: each number of each source once, in its order, and the sums of one run. A job whose files were put back, as a backup is, has to
 refuse to publish a number again, and one whose transaction is lost has to refuse to start. Its status tells a supervisor when to start it again. One that
-dies between a stop and its publication publishes at the next start. SIGTERM and Ctrl-C stop an engine by the runner with all published. Then wrong engines
-have to be found wrong: of the first one that does not align, one that publishes at its cut, and one that does not publish again at its start, and of the
-second one that publishes what it prepared for records after the one that it begins from. RELKVANU_LIB names the folder of the library."""
+dies between a stop and its publication publishes at the next start. SIGTERM and Ctrl-C stop an engine by the runner with all published, and savepoints that
+it is asked for meanwhile publish nothing. Then wrong engines have to be found wrong: of the first one that does not align, one that publishes at its cut, and
+one that does not publish again at its start, and of the second one that publishes what it prepared for records after the one that it begins from.
+RELKVANU_LIB names the folder of the library."""
 import json
 import os
 import pathlib
@@ -65,7 +66,7 @@ class Job:
     def start(self, last, *words):
         new = [] if (self.folder / "job.db").exists() else ["new"]
         # what is left of a job that was killed says so on its standard error; a shell that runs this beside others may ignore Ctrl-C
-        return subprocess.Popen([*self.words, self.folder, str(last), *new, *words], stderr=subprocess.DEVNULL,
+        return subprocess.Popen([*self.words, self.folder, str(last), *new, *words], cwd=self.folder, stderr=subprocess.DEVNULL,
                                 preexec_fn=lambda: signal.signal(signal.SIGINT, signal.SIG_DFL))
 
     def publishing(self, *words):
@@ -188,6 +189,32 @@ it.runner.run()"""
     return right
 
 
+def takes_savepoints(samples, texts, kills, dice):
+    """Whether mini.py publishes each number once if it is asked for a savepoint again and again, and is killed meanwhile."""
+    asks = """import sys, threading, mini
+from relkvanu import Refused
+it = mini.Engine(*sys.argv[1:])
+def ask():
+    while True:
+        id = it.runner.savepoint()
+        print(id, file=open("savepoints", "a"))
+        try:
+            it.store.dispose(id)
+        except Refused:
+            pass  # the job would begin from it
+threading.Thread(target=ask, daemon=True).start()
+it.runner.run()"""
+    job = Job(samples / "savepoints", "mini.py", samples, texts)
+    job.words = [sys.executable, "-c", asks]
+    for _ in range(kills):
+        job.kill_one(dice)
+    status = job.start(max(job.published(), default=0) + 50).wait(SECONDS)
+    taken = [int(line) for line in (job.folder / "savepoints").read_text(encoding="utf-8").split()]
+    fault = f"status {status}" if status else job.fault() if taken == sorted(set(taken)) and len(taken) > 1 else f"savepoints {taken}"
+    print(f"mini.py, {kills} kills and {len(taken)} savepoints: {fault or 'each number once'}", flush=True)
+    return fault is None
+
+
 def is_stopped(samples, sample, texts, dice):
     """Whether each signal stops an engine by the runner with all published, and the job stays stopped until it is begun."""
     job, statuses, left = Job(samples / f"signals {sample}", sample, samples, texts), [], []
@@ -246,6 +273,7 @@ def main(kills, seed=None):
         good += [refuses(samples, it, of) for it, of in texts.items() if it != "chained.py"]  # which refuses an earlier term
         good.append(is_started_again(samples, texts["mini.py"]))
         good.append(publishes_a_stop(samples, texts["mini.py"]))
+        good.append(takes_savepoints(samples, texts["mini.py"], int(kills), dice))
         good += [is_stopped(samples, it, of, dice) for it, of in texts.items() if it != "chained.py"]
         good += [is_found(samples, why, texts, dice) for why in WRONG]
     print(f"{good.count(True)} engines passed, {good.count(False)} failed")
