@@ -49,6 +49,15 @@ def in_rust(samples):
     subprocess.run(["cargo", "build", "--offline", "--quiet", "--manifest-path", manifest], env=environment, check=True)
 
 
+def is_short(samples, name):
+    """Whether an engine by the runner has at most 100 lines, in the layout of rustfmt if it is in Rust."""
+    lines = sum(1 for line in (samples / name).read_text(encoding="utf-8").splitlines() if line.strip())
+    words = ["cargo", "fmt", "--check", "--manifest-path", samples / "mini-rust/Cargo.toml", "--", "--config-path", HERE.parent / "rustfmt.toml"]
+    is_laid_out = not name.endswith(".rs") or subprocess.run(words, check=False).returncode == 0
+    print(f"{name}: {lines} lines{'' if is_laid_out else ', and rustfmt lays them out otherwise'}", flush=True)
+    return lines <= 100 and is_laid_out
+
+
 class Job:
     """A job of the sample in a folder of its own. The texts are those of its program and of what that imports; one in Rust is built."""
 
@@ -269,7 +278,8 @@ def main(kills, seed=None):
             texts["mini-rust"] = None
         else:
             print("skipped: cargo: the engine in Rust")
-        good = [is_right(samples, it, of, int(kills), dice) for it, of in texts.items()]
+        good = [is_short(samples, it) for it in ("mini.py", "mini-rust/src/main.rs") if it in texts or "mini-rust" in texts]
+        good += [is_right(samples, it, of, int(kills), dice) for it, of in texts.items()]
         good += [refuses(samples, it, of) for it, of in texts.items() if it != "chained.py"]  # which refuses an earlier term
         good.append(is_started_again(samples, texts["mini.py"]))
         good.append(publishes_a_stop(samples, texts["mini.py"]))
