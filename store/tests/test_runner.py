@@ -868,6 +868,13 @@ class Running(unittest.TestCase):
         self.assertIsInstance(fault, LookupError)
         self.assertEqual(fault.args, ("no input",))
 
+    def test_a_barrier_of_a_term_that_has_just_ended(self):
+        """It acknowledges right after an operator has cancelled the job."""
+        engine = Words()
+        engine.barrier = lambda it: (engine.runner.store.cancel(), engine.note("barrier"), engine.runner.ack_payload(it, 0, 0, b""))
+        _, _, await_end = self.begin(engine)
+        self.assertEqual((await_end(), engine.said[1:]), (Ended.CANCELLED, [("barrier",), ("end",)]))
+
     def test_a_payload_of_a_barrier(self):
         engine = Words()
         engine.take_part = lambda it: [engine.runner.ack_payload(it, 0, index, b"state %d" % index) for index in range(TASKS)]

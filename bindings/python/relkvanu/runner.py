@@ -153,13 +153,14 @@ class Runner:
     def spawn(self, task: Callable[..., Any], *words: Any) -> threading.Thread:
         """Starts a thread of a task, which ends with the process. What the task raises ends run(). But Fenced("OldTerm") only ends the task: the job was
         restored, stopped or cancelled meanwhile."""
-        thread = threading.Thread(target=self._noting, args=(self._run_task, task, *words), daemon=True)
+        thread = threading.Thread(target=self._noting, args=(self._in_term, task, *words), daemon=True)
         thread.start()
         return thread
 
-    def _run_task(self, task: Callable[..., Any], *words: Any) -> None:
+    def _in_term(self, call: Callable[..., Any], *words: Any) -> None:
+        """Makes a call of the engine that may acknowledge in a term which somebody has just ended: then the loop is about to see that."""
         try:
-            task(*words)
+            call(*words)
         except Fenced as fenced:
             if fenced.name != "OldTerm":
                 raise
@@ -332,7 +333,7 @@ class Runner:
         self._go_on()  # nobody may have said that the stop has failed for which tasks hold
         self._pending.add(id)
         self._holds = holds
-        self.engine.barrier(Barrier(id, kind, base, self.term, holds))
+        self._in_term(self.engine.barrier, Barrier(id, kind, base, self.term, holds))
 
     def _look(self) -> Optional[Ended]:
         """No tick is due: the job waits, or has failed, was stopped or cancelled, or a stop has failed."""

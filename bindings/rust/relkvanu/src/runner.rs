@@ -199,6 +199,15 @@ fn with_memory<T>(call: impl Fn() -> Result<T, CallError>) -> Result<T, CallErro
     }
 }
 
+/// What a function of the engine has told that may acknowledge in a term which somebody has just ended: then the loop is about to see that.
+fn in_term(told: Told) -> Result<(), RunFault> {
+    const OLD_TERM: CallError = CallError::Fault(Fault::Fenced(Fenced::OldTerm));
+    match told {
+        Err(why) if why.downcast_ref() == Some(&OLD_TERM) => Ok(()),
+        told => told.map_err(RunFault::Engine),
+    }
+}
+
 impl<E: Engine> Runner<E> {
     /// It sweeps each ten minutes: files whose names tasks have forfeited go.
     pub fn new(store: Store, engine: E) -> Arc<Runner<E>> {
@@ -323,11 +332,9 @@ impl<E: Engine> Runner<E> {
     /// Starts a thread of a task. An error that it returns, and a panic, ends [`run`](Self::run). But if its term has ended, that only ends the task: the
     /// job was restored, stopped or cancelled meanwhile.
     pub fn spawn(self: &Arc<Self>, task: impl FnOnce(&Arc<Self>) -> Told + Send + 'static) -> JoinHandle<()> {
-        const OLD_TERM: CallError = CallError::Fault(Fault::Fenced(Fenced::OldTerm));
         let runner = self.clone();
         thread::spawn(move || match catch_unwind(AssertUnwindSafe(|| task(&runner))) {
-            Ok(Err(why)) if why.downcast_ref() == Some(&OLD_TERM) => {}
-            Ok(told) => runner.note(told.map_err(RunFault::Engine)),
+            Ok(told) => runner.note(in_term(told)),
             Err(_) => runner.note(Err(RunFault::Engine("a task has panicked".into()))),
         })
     }
@@ -618,7 +625,7 @@ impl<E: Engine> Running<'_, E> {
         let term = runner.term.load(SeqCst);
         locked(&runner.pending).insert(id);
         self.holds = holds;
-        runner.engine.barrier(Barrier { id, kind, base, term, holds }).map_err(RunFault::Engine)
+        in_term(runner.engine.barrier(Barrier { id, kind, base, term, holds }))
     }
 
     fn go_on(&mut self) -> Result<(), RunFault> {

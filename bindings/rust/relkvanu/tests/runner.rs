@@ -130,9 +130,9 @@ impl Engine for Words {
     }
 
     fn barrier(&self, it: Barrier) -> Told {
-        self.note(Barrier(it.id, it.kind, it.holds))?;
         self.bases.lock().unwrap().push(it.base);
         let count = if *self.takes_no_part.lock().unwrap() { 0 } else { TASKS };
+        self.note(Barrier(it.id, it.kind, it.holds))?;
         for index in 0..count {
             match self.takes_part(&it, index) {
                 Err(CallError::Fault(Fault::Fenced(_) | Fault::Refused(_))) => break, // an operator was faster
@@ -341,6 +341,39 @@ fn an_engine_that_is_not_told_of_a_stop() {
     assert_eq!(run.join().unwrap().unwrap(), Ended::Stopped);
     ended(job);
     assert_eq!(Runner::new(opened(&place, QUICK), Untold).run().unwrap(), Ended::Stopped);
+}
+
+/// Its barrier acknowledges right after an operator has cancelled the job.
+#[derive(Default)]
+struct Late(Mutex<Option<Arc<Runner<Late>>>>);
+
+impl Engine for Late {
+    fn start(&self, job: &Arc<Runner<Late>>, _: u64, _: Option<&Record>) -> Told {
+        *self.0.lock().unwrap() = Some(job.clone());
+        Ok(())
+    }
+
+    fn barrier(&self, it: Barrier) -> Told {
+        let job = self.0.lock().unwrap().clone().unwrap();
+        job.store().call(Call::Cancel { now: NOW })?;
+        let why = job.ack_payload(&it, (0, 0), &[]).unwrap_err();
+        assert_eq!(why, CallError::Fault(Fault::Fenced(Fenced::OldTerm)));
+        Err(why.into())
+    }
+
+    fn complete(&self, _: u64) -> Told {
+        Err("it was cancelled".into())
+    }
+
+    fn end(&self) -> Told {
+        Ok(())
+    }
+}
+
+#[test]
+fn a_barrier_of_a_term_that_has_just_ended() {
+    let place = Place::new("runner-late");
+    assert_eq!(Runner::new(opened(&place, QUICK), Late::default()).run().unwrap(), Ended::Cancelled);
 }
 
 #[test]
