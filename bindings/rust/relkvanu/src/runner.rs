@@ -208,6 +208,12 @@ fn in_term(told: Told) -> Result<(), RunFault> {
     }
 }
 
+/// What a function of the engine has told that any thread may be in. Nobody may look at that thread's end, so a panic is an error too.
+fn caught(call: impl FnOnce() -> Told) -> Result<(), RunFault> {
+    let told = catch_unwind(AssertUnwindSafe(call));
+    told.unwrap_or_else(|_| Err("the engine has panicked".into())).map_err(RunFault::Engine)
+}
+
 impl<E: Engine> Runner<E> {
     /// It sweeps each ten minutes: files whose names tasks have forfeited go.
     pub fn new(store: Store, engine: E) -> Arc<Runner<E>> {
@@ -407,7 +413,7 @@ impl<E: Engine> Runner<E> {
             ended.iter().copied().filter(|id| pending.remove(id)).collect()
         };
         if !aborted.is_empty() {
-            self.note(self.engine.aborted(&aborted).map_err(RunFault::Engine));
+            self.note(caught(|| self.engine.aborted(&aborted)));
         }
     }
 
@@ -418,7 +424,7 @@ impl<E: Engine> Runner<E> {
             return Ok(());
         }
         *turn.told = id;
-        self.engine.complete(id).map_err(RunFault::Engine)
+        caught(|| self.engine.complete(id))
     }
 
     /// A checkpoint is complete.

@@ -376,6 +376,41 @@ fn a_barrier_of_a_term_that_has_just_ended() {
     assert_eq!(Runner::new(opened(&place, QUICK), Late::default()).run().unwrap(), Ended::Cancelled);
 }
 
+/// Its tasks acknowledge in threads that nobody waits for, and its sink panics.
+struct Panics;
+
+impl Engine for Panics {
+    fn start(&self, job: &Arc<Runner<Panics>>, term: u64, _: Option<&Record>) -> Told {
+        let job = job.clone();
+        thread::spawn(move || {
+            job.store().trigger().unwrap();
+            for index in 0..TASKS {
+                job.ack(term, 1, (0, index), &[], &[], More::default()).unwrap();
+            }
+        });
+        Ok(())
+    }
+
+    fn barrier(&self, _: Barrier) -> Told {
+        Ok(())
+    }
+
+    fn complete(&self, _: u64) -> Told {
+        panic!("as a fault of the sink")
+    }
+
+    fn end(&self) -> Told {
+        Ok(())
+    }
+}
+
+#[test]
+fn a_panic_in_a_thread_of_the_engine() {
+    let place = Place::new("runner-panics");
+    let told = Runner::new(opened(&place, IDLE), Panics).run();
+    assert_eq!(told.unwrap_err().to_string(), "the engine has panicked");
+}
+
 #[test]
 fn a_sweep_now_and_then() {
     for (interval, goes) in [(1, true), (600_000, false)] {
