@@ -9,8 +9,10 @@ at what is left.
 - The same while a backup is made. Each backup that has its name is whole, and has what was answered before; what fails for the backup
   alone stops no call; and the next backup of that name succeeds.
 - The same while an operator's command is made: all of it was done, or nothing, and what was answered was done.
-- A crowd of threads is killed at 40 random moments; loses power, so that only what was synced is left, or something of the rest (power.py);
+- A crowd of threads is killed at 20 random moments; loses power, so that only what was synced is left, or something of the rest (power.py);
   and goes on after syncs that fail. ROUNDS (default 1) multiplies these.
+
+With one round each third call fails, or less. SEED chooses at which of them processes end. With more rounds each call does.
 
 The last line has the counts."""
 import concurrent.futures
@@ -36,7 +38,8 @@ WORKERS = 3
 NOT_PUT = 15
 STOPS = 4  # of a crowd's job
 LEAST_TOLD, BYTES = 300, 40  # calls of a crowd that is not killed as it begins; bytes that one takes in what it tells, about
-KILLED = 10  # jobs of crowds that are killed: 40 random moments
+KILLED = 5  # jobs of crowds that are killed: 20 random moments
+APART = 3  # of so many calls one fails where else each did, if there is one round
 MOST_BESIDE = 24 * 6 * 40  # calls of a long crowd that nobody was told
 LEAST_LOST = 200  # losses that take something which a killed process leaves
 COMMANDS = {"configure": "make", "trigger": "make", "stop": "make", "last": "begun", "begin": "stopped", "back": "make"}  # and the job that each is made in
@@ -152,6 +155,7 @@ class Tests:
         self.numbers = itertools.count(1)  # also for several threads
         self.losses = self.lost = 0
         self.states = {}  # of a job before each command and after it
+        self.chance = random.Random(SEED)
 
     def folder(self):
         return self.work / str(next(self.numbers))
@@ -234,13 +238,13 @@ class Tests:
 
     def backups(self, base):
         self.each(base, self.backup_at, die="N")
-        self.each(base, self.backup_at, step=self.step(3), die="N", die_after=1)
+        self.each(base, self.backup_at, step=3, die="N", die_after=1)
         for loss in Loss:
-            self.each(base, self.backup_at, step=self.step(3), die="N", loss=loss)
+            self.each(base, self.backup_at, step=3, die="N", loss=loss)
         for often in (1, 0):
             for fault in ("any", "short", "full", "quota", "sync", "read"):
                 self.each(base, self.backup_at, fault=fault, at="N", on="/backups", **{"for": often})
-        self.each(base, self.backup_at, step=self.step(5), fault="any", at="N", **{"for": 1})
+        self.each(base, self.backup_at, step=5, fault="any", at="N", **{"for": 1})
 
     def command_at(self, base, number, what):
         """One fault while an operator's command is made. Returns whether it was reached."""
@@ -266,16 +270,17 @@ class Tests:
             self.states[verb] = other.state(), one.state()
             self.note(f"{verb} does something", check, self.states[verb][0] != self.states[verb][1], self.states[verb][0])
             self.each(base, self.command_at, die="N")
-            self.each(base, self.command_at, step=self.step(3), die="N", die_after=1)
-            self.each(base, self.command_at, step=self.step(2), fault="any", at="N", **{"for": 1})
-            self.each(base, self.command_at, step=self.step(3), fault="any", at="N", **{"for": 0})
+            self.each(base, self.command_at, step=3, die="N", die_after=1)
+            self.each(base, self.command_at, step=2, fault="any", at="N", **{"for": 1})
+            self.each(base, self.command_at, step=3, fault="any", at="N", **{"for": 0})
             for loss in Loss:
-                self.each(base, self.command_at, step=self.step(6), die="N", loss=loss)
+                self.each(base, self.command_at, step=6, die="N", loss=loss)
 
     def each(self, base, run_at=None, step=1, **what):
         """The n-th call for each n."""
         name, run_at = f"{base.work.name} {what}", run_at or self.at
-        numbers = range(1, self.calls(base, run_at, what) + 1, step)
+        calls = self.calls(base, run_at, what)
+        numbers = range(min(calls, self.first(step, what)), calls + 1, self.step(step)) if calls else ()
         with concurrent.futures.ThreadPoolExecutor(WORKERS) as pool:
             found = list(pool.map(lambda it: self.note(f"{name} at {it}", run_at, base, it, what), numbers))
         reached = sum(it is True for it in found)  # some faults change nothing that anybody is told
@@ -293,20 +298,24 @@ class Tests:
         return int(count.read_text())
 
     def step(self, step):
-        """With more rounds each call is tried."""
-        return step if self.rounds == 1 else 1
+        """With more rounds each call is tried. Of what is tried seldom no less is."""
+        return 1 if self.rounds > 1 else step if step > APART else APART * step
+
+    def first(self, step, what):
+        """A process that ends is noticed wherever it does. Other faults may change nothing, so those begin where some are known to."""
+        return self.chance.randint(1, self.step(step)) if what.get("die") and step == 1 else 1
 
     def ends(self, base):
         """The end after one call and that before the next differ in nothing but what was told."""
         self.each(base, die="N")
-        self.each(base, step=self.step(7), die="N", die_after=1)
+        self.each(base, step=7, die="N", die_after=1)
 
     def faults(self, base):
         for often in (1, 0):
-            self.each(base, step=1 if often else self.step(3), fault="any", at="N", **{"for": often})
-            self.each(base, step=self.step(7), fault="short", at="N", **{"for": often})
-            self.each(base, step=self.step(11), fault="full", at="N", **{"for": often})
-        self.each(base, step=self.step(11), fault="quota", at="N")
+            self.each(base, step=1 if often else 3, fault="any", at="N", **{"for": often})
+            self.each(base, step=7, fault="short", at="N", **{"for": often})
+            self.each(base, step=11, fault="full", at="N", **{"for": often})
+        self.each(base, step=11, fault="quota", at="N")
 
     def reads(self, base):
         for often in (1, 0):
@@ -315,11 +324,11 @@ class Tests:
     def files(self, new, killed):
         """Jobs whose tasks put files."""
         for base in (new, killed):
-            self.each(base, step=self.step(13), die="N")
-            self.each(base, step=self.step(17), fault="any", at="N", **{"for": 1})
-            self.each(base, step=self.step(61), fault="any", at="N", **{"for": 0})
+            self.each(base, step=13, die="N")
+            self.each(base, step=17, fault="any", at="N", **{"for": 1})
+            self.each(base, step=61, fault="any", at="N", **{"for": 0})
             for loss in Loss:
-                self.each(base, step=self.step(23), die="N", loss=loss)
+                self.each(base, step=23, die="N", loss=loss)
 
     def controls(self):
         """If a sync is left out, a loss of power does harm: otherwise the others would show nothing."""

@@ -43,7 +43,7 @@ def main(path, program):
     rows = job.execute("SELECT line, what, a, b, files FROM log ORDER BY place").fetchall()
     assert rows and len(rows) == job.execute("SELECT max(place) FROM log").fetchone()[0], "the log was cut"
     script = opening + "".join(f"{row[0]}\n" for row in rows)
-    ran = subprocess.run([program], input=script, stdout=subprocess.PIPE, text=True, check=True, timeout=300)
+    ran = subprocess.run([program], input=script, stdout=subprocess.PIPE, text=True, check=True, timeout=900)
     told, expected = ran.stdout.splitlines(), list(texts(opening, rows))
     assert told == expected, next((it for it in zip(told, expected) if it[0] != it[1]), (len(told), len(expected)))
     print(f"{len(rows)} answers")
