@@ -310,10 +310,16 @@ static bool refuse(enum kind kind, unsigned long nth, bool is_for_good, bool is_
     return is_reached;
 }
 
+/* Up to this request each is refused in turn, and of later ones fewer and fewer. With more ROUNDS it is three times as far. */
+static unsigned long each_up_to(unsigned long usual) {
+    const char *rounds = getenv("ROUNDS");
+    return rounds == NULL || strcmp(rounds, "1") == 0 ? usual : 3 * usual;
+}
+
 static unsigned refuse_each(enum kind kind, bool is_for_good, bool is_recovery) {
-    unsigned long nth = 1;
+    unsigned long nth = 1, each = each_up_to(50);
     while (refuse(kind, nth, is_for_good, is_recovery)) {
-        nth += 1 + nth / 150;
+        nth += 1 + nth / each;
     }
     CHECK(nth > 20, "no memory was asked for");
     return (unsigned)nth;
@@ -420,9 +426,9 @@ static bool note_recovered(void *with, const relkvanu_store_part *part) {
 static unsigned recovers_without_memory(enum kind kind, bool is_for_good) {
     relkvanu_store_recovered recovered;
     uint64_t id = lose_job();
-    unsigned long nth = 0;
+    unsigned long nth = 0, each = each_up_to(34);
     for (bool is_reached = true; is_reached;) {
-        nth += 1 + nth / 100;
+        nth += 1 + nth / each;
         set_refused(kind, nth, is_for_good);
         int status = relkvanu_store_recover(path, storage, 0, &recovered);
         is_reached = kind == COORDINATOR ? heap_requests() >= nth : requests >= nth;
