@@ -17,13 +17,14 @@ EACH = 20  # calls at least between two kills
 
 
 @contextmanager
-def writers_at(urls, told, archive=None, names=False):
+def writers_at(urls, told, archive=None, names=False, pause=Writer.PAUSE):
     """Writers at work, until the end. Then `told` has what `check` says of them. The jobs give out names or not."""
     service = Service(*urls)
     for job in JOBS:
         service.open(job, SETTINGS, SHAPE, names=names)
     writers = [(NamedWriter if names else Writer)(urls, JOBS[number % len(JOBS)], number) for number in range(8)]
     for writer in writers:
+        writer.PAUSE = pause
         writer.start()
     yield writers
     time.sleep(0.3)

@@ -21,6 +21,7 @@ SHAPE = [2, 4]
 CONFIG = "lease_seconds = 2\nimage_calls = 200\nkeep_calls = 400\n"
 HOUR = 3600
 LEAST, BUSY = 100, 900  # calls of each client; seconds more, on a busy machine
+PAUSE = float(os.environ.get("RELKVANU_PAUSE", "0.15"))  # of a client, in seconds: a fault lasts longer, so each meets it. Without they take two processors
 
 
 class Line(Proxy):
@@ -72,7 +73,7 @@ class Floor:
 class Client(Writer):
     """A writer that also looks whether what it reads is as new as all that was answered before it asked."""
 
-    LEAST = LEAST
+    LEAST, PAUSE = LEAST, PAUSE
 
     def __init__(self, urls, job, number, floor):
         super().__init__(urls, job, number)

@@ -1,4 +1,5 @@
 """A PostgreSQL of the tests' own, in a folder."""
+import fcntl
 import glob
 import os
 import pwd
@@ -13,6 +14,8 @@ from run import Skipped
 
 # in which pg_ctl starts and stops it, by default a minute
 os.environ.setdefault("PGCTLTIMEOUT", "600")
+# The folder of a run (run.py) with what initdb made, by its options. The tests copy it, since initdb takes half a second of a processor.
+TEMPLATES = os.environ.get("RELKVANU_TEMPLATES")
 
 
 class Postgres:
@@ -43,10 +46,26 @@ class Postgres:
         self.start()
 
     def initialize(self, options):
+        """By initdb, or as it did for another test of the run."""
+        if not TEMPLATES:
+            return self.make(self.data, options)
+        template = f"{TEMPLATES}/data{''.join(options)}"
+        with open(f"{TEMPLATES}/lock", "a", encoding="utf-8") as lock:
+            fcntl.flock(lock, fcntl.LOCK_EX)
+            if not os.path.isdir(f"{template}-whole"):
+                os.mkdir(template)
+                shutil.copystat(self.data, template)
+                if os.geteuid() == 0:
+                    shutil.chown(template, "postgres", "postgres")
+                self.make(template, options)
+                os.rename(template, f"{template}-whole")
+        subprocess.run(["cp", "-a", f"{template}-whole/.", self.data], check=True)
+
+    def make(self, data, options):
         """Again if it fails: others on the machine may change what its programs need, for a moment. It leaves its folder empty then."""
         for tries in range(3):
             try:
-                return self.run("initdb", "-D", self.data, "-U", "postgres", "-A", "trust", "--no-sync", *options)
+                return self.run("initdb", "-D", data, "-U", "postgres", "-A", "trust", "--no-sync", *options)
             except AssertionError as why:
                 if tries == 2:
                     raise

@@ -18,7 +18,7 @@ from writers import check_made
 FAULT_TEST = f"{TOP}/engines/dask/run"
 SHAPE = [2, 6, 3]
 LONGEST = 1800  # seconds, on a busy machine
-MOST = 20  # kills; on a busy machine the engine may not get on between two of them
+MOST = 10  # kills; on a busy machine the engine may not get on between two of them
 
 
 def killed_until_ended(server, engine, chance):
@@ -215,7 +215,7 @@ def test_a_driver_over_dask_whose_job_is_stopped_and_begun():
 
 
 def test_stops_of_a_stream_over_dask_while_all_are_killed():
-    return killed("0", "--stops", os.environ.get("RELKVANU_DASK_STOPS", "3"))
+    return killed("0", "--stops", os.environ.get("RELKVANU_DASK_STOPS", "1"))
 
 
 def test_a_stream_over_dask_whose_driver_and_service_are_killed():

@@ -6,7 +6,7 @@ import subprocess
 import time
 import urllib.request
 
-from harness import PROGRAM, Server, folder, free_port, until
+from harness import COMMAND, PROGRAM, Server, folder, free_port, until
 from relkvanu_service import Service
 from run import Skipped
 from test_discard_folder import SETTINGS, a_job, at_work, await_end, counts, discard, files_of, present
@@ -49,7 +49,7 @@ def test_names_that_are_not_synced():
 def works(port):
     """Whether a discarder says that it works: "1" or "0", or None without its metrics."""
     try:
-        with urllib.request.urlopen(f"http://127.0.0.1:{port}/metrics", timeout=5) as it:
+        with urllib.request.urlopen(f"http://127.0.0.1:{port}/metrics", timeout=COMMAND) as it:
             lines = it.read().decode().splitlines()
     except OSError:
         return None

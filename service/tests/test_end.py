@@ -9,7 +9,7 @@ import time
 from harness import COMMAND, PROGRAM, SERVICE, TOP, served
 from relkvanu_service import Failed, Service, cancel
 
-KILLS = int(os.environ.get("RELKVANU_ENDS", "15"))
+KILLS = int(os.environ.get("RELKVANU_ENDS", "9"))
 RECORDS = 40
 
 

@@ -15,7 +15,7 @@ from test_connections import many_files
 from test_security import TlsServer, certificate, told_again, written
 
 TOKEN = "0123456789abcdef0123"
-HERD, CLIENTS, PLACES = 1500, 60, 128
+HERD, CLIENTS, PLACES = 600, 40, 128
 
 
 @contextmanager

@@ -5,4 +5,4 @@ import kills
 
 
 def test_sqlite():
-    return kills.run(int(os.environ.get("RELKVANU_KILLS", "12")))
+    return kills.run(int(os.environ.get("RELKVANU_KILLS", "6")))

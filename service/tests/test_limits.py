@@ -274,8 +274,8 @@ def writer_seconds(server):
 
 
 def test_a_deletion_looks_at_no_other_job():
-    """The writer's time for deletions beside many jobs: it would be a minute's if each looked at the metrics of all jobs."""
-    jobs, gone = 1500, 40
+    """The writer's time for deletions beside many jobs: it would be many seconds if each looked at the metrics of all jobs."""
+    jobs, gone = 400, 40
     with served() as server:
         service = Service(server.url)
         for number in range(jobs + gone):

@@ -89,7 +89,7 @@ def test_a_commit_writes_no_version_of_the_member():
 
 
 def test_commits_beside_a_long_read():
-    """Time of the same calls before a snapshot is held, and beside it once thousands of commits were made."""
+    """Time of the same calls before a snapshot is held, and beside it once hundreds of commits were made."""
     with postgres() as database, folder() as at:
         server = Server(at, database.url).start()
         job = Service(server.url).open("a", SETTINGS, [1])
@@ -97,7 +97,7 @@ def test_commits_beside_a_long_read():
         holds.stdin.write("begin isolation level repeatable read; select 1;\n")
         holds.stdin.flush()
         until(lambda: database.sql("select count(*) from pg_stat_activity where state = 'idle in transaction'") == "1")
-        for _ in range(2000):
+        for _ in range(600):
             job.call(TICK)
         size = int(database.sql("select pg_relation_size('member') / 8192"))
         holds.stdin.write("rollback;\n")

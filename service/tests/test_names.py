@@ -243,12 +243,12 @@ def test_a_reserve_is_durable_before_it_is_told():
 
 
 def test_kills_with_names():
-    return kills.run(int(os.environ.get("RELKVANU_KILLS", "6")), names=True)
+    return kills.run(int(os.environ.get("RELKVANU_KILLS", "4")), names=True)
 
 
 def test_kills_with_names_over_postgresql():
     with postgres() as database:
-        return kills.run(int(os.environ.get("RELKVANU_KILLS_PG", "4")), database, "lease_seconds = 1\n" + kills.KEEPING, names=True)
+        return kills.run(int(os.environ.get("RELKVANU_KILLS_PG", "2")), database, "lease_seconds = 1\n" + kills.KEEPING, names=True)
 
 
 def uses(log):
@@ -267,7 +267,7 @@ def uses(log):
 
 def test_garbage_is_never_in_use():
     """Tasks, restores, a discarder, kills and a sweeper, all at once. What was told to be garbage was in use at no later place of the log."""
-    seconds = 6
+    seconds = 4
     with folder() as at:
         server = Server(at, args=configured(at, kills.KEEPING), names=True).start()
         service, over, errors, told = Service(server.url), threading.Event(), [], []

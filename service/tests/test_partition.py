@@ -5,7 +5,7 @@ from partition import Client, Floor, run
 
 
 def test_partitions():
-    return run(int(os.environ.get("RELKVANU_PARTITION", "60")))
+    return run(int(os.environ.get("RELKVANU_PARTITION", "30")))
 
 
 def test_an_old_read_is_seen():

@@ -20,8 +20,8 @@ from publishing_engine import PREFIX, SETTINGS, SUFFIX, TASKS, write
 from relkvanu_service import Failed, Service, cancel, savepoint
 from run import Skipped
 
-LOSSES = int(os.environ.get("RELKVANU_LOST_LOGS", "6"))
-EACH = int(os.environ.get("RELKVANU_EACH", "6"))  # of so many writes and requests one is an end's, on average
+LOSSES = int(os.environ.get("RELKVANU_LOST_LOGS", "4"))
+EACH = int(os.environ.get("RELKVANU_EACH", "12"))  # of so many writes and requests one is an end's, on average
 SEED = os.environ.get("SEED", "1")
 ENGINE = [sys.executable, f"{HERE}/publishing_engine.py"]
 STORE = f"{os.environ['RELKVANU_LIB']}/relkvanu-store"
@@ -137,7 +137,7 @@ class Ends:
         """words(n) are those of a command over a copy of what it needs. Checks what each end leaves. Returns how many ends there were."""
         ends, at, goes_on = 0, 0, True
         while goes_on:
-            at += self.chance.randint(1, 2 * EACH - 1)
+            at += self.chance.randint(1, 2 * EACH - 1 if at else min(3, 2 * EACH - 1))  # the first is one that each command has
             for after in (False, True):
                 given = words(f"{at}-{int(after)}")
                 status, said = self.ended(at, after, given)

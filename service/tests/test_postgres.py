@@ -15,7 +15,7 @@ LEASE = lease_of(4)
 
 def test_kills():
     with postgres() as database:
-        told = kills.run(int(os.environ.get("RELKVANU_KILLS_PG", "8")), database, "lease_seconds = 1\n" + kills.KEEPING)
+        told = kills.run(int(os.environ.get("RELKVANU_KILLS_PG", "4")), database, "lease_seconds = 1\n" + kills.KEEPING)
         assert database.sql("select count(*) > 0 from call") == "t"
         return told
 
@@ -94,7 +94,8 @@ def test_take_over():
         assert told[0] == 503 and told[1]["retry-after"] == "1" and told[1]["relkvanu-leader"] == servers[0].url, told
         assert "relkvanu_leader 0" in servers[1].get("/metrics")[2] and "relkvanu_leader 1" in servers[0].get("/metrics")[2]
         found, times, epochs = [], [], []
-        with kills.writers_at([server.url for server in servers], found, PgArchive(database)):
+        # (most of its time it waits for leases)
+        with kills.writers_at([server.url for server in servers], found, PgArchive(database), pause=0.15):
             for way in ("stop", "kill", "stop", "cut"):
                 leader = leader_of(servers)
                 standby = next(server for server in servers if server is not leader)

@@ -21,7 +21,7 @@ from power import Journal, Loss, Trials, read_tree, write_tree
 
 ROUNDS = int(os.environ.get("RELKVANU_LOSSES", "1"))
 KEEPING = ["--image-calls", "20", "--keep-calls", "30"]
-MOST, AGAIN = 72, 12  # losses: of a job at work, and while a start recovers
+MOST, AGAIN = 24, 6  # losses: of a job at work, and while a start recovers
 WORKERS = 2
 EACH_GOES_ON = 8
 
@@ -174,10 +174,6 @@ def points(journal, most, chance):
     return journal.points() if ROUNDS == 0 else journal.some(ROUNDS * most, chance)
 
 
-def each(journal, chance):
-    return journal.each() if ROUNDS == 1 else points(journal, 200, chance)
-
-
 def test_a_job_at_work():
     """It is killed and started again meanwhile. Power is lost once more while a start recovers. Each kind of sync is left out in turn, as it
     were: then a loss has to do harm."""
@@ -220,13 +216,13 @@ def lose_again(at, trials, journal, chance):
 
 
 def test_a_new_database():
-    """At each call of its first moments that writes, and of those of its first job."""
+    """At calls of its first moments that write, and of those of its first job."""
     chance = random.Random(int(os.environ.get("SEED", "1")))
     with folder() as at:
         recorded = Recorded(at)
         journal = recorded.run(len(SUBTASKS) + 1)
         checks = Checks(at, has_archive=False)
         trials = Trials(f"{at}/losses", checks.check, WORKERS)
-        trials.all(journal, each(journal, chance), chance)
+        trials.all(journal, points(journal, 66, chance), chance)
         trials.control("its folder", journal, journal.points(), chance, lambda path: path == "")
-        return f"{trials.told(80)}; the sync of its folder is missed"
+        return f"{trials.told(33)}; the sync of its folder is missed"

@@ -16,6 +16,7 @@ class Writer(threading.Thread):
     """Calls one job until it is stopped. `made` has each acknowledged call, with its answer."""
 
     TOKEN = None
+    PAUSE = 0.03  # seconds between two turns: eight of them so leave a processor for others, and make some hundred calls a second
 
     def __init__(self, urls, job, number):
         super().__init__(daemon=True)
@@ -29,7 +30,7 @@ class Writer(threading.Thread):
         self.over = threading.Event()
 
     def run(self):
-        while not self.over.is_set():
+        while not self.over.wait(self.PAUSE):
             try:
                 self.turn()
             except Failed as failed:
