@@ -334,12 +334,6 @@ class Journal:
                 found += [Point(index, loss) for loss in others]
         return [*found, *(Point(len(self.records), loss) for loss in Loss)]
 
-    def each(self) -> List[Point]:
-        """At each record the next loss in turn, and at the end all."""
-        losses = itertools.cycle(Loss)
-        found = [Point(index, next(losses)) for index, record in enumerate(self.records) if record.kind is not Kind.TELLS]
-        return [*found, *(Point(len(self.records), loss) for loss in Loss)]
-
     def some(self, most: int, chance: random.Random) -> List[Point]:
         """So many of the points, and of each loss as many."""
         found = []

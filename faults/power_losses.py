@@ -27,16 +27,14 @@ from power import Journal, Kind, Loss, Record, Trials, read_tree, settle, tell, 
 HERE = pathlib.Path(__file__).resolve().parent
 SECONDS = 600  # of a process, on a busy machine
 ROUNDS = int(os.environ.get("ROUNDS", "1"))
-LEAST = 40  # losses of a sample that begins anew that have an effect
+LEAST = 15  # losses of a sample that begins anew that have an effect
 CONTROLLED = 600  # losses from which one that does harm is looked for
 EACH_GOES_ON = 4  # one in so many losses of a job over the durable coordinator: the others are opened alone
 
 
 def some_of(journal, most, chance):
-    """So many losses; None: at each call that writes one."""
-    if ROUNDS == 1 and most is None:
-        return journal.each()
-    return journal.points() if ROUNDS == 0 else journal.some(ROUNDS * (most or 200), chance)
+    """So many losses for each round."""
+    return journal.points() if ROUNDS == 0 else journal.some(ROUNDS * most, chance)
 
 
 def shimmed(samples, root, journal, **more):
@@ -94,7 +92,7 @@ def begins_anew(samples, name, command):
         journal = Journal.read(path, folder)
     assert status == 0, f"status {status}"
     chance, trials = random.Random(name), Trials(samples.work / f"losses of {name}", keeps_acknowledged, 1)
-    trials.all(journal, some_of(journal, 600, chance), chance)
+    trials.all(journal, some_of(journal, 200, chance), chance)
     for what, ignored in (("its state files", is_state), ("its folder", lambda path: path == "")):
         trials.control(what, journal, journal.points(), chance, ignored)
     return f"{trials.told(LEAST)}; both syncs are missed"
@@ -289,7 +287,7 @@ class PutBack:
         journal = Journal.read(self.journal, self.root, start)
         trials = Trials(self.samples.work / f"losses of {self.name}", self.check)
         end = journal.points()[-len(Loss):]  # it has told the record
-        trials.all(journal, [*some_of(journal, 30, chance), *end], chance)
+        trials.all(journal, [*some_of(journal, 12, chance), *end], chance)
         for name, ignored in self.syncs:
             trials.control(name, journal, end, chance, ignored)
         return f"{trials.told(trials.tried // 4)}; each of {len(self.syncs)} syncs is missed"
@@ -297,12 +295,12 @@ class PutBack:
 
 def jobs(samples):
     python = [sys.executable]
-    yield LogJob(samples, "log.c", ["stdbuf", "-oL", samples.work / "log"], None)
-    yield LogJob(samples, "loop.py", [*python, samples.work / "loop.py"], 36)
-    yield ReadmeJob(samples, "readme.py", [*python, samples.work / "readme.py"], 60)
+    yield LogJob(samples, "log.c", ["stdbuf", "-oL", samples.work / "log"], 60)
+    yield LogJob(samples, "loop.py", [*python, samples.work / "loop.py"], 12)
+    yield ReadmeJob(samples, "readme.py", [*python, samples.work / "readme.py"], 24)
     for name, command in samples.durable.items():
-        yield StoreJob(samples, name, command, 60)
-    yield StoreJob(samples, "files.py", [*python, samples.work / "files.py"], 60, is_marked=False)
+        yield StoreJob(samples, name, command, 24)
+    yield StoreJob(samples, "files.py", [*python, samples.work / "files.py"], 24, is_marked=False)
     if samples.durable:
         yield PutBack(samples)
 

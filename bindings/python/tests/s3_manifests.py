@@ -24,7 +24,7 @@ from relkvanu.storage import NotThere, OtherJob, StorageError
 from relkvanu.store import Call, Store, StoreError
 
 TASKS, CLAIM = 3, "--claim"
-EACH, SEED = int(os.environ.get("EACH", "3")), os.environ.get("SEED", "1")  # of so many requests one is a kill's, on average
+EACH, SEED = int(os.environ.get("EACH", "9")), os.environ.get("SEED", "1")  # of so many requests one is a kill's, on average
 KILLED = 9
 SETTINGS = Settings(interval=10, timeout=600_000)
 COMMAND = os.path.join(os.environ["RELKVANU_LIB"], "relkvanu-store")
@@ -406,7 +406,7 @@ class Kills(OnAServer):
         """words(n, prefix) are those of a command over the nth copy of the base. Checks that it came to at least two ends, and through in the last run."""
         ends, at, goes_on = 0, 0, True
         while goes_on:
-            at += self.chance.randint(1, 2 * EACH - 1)
+            at += self.chance.randint(1, 2 * EACH - 1 if at else min(3, 2 * EACH - 1))  # the first is one that each command has
             for after in (False, True):
                 prefix = f"n{at}-{int(after)}/"
                 for key in self.keys(base):
