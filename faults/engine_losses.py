@@ -21,7 +21,7 @@ SYNCS = (
     ("the storage", lambda path: path == "storage"),
     ("the job's folder", lambda path: path == ""),
 )
-MOST, CALLS, LONGEST = 240, 150, 900  # losses; calls of a process; seconds, on a busy machine
+MOST, CALLS, LONGEST = 84, 150, 900  # losses; calls of a process; seconds, on a busy machine
 OURS = ("job.db", "storage")  # the beginnings of what is in the journal
 
 
@@ -59,14 +59,16 @@ def answered(work: pathlib.Path) -> int:
 def run(name: str, work: pathlib.Path, live: Callable[[pathlib.Path], None], go_on: Callable[[pathlib.Path], None], ends: int) -> None:
     """`live` runs the engine over a folder, and kills it. `go_on` runs it to its end: from one in so many losses that there are `ends`."""
     folder, rounds, chance = work / "job", int(os.environ.get("ROUNDS", "1")), random.Random(int(os.environ.get("SEED", "1")))
-    start, numbers, most = read_tree(folder), itertools.count(1), MOST * max(rounds, 1)
+    start, numbers, most, gone_on = read_tree(folder), itertools.count(1), MOST * max(rounds, 1), []
     for _ in range(2):
         live(folder)
         settle(work / "journal", folder, start, OURS)
     journal = Journal.read(work / "journal", folder, start)
 
     def check(lost: Lost, left: pathlib.Path) -> None:
-        if lost_jobs.check(lost, left, "storage") and next(numbers) % (most // ends) == 0:
+        # (not each loss leaves a job, so the last number may not come)
+        if lost_jobs.check(lost, left, "storage") and next(numbers) % (most // ends) == most // ends // 2:
+            gone_on.append(1)
             go_on(left)
 
     trials = Trials(work / "losses", check)
@@ -74,4 +76,5 @@ def run(name: str, work: pathlib.Path, live: Callable[[pathlib.Path], None], go_
     trials.check = lambda lost, left: lost_jobs.check(lost, left, "storage") and None
     for what, ignored in SYNCS:
         trials.control(what, journal, journal.some(2 * MOST, chance), chance, ignored)
-    print(f"{name}: {trials.told(MOST // 2)}; each of {len(SYNCS)} syncs is missed")
+    assert gone_on, "none of the jobs went on"
+    print(f"{name}: {trials.told(MOST // 2)}; {len(gone_on)} went on to the end; each of {len(SYNCS)} syncs is missed")

@@ -50,7 +50,7 @@ class Line:
         self._chance, self._ends, self._waiting = chance, [], collections.deque()
         ready = threading.Event()
         threading.Thread(target=self._run, args=(ready,), daemon=True).start()
-        assert ready.wait(60), "no line"
+        assert ready.wait(600), "no line"
 
     def _run(self, ready):
         self._ends = [end_of_line(name) for name in ("here", "there")]

@@ -9,7 +9,7 @@ import tempfile
 sys.path.insert(0, str(pathlib.Path(__file__).resolve().parent.parent.parent / "faults"))
 import engine_losses
 
-ENDS = 6
+ENDS = 2
 
 
 def main(engine, shim):

@@ -18,7 +18,7 @@ import lost_jobs
 import sample
 from power import Journal, Trials, settle, write_tree
 
-MOST, EACH_GOES_ON, EVERY = 180, 30, 10  # losses, one in so many of them, milliseconds
+MOST, EACH_GOES_ON, EVERY = 60, 10, 10  # losses, one in so many of them, milliseconds
 KILLED_AFTER, MOST_TOLD = 8, 40  # checkpoints of the process that is killed
 SECONDS = 600  # of a process, on a busy machine
 STATES = "words/states"
