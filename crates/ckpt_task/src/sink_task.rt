@@ -157,6 +157,7 @@ impl<P: Program> SinkTask<P> {
         ensures failed { IfErr result (λ why. why ≡ sink_fault.Failed → self.new.has_failed ≡ true) }
         ensures unchanged { IfErr result (λ why. why ≢ sink_fault.Failed → self.new ≡ self.old) }
         ensures stays { self.old.has_failed ≡ true → result ≡ Err sink_fault.Failed }
+        ensures told { (why : Refusal) → self.old.has_failed ≡ false → refusal_as (answer_in self.old.task.alignment (as_turn next)) ≡ Some why → result ≡ Err (sink_fault.Refused why) }
     {
         if self.has_failed {
             return Err(SinkFault::Failed);
