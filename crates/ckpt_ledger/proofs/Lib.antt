@@ -3,3 +3,4 @@ pub mod Counting
 pub mod Publishing
 pub mod Restarting
 pub mod Timely
+pub mod WorkedTelling

@@ -61,7 +61,7 @@ writes_published h [] rest = ap (λ (w : List ℕ). all_published (record { wait
 writes_published h (x ∷ xs) rest =
     writes_published (with_open h (x ∷ [])) xs rest ∙ ap (λ (w : List ℕ). all_published (record { waiting = h.waiting; open_one = w }) rest) (append_assoc h.open_one (x ∷ []) xs)
 
-writes_held : (h : Held) (xs : List ℕ) (rest : List Entry) → after_entries h (map Writes xs ++ rest) ≡ after_entries (with_open h xs) rest
+pub writes_held : (h : Held) (xs : List ℕ) (rest : List Entry) → after_entries h (map Writes xs ++ rest) ≡ after_entries (with_open h xs) rest
 writes_held h [] rest = ap (λ (w : List ℕ). after_entries (record { waiting = h.waiting; open_one = w }) rest) (sym (append-nil h.open_one))
 writes_held h (x ∷ xs) rest =
     writes_held (with_open h (x ∷ [])) xs rest ∙ ap (λ (w : List ℕ). after_entries (record { waiting = h.waiting; open_one = w }) rest) (append_assoc h.open_one (x ∷ []) xs)

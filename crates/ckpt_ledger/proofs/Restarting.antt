@@ -15,12 +15,12 @@ use Rattle.ckpt_ledger.proofs.Timely.{timely}
 
 -- moments one behind the other
 
-acts-append : (first second : List Moment) → acts (first ++ second) ≡ acts first ++ acts second
+pub acts-append : (first second : List Moment) → acts (first ++ second) ≡ acts first ++ acts second
 acts-append [] second = refl
 acts-append (Acts action ∷ first) second = ap (λ (l : List Action). action ∷ l) (acts-append first second)
 acts-append (Told m ∷ first) second = acts-append first second
 
-completed-append : (first second : List Moment) → completed (first ++ second) ≡ completed first ++ completed second
+pub completed-append : (first second : List Moment) → completed (first ++ second) ≡ completed first ++ completed second
 completed-append [] second = refl
 completed-append (Acts action ∷ first) second = completed-append first second
 completed-append (Told m ∷ first) second = ap (λ (l : List ℕ). m ∷ l) (completed-append first second)
@@ -38,23 +38,23 @@ first_been inputs done (Told m ∷ first) second have = (have.0, first_been inpu
 
 -- the moments, and then the word that a record was completed
 
-abbrev with_word : ℕ → List Moment → List Moment
+abbrev pub with_word : ℕ → List Moment → List Moment
 with_word n moments = moments ++ Told n ∷ []
 
-entries_with : (o n : ℕ) (a : Alignment) (moments : List Moment) → entries o a (with_word n moments) ≡ entries o a moments ++ Completes n ∷ []
+pub entries_with : (o n : ℕ) (a : Alignment) (moments : List Moment) → entries o a (with_word n moments) ≡ entries o a moments ++ Completes n ∷ []
 entries_with o n a [] = refl
 entries_with o n a (Acts action ∷ moments) =
     let first : List Entry = told_of (cut_by a action) (elements (sent_by o a action)) in
     ap (λ (l : List Entry). first ++ l) (entries_with o n (after a action) moments) ∙ sym (append_assoc first (entries o (after a action) moments) (Completes n ∷ []))
 entries_with o n a (Told m ∷ moments) = ap (λ (l : List Entry). Completes m ∷ l) (entries_with o n a moments)
 
-been_cut : (inputs n : ℕ) (done : List Action) (moments : List Moment) → HaveBeenCut inputs done moments → has_cut n (opened inputs) (done ++ acts moments) ≡ true → HaveBeenCut inputs done (with_word n moments)
+pub been_cut : (inputs n : ℕ) (done : List Action) (moments : List Moment) → HaveBeenCut inputs done moments → has_cut n (opened inputs) (done ++ acts moments) ≡ true → HaveBeenCut inputs done (with_word n moments)
 been_cut inputs n done [] have cut = (ap (has_cut n (opened inputs)) (sym (append-nil done)) ∙ cut, tt)
 been_cut inputs n done (Acts action ∷ moments) have cut =
     been_cut inputs n (done ++ action ∷ []) moments have (ap (has_cut n (opened inputs)) (append_assoc done (action ∷ []) (acts moments)) ∙ cut)
 been_cut inputs n done (Told m ∷ moments) have cut = (have.0, been_cut inputs n done moments have.1 cut)
 
-published-append : (h : Held) (es fs : List Entry) → all_published h (es ++ fs) ≡ all_published h es ++ all_published (after_entries h es) fs
+pub published-append : (h : Held) (es fs : List Entry) → all_published h (es ++ fs) ≡ all_published h es ++ all_published (after_entries h es) fs
 published-append h [] fs = refl
 published-append h (e ∷ es) fs =
     let first : List ℕ = contents (publishes h e) in
@@ -89,7 +89,7 @@ before_is o inputs n xs ys cut later =
 
 -- one attempt
 
-published_then : (job : Job) (from : States) (h : History) (sink : Sink) (n : ℕ) (early late : List Moment) → AreMomentsOf job from h sink (early ++ late)
+pub published_then : (job : Job) (from : States) (h : History) (sink : Sink) (n : ℕ) (early late : List Moment) → AreMomentsOf job from h sink (early ++ late)
     → has_cut n (opened (job.inputs sink.task)) (acts early) ≡ true → has_cut n (opened (job.inputs sink.task)) ((network job from h).task sink.task).actions ≡ true
     → ((m : ℕ) → IsIn m (completed (early ++ late)) → m ≤ n)
     → published_with n (entries_in job sink early) ≡ published_in job from h sink (completed (early ++ late) ++ n ∷ [])

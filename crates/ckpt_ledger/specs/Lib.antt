@@ -3,3 +3,4 @@ pub mod Laws
 pub mod Ledgers
 pub mod Restarts
 pub mod WorkedExamples
+pub mod WorkedRestarts

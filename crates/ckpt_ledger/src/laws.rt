@@ -1,12 +1,15 @@
 //! What a ledger publishes is what the sink of `ckpt_once` publishes, each law on a function that
 //! does nothing.
 
-ghost use Rattle.std.specs.Prelude.{ℕ, List};
+ghost use Rattle.std.specs.Prelude.{ℕ, List, [], ◌∷◌};
+ghost use Rattle.ckpt_ids.specs.Ordered.{IsIn};
 ghost use Rattle.ckpt_ledger.specs.Laws.{Holds, PublishesAsSink};
 ghost use Rattle.ckpt_ledger.specs.Ledgers.{Moment};
-ghost use Rattle.ckpt_ledger.specs.Restarts.{AttemptTold, LostComesAgain, PublishesOverRestarts};
-ghost use Rattle.ckpt_once.specs.Jobs.{History, Job, States};
-ghost use Rattle.ckpt_once.specs.Sinks.{Sink};
+ghost use Rattle.ckpt_ledger.specs.Restarts.{AreTold, AttemptTold, LostComesAgain, PublishesOverRestarts, attempts};
+ghost use Rattle.ckpt_ledger.specs.WorkedRestarts.{sink, told};
+ghost use Rattle.ckpt_once.specs.Jobs.{AreAttempts, History, Job, States};
+ghost use Rattle.ckpt_once.specs.Sinks.{AreLast, Sink};
+ghost use Rattle.ckpt_once.specs.WorkedExamples.{job};
 
 /// A ledger that is told each write and each cut of a sink's task, and of completed records that it has
 /// cut, publishes what the sink of the laws publishes.
@@ -29,4 +32,13 @@ pub fn publishes_over_restarts()
 /// If a ledger was made anew, what the lost one had published is the beginning of that.
 pub fn lost_comes_again()
     ensures { (job : Job) (sink : Sink) (one : AttemptTold) (ones : List AttemptTold) → LostComesAgain job sink one ones }
+{}
+
+/// The ledger of the worked sink, which is lost once its record was completed, meets the premises of
+/// these laws.
+pub fn worked_told()
+    ensures are_attempts { AreAttempts job (attempts (told ∷ [])) }
+    ensures are_last { AreLast (attempts (told ∷ [])) }
+    ensures is_task { IsIn sink.task job.tasks }
+    ensures are_told { AreTold job sink (told ∷ []) }
 {}

@@ -6,4 +6,5 @@ pub mod Overtaking
 pub mod Redistributing
 pub mod Reshaping
 pub mod Stopping
+pub mod WorkedRestarting
 pub mod WorkedShaping

@@ -17,18 +17,18 @@ use Rattle.ckpt_other_cuts.specs.WorkedShapes.{by, is_out_of, job, keys, line, p
 
 -- the tasks and channels of the two jobs
 
-each_key : (P : SubtaskId → Type 0) → P (subtask 0 0) → P (subtask 1 0) → P (subtask 1 1) → (k : SubtaskId) → IsIn k keys.tasks → P k
+pub each_key : (P : SubtaskId → Type 0) → P (subtask 0 0) → P (subtask 1 0) → P (subtask 1 1) → (k : SubtaskId) → IsIn k keys.tasks → P k
 each_key P source zeroth first k (inl e) = subst P (sym e) source
 each_key P source zeroth first k (inr (inl e)) = subst P (sym e) zeroth
 each_key P source zeroth first k (inr (inr (inl e))) = subst P (sym e) first
 each_key P source zeroth first k (inr (inr (inr none))) = absurd none
 
-each_line : (P : Channel → Type 0) → P (line 0) → P (line 1) → (c : Channel) → IsIn c keys.channels → P c
+pub each_line : (P : Channel → Type 0) → P (line 0) → P (line 1) → (c : Channel) → IsIn c keys.channels → P c
 each_line P zeroth first c (inl e) = subst P (sym e) zeroth
 each_line P zeroth first c (inr (inl e)) = subst P (sym e) first
 each_line P zeroth first c (inr (inr none)) = absurd none
 
-one_line : (P : Channel → Type 0) → P (line 0) → (c : Channel) → IsIn c job.channels → P c
+pub one_line : (P : Channel → Type 0) → P (line 0) → (c : Channel) → IsIn c job.channels → P c
 one_line P it c (inl e) = subst P (sym e) it
 one_line P it c (inr none) = absurd none
 
@@ -180,12 +180,12 @@ worked_is_job =
     let Ends : Channel → Type 0 = λ c. IsIn c.sender keys.tasks × IsIn c.receiver keys.tasks × (c.input < keys.inputs c.receiver) in
     each_line Ends (inl refl, inr (inl refl), omega arith) (inl refl, inr (inr (inl refl)), omega arith)
 
-is_job : IsJob job
+pub is_job : IsJob job
 is_job =
     let Ends : Channel → Type 0 = λ c. IsIn c.sender job.tasks × IsIn c.receiver job.tasks × (c.input < job.inputs c.receiver) in
     one_line Ends (inl refl, inr (inl refl), omega arith)
 
-is_drawn : IsMoveOf job (subtask 0 0) Draws
+pub is_drawn : IsMoveOf job (subtask 0 0) Draws
 is_drawn = (inl refl, inl refl)
 
 is_taken : (x : ℕ) → IsMoveOf job (subtask 1 0) (Takes 0 x)

@@ -6,4 +6,5 @@ pub mod Reshaped
 pub mod Stops
 pub mod Unaligned
 pub mod WorkedExamples
+pub mod WorkedRestarts
 pub mod WorkedShapes

@@ -1,11 +1,12 @@
 //! The laws of a restore in another shape, each on a function that does nothing.
 
-ghost use Rattle.std.specs.Prelude.{ℕ, List, []};
+ghost use Rattle.std.specs.Prelude.{ℕ, List, [], ◌∷◌};
 ghost use Rattle.ckpt_model.specs.Laws.{CanOpen};
 ghost use Rattle.ckpt_model.specs.State.{Opening};
 ghost use Rattle.ckpt_once.specs.Jobs.{IsJob, Job, run_of};
 ghost use Rattle.ckpt_other_cuts.specs.Rescaled.{Entry, Redistributes, Rescaling, RescalingInvisible, RestoresKeys, Split, TwiceIsOnce};
-ghost use Rattle.ckpt_other_cuts.specs.Reshaped.{IsBegun, IsRoutedByKey, IsShapeOf, ReshapingInvisible, Restart, Stage, finest, recorded};
+ghost use Rattle.ckpt_other_cuts.specs.Reshaped.{AreRestarts, IsBegun, IsRoutedByKey, IsShapeOf, ReshapingInvisible, Restart, Stage, finest, recorded};
+ghost use Rattle.ckpt_other_cuts.specs.WorkedRestarts.{opening, reshaped, restart};
 ghost use Rattle.ckpt_other_cuts.specs.WorkedShapes.{job, keys, spread, stage};
 
 /// Each key's entries go to the new subtask that the key belongs to, and to no other. Together the new
@@ -45,6 +46,15 @@ pub fn worked_begins()
     ensures keys_are_job { IsJob keys }
     ensures begins { IsBegun keys (recorded keys []) stage }
     ensures is_routed { IsRoutedByKey job spread stage.from (run_of job stage.history) }
+{}
+
+/// It cuts a record that the coordinator completes, and a stage in another shape, with a subtask for each
+/// key, begins from it: all premises of the law of restores hold, with a restart.
+pub fn worked_restores()
+    ensures can_open { CanOpen opening }
+    ensures restarts { AreRestarts opening keys (restart ∷ []) }
+    ensures begins { IsBegun keys (recorded keys (restart ∷ [])) reshaped }
+    ensures is_routed { IsRoutedByKey keys finest reshaped.from (run_of keys reshaped.history) }
 {}
 
 /// After any number of failures and restores in other shapes, each to a done record of the

@@ -25,11 +25,11 @@ use Rattle.ckpt_task.specs.Turns.{At, IsSaved, abandoned_as, abandoned_in, answe
 
 -- elements that are sent
 
-came_sends : (es : List Emitted) (l : List Deed) → came_in (after_sends es l) ≡ came_in l
+pub came_sends : (es : List Emitted) (l : List Deed) → came_in (after_sends es l) ≡ came_in l
 came_sends [] l = refl
 came_sends (e ∷ es) l = came_sends es (Sent e.output e.element ∷ l)
 
-taken_sends : (j : ℕ) (es : List Emitted) (l : List Deed) → taken_in j (after_sends es l) ≡ taken_in j l
+pub taken_sends : (j : ℕ) (es : List Emitted) (l : List Deed) → taken_in j (after_sends es l) ≡ taken_in j l
 taken_sends j [] l = refl
 taken_sends j (e ∷ es) l = taken_sends j es (Sent e.output e.element ∷ l)
 
@@ -96,7 +96,7 @@ none_by : (h : Bool) (more : List Item) → more ≡ [] → more ≡ (if h then 
 none_by true more e = e
 none_by false more e = e
 
-takes_last : (p : Program) (m : At) (turn : Turn) (turns : List Turn) (j : ℕ) (h : Bool) → refusal_as (answer_in m.alignment turn) ≡ None → h ≡ is_left (answer_in m.alignment turn)
+pub takes_last : (p : Program) (m : At) (turn : Turn) (turns : List Turn) (j : ℕ) (h : Bool) → refusal_as (answer_in m.alignment turn) ≡ None → h ≡ is_left (answer_in m.alignment turn)
     → takes p m turn j ≡ (if h then [] else last_on j (turn ∷ turns))
 takes_last p m (Offered i item) turns j h e is =
     let a : Alignment = m.alignment in

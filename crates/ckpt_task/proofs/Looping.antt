@@ -38,7 +38,7 @@ after_more p s a (turn ∷ turns) us =
 abbrev actions_from : Program → At → List Turn → List Action
 actions_from p m turns = actions p m.state m.alignment turns
 
-actions_more : (p : Program) (s : ℕ) (a : Alignment) (turns us : List Turn) → actions p s a (turns ++ us) ≡ actions p s a us ++ actions_from p (at_of p s a us) turns
+pub actions_more : (p : Program) (s : ℕ) (a : Alignment) (turns us : List Turn) → actions p s a (turns ++ us) ≡ actions p s a us ++ actions_from p (at_of p s a us) turns
 actions_more p s a [] us = sym (append-nil (actions p s a us))
 actions_more p s a (turn ∷ turns) us =
     let m : At = at_of p s a us in
@@ -143,7 +143,7 @@ pub record Follows (p : Program) (s : ℕ) (a : Alignment) (x : Around) : Type 0
   pub sent_on : (c : ℕ) → sent_in c x.deeds ≡ sent c a (actions p s a (came_in x.deeds))
   pub tells : Tells p s a (came_in x.deeds) (told_in x.deeds)
 
-follows_first : (p : Program) (s : ℕ) (a : Alignment) (x : Around) → x.task ≡ at_as s a → x.deeds ≡ [] → Follows p s a x
+pub follows_first : (p : Program) (s : ℕ) (a : Alignment) (x : Around) → x.task ≡ at_as s a → x.deeds ≡ [] → Follows p s a x
 follows_first p s a x task unused = record {
   task = task ∙ ap (λ (l : List Deed). at_of p s a (came_in l)) (sym unused);
   taken_on = λ j. ap (taken_in j) unused ∙ ap (λ (l : List Deed). taken j a (actions p s a (came_in l))) (sym unused);
@@ -151,7 +151,7 @@ follows_first p s a x task unused = record {
   tells = λ n has. absurd (subst (λ (l : List Deed). IsIn (Acknowledges n) (told_in l)) unused has);
 }
 
-follows_run : (p : Program) (s : ℕ) (a : Alignment) (waits : Waits) (n : ℕ) (x y : Around) → Follows p s a x → HasRun p waits n x y → Follows p s a y
+pub follows_run : (p : Program) (s : ℕ) (a : Alignment) (waits : Waits) (n : ℕ) (x y : Around) → Follows p s a x → HasRun p waits n x y → Follows p s a y
 follows_run p s a waits n x y was run =
     let us : List Turn = came_in x.deeds in
     let turns : List Turn = run.turns in

@@ -3,8 +3,10 @@ use Rattle.std.proofs.Common.{◌≡◌, ℕ, ◌+◌, List, ◌∷◌, ◌∙�
 use Rattle.std.specs.Prelude.{map}
 use Rattle.ckpt_ledger.specs.Ledgers.{Acts, Held, after_entries, entries}
 use Rattle.ckpt_once.specs.Programs.{Program, Turn, acts}
+use Rattle.ckpt_once.specs.Sinks.{Transaction}
 use Rattle.ckpt_task.proofs.Doing.{not_run_as, run_as}
-use Rattle.ckpt_task.specs.Runs.{Around, HasSunk, HasSunkOnce, after_turns, held_after, sink_waits}
+use Rattle.ckpt_task.proofs.Stopping.{stopped_as}
+use Rattle.ckpt_task.specs.Runs.{Around, HasStopped, HasSunk, HasSunkOnce, IsStopped, after_turns, held_after, sink_waits}
 use Rattle.ckpt_task.specs.SinkTurns.{SinkAt, after_turn}
 use Rattle.ckpt_task.specs.Turns.{At}
 
@@ -31,4 +33,19 @@ sinks_more p n m l k x y z start at sunk one =
       run = k.0;
       held = one.held ∙ same ∙ ap (held_after p m) (sym k.1);
       output = one.output ∙ sunk.output;
+    }
+
+-- a run that a fault stopped
+pub sink_stops : (p : Program) (n : ℕ) (m l : SinkAt) (x y z : Around) → x.task ≡ m.task → y.task ≡ l.task → HasSunk p n m l x y → IsStopped p (λ turn. (after_turn p l turn).waiting) y z
+    → HasStopped p (sink_waits p m) x z
+sink_stops p n m l x y z start at sunk stopped =
+    let turns : List Turn = sunk.run.turns in
+    let task : l.task ≡ after_turns p m.task turns = sym at ∙ sunk.run.task ∙ ap (λ (t : At). after_turns p t turns) start in
+    let first : Turn → List Transaction = λ turn. (after_turn p l turn).waiting in
+    let second : Turn → List Transaction = λ turn. sink_waits p m (turn ∷ turns) in
+    record {
+      count = n;
+      whole = y;
+      run = sunk.run;
+      stopped = stopped_as p first second y z (λ turn. ap (λ (h : Held). h.waiting) (same_ledger p m l turns turn task sunk.held sunk.output)) stopped;
     }

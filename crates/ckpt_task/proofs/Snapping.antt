@@ -72,7 +72,7 @@ cut_later n a (Sends o y ∷ xs) ys e f = cut_later n a xs ys e f
 
 -- the turn that is the cut
 
-is_cut_by : (n : ℕ) (o : Option ℕ) (rest : Bool) → o ≡ Some n → (if is_number n o then true else rest) ≡ true
+pub is_cut_by : (n : ℕ) (o : Option ℕ) (rest : Bool) → o ≡ Some n → (if is_number n o then true else rest) ≡ true
 is_cut_by n o rest e = subst (λ (k : Option ℕ). (if is_number n k then true else rest) ≡ true) (sym e) (or_first n rest)
   where
     or_first : (n : ℕ) (rest : Bool) → (if is_number n (Some n) then true else rest) ≡ true
@@ -94,7 +94,7 @@ turn_cuts n b Drawn es e = grind (arith, common_steps)
 turn_cuts n b Ended es e = grind (arith, common_steps)
 
 -- nobody cuts a record twice
-not_cut_yet : (n inputs : ℕ) (xs : List Action) (b : Alignment) (turn : Turn) → replay (opened inputs) xs ≡ b → cut_of b turn ≡ Some n → has_cut n (opened inputs) xs ≡ false
+pub not_cut_yet : (n inputs : ℕ) (xs : List Action) (b : Alignment) (turn : Turn) → replay (opened inputs) xs ≡ b → cut_of b turn ≡ Some n → has_cut n (opened inputs) xs ≡ false
 not_cut_yet n inputs xs b turn at e = by_test (has_cut n (opened inputs) xs) refl
   where
     twice : Found n (opened inputs) xs → Cuts n b turn → ⊥

@@ -76,3 +76,16 @@ words_of (outcome.Cut n) = Acknowledges n ∷ []
 words_of (outcome.Unsaved n) = Declines n ∷ []
 words_of (outcome.Abandoned n) = Declines n ∷ []
 words_of other = []
+
+-- A FAULT
+
+-- Some of all these deeds are left. What came was taken.
+pub record IsUnfinished (now all : List Deed) : Type 0 where
+  pub left : List Deed
+  pub is_left : all ≡ left ++ now
+  pub came : came_in now ≡ came_in all
+  pub took : (j : ℕ) → taken_in j now ≡ taken_in j all
+
+-- what a fault let be done of all that is done after a turn: nothing, or some, the first of it first
+abbrev pub IsPart : List Deed → List Deed → List Deed → Type 0
+IsPart before now all = (now ≡ before) ⊎ IsUnfinished now all

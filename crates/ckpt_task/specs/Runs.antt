@@ -5,7 +5,9 @@ use Rattle.ckpt_ledger.specs.Ledgers.{Held}
 use Rattle.ckpt_once.specs.Programs.{Program, Turn, actions, aligned, moves_in, state}
 use Rattle.ckpt_once.specs.Sinks.{Transaction}
 use Rattle.ckpt_task.specs.declared.deed.Deed.{Deed}
-use Rattle.ckpt_task.specs.Deeds.{Word, Acknowledges, Declines, came_in, sent_in, taken_in, told_in}
+use Rattle.ckpt_task.specs.declared.deed.Deed.TheVariants.{Came}
+use Rattle.ckpt_task.specs.declared.turn.Next.{Next}
+use Rattle.ckpt_task.specs.Deeds.{IsPart, Word, Acknowledges, Declines, as_came, came_in, sent_in, taken_in, told_in}
 use Rattle.ckpt_task.specs.Saving.{Saved}
 use Rattle.ckpt_task.specs.SinkTurns.{SinkAt, after_turn}
 use Rattle.ckpt_task.specs.Turns.{At, abandoned_as, answer_in, cut_of, puts, takes, turned}
@@ -89,6 +91,32 @@ pub record HasRun (p : Program) (waits : Waits) (n : ℕ) (x y : Around) : Type 
   pub sent_on : (c : ℕ) → sent_in c y.deeds ≡ sent_in c x.deeds ++ sent c x.task.alignment (actions p x.task.state x.task.alignment turns)
   pub kept : AreKept p x.task waits turns (kept_in x) (kept_in y)
 
+-- A FAULT
+
+-- It stopped a turn before the task took it: nothing was done.
+pub record WasNoTurn (x z : Around) : Type 0 where
+  pub next : Option Next
+  pub deeds : z.deeds ≡ as_came next ++ x.deeds
+  pub saved : z.saved ≡ x.saved
+  pub refused : z.refused ≡ x.refused
+
+-- It stopped a turn that the task had taken: of the deeds of the whole turn some may be left.
+pub record WasBegun (p : Program) (waits : Turn → List Transaction) (x z : Around) : Type 0 where
+  pub next : Next
+  pub all : List Deed
+  pub turned : HasTurned p waits x (around z.task all z.saved z.refused)
+  pub part : IsPart (Came next ∷ x.deeds) z.deeds all
+
+abbrev pub IsStopped : Program → (Turn → List Transaction) → Around → Around → Type 0
+IsStopped p waits x z = WasNoTurn x z ⊎ WasBegun p waits x z
+
+-- A run that a fault stopped: whole turns, as in a run without one, and then at most a part of one more.
+pub record HasStopped (p : Program) (waits : Waits) (x z : Around) : Type 0 where
+  pub count : ℕ
+  pub whole : Around
+  pub run : HasRun p waits count x whole
+  pub stopped : IsStopped p (λ turn. waits (turn ∷ run.turns)) whole z
+
 -- A SINK
 
 -- its ledger after turns
@@ -123,6 +151,12 @@ TurnsOver p came deeds saved refused m c s l d t =
     let y : Around = around l (deeds d) (saved t) (refused t) in
     MatchBool came (HasTurned p (λ _. []) x y) (y ≡ x)
 
+abbrev pub RunStops : {C S : Type 0} → Program → (C → List Deed) → (S → List Saved) → (S → List ℕ) → At → C → S → At → C → S → Type 0
+RunStops p deeds saved refused m c s l d t = HasStopped p waits_none (around m (deeds c) (saved s) (refused s)) (around l (deeds d) (saved t) (refused t))
+
+abbrev pub TurnStops : {C S : Type 0} → Program → (C → List Deed) → (S → List Saved) → (S → List ℕ) → At → C → S → At → C → S → Type 0
+TurnStops p deeds saved refused m c s l d t = IsStopped p (λ _. []) (around m (deeds c) (saved s) (refused s)) (around l (deeds d) (saved t) (refused t))
+
 abbrev pub SinksOver : {C S : Type 0} → Program → ℕ → (C → List Deed) → (S → List Saved) → (S → List ℕ) → SinkAt → C → S → SinkAt → C → S → Type 0
 SinksOver p n deeds saved refused m c s l d t = HasSunk p n m l (around m.task (deeds c) (saved s) (refused s)) (around l.task (deeds d) (saved t) (refused t))
 
@@ -131,3 +165,10 @@ SinksOnce p came deeds saved refused m c s l d t =
     let x : Around = around m.task (deeds c) (saved s) (refused s) in
     let y : Around = around l.task (deeds d) (saved t) (refused t) in
     MatchBool came (HasSunkOnce p m l x y) ((y ≡ x) × (l ≡ m))
+
+abbrev pub SinkStops : {C S : Type 0} → Program → (C → List Deed) → (S → List Saved) → (S → List ℕ) → SinkAt → C → S → SinkAt → C → S → Type 0
+SinkStops p deeds saved refused m c s l d t = HasStopped p (sink_waits p m) (around m.task (deeds c) (saved s) (refused s)) (around l.task (deeds d) (saved t) (refused t))
+
+abbrev pub SinkStopsOnce : {C S : Type 0} → Program → (C → List Deed) → (S → List Saved) → (S → List ℕ) → SinkAt → C → S → SinkAt → C → S → Type 0
+SinkStopsOnce p deeds saved refused m c s l d t =
+    IsStopped p (λ turn. (after_turn p m turn).waiting) (around m.task (deeds c) (saved s) (refused s)) (around l.task (deeds d) (saved t) (refused t))

@@ -1,11 +1,11 @@
 //! The loop of a task: it takes turns until nothing comes.
 
-ghost use Rattle.std.specs.Prelude.{◌≡◌, ◌∷◌, ◌++◌, ℕ, IfOk, OnOk};
+ghost use Rattle.std.specs.Prelude.{◌≡◌, ◌∷◌, ◌++◌, ℕ, IfOk, OnErr, OnOk};
 ghost use Rattle.ckpt_once.specs.Programs.{Ended};
 ghost use Rattle.ckpt_task.specs.declared.deed.Deed.TheVariants as deed;
-ghost use Rattle.ckpt_task.specs.Deeds.{after_sends, deeds_after, sent_in};
+ghost use Rattle.ckpt_task.specs.Deeds.{IsPart, IsUnfinished, after_sends, deeds_after, sent_in};
 ghost use Rattle.ckpt_task.specs.Turns.{puts};
-ghost use Rattle.ckpt_task.specs.Runs.{RunsOver, TurnsOver};
+ghost use Rattle.ckpt_task.specs.Runs.{RunStops, RunsOver, TurnStops, TurnsOver};
 
 use crate::channels::{ChannelFault, Channels};
 use crate::program::{Emitted, Program};
@@ -64,7 +64,8 @@ impl From<ChannelFault> for RunFault {
 
 /// Puts these elements on their outputs.
 fn send_each<C: Channels>(channels: &mut C, ones: &[Emitted]) -> Result<(), ChannelFault>
-    ensures { OnOk result (C.deeds channels.new ≡ after_sends ones.now (C.deeds channels.old)) }
+    ensures done { OnOk result (C.deeds channels.new ≡ after_sends ones.now (C.deeds channels.old)) }
+    ensures stopped { OnErr result (IsUnfinished (C.deeds channels.new) (after_sends ones.now (C.deeds channels.old))) }
 {
     for one in ones {
         channels.send(one.output(), one.element())?;
@@ -72,9 +73,10 @@ fn send_each<C: Channels>(channels: &mut C, ones: &[Emitted]) -> Result<(), Chan
     Ok(())
 }
 
-/// Does what an outcome says.
+/// Does what an outcome says. After a fault it does nothing more.
 pub(crate) fn carry_out<C: Channels>(outcome: Outcome, channels: &mut C) -> Result<(), ChannelFault>
-    ensures { OnOk result (C.deeds channels.new ≡ deeds_after outcome (C.deeds channels.old)) }
+    ensures done { OnOk result (C.deeds channels.new ≡ deeds_after outcome (C.deeds channels.old)) }
+    ensures stopped { OnErr result (IsPart (C.deeds channels.old) (C.deeds channels.new) (deeds_after outcome (C.deeds channels.old))) }
 {
     match outcome {
         Outcome::Held => Ok(()),
@@ -105,14 +107,16 @@ impl<P: Program> Task<P> {
     ///
     /// In each turn the task is told what comes, and saves its snapshot if it cuts a record. Then what
     /// came is taken from its channel, unless it is held; what the turn puts on the outputs is put there;
-    /// and the record is acknowledged or declined.
+    /// and the record is acknowledged or declined. After a fault nothing more is done: the turns before it
+    /// are a run, and of the one that it stopped a part may be done.
     pub fn run<C: Channels, S: Snapshots<P>>(
         &mut self,
         channels: &mut C,
         snapshots: &mut S,
         turns: u64,
     ) -> Result<u64, RunFault>
-        ensures { IfOk result (λ n. RunsOver P.program n C.deeds S.saved S.refused self.old channels.old snapshots.old self.new channels.new snapshots.new) }
+        ensures ran { IfOk result (λ n. RunsOver P.program n C.deeds S.saved S.refused self.old channels.old snapshots.old self.new channels.new snapshots.new) }
+        ensures stopped { OnErr result (RunStops P.program C.deeds S.saved S.refused self.old channels.old snapshots.old self.new channels.new snapshots.new) }
     {
         for done in 0..turns {
             if !self.run_once(channels, snapshots)? {
@@ -138,7 +142,8 @@ impl<P: Program> Task<P> {
         channels: &mut C,
         snapshots: &mut S,
     ) -> Result<bool, RunFault>
-        ensures { IfOk result (λ b. TurnsOver P.program b C.deeds S.saved S.refused self.old channels.old snapshots.old self.new channels.new snapshots.new) }
+        ensures turned { IfOk result (λ b. TurnsOver P.program b C.deeds S.saved S.refused self.old channels.old snapshots.old self.new channels.new snapshots.new) }
+        ensures stopped { OnErr result (TurnStops P.program C.deeds S.saved S.refused self.old channels.old snapshots.old self.new channels.new snapshots.new) }
     {
         let Some(next) = channels.next(self.aligner())? else {
             return Ok(false);

@@ -1,7 +1,7 @@
 //! The loop of a sink: it takes turns until nothing comes.
 
-ghost use Rattle.std.specs.Prelude.{IfOk};
-ghost use Rattle.ckpt_task.specs.Runs.{SinksOver, SinksOnce};
+ghost use Rattle.std.specs.Prelude.{IfOk, OnErr};
+ghost use Rattle.ckpt_task.specs.Runs.{SinkStops, SinkStopsOnce, SinksOnce, SinksOver};
 
 use crate::channels::Channels;
 use crate::program::Program;
@@ -12,13 +12,15 @@ use crate::snapshots::Snapshots;
 impl<P: Program> SinkTask<P> {
     /// Takes turns until nothing comes, and at most this many, as [`Task::run`] does. Returns how many
     /// they were. The ledger is told each write and each cut, and each snapshot has what it holds back.
+    /// After a fault nothing more is done.
     pub fn run<C: Channels, S: Snapshots<P>>(
         &mut self,
         channels: &mut C,
         snapshots: &mut S,
         turns: u64,
     ) -> Result<u64, RunFault>
-        ensures { IfOk result (λ n. SinksOver P.program n C.deeds S.saved S.refused self.old channels.old snapshots.old self.new channels.new snapshots.new) }
+        ensures ran { IfOk result (λ n. SinksOver P.program n C.deeds S.saved S.refused self.old channels.old snapshots.old self.new channels.new snapshots.new) }
+        ensures stopped { OnErr result (SinkStops P.program C.deeds S.saved S.refused self.old channels.old snapshots.old self.new channels.new snapshots.new) }
     {
         for done in 0..turns {
             if !self.run_once(channels, snapshots)? {
@@ -34,7 +36,8 @@ impl<P: Program> SinkTask<P> {
         channels: &mut C,
         snapshots: &mut S,
     ) -> Result<bool, RunFault>
-        ensures { IfOk result (λ b. SinksOnce P.program b C.deeds S.saved S.refused self.old channels.old snapshots.old self.new channels.new snapshots.new) }
+        ensures turned { IfOk result (λ b. SinksOnce P.program b C.deeds S.saved S.refused self.old channels.old snapshots.old self.new channels.new snapshots.new) }
+        ensures stopped { OnErr result (SinkStopsOnce P.program C.deeds S.saved S.refused self.old channels.old snapshots.old self.new channels.new snapshots.new) }
     {
         let Some(next) = channels.next(self.aligner())? else {
             return Ok(false);
