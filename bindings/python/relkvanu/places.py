@@ -55,9 +55,19 @@ def sync(folder: pathlib.Path) -> None:
         os.close(descriptor)
 
 
+def give(made: int, folder: pathlib.Path) -> None:
+    """Root gives what it has made in a folder, an open file or folder, to the user of that folder, who runs the engine."""
+    if os.geteuid() == 0:
+        owner = os.stat(folder)
+        os.fchown(made, owner.st_uid, owner.st_gid)
+
+
 def make_file(path: pathlib.Path, pieces: Any) -> int:
-    """Writes and syncs a file. Returns its length."""
-    with open(path, "wb") as file:
+    """Writes and syncs a file, in the place of one that is there. Returns its length."""
+    path.unlink(missing_ok=True)
+    # what the folder's user puts there meanwhile is not followed
+    with open(os.open(path, os.O_WRONLY | os.O_CREAT | os.O_EXCL | os.O_NOFOLLOW, 0o666), "wb") as file:
+        give(file.fileno(), path.parent)
         length = sum(file.write(it) for it in pieces)
         file.flush()
         os.fsync(file.fileno())
@@ -69,6 +79,11 @@ def make_folder(folder: pathlib.Path) -> None:
     if not folder.is_dir():
         make_folder(folder.parent)
         folder.mkdir(exist_ok=True)
+        made = os.open(folder, os.O_RDONLY | os.O_DIRECTORY | os.O_NOFOLLOW)
+        try:
+            give(made, folder.parent)
+        finally:
+            os.close(made)
         sync(folder.parent)
 
 

@@ -1,0 +1,46 @@
+"""What root makes in a job's folder belongs to the user of that folder, and nothing that this user puts there is followed."""
+import os
+import unittest
+
+from folders import InFolder
+from relkvanu.places import InFolder as Place
+
+USER, GROUP = 12345, 12346
+
+
+@unittest.skipIf(os.geteuid() != 0, "only root gives files away")
+class WhatRootMakes(InFolder):
+    def setUp(self):
+        super().setUp()
+        os.chown(self.path, USER, GROUP)
+
+    def owners(self, *names):
+        found = [os.lstat(self.path / name) for name in names]
+        return [(it.st_uid, it.st_gid) for it in found]
+
+    def test_it_is_the_users(self):
+        place = Place(self.path, at=".relkvanu.records/orders/")
+        place.write(place.manifest(7), b"one")
+        place.write(place.manifest(7), b"two")
+        self.assertEqual(place.read(place.manifest(7)), b"two")
+        names = (".relkvanu.records", ".relkvanu.records/orders", place.manifest(7))
+        self.assertEqual(self.owners(*names), [(USER, GROUP)] * 3)
+
+    def test_a_link_is_not_followed(self):
+        other = self.path.parent / "other"
+        other.write_bytes(b"root's")
+        for make in (os.symlink, os.link):
+            place = Place(self.path)
+            make(other, self.path / f"name{place.new}")
+            place.write("name", b"text")
+            self.assertEqual((other.read_bytes(), place.read("name"), other.stat().st_uid), (b"root's", b"text", 0))
+            self.assertEqual(self.owners("name"), [(USER, GROUP)])
+
+    def test_a_folder_of_roots_stays_so(self):
+        os.chown(self.path, 0, 0)
+        Place(self.path).write("name", b"text")
+        self.assertEqual(self.owners("name"), [(0, 0)])
+
+
+if __name__ == "__main__":
+    unittest.main()
