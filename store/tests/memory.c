@@ -414,14 +414,6 @@ static uint64_t lose_job(void) {
     return id;
 }
 
-/* Figures are not in manifests. */
-static bool note_recovered(void *with, const relkvanu_store_part *part) {
-    relkvanu_store_part told = *part;
-    CHECK(told.bytes == 0, "%" PRIu64 " bytes", told.bytes);
-    told.bytes = 7;
-    return note_part(with, &told);
-}
-
 /* A recovery without memory has done nothing, and the next one makes the job. */
 static unsigned recovers_without_memory(enum kind kind, bool is_for_good) {
     relkvanu_store_recovered recovered;
@@ -447,7 +439,7 @@ static unsigned recovers_without_memory(enum kind kind, bool is_for_good) {
     relkvanu_store_options options = job_options(RELKVANU_STORE_RECOVER, 0);
     options.storage = storage;
     CHECK(relkvanu_store_open(&store, path, &options, &report) == RELKVANU_STORE_OK, "%s", report.message);
-    CHECK(relkvanu_store_load(store, id, &loaded, note_recovered, &parts) == RELKVANU_STORE_OK && parts == SUBTASKS, "%zu parts", parts);
+    CHECK(relkvanu_store_load(store, id, &loaded, note_part, &parts) == RELKVANU_STORE_OK && parts == SUBTASKS, "%zu parts", parts);
     relkvanu_store_close(store);
     return (unsigned)nth;
 }
