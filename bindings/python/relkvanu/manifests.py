@@ -381,6 +381,7 @@ def go_on(source: Place, job: Path, target: Place) -> Recovered:
     """A claim whose job is there already, as the same call has left it before it ended, or an import: then the old job runs, and is fenced first."""
     record = imported(source, target)
     if record is None:
+        source.remove_itself()  # of a claim that was killed behind its last file
         raise StoreError("Present", f"{os.fspath(job)}: there is a job", False)
     it = members(manifests_of(target)[record])
     fence(source)

@@ -209,8 +209,8 @@ class InFolder:
         return {}
 
     def remove_itself(self) -> None:
-        """An exported folder that has nothing more."""
-        if not any(self.path.iterdir()):
+        """An exported folder that has nothing more. It may be gone already."""
+        if self.path.is_dir() and not any(self.path.iterdir()):
             self.path.rmdir()
 
     def opened(self, file: int) -> Any:

@@ -375,6 +375,8 @@ def import_job(recovery: Recovery, source: Place, record: int, claim: bool) -> I
     else:
         target.of(identity_of(marker))
         if manifests.imported(source, target) is None:
+            if claim:
+                source.remove_itself()  # of a claim that was killed behind its last file
             raise StoreError("Present", f"{target.url}: it is there, and is not empty", False)
         if claim:
             manifests.fence(source)  # an import may have left it, and then the old job runs
