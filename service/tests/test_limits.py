@@ -388,7 +388,7 @@ def test_since_when_a_job_is_served_and_was_restored():
         server = Server(at).start()
         job = Service(server.url).open("a", SETTINGS, [1])
         opened = job.state()["opened"] / 1000
-        names = [f'relkvanu_{name}_timestamp_seconds{{job_name="a"}}' for name in ("last_restored", "served_since")]
+        names = [f'{name}{{job_name="a"}}' for name in ("relkvanu_last_restored_timestamp_seconds", "relkvanu_served_since_timestamp_seconds")]
         assert metric(server, names[0]) == opened and abs(metric(server, names[1]) - opened) < 30
         job.call(restore())
         restored = job.state()["now"] / 1000

@@ -23,10 +23,12 @@ ELSEWHERE = {
     "relkvanu_image_failing": "test_put_off",
     "relkvanu_job_damaged": "test_damaged",
     "relkvanu_keys_behind_seconds": "test_upkeep",
+    "relkvanu_last_restored_timestamp_seconds": "test_limits",
     "relkvanu_leader": "test_lease_lengths",
     "relkvanu_oldest_file_age_seconds": "test_limits",
     "relkvanu_reload_failed": "test_security",
     "relkvanu_samples_behind_seconds": "test_upkeep",
+    "relkvanu_served_since_timestamp_seconds": "test_limits",
     "relkvanu_shards": "test_lease_lengths",
     "relkvanu_sweep_files_total": "test_sweep",
     "relkvanu_sweep_interval_seconds": "test_sweep",
@@ -40,7 +42,8 @@ OF_SETTINGS = {"relkvanu_interval_seconds": ((1 << 40) / 1000, 0.2), "relkvanu_t
 
 def named():
     with open(f"{SERVICE}/deploy/alerts.yml", encoding="utf-8") as it:
-        return set(re.findall(r"relkvanu_[a-z_]+", it.read())) - {"relkvanu_discard", "relkvanu_sweep"}
+        rules = re.sub(r'__name__=~"relkvanu_\((.*?)\)(\w+)"', lambda it: " ".join(f"relkvanu_{one}{it[2]}" for one in it[1].split("|")), it.read())
+    return set(re.findall(r"relkvanu_[a-z_]+", rules)) - {"relkvanu_discard", "relkvanu_sweep"}
 
 
 def without_buckets(name):
