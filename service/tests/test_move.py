@@ -810,7 +810,7 @@ def page_commands(after, at, port):
     """A block of docs/SERVICE-MOVE.md, over the databases of the test."""
     with open(f"{TOP}/docs/SERVICE-MOVE.md", encoding="utf-8") as it:
         block = it.read().partition(after)[2].split("```")[1]
-    block = re.sub(r"@db\.example/(\w+)\?passfile=pgpass", rf"@127.0.0.1:{port}/\1", block)
+    block = re.sub(r"@db\.example/(\w+)\?passfile=[\w/]*pgpass", rf"@127.0.0.1:{port}/\1", block)
     with open(f"{SERVICE}/deploy/operate", encoding="utf-8") as it:
         script = it.read().replace("/var/lib/relkvanu-units", f"{at}/noted").replace("/etc/systemd/system", f"{at}/units")
     with open(f"{at}/operate", "w", encoding="utf-8") as it:

@@ -418,7 +418,7 @@ def page_commands(after, port):
     with open(f"{TOP}/docs/SERVICE-BACKUP.md", encoding="utf-8") as it:
         block = it.read().partition(after)[2].split("```")[1]
     block = block.replace("/usr/local/lib/relkvanu/", f"{SERVICE}/deploy/")
-    return re.sub(r"@db\.example/(\w+)\?passfile=pgpass", rf"@127.0.0.1:{port}/\1", block)
+    return re.sub(r"@db\.example/(\w+)\?passfile=[\w/]*pgpass", rf"@127.0.0.1:{port}/\1", block)
 
 
 def test_the_page_restores_a_dump():
