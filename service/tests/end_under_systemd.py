@@ -47,9 +47,8 @@ def worked(**settings):
     """A job, its discarder and its sweeper, as the pages set them up. Its records are 40, each with a file: savepoint 12, and checkpoints, of which
     the second waits until the savepoint is there. One more file is begun, and its task ends before it is acknowledged. Returns the job."""
     job = service().open("orders", {"interval": 10, **settings}, [1], names=True)
-    as_the_page_says("discard")
-    until(lambda: os.path.exists(f"{FOLDER}/{MARKER}"))
-    as_the_page_says("sweep")
+    as_the_page_says("add")
+    assert os.path.exists(f"{FOLDER}/{MARKER}")
     task, last = job.begin().session(block=100), 0
     while last < RECORDS:
         until(lambda: pending(job))

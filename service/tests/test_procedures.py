@@ -3,6 +3,7 @@ runs, and within those that write much: no file is lost, and the same command do
 import itertools
 import json
 import os
+import pwd
 import re
 import shutil
 import subprocess
@@ -39,6 +40,10 @@ DAMAGED = {name: f"damaged {name}" for name in ("relkvanu.db", "relkvanu.db-wal"
 PUTS = '[ "$1" != put-back ] || case "$*" in *--checked*) ;; *) set -- "$@" --checked;; esac\n'
 
 
+# what the end of a process loses does not depend on it, and these commands sync each of many files
+NO_SYNC = {"sync": "true"}
+
+
 def content(path):
     with open(path, encoding="utf-8") as it:
         return it.read()
@@ -48,7 +53,7 @@ class Machine:
     """The files of a machine on which `operate` runs, with a systemctl that is made up. `program` are lines of the shell that stand for `relkvanu jobs`, and for what else
     this machine's program is not to do."""
 
-    def __init__(self, at, program=""):
+    def __init__(self, at, program="", **programs):
         self.at, self.lib, self.noted = at, f"{at}/lib/relkvanu", f"{at}/lib/relkvanu-units"
         script = content(f"{SERVICE}/deploy/operate")
         for old, new in (("/etc/systemd/system", f"{at}/units"), ("/etc/relkvanu", f"{at}/etc"), ("/var/lib", f"{at}/lib"), ("/run/", f"{at}/run/")):
@@ -56,7 +61,7 @@ class Machine:
         write(f"{at}/operate", script, 0o755)
         write(f"{at}/systemctl", SYSTEMCTL.replace("AT", at), 0o755)
         write(f"{at}/relkvanu", f'#!/bin/sh\n[ "$1" != jobs ] || exit 0\n{program}exec {PROGRAM} "$@"\n', 0o755)
-        self.steps = Steps(at, f"{at}/operate", WRITERS, systemctl=f"{at}/systemctl", relkvanu=f"{at}/relkvanu")
+        self.steps = Steps(at, f"{at}/operate", WRITERS, systemctl=f"{at}/systemctl", relkvanu=f"{at}/relkvanu", **programs)
         self.fill({})
 
     def fill(self, files, enabled=tuple(ENABLED)):
@@ -371,6 +376,102 @@ def test_the_end_of_a_job_takes_its_units():
         ended = machine.steps.ends(["end", "orders", "--folder", "/srv/orders"], fill, is_gone)
         assert ended > 20, ended
         return f"{ended} ends"
+
+
+def tree(at, *names):
+    """Each file of these folders, with its content and its mode."""
+    found = [f"{folder}/{name}" for it in names for folder, _, those in os.walk(f"{at}/{it}") for name in those]
+    return {path[len(at) + 1:]: ("link" if os.path.islink(path) else content(path), oct(os.lstat(path).st_mode & 0o777)) for path in found}
+
+
+def refusals(machine, cases, **environment):
+    """Words that are refused, with the status and a part of what is said: nothing changes."""
+    before = tree(machine.at, "etc", "units", "active", "lib", "usr")
+    for status, said, *words in cases:
+        found, told = machine.steps.run(*words, **environment)
+        assert found == status and said in told, (words, found, told)
+        assert tree(machine.at, "etc", "units", "active", "lib", "usr") == before, (words, told)
+
+
+UNITS_OF_A_JOB = {
+    "etc/discard-orders.conf": "FOLDER=AT/files\nOPTIONS=--url https://a:1 --prefix state- --suffix .bin --metrics 127.0.0.1:7782\n",
+    "etc/sweep-orders.conf": "FOLDER=AT/files\nOPTIONS=--url https://a:1 --prefix state- --suffix .bin --metrics 127.0.0.1:7783\nEVERY=15m\n",
+    "etc/discard-token": "secret\n", "etc/sweep-token": "secret\n",
+} | {f"units/relkvanu-{it}@orders.service.d/job.conf": "[Unit]\nRequiresMountsFor=AT/files\n[Service]\nUser=USER\nReadWritePaths=AT/files\n" for it in ("discard", "sweep")}
+
+
+def test_a_job_gets_its_units():
+    """Its discarder makes the marker, and its sweeper comes after that. Files of somebody stay as they are."""
+    with folder() as at:
+        machine, files = Machine(at, **NO_SYNC), f"{at}/files"
+        write(f"{at}/systemctl", content(f"{at}/systemctl").replace("    case $word in\n", f"""    case $word.$name in
+    enable.relkvanu-discard@orders.service) [ -n "${{ABSENT:-}}" ] || touch {files}/.relkvanu-orders;;
+    enable.relkvanu-sweep@*) [ -e {files}/.relkvanu-orders ] || exit 9;;
+    is-failed.*) [ -n "${{FAILED:-}}" ]; exit;;
+    cat.*) [ -z "${{NO_UNIT:-}}" ]; exit;;
+    esac
+    case $word in\n"""), 0o755)
+        write(f"{at}/bin/sleep", f"#!/bin/sh\necho >> {at}/slept\n", 0o755)
+        words = ["add", "orders", files, "--prefix", "state-", "--suffix", ".bin", "--metrics", "127.0.0.1:7782", "--every", "15m"]
+        mine = {"etc/write-token": "secret\n", "etc/discard-bills.conf": "FOLDER=/srv/bills\nOPTIONS=--metrics 127.0.0.1:7790\n"}
+
+        def fill():
+            machine.fill({}, ENABLED[:1])
+            shutil.rmtree(files, ignore_errors=True)
+            os.mkdir(files)
+            for name, text in mine.items():
+                write(f"{at}/{name}", text)
+
+        def is_added(gone=()):
+            user = pwd.getpwuid(os.stat(files).st_uid).pw_name
+            wanted = mine | {name: text.replace("AT", at).replace("USER", user) for name, text in UNITS_OF_A_JOB.items() if name not in gone}
+            found = tree(at, "etc", "units")
+            assert {name: it for name, (it, _) in found.items() if ".wants/" not in name} == wanted, found
+            assert found["etc/discard-token"][1] == found["etc/sweep-token"][1] == "0o600", found
+            machine.is_tidy()
+
+        def runs():
+            is_added()
+            assert machine.active() == machine.enabled() == sorted([ENABLED[0], "relkvanu.service", *JOBS[:2]]), machine.enabled()
+
+        settings = {"OPTIONS": "--url https://a:1"}
+        ended = machine.steps.ends(words, fill, runs, **settings)
+        before = tree(at, "etc", "units", "active")
+        assert machine.steps.run(*words, **settings)[0] == 0 and tree(at, "etc", "units", "active") == before
+        # the words of before are in no file of another one
+        refusals(machine, [(1, "discard-orders.conf is there, and says otherwise", *words[:3])], **settings)
+        # the discarder waits for the job, or fails
+        fill()
+        assert machine.steps.run(*words, ABSENT="1", **settings)[0] == 75 and machine.active() == sorted([ENABLED[0], JOBS[0], "relkvanu.service"])
+        assert content(f"{at}/slept").count("\n") == 300
+        status, told = machine.steps.run(*words, ABSENT="1", FAILED="1", **settings)
+        assert status == 1 and "relkvanu-discard@orders has failed" in told, told
+        assert machine.steps.run(*words, **settings)[0] == 0
+        runs()
+        check_what_add_refuses(machine, fill, files)
+        assert ended > 50, ended
+        return f"{ended} ends"
+
+
+def check_what_add_refuses(machine, fill, files):
+    fill()
+    write(f"{machine.at}/file", "")
+    refusals(machine, [
+        (2, "is no name of a job", "add", "../x", files), (2, "is no name of a job", "add", "a b", files), (2, "add JOB FOLDER", "add", "orders"),
+        (1, "there is no such folder", "add", "orders", f"{files}/none"), (1, "there is no such folder", "add", "orders", f"{machine.at}/file"),
+        (2, "from the root on", "add", "orders", "files"), (2, "can't be in settings", "add", "orders", f"{files}/a b"),
+        (2, "--init is no word of it", "add", "orders", files, "--init"), (2, "--prefix needs a value", "add", "orders", files, "--prefix"),
+        (2, "can't be in settings", "add", "orders", files, "--prefix", "a b"), (2, "can't be in settings", "add", "orders", files, "--suffix", "$x"),
+        *((2, "name an address and a port", "add", "orders", files, "--metrics", it) for it in ("7782", "a:", "a:b", "a:07")),
+        *((1, "has another unit", "add", "orders", files, "--metrics", f"127.0.0.1:{it}") for it in (7790, 7789)),
+    ])
+    refusals(machine, [(1, "is not installed", "add", "orders", files)], NO_UNIT="1")
+    os.remove(f"{machine.at}/etc/write-token")
+    refusals(machine, [(1, "write-token: there is no such file", "add", "orders", files)])
+    # a job without names has no sweeper
+    write(f"{machine.at}/etc/write-token", "secret\n")
+    assert machine.steps.run("add", "orders", files, "--every", "never")[0] == 0 and machine.enabled() == sorted([ENABLED[0], JOBS[0], "relkvanu.service"])
+    assert not os.path.exists(f"{machine.at}/etc/sweep-orders.conf") and content(f"{machine.at}/etc/discard-orders.conf") == f"FOLDER={files}\nOPTIONS=\n"
 
 
 def test_savepoint_files_come_back():
