@@ -435,7 +435,7 @@ def check_copies():
     check_a_copy(3, 1, is_whole=False)
     until(lambda: "-s relkvanu-copy@orders.service failed on" in mails())
     engine.stop()
-    for name in ("20-copies", "30-nobody"):
+    for name in ("20-copy-orders", "30-nobody"):
         os.remove(f"/etc/systemd/system/relkvanu-backup.service.d/{name}.conf")
     run("systemctl", "daemon-reload")
 
