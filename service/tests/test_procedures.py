@@ -588,6 +588,82 @@ def check_what_is_missing(backups, to):
                        (1, "pgpass: there is no such file", "dump", "postgres://a@b/c")])
 
 
+SCRIPTS = ("operate", "savepoint", "copy", "bring-back", "put-back-dump")
+
+
+def test_an_installation_from_the_repository():
+    """What is there already stays: settings, tokens, and another program. The service is started once all is in its place."""
+    with folder() as top:
+        at = f"{top}/service/deploy"
+        for name in (at, f"{top}/docs"):
+            os.makedirs(name)
+        machine = Machine(at, writers=SET_UP_WRITERS)
+        write(f"{at}/systemctl", content(f"{at}/systemctl").replace("    case $word in\n", f"""    case $word.$name in
+    enable.relkvanu.service) [ ! -d {at}/usr ] || [ -s {at}/etc/token -a -x {at}/usr/bin/relkvanu -a -s {at}/units/relkvanu.service ] || exit 9;;
+    esac
+    case $word in\n"""), 0o755)
+        deployed = {name: content(f"{SERVICE}/deploy/{name}") for name in ("relkvanu.service", "relkvanu-backup.timer", "relkvanu-sweep@.service", "service.toml")}
+        for name, text in (deployed | {name: f"#!/bin/sh\n# {name}\n" for name in SCRIPTS[1:]}).items():
+            write(f"{at}/{name}", text)
+        write(f"{top}/docs/SERVICE-FILES.md", "page")
+        write(f"{at}/built", "#!/bin/sh\n", 0o755)
+        tokens = f"read {'r' * 20}\nwrite {'w' * 20} name=me\n"
+        words = ["install", "built", "tokens", "write-token"]
+
+        def fill():
+            shutil.rmtree(f"{at}/usr", ignore_errors=True)
+            machine.fill({}, ())
+            subprocess.run([f"{at}/systemctl", "disable", "--now", "relkvanu"], check=True, timeout=COMMAND)
+            write(f"{at}/tokens", tokens)
+            write(f"{at}/write-token", "w" * 20 + "\n")
+
+        def is_placed(*, with_tokens=True):
+            wanted = {f"usr/lib/relkvanu/{name}": (content(f"{at}/{name}"), "0o755") for name in SCRIPTS}
+            wanted |= {f"units/{name}": (text, "0o644") for name, text in deployed.items() if name != "service.toml"}
+            wanted |= {"usr/bin/relkvanu": ("#!/bin/sh\n", "0o755"), "usr/share/doc/relkvanu/SERVICE-FILES.md": ("page", "0o644"), "etc/service.toml": (deployed["service.toml"], "0o644")}
+            wanted |= {"etc/token": (tokens, "0o600"), "etc/write-token": ("w" * 20 + "\n", "0o600")} if with_tokens else {}
+            found = tree(at, "etc", "units", "usr")
+            assert {name: it for name, it in found.items() if ".wants/" not in name} == wanted, set(found) ^ set(wanted)
+            assert machine.active() == machine.enabled() == ["relkvanu.service"] * with_tokens, machine.enabled()
+            machine.is_tidy()
+
+        def is_installed():
+            is_placed()
+            assert not os.path.exists(f"{at}/tokens") and not os.path.exists(f"{at}/write-token")
+
+        ended = machine.steps.ends(words, fill, is_installed)
+        # settings of somebody, and a repository with other units
+        write(f"{at}/etc/service.toml", "mine")
+        write(f"{at}/relkvanu.service", "new")
+        assert machine.steps.run(*words)[0] == 0 and content(f"{at}/etc/service.toml") == "mine" and content(f"{at}/units/relkvanu.service") == "new"
+        write(f"{at}/relkvanu.service", deployed["relkvanu.service"])
+        # without tokens nothing starts
+        fill()
+        assert machine.steps.run("install", "built")[0] == 0
+        is_placed(with_tokens=False)
+        check_what_an_installation_refuses(machine, fill)
+        assert ended > 20, ended
+        return f"{ended} ends"
+
+
+def check_what_an_installation_refuses(machine, fill):
+    at = machine.at
+    fill()
+    refusals(machine, [(2, "install PROGRAM", "install"), (2, "install PROGRAM", "install", "built", "tokens"), (1, "there is no such program", "install", "none"),
+                       (1, "none: there is no such file", "install", "built", "none", "write-token"), (1, "none: there is no such file", "install", "built", "tokens", "none")])
+    for text in ("x" * 20 + "\n", "r" * 20 + "\n", "w" * 19 + "\n", ""):
+        write(f"{at}/write-token", text)
+        refusals(machine, [(1, "has no line 'write' with the token", "install", "built", "tokens", "write-token")])
+    fill()
+    for name, text, said in (("etc/token", "read another\n", "is another one"), ("usr/bin/relkvanu", "another", "is another program")):
+        os.makedirs(os.path.dirname(f"{at}/{name}"), exist_ok=True)
+        write(f"{at}/{name}", text)
+        refusals(machine, [(1, said, "install", "built", "tokens", "write-token")])
+        os.remove(f"{at}/{name}")
+    os.rename(f"{at}/relkvanu.service", f"{at}/away")
+    refusals(machine, [(1, "is not service/deploy", "install", "built", "tokens", "write-token")])
+
+
 def test_savepoint_files_come_back():
     """All that are absent, or none. One that is there is not replaced, though it differs."""
     with folder() as at:
