@@ -17,7 +17,7 @@ SETTINGS = [f"/etc/systemd/system/{unit}.service.d" for unit in UNITS] + ["/etc/
 NOTES, TOKEN = "/var/lib/relkvanu-savepoint/orders", "/srv/token-orders"
 # How many records a job has here. The pages carry the last one out, and one before it is savepoint 12.
 RECORDS = 40
-DROP_IN = "/etc/systemd/system/relkvanu-backup.service.d/10-savepoints.conf"
+DROP_IN = "/etc/systemd/system/relkvanu-backup.service.d/10-savepoint-orders.conf"
 
 
 def service():
@@ -47,9 +47,8 @@ def worked(**settings):
     """A job, its discarder and its sweeper, as the pages set them up. Its records are 40, each with a file: savepoint 12, and checkpoints, of which
     the second waits until the savepoint is there. One more file is begun, and its task ends before it is acknowledged. Returns the job."""
     job = service().open("orders", {"interval": 10, **settings}, [1], names=True)
-    as_the_page_says("discard")
-    until(lambda: os.path.exists(f"{FOLDER}/{MARKER}"))
-    as_the_page_says("sweep")
+    as_the_page_says("add")
+    assert os.path.exists(f"{FOLDER}/{MARKER}")
     task, last = job.begin().session(block=100), 0
     while last < RECORDS:
         until(lambda: pending(job))
@@ -65,10 +64,8 @@ def worked(**settings):
 
 
 def no_savepoints_before_backups():
-    """The job is in no drop-in any more, and its notes are gone. Then a backup needs no savepoint of it."""
-    with open(DROP_IN, encoding="utf-8") as it:
-        text = it.read()
-    assert "orders" not in text and "[Service]" in text and not os.path.exists(NOTES), text
+    """The job has no drop-in any more, and its notes are gone. Then a backup needs no savepoint of it."""
+    assert not os.path.exists(DROP_IN) and not os.path.exists(NOTES)
     run("systemctl", "start", "relkvanu-backup")
 
 
@@ -171,6 +168,7 @@ def main():
         it.write(f"{WRITE}\n")
     as_the_page_says("timer")
     as_the_page_says("savepoint units")
+    assert os.path.exists(DROP_IN)
     told = {"recovered": check_a_lost_database(), "ended": check_the_end_of_a_job(), "kept": check_a_job_that_keeps_its_checkpoints(), "calls": check_the_old_machine_of_a_move()}
     print(json.dumps(told))
 

@@ -1,11 +1,13 @@
-"""The script of the savepoints, the unit of the backups and the drop-in of docs/SERVICE-BACKUP.md that makes dumps, over a folder, with programs that
+"""The script of the savepoints, the unit of the backups and the drop-in of `operate dump` that makes dumps, over a folder, with programs that
 are made up: a clock, a service and pg_dump."""
 import os
 import re
 import shutil
 import subprocess
 
-from harness import SERVICE, TOP, folder
+from harness import SERVICE, folder
+from stepped import write
+from test_procedures import Machine, content
 
 # Each run is a minute later. The savepoint N is triggered at 1000 + N. It tells what it disposes of. `{list}` prints the savepoints.
 PROGRAMS = {
@@ -203,11 +205,30 @@ def test_a_stopped_job_is_backed_up_without_a_savepoint():
         return "no savepoint, and the mark of the backup"
 
 
+def written():
+    """The drop-ins of the unit of the backups, as `operate` writes them on a machine with all of them."""
+    with folder() as at:
+        machine = Machine(at)
+        os.mkdir(f"{at}/files")
+        os.makedirs(f"{machine.lib}/../prometheus/node-exporter")
+        for name in ("write-token", "pgpass"):
+            write(f"{at}/etc/{name}", "")
+        for name in ("curl", "jq", "rsync", "mail", "pg_dump"):
+            write(f"{at}/bin/{name}", "#!/bin/sh\n", 0o755)
+        url = "postgres://relkvanu@db.example/relkvanu"
+        for words in (("dump", url, "orders"), ("copy", "orders", f"{at}/files", "backup.example:/srv/backup"), ("tell", "mail"), ("tell", "prometheus")):
+            status, told = machine.steps.run(*words)
+            assert status == 0, told
+        places = {f"{at}/backups": "/var/backups/relkvanu", f"{at}/etc": "/etc/relkvanu", f"{at}/lib": "/var/lib"}
+        place = re.compile("|".join(map(re.escape, places)))
+        drop_ins = {it.name: place.sub(lambda found: places[found[0]], content(it.path)) for it in os.scandir(f"{at}/units/relkvanu-backup.service.d")}
+        assert sorted(drop_ins) == ["05-dump.conf", "10-savepoint-orders.conf", "20-copy-orders.conf", "failure.conf", "metric.conf"], drop_ins
+        return drop_ins
+
+
 def test_the_unit_makes_dumps():
-    """By the drop-in of the page: a dump has its name once it is whole, and the 14 newest of copies and dumps stay."""
-    with open(f"{TOP}/docs/SERVICE-BACKUP.md", encoding="utf-8") as it:
-        page = it.read()
-    drop_ins = {name: page.split(f"{name} << 'END'\n")[1].partition("END\n")[0] for name in ("05-dump.conf", "10-savepoints.conf", "20-copies.conf")}
+    """By the drop-in that `operate` writes: a dump has its name once it is whole, and the 14 newest of copies and dumps stay."""
+    drop_ins = written()
     with folder() as at:
         environment, make = made_up(at), started(drop_ins["05-dump.conf"], at)
         # copies of before a move to PostgreSQL

@@ -3,6 +3,7 @@ runs, and within those that write much: no file is lost, and the same command do
 import itertools
 import json
 import os
+import pwd
 import re
 import shutil
 import subprocess
@@ -16,6 +17,8 @@ from test_put_back import made_copy
 JOBS = ["relkvanu-discard@orders.service", "relkvanu-sweep@orders.service", "relkvanu-discard@bills.service"]
 ENABLED = sorted(["relkvanu-backup.timer", *JOBS])
 WRITERS = ("tee", "sync", "mv", "mkdir", "rm", "cp", "install", "find", "cmp")
+# of commands that sync each of many files: to end before a sync, or after it, is to end after or before its neighbours
+SET_UP_WRITERS = tuple(it for it in WRITERS if it != "sync")
 # Units are enabled by links, and active by files. A service that starts writes a log beside its database, if LOG says so.
 SYSTEMCTL = """#!/bin/sh
 word=$1; shift
@@ -48,15 +51,16 @@ class Machine:
     """The files of a machine on which `operate` runs, with a systemctl that is made up. `program` are lines of the shell that stand for `relkvanu jobs`, and for what else
     this machine's program is not to do."""
 
-    def __init__(self, at, program=""):
+    def __init__(self, at, program="", writers=WRITERS):
         self.at, self.lib, self.noted = at, f"{at}/lib/relkvanu", f"{at}/lib/relkvanu-units"
         script = content(f"{SERVICE}/deploy/operate")
-        for old, new in (("/etc/systemd/system", f"{at}/units"), ("/etc/relkvanu", f"{at}/etc"), ("/var/lib", f"{at}/lib"), ("/run/", f"{at}/run/")):
-            script = script.replace(old, new)
+        places = {"/etc/systemd/system": "units", "/etc/relkvanu": "etc", "/var/lib": "lib", "/var/backups/relkvanu": "backups", "/usr/local": "usr", "/run/": "run/"}
+        for old, new in places.items():
+            script = script.replace(old, f"{at}/{new}")
         write(f"{at}/operate", script, 0o755)
         write(f"{at}/systemctl", SYSTEMCTL.replace("AT", at), 0o755)
         write(f"{at}/relkvanu", f'#!/bin/sh\n[ "$1" != jobs ] || exit 0\n{program}exec {PROGRAM} "$@"\n', 0o755)
-        self.steps = Steps(at, f"{at}/operate", WRITERS, systemctl=f"{at}/systemctl", relkvanu=f"{at}/relkvanu")
+        self.steps = Steps(at, f"{at}/operate", writers, systemctl=f"{at}/systemctl", relkvanu=f"{at}/relkvanu")
         self.fill({})
 
     def fill(self, files, enabled=tuple(ENABLED)):
@@ -339,12 +343,12 @@ def test_the_end_of_a_job_takes_its_units():
                                "ReadWritePaths=-/var/lib/relkvanu-savepoint\nExecStartPost=/bin/rm /var/lib/relkvanu-savepoint/orders/new\n"
                                "ExecStartPost=/bin/rm /var/lib/relkvanu-savepoint/orders2/new\n"),
         "20-copies.conf": "[Unit]\nOnSuccess=relkvanu-copy@orders.service\nOnFailure=relkvanu-copy@orders.service\n",
-        "other.conf": "[Service]\nNice=1\n",
+        "other.conf": "[Service]\nNice=1\n", "10-savepoint-orders2.conf": "[Unit]\nWants=relkvanu-savepoint@orders2.service\n",
     }
     wanted = {
         "10-savepoints.conf": ("[Unit]\nWants= relkvanu-savepoint@orders2.service\n[Service]\nReadWritePaths=-/var/lib/relkvanu-savepoint\n"
                                "ExecStartPost=/bin/rm /var/lib/relkvanu-savepoint/orders2/new\n"),
-        "20-copies.conf": "[Unit]\n", "other.conf": drop_ins["other.conf"],
+        "20-copies.conf": "[Unit]\n", "other.conf": drop_ins["other.conf"], "10-savepoint-orders2.conf": drop_ins["10-savepoint-orders2.conf"],
     }
     with folder() as at:
         machine = Machine(at)
@@ -356,6 +360,8 @@ def test_the_end_of_a_job_takes_its_units():
                 write(f"{at}/etc/{name}", "")
             for name in ("relkvanu-backup.service.d", "relkvanu-discard@orders.service.d", "relkvanu-discard@bills.service.d"):
                 os.mkdir(f"{at}/units/{name}")
+            for name in ("10-savepoint-orders.conf", "20-copy-orders.conf"):
+                write(f"{at}/units/relkvanu-backup.service.d/{name}", "")
             for name, text in drop_ins.items():
                 write(f"{at}/units/relkvanu-backup.service.d/{name}", text.replace("/var/lib", f"{at}/lib"))
             os.makedirs(f"{at}/lib/relkvanu-savepoint/orders")
@@ -371,6 +377,291 @@ def test_the_end_of_a_job_takes_its_units():
         ended = machine.steps.ends(["end", "orders", "--folder", "/srv/orders"], fill, is_gone)
         assert ended > 20, ended
         return f"{ended} ends"
+
+
+def tree(at, *names):
+    """Each file of these folders, with its content and its mode."""
+    found = [f"{folder}/{name}" for it in names for folder, _, those in os.walk(f"{at}/{it}") for name in those]
+    return {path[len(at) + 1:]: ("link" if os.path.islink(path) else content(path), oct(os.lstat(path).st_mode & 0o777)) for path in found}
+
+
+def refusals(machine, cases, **environment):
+    """Words that are refused, with the status and a part of what is said: nothing changes."""
+    before = tree(machine.at, "etc", "units", "active", "lib", "usr")
+    for status, said, *words in cases:
+        found, told = machine.steps.run(*words, **environment)
+        assert found == status and said in told, (words, found, told)
+        assert tree(machine.at, "etc", "units", "active", "lib", "usr") == before, (words, told)
+
+
+UNITS_OF_A_JOB = {
+    "etc/discard-orders.conf": "FOLDER=AT/files\nOPTIONS=--url https://a:1 --prefix state- --suffix .bin --metrics 127.0.0.1:7782\n",
+    "etc/sweep-orders.conf": "FOLDER=AT/files\nOPTIONS=--url https://a:1 --prefix state- --suffix .bin --metrics 127.0.0.1:7783\nEVERY=15m\n",
+    "etc/discard-token": "secret\n", "etc/sweep-token": "secret\n",
+} | {f"units/relkvanu-{it}@orders.service.d/job.conf": "[Unit]\nRequiresMountsFor=AT/files\n[Service]\nUser=USER\nReadWritePaths=AT/files\n" for it in ("discard", "sweep")}
+
+
+def test_a_job_gets_its_units():
+    """Its discarder makes the marker, and its sweeper comes after that. Files of somebody stay as they are."""
+    with folder() as at:
+        machine, files = Machine(at, writers=SET_UP_WRITERS), f"{at}/files"
+        write(f"{at}/systemctl", content(f"{at}/systemctl").replace("    case $word in\n", f"""    case $word.$name in
+    enable.relkvanu-discard@orders.service) [ -n "${{ABSENT:-}}" ] || touch {files}/.relkvanu-orders;;
+    enable.relkvanu-sweep@*) [ -e {files}/.relkvanu-orders ] || exit 9;;
+    is-failed.*) [ -n "${{FAILED:-}}" ]; exit;;
+    cat.*) [ -z "${{NO_UNIT:-}}" ]; exit;;
+    esac
+    case $word in\n"""), 0o755)
+        write(f"{at}/bin/sleep", f"#!/bin/sh\necho >> {at}/slept\n", 0o755)
+        words = ["add", "orders", files, "--prefix", "state-", "--suffix", ".bin", "--metrics", "127.0.0.1:7782", "--every", "15m"]
+        mine = {"etc/write-token": "secret\n", "etc/discard-bills.conf": "FOLDER=/srv/bills\nOPTIONS=--metrics 127.0.0.1:7790\n"}
+
+        def fill():
+            machine.fill({}, ENABLED[:1])
+            shutil.rmtree(files, ignore_errors=True)
+            os.mkdir(files)
+            for name, text in mine.items():
+                write(f"{at}/{name}", text)
+
+        def is_added(gone=()):
+            user = pwd.getpwuid(os.stat(files).st_uid).pw_name
+            wanted = mine | {name: text.replace("AT", at).replace("USER", user) for name, text in UNITS_OF_A_JOB.items() if name not in gone}
+            found = tree(at, "etc", "units")
+            assert {name: it for name, (it, _) in found.items() if ".wants/" not in name} == wanted, found
+            assert found["etc/discard-token"][1] == found["etc/sweep-token"][1] == "0o600", found
+            machine.is_tidy()
+
+        def runs():
+            is_added()
+            assert machine.active() == machine.enabled() == sorted([ENABLED[0], "relkvanu.service", *JOBS[:2]]), machine.enabled()
+
+        settings = {"OPTIONS": "--url https://a:1"}
+        ended = machine.steps.ends(words, fill, runs, **settings)
+        before = tree(at, "etc", "units", "active")
+        assert machine.steps.run(*words, **settings)[0] == 0 and tree(at, "etc", "units", "active") == before
+        # the words of before are in no file of another one
+        refusals(machine, [(1, "discard-orders.conf is there, and says otherwise", *words[:3])], **settings)
+        # the discarder waits for the job, or fails
+        fill()
+        assert machine.steps.run(*words, ABSENT="1", **settings)[0] == 75 and machine.active() == sorted([ENABLED[0], JOBS[0], "relkvanu.service"])
+        assert content(f"{at}/slept").count("\n") == 300
+        status, told = machine.steps.run(*words, ABSENT="1", FAILED="1", **settings)
+        assert status == 1 and "relkvanu-discard@orders has failed" in told, told
+        assert machine.steps.run(*words, **settings)[0] == 0
+        runs()
+        check_what_add_refuses(machine, fill, files)
+        assert ended > 40, ended
+        return f"{ended} ends"
+
+
+def check_what_add_refuses(machine, fill, files):
+    fill()
+    write(f"{machine.at}/file", "")
+    refusals(machine, [
+        (2, "is no name of a job", "add", "../x", files), (2, "is no name of a job", "add", "a b", files), (2, "add JOB FOLDER", "add", "orders"),
+        (1, "there is no such folder", "add", "orders", f"{files}/none"), (1, "there is no such folder", "add", "orders", f"{machine.at}/file"),
+        (2, "from the root on", "add", "orders", "files"), (2, "can't be in settings", "add", "orders", f"{files}/a b"),
+        (2, "--init is no word of it", "add", "orders", files, "--init"), (2, "--prefix needs a value", "add", "orders", files, "--prefix"),
+        (2, "can't be in settings", "add", "orders", files, "--prefix", "a b"), (2, "can't be in settings", "add", "orders", files, "--suffix", "$x"),
+        *((2, "name an address and a port", "add", "orders", files, "--metrics", it) for it in ("7782", "a:", "a:b", "a:07")),
+        *((1, "has another unit", "add", "orders", files, "--metrics", f"127.0.0.1:{it}") for it in (7790, 7789)),
+    ])
+    refusals(machine, [(1, "is not installed", "add", "orders", files)], NO_UNIT="1")
+    os.remove(f"{machine.at}/etc/write-token")
+    refusals(machine, [(1, "write-token: there is no such file", "add", "orders", files)])
+    # a job without names has no sweeper
+    write(f"{machine.at}/etc/write-token", "secret\n")
+    assert machine.steps.run("add", "orders", files, "--every", "never")[0] == 0 and machine.enabled() == sorted([ENABLED[0], JOBS[0], "relkvanu.service"])
+    assert not os.path.exists(f"{machine.at}/etc/sweep-orders.conf") and content(f"{machine.at}/etc/discard-orders.conf") == f"FOLDER={files}\nOPTIONS=\n"
+
+
+DROP_INS = "units/relkvanu-backup.service.d"
+TELLS = "[Unit]\nOnFailure=tell-failed@%n.service\n"
+# The files that each makes, beside the token.
+SET_UPS = {
+    ("back-up", "bills.2"): {f"{DROP_INS}/10-savepoint-bills.2.conf": (
+        "[Unit]\nWants=relkvanu-savepoint@bills.2.service\n[Service]\nReadWritePaths=-AT/lib/relkvanu-savepoint\n"
+        "ExecStartPost=/bin/rm AT/lib/relkvanu-savepoint/bills.2/new\n")},
+    ("dump", "postgres://relkvanu@db.example/relkvanu?sslmode=require"): {f"{DROP_INS}/05-dump.conf": None},
+    ("copy", "orders", "AT/files", "backup.example:/srv/backup/orders", "--prefix", "state-", "--backups-to", "backup.example:/srv/backup/relkvanu"): {
+        "etc/copy-orders.conf": ('FOLDER=AT/files\nPREFIX=state-\nSUFFIX=\nTO=backup.example:/srv/backup/orders\nBACKUPS_TO=backup.example:/srv/backup/relkvanu\n'
+                                 'URL="https://a:1 https://b:2"\n'),
+        f"{DROP_INS}/20-copy-orders.conf": "[Unit]\nOnSuccess=relkvanu-copy@orders.service\nOnFailure=relkvanu-copy@orders.service\n",
+        f"{DROP_INS}/10-savepoint-orders.conf": None},
+    ("tell", "mail"): {"units/tell-failed@.service": None} | {f"units/{it}.service.d/failure.conf": TELLS for it in ("relkvanu-backup", "relkvanu-savepoint@", "relkvanu-copy@")},
+    ("tell", "prometheus"): {f"{DROP_INS}/metric.conf": None},
+}
+
+
+class Backups:
+    """A machine with the programs that backups need."""
+
+    def __init__(self, at):
+        self.at, self.machine = at, Machine(at, writers=SET_UP_WRITERS)
+        write(f"{at}/systemctl", content(f"{at}/systemctl").replace("    case $word in\n", '    [ "$word.${NO_UNIT:-}" != "cat.$it" ] || exit 1\n    case $word in\n'), 0o755)
+        for name in ("curl", "jq", "rsync", "mail", "pg_dump"):
+            write(f"{at}/bin/{name}", "#!/bin/sh\n", 0o755)
+
+    def fill(self):
+        self.machine.fill({}, ())
+        shutil.rmtree(f"{self.at}/backups", ignore_errors=True)
+        for name in ("files", "lib/prometheus/node-exporter"):
+            os.makedirs(f"{self.at}/{name}", exist_ok=True)
+        for name in ("write-token", "pgpass"):
+            write(f"{self.at}/etc/{name}", "secret\n")
+
+    def check(self, words, wanted):
+        """These files are there and no other, the unit of the night is enabled, and its folder is its user's alone."""
+        found = tree(self.at, "etc", "units")
+        there = {name for name in found if ".wants/" not in name} - {"etc/write-token", "etc/pgpass", "etc/savepoint-token", "etc/savepoint.conf"}
+        assert there == set(wanted), (words, there)
+        for name, text in wanted.items():
+            assert text is None or found[name][0] == text.replace("AT", self.at), (words, name, found[name])
+        if words[0] != "tell":
+            assert self.machine.enabled() == self.machine.active() == ["relkvanu-backup.timer", "relkvanu.service"], words
+            assert os.stat(f"{self.at}/backups").st_mode & 0o777 == 0o700, words
+        is_asked = any("savepoint" in name for name in wanted) and words[0] != "tell"
+        assert found.get("etc/savepoint-token") == (("secret\n", "0o600") if is_asked else None), (words, found)
+        assert content(f"{self.at}/etc/savepoint.conf") == "OPTIONS=--url https://a:1 --url https://b:2\n" if is_asked else "etc/savepoint.conf" not in found, words
+        self.machine.is_tidy()
+
+
+def test_backups_get_their_units():
+    with folder() as at:
+        backups, options = Backups(at), {"OPTIONS": "--url https://a:1 --url https://b:2"}
+        machine, ended = backups.machine, 0
+        for words, wanted in SET_UPS.items():
+            words = [it.replace("AT", at) for it in words]
+            ended += machine.steps.ends(words, backups.fill, lambda words=words, wanted=wanted: backups.check(words, wanted), **options)
+            before = tree(at, "etc", "units", "active")
+            assert machine.steps.run(*words, **options)[0] == 0 and tree(at, "etc", "units", "active") == before, words
+        check_what_backups_refuse(backups, options)
+        # one after the other, as on a machine with all of them, and then a job more
+        backups.fill()
+        for words in SET_UPS:
+            assert machine.steps.run(*(it.replace("AT", at) for it in words), **options)[0] == 0, words
+        before = tree(at, "etc", "units")
+        assert machine.steps.run("back-up", "more", "orders", "third")[0] == 0
+        after = tree(at, "etc", "units")
+        assert set(after) - set(before) == {f"{DROP_INS}/10-savepoint-{job}.conf" for job in ("more", "third")} and before.items() <= after.items()
+        assert ended > 80, ended
+        return f"{ended} ends"
+
+
+def check_what_backups_refuse(backups, options):
+    machine, at = backups.machine, backups.at
+    backups.fill()
+    write(f"{at}/etc/copy-bills.conf", "FOLDER=/srv/bills\n")
+    os.mkdir(f"{at}/{DROP_INS}")
+    write(f"{at}/{DROP_INS}/own.conf", "[Unit]\nWants=relkvanu-savepoint@own.service\nOnSuccess=relkvanu-copy@own2.service\n")
+    to = "backup.example:/srv/backup"
+    refusals(machine, [
+        (2, "is no name of a job", "back-up", "orders", "../x"), (2, "is no name of a job", "copy", "", f"{at}/files", to), (1, "own.conf", "back-up", "own"),
+        (2, "copy JOB FOLDER TO", "copy", "orders", f"{at}/files"), (1, "there is no such folder", "copy", "orders", f"{at}/none", to),
+        (2, "can't be in settings", "copy", "orders", f"{at}/files", "a b"), (2, "--metrics is no word of it", "copy", "orders", f"{at}/files", to, "--metrics", "a:1"),
+        (1, "copy-bills.conf is there, and says otherwise", "copy", "bills", f"{at}/files", to), (1, "own.conf", "copy", "own2", f"{at}/files", to),
+        (2, "dump URL", "dump"), (2, "dump URL", "dump", "relkvanu.db"), (2, "dump URL", "dump", "postgres://db.example"),
+        (2, "can't be in settings", "dump", "postgres://a@b/c?passfile=pgpass"), (2, "can't be in settings", "dump", "postgres://a@b/c'"), (2, "can't be in settings", "dump", "postgres://a@b/$c"),
+        (2, "is no name of a job", "dump", "postgres://a@b/c", "../x"), (2, "tell mail, or", "tell"), (2, "tell mail, or", "tell", "nobody"),
+    ], **options)
+    for unit, *words in (("relkvanu-backup.timer", "back-up"), ("relkvanu-savepoint@orders", "back-up", "orders"), ("relkvanu-copy@orders", "copy", "orders", f"{at}/files", to)):
+        refusals(machine, [(1, f"the unit {unit} is not installed", *words)], NO_UNIT=unit)
+    check_what_is_missing(backups, to)
+
+
+def check_what_is_missing(backups, to):
+    """Programs, tokens and folders that these set-ups need."""
+    machine, at = backups.machine, backups.at
+    os.mkdir(f"{at}/few")
+    for name in ("cat", "dirname", "grep", "paste", "sed"):
+        os.symlink(shutil.which(name), f"{at}/few/{name}")
+    copy = ("copy", "orders", f"{at}/files", to)
+    for name, *words in (("jq", "back-up", "orders"), ("rsync", *copy), ("curl", *copy), ("mail", "tell", "mail"), ("pg_dump", "dump", "postgres://a@b/c")):
+        os.rename(f"{at}/bin/{name}", f"{at}/{name}.away")
+        refusals(machine, [(78, f"the program {name} is missing", *words)], PATH=f"{at}/bin:{at}/few")
+        os.rename(f"{at}/{name}.away", f"{at}/bin/{name}")
+    os.rmdir(f"{at}/lib/prometheus/node-exporter")
+    refusals(machine, [(78, "there is no such folder", "tell", "prometheus")])
+    for name in ("write-token", "pgpass"):
+        os.remove(f"{at}/etc/{name}")
+    refusals(machine, [(1, "write-token: there is no such file", "back-up", "orders"), (1, "write-token: there is no such file", *copy),
+                       (1, "pgpass: there is no such file", "dump", "postgres://a@b/c")])
+
+
+SCRIPTS = ("operate", "savepoint", "copy", "bring-back", "put-back-dump")
+
+
+def test_an_installation_from_the_repository():
+    """What is there already stays: settings, tokens, and another program. The service is started once all is in its place."""
+    with folder() as top:
+        at = f"{top}/service/deploy"
+        for name in (at, f"{top}/docs"):
+            os.makedirs(name)
+        machine = Machine(at, writers=SET_UP_WRITERS)
+        write(f"{at}/systemctl", content(f"{at}/systemctl").replace("    case $word in\n", f"""    case $word.$name in
+    enable.relkvanu.service) [ ! -d {at}/usr ] || [ -s {at}/etc/token -a -x {at}/usr/bin/relkvanu -a -s {at}/units/relkvanu.service ] || exit 9;;
+    esac
+    case $word in\n"""), 0o755)
+        deployed = {name: content(f"{SERVICE}/deploy/{name}") for name in ("relkvanu.service", "relkvanu-backup.timer", "relkvanu-sweep@.service", "service.toml")}
+        for name, text in (deployed | {name: f"#!/bin/sh\n# {name}\n" for name in SCRIPTS[1:]}).items():
+            write(f"{at}/{name}", text)
+        write(f"{top}/docs/SERVICE-FILES.md", "page")
+        write(f"{at}/built", "#!/bin/sh\n", 0o755)
+        tokens = f"read {'r' * 20}\nwrite {'w' * 20} name=me\n"
+        words = ["install", "built", "tokens", "write-token"]
+
+        def fill():
+            shutil.rmtree(f"{at}/usr", ignore_errors=True)
+            machine.fill({}, ())
+            subprocess.run([f"{at}/systemctl", "disable", "--now", "relkvanu"], check=True, timeout=COMMAND)
+            write(f"{at}/tokens", tokens)
+            write(f"{at}/write-token", "w" * 20 + "\n")
+
+        def is_placed(*, with_tokens=True):
+            wanted = {f"usr/lib/relkvanu/{name}": (content(f"{at}/{name}"), "0o755") for name in SCRIPTS}
+            wanted |= {f"units/{name}": (text, "0o644") for name, text in deployed.items() if name != "service.toml"}
+            wanted |= {"usr/bin/relkvanu": ("#!/bin/sh\n", "0o755"), "usr/share/doc/relkvanu/SERVICE-FILES.md": ("page", "0o644"), "etc/service.toml": (deployed["service.toml"], "0o644")}
+            wanted |= {"etc/token": (tokens, "0o600"), "etc/write-token": ("w" * 20 + "\n", "0o600")} if with_tokens else {}
+            found = tree(at, "etc", "units", "usr")
+            assert {name: it for name, it in found.items() if ".wants/" not in name} == wanted, set(found) ^ set(wanted)
+            assert machine.active() == machine.enabled() == ["relkvanu.service"] * with_tokens, machine.enabled()
+            machine.is_tidy()
+
+        def is_installed():
+            is_placed()
+            assert not os.path.exists(f"{at}/tokens") and not os.path.exists(f"{at}/write-token")
+
+        ended = machine.steps.ends(words, fill, is_installed)
+        # settings of somebody, and a repository with other units
+        write(f"{at}/etc/service.toml", "mine")
+        write(f"{at}/relkvanu.service", "new")
+        assert machine.steps.run(*words)[0] == 0 and content(f"{at}/etc/service.toml") == "mine" and content(f"{at}/units/relkvanu.service") == "new"
+        write(f"{at}/relkvanu.service", deployed["relkvanu.service"])
+        # without tokens nothing starts
+        fill()
+        assert machine.steps.run("install", "built")[0] == 0
+        is_placed(with_tokens=False)
+        check_what_an_installation_refuses(machine, fill)
+        assert ended > 20, ended
+        return f"{ended} ends"
+
+
+def check_what_an_installation_refuses(machine, fill):
+    at = machine.at
+    fill()
+    refusals(machine, [(2, "install PROGRAM", "install"), (2, "install PROGRAM", "install", "built", "tokens"), (1, "there is no such program", "install", "none"),
+                       (1, "none: there is no such file", "install", "built", "none", "write-token"), (1, "none: there is no such file", "install", "built", "tokens", "none")])
+    for text in ("x" * 20 + "\n", "r" * 20 + "\n", "w" * 19 + "\n", ""):
+        write(f"{at}/write-token", text)
+        refusals(machine, [(1, "has no line 'write' with the token", "install", "built", "tokens", "write-token")])
+    fill()
+    for name, text, said in (("etc/token", "read another\n", "is another one"), ("usr/bin/relkvanu", "another", "is another program")):
+        os.makedirs(os.path.dirname(f"{at}/{name}"), exist_ok=True)
+        write(f"{at}/{name}", text)
+        refusals(machine, [(1, said, "install", "built", "tokens", "write-token")])
+        os.remove(f"{at}/{name}")
+    os.rename(f"{at}/relkvanu.service", f"{at}/away")
+    refusals(machine, [(1, "is not service/deploy", "install", "built", "tokens", "write-token")])
 
 
 def test_savepoint_files_come_back():

@@ -33,10 +33,10 @@ def commands():
             text += it.read()
     places = {
         "install": "## The unit", "backup": "**SQLite**, while", "timer": "relkvanu-backup.timer) makes", "restore": "Step 2 over SQLite.",
-        "savepoints": "**To choose the record yourself**", "from backup": "**Restore each job.**", "orphans": "**Files that nobody acknowledged, of a job", "discard": "### As a service",
-        "sweep": "runs the sweeper likewise", "init": "For an option that is for one", "upgrade": "`operate upgrade` is for a program",
+        "savepoints": "**To choose the record yourself**", "from backup": "**Restore each job.**", "orphans": "**Files that nobody acknowledged, of a job", "add": "### As a service",
+        "init": "For an option that is for one", "upgrade": "`operate upgrade` is for a program",
         "way back": "If the start ends with 78 all the same", "savepoint units": "**The timer takes no savepoint.**", "savepoints over TLS": "**Over TLS, or if the service",
-        "try savepoints": "**Try it once** while", "mail": "- **By mail**, with", "metric": "- **By Prometheus**, with",
+        "try savepoints": "**Try it once** while", "mail": "- **By mail** to root", "metric": "- **By Prometheus**, with",
         "copies": "**The state files need a copy",
         "address": "**The address.**", "discarders": "**Let the discarders run**", "moved": "1. **Leave the old machine.**",
         "try": "## To try a restore\n",

@@ -435,7 +435,7 @@ def check_copies():
     check_a_copy(3, 1, is_whole=False)
     until(lambda: "-s relkvanu-copy@orders.service failed on" in mails())
     engine.stop()
-    for name in ("20-copies", "30-nobody"):
+    for name in ("20-copy-orders", "30-nobody"):
         os.remove(f"/etc/systemd/system/relkvanu-backup.service.d/{name}.conf")
     run("systemctl", "daemon-reload")
 
@@ -480,8 +480,8 @@ def check_the_discarder():
     run("useradd", "--system", "orders")
     os.makedirs("/srv/orders")
     shutil.chown("/srv/orders", "orders")
-    as_the_page_says("discard")
-    until(lambda: os.path.exists(marker))
+    as_the_page_says("add")
+    assert os.path.exists(marker)
     for number in (7, 8):
         path = state_file(number)
         told = request("POST", "/v1/jobs/orders/calls", {"calls": [{"call": "savepoint"}]}, f"savepoint {number}")
@@ -507,7 +507,6 @@ def check_the_discarder():
 def check_the_sweeper():
     """It has the token of its drop-in. The job gives out no names, so it ends: somebody has to look."""
     unit, drop_in = "relkvanu-sweep@orders", "/etc/systemd/system/relkvanu-sweep@orders.service.d"
-    as_the_page_says("sweep")
     until(lambda: property_of("ActiveState", unit) == "failed")
     assert property_of("ExecMainStatus", unit) == "78" and property_of("NRestarts", unit) == "0", run("systemctl", "status", unit, check=False)
     assert "fence JOB N" in journal(unit)
