@@ -2,7 +2,8 @@
 """faults/kill_chained.py KILLS [SEED]: runs chained.py of docs/CUT.md and mini.py and mini-rust of docs/RUNNER.md, kills a process of theirs KILLS times, and
 looks at what they published: each number of each source once, in its order, and the sums of one run. A job whose files were put back, as a backup is, has to
 refuse to publish a number again, and one whose transaction is lost has to refuse to start. Its status tells a supervisor when to start it again. One that
-dies between a stop and its publication publishes at the next start. SIGTERM and Ctrl-C stop an engine by the runner with all published, and savepoints that
+dies between a stop and its publication publishes at the next start. A worker that stands still keeps its target: the start beside it ends, and names it.
+SIGTERM and Ctrl-C stop an engine by the runner with all published, and savepoints that
 it is asked for meanwhile publish nothing. Then wrong engines have to be found wrong: of the first one that does not align, one that publishes at its cut, and
 one that does not publish again at its start, and of the second one that publishes what it prepared for records after the one that it begins from.
 RELKVANU_LIB names the folder of the library."""
@@ -72,10 +73,10 @@ class Job:
     def published(self):
         return sorted(int(it.stem) for it in (self.folder / "target").glob("*.published"))
 
-    def start(self, last, *words):
+    def start(self, last, *words, stderr=subprocess.DEVNULL):
         new = [] if (self.folder / "job.db").exists() else ["new"]
         # what is left of a job that was killed says so on its standard error; a shell that runs this beside others may ignore Ctrl-C
-        return subprocess.Popen([*self.words, self.folder, str(last), *new, *words], cwd=self.folder, stderr=subprocess.DEVNULL,
+        return subprocess.Popen([*self.words, self.folder, str(last), *new, *words], cwd=self.folder, stderr=stderr,
                                 preexec_fn=lambda: signal.signal(signal.SIGINT, signal.SIG_DFL))
 
     def publishing(self, *words):
@@ -224,6 +225,29 @@ it.runner.run()"""
     return fault is None
 
 
+def names_a_worker(samples, texts):
+    """Whether a start of chained.py ends and names the worker that stands still and has the target, and a start goes on once that one was ended."""
+    job = Job(samples / "stands", "chained.py", samples, texts)
+    driver = job.publishing()
+    worker = int(subprocess.run(["pgrep", "-P", str(driver.pid)], check=True, stdout=subprocess.PIPE).stdout)
+    os.kill(worker, signal.SIGSTOP)
+    driver.kill()
+    driver.wait(SECONDS)
+    before, beside = job.published(), job.start(1 << 62, stderr=subprocess.PIPE)
+    try:
+        _, told = beside.communicate(timeout=SECONDS)
+        after = job.published()
+    finally:
+        beside.kill()
+        os.kill(worker, signal.SIGKILL)
+    status = job.start(before[-1] + 5).wait(SECONDS)
+    fault = job.fault()
+    right = beside.returncode == 1 and f"process {worker}, has not ended".encode() in told and (after, status, fault) == (before, 0, None)
+    said = "the next start names it, and goes on once it was ended" if right else f"statuses {beside.returncode}, {status}, {fault}: {told}"
+    print(f"chained.py, beside a worker that stands still: {said}", flush=True)
+    return right
+
+
 def is_stopped(samples, sample, texts, dice):
     """Whether each signal stops an engine by the runner with all published, and the job stays stopped until it is begun."""
     job, statuses, left = Job(samples / f"signals {sample}", sample, samples, texts), [], []
@@ -281,6 +305,7 @@ def main(kills, seed=None):
         good = [is_short(samples, it) for it in ("mini.py", "mini-rust/src/main.rs") if it in texts or "mini-rust" in texts]
         good += [is_right(samples, it, of, int(kills), dice) for it, of in texts.items()]
         good += [refuses(samples, it, of) for it, of in texts.items() if it != "chained.py"]  # which refuses an earlier term
+        good.append(names_a_worker(samples, texts["chained.py"]))
         good.append(is_started_again(samples, texts["mini.py"]))
         good.append(publishes_a_stop(samples, texts["mini.py"]))
         good.append(takes_savepoints(samples, texts["mini.py"], int(kills), dice))
