@@ -38,7 +38,7 @@ class Engine(threading.Thread):
         self.acknowledges.set()
 
     def run(self):
-        names = {name: getattr(self, name) for name in ("end_tasks", "numbers_of_files", "start_tasks", "tell_sources", "tell_tasks", "tell_sinks")}
+        names = {name: getattr(self, name) for name in ("end_tasks", "numbers_of_files", "start_tasks", "tell_sources", "tell_sinks", "publish_listed")}
         names["print"] = lambda *said, **_: self.said.append(" ".join(said))
         try:
             exec(self.code, names)
@@ -67,12 +67,12 @@ class Engine(threading.Thread):
             except OldTerm:
                 return  # the task has ended; the loop hears why
 
-    def tell_tasks(self, record):
+    def tell_sinks(self, record):
         self.told.append(record)
 
-    def tell_sinks(self, savepoint):
+    def publish_listed(self, states):
         assert not self.take_part
-        self.sinks.append(savepoint)
+        self.sinks.append({subtask: part["files"] for subtask, part in states.items()})
 
 
 def write(path, state):
@@ -155,13 +155,14 @@ def test_the_loop_of_the_page():
                 except OldTerm:
                     pass
             until(lambda: not os.path.exists(f"{files}/state-{name}.bin"))
-            # somebody stops the job: its tasks take part, its sinks hear of it, and no task is started until it begins
+            # somebody stops the job: its tasks take part, its sinks get what they list there, and no task is started until it begins
             last = job.stop_job()["id"]
-            until(lambda: engine.sinks == [last])
+            until(lambda: engine.sinks)
             assert job.state()["phase"] == "stopped" and len(engine.starts) == 2, engine.starts
             job.begin_job()
             until(lambda: len(engine.starts) == 3)
             assert engine.starts[2][0] == last and sorted(engine.starts[2][1]) == SUBTASKS, engine.starts
+            assert engine.sinks == [engine.starts[2][1]], (engine.sinks, engine.starts)  # the same states, and told once
             # no task acknowledges, so the job fails; the service is killed meanwhile
             engine.acknowledges.clear()
             until(lambda: len(engine.starts) == 4)
