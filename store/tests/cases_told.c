@@ -19,8 +19,7 @@
 static const char *unopened = "";
 static int open_error;
 
-/* From now on an opening of this name in a folder that is open fails with this errno; 0: none does. */
-static void fail_opens(const char *name, int error) {
+void fail_opens(const char *name, int error) {
     unopened = name;
     open_error = error;
 }
