@@ -43,6 +43,10 @@ bool says(const char *words); /* whether the report's message has the words */
 /* From now on the sync of a file or folder whose path ends so fails with this errno; 0: none fails. */
 void fail_syncs(const char *end, int error);
 
+/* From now on an opening of this name in a folder that is open fails with this errno; 0: none does. Or the next one alone. */
+void fail_opens(const char *name, int error);
+void fail_next_open(const char *name, int error);
+
 /* From now on the sync of a file whose path ends so waits until this is called again; NULL: none waits. And whether one waits, or does soon. */
 void hold_syncs(const char *end);
 bool awaits_a_held_sync(void);

@@ -416,6 +416,26 @@ static void put_back(void) {
     CHECK(report.epoch == 3 && report.term == 2, "opening %" PRIu64, report.epoch);
 }
 
+/* The opening of the backup is later than those that the job has had since. */
+static void put_back_after_openings(void) {
+    relkvanu_store_options options = storage_options(RELKVANU_STORE_CREATE, 0);
+    options.flags = RELKVANU_STORE_CREATE;
+    relkvanu_store *store = opens(&options, RELKVANU_STORE_OK);
+    backs_up(store, "b.db", RELKVANU_STORE_OK);
+    options.flags = RELKVANU_STORE_RECOVER;
+    for (int i = 0; i < 3; i++) {
+        relkvanu_store_close(store);
+        store = opens(&options, RELKVANU_STORE_OK);
+    }
+    uint64_t last = report.epoch;
+    options.flags = RELKVANU_STORE_BACKUP;
+    relkvanu_store *back = opens_at("b.db", &options, RELKVANU_STORE_OK);
+    CHECK(report.epoch > last, "opening %" PRIu64 " after %" PRIu64, report.epoch, last);
+    CHECK(relkvanu_store_put(store, 25, "state", 5) == RELKVANU_STORE_STORAGE, "the other store");
+    relkvanu_store_close(back);
+    relkvanu_store_close(store);
+}
+
 /* Opened several times before its first opening has ended, since the process ended or there was a fault: no name comes twice. */
 static void put_back_again(void) {
     relkvanu_store_options options = storage_options(RELKVANU_STORE_CREATE, 0);
@@ -477,5 +497,6 @@ static void of_a_cancelled_job(void) {
 const struct test backup_cases[] = {{"a_backup", a_backup}, {"a_backup_with_images", a_backup_with_images},
     {"flags_of_a_backup", flags_of_a_backup}, {"no_backup", no_backup}, {"a_job_in_the_way", a_job_in_the_way},
     {"a_part_that_was_left", a_part_that_was_left}, {"of_a_closed_store", of_a_closed_store}, {"in_a_forked_child", in_a_forked_child},
-    {"under_load", under_load}, {"at_once", at_once}, {"put_back", put_back}, {"put_back_again", put_back_again},
-    {"put_back_elsewhere", put_back_elsewhere}, {"of_a_cancelled_job", of_a_cancelled_job}, {NULL, NULL}};
+    {"under_load", under_load}, {"at_once", at_once}, {"put_back", put_back}, {"put_back_after_openings", put_back_after_openings},
+    {"put_back_again", put_back_again}, {"put_back_elsewhere", put_back_elsewhere}, {"of_a_cancelled_job", of_a_cancelled_job},
+    {NULL, NULL}};

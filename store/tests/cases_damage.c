@@ -125,6 +125,8 @@ static void damaged_rows(void) {
         {"UPDATE log SET line = replace(line, '+1 ', '+9 ') WHERE place = 3", "call 3 is damaged",
             "UPDATE log SET line = replace(line, '+9 ', '+1 ') WHERE place = 3"},
         {"UPDATE log SET a = a + 1 WHERE place = 3", "call 3 is damaged", "UPDATE log SET a = a - 1 WHERE place = 3"},
+        {"UPDATE log SET b = b + 1 WHERE place = 3", "call 3 is damaged", "UPDATE log SET b = b - 1 WHERE place = 3"},
+        {"UPDATE log SET what = what + 1 WHERE place = 3", "call 3 is damaged", "UPDATE log SET what = what - 1 WHERE place = 3"},
         {"UPDATE log SET chain = chain + 1 WHERE place = 18", "call 18 is damaged", "UPDATE log SET chain = chain - 1 WHERE place = 18"},
         {"UPDATE log SET place = 40 WHERE place = 5", "lacks call 5", "UPDATE log SET place = 5 WHERE place = 40"},
         {"UPDATE image SET chain = chain + 1", "image after call 0", "UPDATE image SET chain = chain - 1"},

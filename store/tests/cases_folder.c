@@ -335,6 +335,11 @@ static void the_folder_is_removed(void) {
     refuses_all(&it, RELKVANU_STORAGE_NOT_THERE);
     int status = it.list(it.with, 0, note, &found); /* a removed folder is an empty one, where it can be read */
     CHECK((status == RELKVANU_STORAGE_OK || status == RELKVANU_STORAGE_NOT_THERE) && found.pages == 0, "status %d", status);
+    fail_opens(".", ENOENT); /* where it can't */
+    CHECK(it.list(it.with, 0, note, &found) == RELKVANU_STORAGE_NOT_THERE && found.pages == 0, "it is there");
+    fail_opens(".", EIO);
+    CHECK(it.list(it.with, 0, note, &found) == RELKVANU_STORAGE_FAILED && found.pages == 0, "it is listed");
+    fail_opens("", 0);
     CHECK(has("state/7") && has("state/8"), "the other folder");
     relkvanu_storage_close_folder(&it);
 }

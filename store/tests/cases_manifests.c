@@ -286,6 +286,23 @@ static void a_lost_job(void) {
     CHECK(says("a later opening"), "%s", report.message);
 }
 
+/* It can't be marked before the record is chosen, and is marked once the job is there. */
+static void a_folder_that_was_full(void) {
+    relkvanu_store_options options = manifests(RELKVANU_STORE_CREATE);
+    relkvanu_store *store = opens(&options, RELKVANU_STORE_OK);
+    uint64_t first = 0;
+    completes(store, 1, RELKVANU_CALL_TRIGGER, &first);
+    relkvanu_store_close(store);
+    CHECK(rename(in("x.db"), in("old.db")) == 0, "the old file");
+    lose_job();
+    fail_next_open(".relkvanu-job.new", ENOSPC);
+    recovers(0, RELKVANU_STORE_OK);
+    CHECK(rename(in("old.db"), in("x.db")) == 0, "the old file, in the place of the new one");
+    options.flags = RELKVANU_STORE_MANIFESTS;
+    opens(&options, RELKVANU_STORE_STORAGE);
+    CHECK(says("a later opening"), "%s", report.message);
+}
+
 /* A second loss, also before the recovered job was opened. */
 static void lost_again(void) {
     relkvanu_store_options options = manifests(RELKVANU_STORE_CREATE);
@@ -965,13 +982,13 @@ static void a_lost_job_elsewhere(void) {
 
 const struct test manifest_cases[] = {{"manifests_of_records", manifests_of_records}, {"manifests_are_asked_for", manifests_are_asked_for},
     {"a_sweep_of_manifests", a_sweep_of_manifests}, {"manifests_that_fail", manifests_that_fail}, {"a_lost_job", a_lost_job},
-    {"lost_again", lost_again}, {"nothing_to_recover", nothing_to_recover}, {"damaged_manifests", damaged_manifests},
-    {"manifests_that_cannot_be_read", manifests_that_cannot_be_read}, {"a_job_beside_a_recovery", a_job_beside_a_recovery},
-    {"a_recovery_fences_first", a_recovery_fences_first}, {"a_marker_that_cannot_be_read", a_marker_that_cannot_be_read},
-    {"a_claim_after_an_import", a_claim_after_an_import}, {"an_export_over_itself", an_export_over_itself},
-    {"a_place_that_is_taken", a_place_that_is_taken}, {"savepoints_live_on", savepoints_live_on}, {"a_rolled_back_job", a_rolled_back_job},
-    {"numbers_that_failed", numbers_that_failed}, {"another_jobs_manifest", another_jobs_manifest}, {"an_export", an_export},
-    {"an_import", an_import}, {"an_import_that_goes_on", an_import_that_goes_on}, {"a_claim", a_claim},
-    {"a_claim_of_shared_files", a_claim_of_shared_files}, {"a_claim_that_goes_on", a_claim_that_goes_on},
-    {"a_claim_in_place", a_claim_in_place}, {"manifests_elsewhere", manifests_elsewhere}, {"a_lost_job_elsewhere", a_lost_job_elsewhere},
-    {NULL, NULL}};
+    {"a_folder_that_was_full", a_folder_that_was_full}, {"lost_again", lost_again}, {"nothing_to_recover", nothing_to_recover},
+    {"damaged_manifests", damaged_manifests}, {"manifests_that_cannot_be_read", manifests_that_cannot_be_read},
+    {"a_job_beside_a_recovery", a_job_beside_a_recovery}, {"a_recovery_fences_first", a_recovery_fences_first},
+    {"a_marker_that_cannot_be_read", a_marker_that_cannot_be_read}, {"a_claim_after_an_import", a_claim_after_an_import},
+    {"an_export_over_itself", an_export_over_itself}, {"a_place_that_is_taken", a_place_that_is_taken},
+    {"savepoints_live_on", savepoints_live_on}, {"a_rolled_back_job", a_rolled_back_job}, {"numbers_that_failed", numbers_that_failed},
+    {"another_jobs_manifest", another_jobs_manifest}, {"an_export", an_export}, {"an_import", an_import},
+    {"an_import_that_goes_on", an_import_that_goes_on}, {"a_claim", a_claim}, {"a_claim_of_shared_files", a_claim_of_shared_files},
+    {"a_claim_that_goes_on", a_claim_that_goes_on}, {"a_claim_in_place", a_claim_in_place}, {"manifests_elsewhere", manifests_elsewhere},
+    {"a_lost_job_elsewhere", a_lost_job_elsewhere}, {NULL, NULL}};

@@ -18,11 +18,17 @@
 
 static const char *unopened = "";
 static int open_error;
+static bool fails_once;
 
-/* From now on an opening of this name in a folder that is open fails with this errno; 0: none does. */
-static void fail_opens(const char *name, int error) {
+void fail_opens(const char *name, int error) {
     unopened = name;
     open_error = error;
+    fails_once = false;
+}
+
+void fail_next_open(const char *name, int error) {
+    fail_opens(name, error);
+    fails_once = true;
 }
 
 /* In place of that of the C library. */
@@ -33,6 +39,7 @@ int openat(int folder, const char *name, int flags, ...) {
     va_end(more);
     if (open_error != 0 && strcmp(name, unopened) == 0) {
         errno = open_error;
+        open_error = fails_once ? 0 : open_error;
         return -1;
     }
     return (int)syscall(SYS_openat, folder, name, flags, mode);

@@ -298,6 +298,40 @@ class Running(unittest.TestCase):
         self.assertEqual(await_end(), Ended.CLOSED)
         self.assertEqual(sum(it == ("go on",) for it in engine.said), 1)
 
+    def test_tasks_that_hold_and_are_restarted(self):
+        """Those that start hold for nothing, and are told nothing."""
+        store, engine, await_end = self.idle()
+        take_part, engine.take_part = engine.take_part, lambda it: None
+        store.stop_job()
+        engine.await_word("barrier", 1, Kind.SAVEPOINT, True)
+        engine.runner.restart()
+        engine.await_word("start", 2, None, None)
+        engine.take_part = take_part
+        engine.await_word("complete", self.triggered(store))
+        engine.runner.close()
+        self.assertEqual(await_end(), Ended.CLOSED)
+        self.assertNotIn(("go on",), engine.said)
+
+    def triggered(self, store):
+        """The number of a checkpoint, once the job runs."""
+        while store.phase().phase != Phase.RUNNING:
+            time.sleep(0.001)
+        return store.trigger().reply.id
+
+    def test_a_record_that_expires(self):
+        """A timer ends it, and the loop tells that before the next barrier."""
+        engine = Acknowledging()
+        engine.take_part = lambda it: None
+        store, engine, await_end = self.begin(engine, interval=1 << 39, timeout=50, tolerable=10)
+        engine.await_word("start", 1, None, None)
+        first = store.trigger().reply.id
+        while not store.history(1):
+            time.sleep(0.001)
+        second = store.trigger().reply.id
+        engine.await_word("barrier", second, Kind.CHECKPOINT, False)
+        said = engine.said[:4]
+        self.assertEqual(said[1:], [("barrier", first, Kind.CHECKPOINT, False), ("aborted", [first]), ("barrier", second, Kind.CHECKPOINT, False)])
+
     def test_a_stop_right_after_one_that_fails(self):
         """The loop is never told that the first one has failed."""
         store, engine, await_end = self.begin(tolerable=10)
@@ -364,6 +398,17 @@ class Running(unittest.TestCase):
         engine.runner.close()
         self.assertEqual(await_end(), Ended.CLOSED)
         self.assertEqual(sum(it[0] == "start" for it in engine.said), 1)
+
+    def test_a_sweep_before_tasks_start(self):
+        engine, sweep = Words(), Store.sweep
+        with mock.patch.object(Store, "sweep", lambda it: (engine.note("sweep"), sweep(it))[1]):
+            store, engine, await_end = self.begin(engine, interval=1 << 39)
+            engine.await_word("start", 1, None, None)
+            engine.runner.restart()
+            engine.await_word("start", 2, None, None)
+            engine.runner.close()
+            self.assertEqual(await_end(), Ended.CLOSED)
+        self.assertEqual(engine.said, [("sweep",), ("start", 1, None, None), ("end",), ("sweep",), ("start", 2, None, None), ("end",)])
 
     def test_a_sweep_that_is_not_due(self):
         store, engine, await_end = self.begin()
@@ -547,14 +592,16 @@ class Running(unittest.TestCase):
     def test_a_file_that_is_lost(self):
         store, engine, await_end = self.begin()
         engine.await_more("complete", 2)
+        kept = self.forfeited(store)
         engine.runner.close()
         await_end()
-        for it in self.files():
+        for it in set(self.files()) - {kept}:
             os.unlink(self.folder / "state" / it)
-        (self.folder / "state" / "100000").write_bytes(b"kept")
-        store, engine, await_end = self.begin()
-        self.assertIsInstance(await_end(), FileLost)
-        self.assertEqual((engine.said, self.files()), ([("end",)], ["100000"]))
+        with mock.patch.object(Store, "sweep") as swept:
+            store, engine, await_end = self.begin()
+            self.assertIsInstance(await_end(), FileLost)
+        swept.assert_not_called()
+        self.assertEqual((engine.said, self.files()), ([("end",)], [kept]))
 
     def ends_by_what(self, word, declined=None):
         """Checks that what the engine raises at `word`, in the thread of a task, ends run(), and not the task."""
@@ -578,6 +625,24 @@ class Running(unittest.TestCase):
         engine.complete = lambda id: engine.runner.close() if id > 50 else None  # it has failed long before
         with mock.patch.object(Store, "discard", side_effect=LookupError("discard")):
             _, _, await_end = self.begin(engine)
+            self.assertIsInstance(await_end(), LookupError)
+
+    def test_a_discarder_that_fails_while_the_run_waits_for_it(self):
+        engine, is_over = Words(), threading.Event()
+
+        def fails(store):
+            is_over.wait(LONGEST)
+            raise LookupError("discard")
+
+        def ends():
+            is_over.set()
+            while engine.runner._failed is None:
+                time.sleep(0.001)
+        with mock.patch.object(Store, "discard", fails):
+            store, engine, await_end = self.begin(engine)
+            engine.await_more("complete")
+            engine.end, engine.runner._has_files = ends, iter((True, True, False)).__next__
+            store.cancel()
             self.assertIsInstance(await_end(), LookupError)
 
     def idle(self, **settings):
@@ -925,6 +990,35 @@ class Taking(unittest.TestCase):
         self.assertEqual([inputs.take() for _ in range(4)], [(0, it) for it in range(4)])
         thread.join(LONGEST)
         self.assertEqual(said, [0, 1, 2, 3])
+
+    def putter(self, inputs, input, item):
+        """A thread that waits for room."""
+        thread = threading.Thread(target=inputs.put, args=(input, item), daemon=True)
+        thread.start()
+        thread.join(0.05)
+        return thread
+
+    def test_two_threads_that_wait_for_room(self):
+        """The first one waits for an input that a barrier keeps. Room on the other input is for the second one."""
+        inputs = Inputs(2, room=1)
+        inputs.put(0, barrier(1))
+        inputs.put(1, "a")
+        self.assertEqual(inputs.take(), (1, "a"))
+        inputs.put(0, "behind")
+        inputs.put(1, "b")
+        threads = [self.putter(inputs, 0, "last"), self.putter(inputs, 1, barrier(1))]
+        self.assertEqual(inputs.take(), (1, "b"))
+        threads[1].join(LONGEST)
+        self.assertFalse(threads[1].is_alive())
+        self.assertEqual([inputs.take() for _ in range(3)], [(1, barrier(1)), (0, "behind"), (0, "last")])
+
+    def test_room_for_nothing(self):
+        """An input has room for one item at least."""
+        inputs = Inputs(1, room=0)
+        thread = self.putter(inputs, 0, "a")
+        thread.join(LONGEST)
+        self.assertFalse(thread.is_alive())
+        self.assertEqual(inputs.take(), (0, "a"))
 
     def test_a_task_that_waits(self):
         inputs, taken = Inputs(2), []

@@ -435,6 +435,20 @@ fn a_sweep_now_and_then() {
     }
 }
 
+/// When tasks start, what nobody needs is in the discarder's list, if it is not deleted yet.
+#[test]
+fn a_sweep_before_tasks_start() {
+    let (place, job, run) = idle("runner-sweeps-first", IDLE);
+    let name = job.store().reserve(1, 1).unwrap().start;
+    job.store().put(name, b"x").unwrap();
+    job.store().forfeit(1, &[name]).unwrap();
+    job.restart();
+    job.engine().await_word(Start(2, None, 0));
+    let counts = job.store().read(|job| job.file_counts()).unwrap();
+    assert!(counts.waiting + counts.taken > 0 || !place.state().join(name.to_string()).exists(), "{counts:?}");
+    close(job, run);
+}
+
 #[test]
 fn reports_of_a_term() {
     let place = Place::new("runner-reports");
@@ -544,6 +558,40 @@ fn a_stop_that_fails() {
     job.engine().await_words(more, is_complete);
     let said = close(job, run);
     assert_eq!(said.iter().filter(|it| **it == GoOn).count(), 1);
+}
+
+/// Those that start hold for nothing, and are told nothing.
+#[test]
+fn tasks_that_hold_and_are_restarted() {
+    let (_place, job, run) = idle("runner-held", IDLE);
+    *job.engine().takes_no_part.lock().unwrap() = true;
+    assert_eq!(stops(&job), 1);
+    job.engine().await_word(Barrier(1, Kind::Savepoint, true));
+    job.restart();
+    job.engine().await_word(Start(2, None, 0));
+    *job.engine().takes_no_part.lock().unwrap() = false;
+    while job.store().phase().unwrap().phase != Phase::Running {
+        thread::sleep(Duration::from_millis(1));
+    }
+    job.store().trigger().unwrap();
+    job.engine().await_words(1, is_complete);
+    assert!(!close(job, run).contains(&GoOn));
+}
+
+/// A timer ends it, and the loop tells that before the next barrier.
+#[test]
+fn a_record_that_expires() {
+    let (_place, job, run) = idle("runner-expires", Settings { timeout: 50, tolerable: 10, ..IDLE });
+    *job.engine().takes_no_part.lock().unwrap() = true;
+    job.store().trigger().unwrap();
+    while job.store().history(1).unwrap().is_empty() {
+        thread::sleep(Duration::from_millis(1));
+    }
+    job.store().trigger().unwrap();
+    let [first, second] = [1, 2].map(|id| Barrier(id, Kind::Checkpoint, false));
+    job.engine().await_word(second.clone());
+    assert_eq!(job.engine().said()[1..4], [first, Aborted(vec![1]), second]);
+    close(job, run);
 }
 
 #[test]
@@ -864,6 +912,28 @@ fn a_second_signal_ends_the_process() {
     }
 }
 
+/// A process that a signal is sent to when its run has ended.
+#[test]
+#[ignore = "it is started by another test"]
+fn a_process_whose_run_has_ended() {
+    let place = Place(std::env::var_os("RELKVANU_PLACE").unwrap().into());
+    let job = Runner::new(opened(&place, IDLE), Words::default());
+    job.stop_at_signals();
+    job.close();
+    assert_eq!(job.run().unwrap(), Ended::Closed);
+    let id = std::process::id().to_string();
+    Command::new("kill").args(["-TERM", &id]).status().unwrap();
+}
+
+#[test]
+fn a_signal_after_the_run() {
+    let place = Place::new("runner-signal-late");
+    let mut process = Command::new(std::env::current_exe().unwrap());
+    process.args(["--exact", "a_process_whose_run_has_ended", "--ignored"]).env("RELKVANU_PLACE", &place.0);
+    let status = process.stdout(Stdio::null()).status().unwrap();
+    assert_eq!(status.signal(), Some(15));
+}
+
 #[test]
 fn a_last_record() {
     let place = Place::new("runner-last");
@@ -961,6 +1031,48 @@ fn an_input_that_is_full_and_a_task_that_waits() {
     assert_eq!(taker.join().unwrap(), Taken::Cut(barrier(1)));
 }
 
+/// A thread that waits for room.
+fn putter(inputs: &Arc<Inputs<u64>>, input: usize, element: u64) -> JoinHandle<()> {
+    let puts = inputs.clone();
+    let thread = thread::spawn(move || puts.put(input, element));
+    thread::sleep(Duration::from_millis(50));
+    thread
+}
+
+fn assert_finishes(thread: &JoinHandle<()>) {
+    let until = Instant::now() + LONGEST;
+    while !thread.is_finished() && Instant::now() < until {
+        thread::sleep(Duration::from_millis(1));
+    }
+    assert!(thread.is_finished());
+}
+
+/// The first one waits for an input that a barrier keeps. Room on the other input is for the second one.
+#[test]
+fn two_threads_that_wait_for_room() {
+    let inputs = Arc::new(Inputs::new(2, 1).unwrap());
+    inputs.put_barrier(0, barrier(1));
+    inputs.put(1, 10);
+    assert_eq!(inputs.take(), Ok(Taken::Element(1, 10)));
+    inputs.put(0, 1);
+    inputs.put(1, 11);
+    let threads = [putter(&inputs, 0, 2), putter(&inputs, 1, 12)];
+    assert_eq!(inputs.take(), Ok(Taken::Element(1, 11)));
+    assert_finishes(&threads[1]);
+    assert_eq!(inputs.take(), Ok(Taken::Element(1, 12)));
+    inputs.put_barrier(1, barrier(1));
+    let taken = [(); 3].map(|()| inputs.take().unwrap());
+    assert_eq!(taken, [Taken::Cut(barrier(1)), Taken::Element(0, 1), Taken::Element(0, 2)]);
+}
+
+/// An input has room for one item at least.
+#[test]
+fn room_for_nothing() {
+    let inputs = Arc::new(Inputs::new(1, 0).unwrap());
+    assert_finishes(&putter(&inputs, 0, 1));
+    assert_eq!(inputs.take(), Ok(Taken::Element(0, 1)));
+}
+
 #[test]
 fn barriers_in_two_orders_and_one_that_comes_twice() {
     let inputs: Inputs<()> = Inputs::new(2, 2).unwrap();
@@ -1013,14 +1125,19 @@ fn a_record_as_a_whole_and_a_lost_file() {
     let lost = store.load(None).unwrap_err();
     assert_eq!(lost.kind, StoreErrorKind::FileLost);
     assert!(lost.message.contains("is missing"), "{lost}");
+    let unused = store.reserve(2, 1).unwrap().start;
+    store.put(unused, b"x").unwrap();
+    store.forfeit(2, &[unused]).unwrap();
     drop(store);
     let (job, run) = begin(&place, QUICK);
     let Err(RunFault::Call(CallError::Store(StoreError { kind, .. }))) = run.join().unwrap() else {
         panic!("a file is lost");
     };
     assert_eq!(kind, StoreErrorKind::FileLost);
+    let counts = job.store().read(|job| job.file_counts()).unwrap();
+    assert_eq!((counts.waiting, counts.taken), (0, 0)); // nothing was swept
     assert_eq!(ended(job), [End]);
-    assert!(place.state().join((first + 1).to_string()).exists());
+    assert!([first + 1, unused].iter().all(|it| place.state().join(it.to_string()).exists()));
 }
 
 #[test]
