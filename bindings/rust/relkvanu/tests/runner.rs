@@ -723,7 +723,9 @@ fn a_savepoint_right_after_a_way_back() {
     job.store().trigger().unwrap();
     job.engine().await_word(Complete(1));
     *job.engine().after.lock().unwrap() = Some(|job, term| {
-        if term != 1 || job.store().read(|job| job.term()).unwrap().unwrap().term != 1 {
+        // the barrier of record 1 may end only now
+        let is_second = job.engine().said().contains(&Barrier(2, Kind::Checkpoint, false));
+        if !is_second || term != 1 || job.store().read(|job| job.term()).unwrap().unwrap().term != 1 {
             return;
         }
         let asks = job.clone();
@@ -872,7 +874,9 @@ fn an_engine_with_signals() {
 /// Sends the first signal once tasks run, and the second one once the barrier of the stop was sent. Returns how it ends, and what it says.
 fn with_signals(name: &str, first: &str, second: Option<&str>) -> (Option<i32>, Option<i32>, Vec<String>) {
     let place = Place::new(name);
-    let mut child = Command::new(std::env::current_exe().unwrap());
+    // what has started this test may ignore them, as a shell does of what it runs beside itself
+    let mut child = Command::new("env");
+    child.arg("--default-signal=TERM,INT").arg(std::env::current_exe().unwrap());
     child.args(["--exact", "an_engine_with_signals", "--ignored", "--nocapture"]).env("RELKVANU_PLACE", &place.0);
     if second.is_some() {
         child.env("RELKVANU_HANGS", "1");
