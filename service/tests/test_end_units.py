@@ -47,7 +47,7 @@ def test_the_end_of_a_job_and_a_move():
         if not os.path.exists(f"{at}/errors"):
             raise Skipped("a booting systemd", f"it does not boot here: {boot.stdout[-300:]!r}")
         errors = text_of(f"{at}/errors")
-        assert not errors, errors[-3000:]
+        assert not errors, f"{errors[:2000]} .. {errors[-2000:]}"
         told = json.loads(text_of(f"{at}/told"))
         return (f"a lost job goes on from record {told['recovered']}, a job ended with its {told['ended']} files, one kept {told['kept']}, and a copy for another "
                 f"machine has {told['calls']} calls")
