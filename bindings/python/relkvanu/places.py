@@ -56,10 +56,15 @@ def sync(folder: pathlib.Path) -> None:
 
 
 def give(made: int, folder: pathlib.Path) -> None:
-    """Root gives what it has made in a folder, an open file or folder, to the user of that folder, who runs the engine."""
+    """Root gives what it has made in a folder, an open file or folder, to the user of that folder, who runs the engine. Where root may not give to each
+    user, as in some containers, it stays root's."""
     if os.geteuid() == 0:
         owner = os.stat(folder)
-        os.fchown(made, owner.st_uid, owner.st_gid)
+        try:
+            os.fchown(made, owner.st_uid, owner.st_gid)
+        except OSError as error:
+            if error.errno not in (errno.EPERM, errno.EINVAL):
+                raise
 
 
 def make_file(path: pathlib.Path, pieces: Any) -> int:
