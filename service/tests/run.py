@@ -28,10 +28,10 @@ MODULES = [
     "test_partition", "test_machines", "test_promotion", "test_lease", "test_dask", "test_page", "test_page_acts", "test_page_state", "test_events", "test_stream", "test_failover", "test_history",
     "test_kills", "test_clocks", "test_put_off", "test_replay", "test_damaged", "test_tables", "test_end", "test_power", "test_wal", "test_disks", "test_images",
     "test_long_images",
-    "test_start", "test_unit", "test_end_units", "test_stuck", "test_connections", "test_limits", "test_herd", "test_bytes", "test_stop", "test_load", "test_api",
+    "test_start", "test_unit", "test_stuck", "test_connections", "test_limits", "test_herd", "test_bytes", "test_stop", "test_load", "test_api",
     "test_clients", "test_sizes", "test_jobs_end", "test_payloads", "test_discard", "test_discard_folder", "test_discard_names", "test_memory", "test_metrics", "test_seen",
     "test_names", "test_sweep", "test_places", "test_security", "test_summaries", "test_upkeep", "test_backup", "test_move", "test_dumps", "test_commands", "test_loop", "test_restore",
-    "test_lease_lengths", "test_tries", "test_bounds", "test_disk_order", "test_moves", "test_operate", "test_portable",
+    "test_lease_lengths", "test_tries", "test_bounds", "test_disk_order", "test_moves", "test_end_units", "test_operate", "test_portable",
     "test_procedures", "test_put_back", "test_setup_tls", "test_stop_begin", "test_stop_rows",
 ]
 

@@ -1,10 +1,12 @@
 """The unit under a real systemd, which is booted in a container: installed, saved and restored as the pages say, killed, stopped
 and misconfigured, and set up with TLS from nothing."""
+import fcntl
 import glob
 import json
 import os
 import shutil
 import subprocess
+import tempfile
 
 from harness import HERE, PROGRAM, SERVICE, TOP, folder
 from run import Skipped
@@ -55,7 +57,10 @@ def booted(at):
     words = ["--quiet", "--console=pipe", "--directory=/", "--volatile=yes", "--private-network", "--register=no", "--keep-unit", f"--machine=relkvanu-test-{os.getpid()}"]
     # the program is installed where /usr of this machine can't be written
     words += [*binds, "--tmpfs=/usr/local/bin", "--tmpfs=/usr/local/lib", "--tmpfs=/usr/local/share", "--boot", "--", "--unit=try.service"]
-    return subprocess.run(["timeout", "-k", "5", "1800", "systemd-nspawn", *words], stdout=subprocess.PIPE, stderr=subprocess.STDOUT, text=True, errors="replace", check=False)
+    # one at a time: two of them would share the control groups of units of the same name
+    with open(f"{tempfile.gettempdir()}/relkvanu-systemd.lock", "w", encoding="utf-8") as lock:
+        fcntl.flock(lock, fcntl.LOCK_EX)
+        return subprocess.run(["timeout", "-k", "5", "1800", "systemd-nspawn", *words], stdout=subprocess.PIPE, stderr=subprocess.STDOUT, text=True, errors="replace", check=False)
 
 
 def test_under_systemd():
