@@ -189,6 +189,16 @@ int fsync(int fd) {
     return (int)syscall(SYS_fsync, fd);
 }
 
+/* Whether a file of the case has these words. */
+bool has_text(const char *name, const char *words) {
+    static char text[1 << 16];
+    FILE *from = fopen(in(name), "r");
+    CHECK(from != NULL, "%s", name);
+    text[fread(text, 1, sizeof text - 1, from)] = 0;
+    fclose(from);
+    return strstr(text, words) != NULL;
+}
+
 static bool passes(const char *within, const struct test *test) {
     int status;
     snprintf(folder, sizeof folder, "%s/%s", within, test->name);

@@ -59,4 +59,7 @@ extern const struct test open_cases[], damage_cases[], storage_cases[], call_cas
     folder_cases[], name_cases[], object_cases[], backup_cases[], log_cases[], told_cases[], look_cases[], alone_cases[], manifest_cases[],
     keeper_cases[], sum_cases[], verb_cases[], beside_cases[];
 
+/* Whether a file of the case has these words. */
+bool has_text(const char *name, const char *words);
+
 #endif

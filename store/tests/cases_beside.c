@@ -446,13 +446,8 @@ static void payloads_of_a_stop(void) {
 /* Whether the manifest of a record has this text. */
 static bool manifest_has(uint64_t id, const char *words) {
     char name[60];
-    static char text[1 << 16];
     snprintf(name, sizeof name, "storage/record-%" PRIu64 ".manifest", id);
-    FILE *from = fopen(in(name), "r");
-    CHECK(from != NULL, "%s", name);
-    text[fread(text, 1, sizeof text - 1, from)] = 0;
-    fclose(from);
-    return strstr(text, words) != NULL;
+    return has_text(name, words);
 }
 
 /* Manifests have payloads, the order of files, and figures. So do recoveries, exports and imports. */

@@ -107,15 +107,6 @@ static void is_fault(size_t nth, uint64_t record, uint64_t file, uint32_t fault)
         "%zu faults; record %" PRIu64 ", file %" PRIu64 ": %" PRIu32, faults_len, it->record, it->file, it->fault);
 }
 
-static bool has_text(const char *name, const char *words) {
-    static char text[1 << 16];
-    FILE *from = fopen(in(name), "r");
-    CHECK(from != NULL, "%s", name);
-    text[fread(text, 1, sizeof text - 1, from)] = 0;
-    fclose(from);
-    return strstr(text, words) != NULL;
-}
-
 /* They are in manifests if the engine asks for them, and not without manifests. */
 static void checksums_of_files(void) {
     uint64_t first;
