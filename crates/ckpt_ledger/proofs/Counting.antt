@@ -1,8 +1,6 @@
 -- The transactions up to a record are the first ones.
-use Rattle.std.proofs.Common.{◌≡◌, ℕ, ◌+◌, ◌<◌, ◌≤◌, zero, suc, Bool, true, false, nat_le, nat_cmp, is_gt, if◌then◌else◌, List, [], ◌∷◌, take, drop, length, slice_index_or, refl, sym, ap, ◌∙◌, arith}
-use Rattle.std.proofs.Math.ListN.{drop_of_length-le}
+use Rattle.std.proofs.Common.{◌≡◌, ℕ, ◌+◌, ◌<◌, ◌≤◌, zero, suc, Bool, true, false, nat_le, nat_cmp, is_gt, if◌then◌else◌, List, ◌∷◌, take, drop, length, slice_index_or, refl, ap, arith, []}
 use Rattle.std.proofs.lemmas.Grind.{common_steps}
-use Rattle.std.proofs.lemmas.List.{at_drop_more}
 use Rattle.ckpt_once.specs.Sinks.{Transaction, above, up_to}
 
 abbrev pub count_of : ℕ → List Transaction → ℕ
@@ -27,14 +25,6 @@ pub counted_back : (n : ℕ) (ones : List Transaction) → drop (count_of n ones
 counted_back n [] = refl
 counted_back n (one ∷ ones) = back_by (nat_le one.id n) one ones (count_of n ones) (above n ones) (counted_back n ones)
 
-few_by : (b : Bool) (k l : ℕ) → k ≤ l → (if b then suc k else zero) ≤ suc l
-few_by true k l h = omega arith
-few_by false k l h = omega arith
-
-pub counted_few : (n : ℕ) (ones : List Transaction) → count_of n ones ≤ length ones
-counted_few n [] = omega arith
-counted_few n (one ∷ ones) = few_by (nat_le one.id n) (count_of n ones) (length ones) (counted_few n ones)
-
 not_le : (m n : ℕ) → true ≡ is_gt (nat_cmp m n) → nat_le m n ≡ false
 not_le m n e = grind (arith, common_steps)
 
@@ -44,13 +34,8 @@ stops n one ones e = ap (λ (b : Bool). if b then suc (count_of n ones) else zer
 -- a loop that counts, at the first transaction that is later
 pub counted_to : (n i : ℕ) (ones : List Transaction) (one : Transaction) → one ≡ slice_index_or ones i one → i < length ones → true ≡ is_gt (nat_cmp one.id n)
     → count_of n ones ≡ i + count_of n (drop i ones) → count_of n ones ≡ i
-counted_to n i ones one is less later e =
-    let none : count_of n (drop i ones) ≡ zero =
-    at_drop_more (count_of n) ones i one less ∙ ap (λ (x : Transaction). count_of n (x ∷ drop (i + 1) ones)) (sym is) ∙ stops n one (drop (i + 1) ones) later in
-    omega (arith, e, none)
+counted_to n i ones one is less later e = grind (arith, common_steps)
 
 -- and at the end
 pub counted_all : (n i : ℕ) (ones : List Transaction) → length ones ≤ i → count_of n ones ≡ i + count_of n (drop i ones) → count_of n ones ≡ i
-counted_all n i ones end e =
-    let none : count_of n (drop i ones) ≡ zero = ap (count_of n) (drop_of_length-le ones end) in
-    omega (arith, e, none)
+counted_all n i ones end e = grind (arith, common_steps)

@@ -1,11 +1,11 @@
 -- What a ledger publishes.
-use Rattle.std.proofs.Common.{◌≡◌, ℕ, ◌<◌, Bool, true, false, nat_le, if◌then◌else◌, List, [], ◌∷◌, ◌++◌, map, Option, Some, None, refl, sym, ap, ◌∙◌, append_assoc, append-nil, arith}
+use Rattle.std.proofs.Common.{◌≡◌, ℕ, ◌<◌, Bool, true, false, nat_le, if◌then◌else◌, List, ◌∷◌, ◌++◌, map, Option, Some, None, refl, sym, ap, ◌∙◌, append_assoc, append-nil, arith, []}
 use Rattle.std.proofs.lemmas.Grind.{common_steps}
-use Rattle.ckpt_align.specs.Alignment.{Alignment, opened}
-use Rattle.ckpt_align.specs.Histories.{Action, after, cut_by, elements, sent_by}
+use Rattle.ckpt_align.specs.Alignment.{Alignment}
+use Rattle.ckpt_align.specs.Histories.{after, cut_by, elements, sent_by}
 use Rattle.ckpt_once.specs.Jobs.{History, Job, States}
 use Rattle.ckpt_once.specs.Sinks.{Sink, Transaction, above, contents, published, sealed, sealed_at, still_open, up_to}
-use Rattle.ckpt_ledger.specs.Ledgers.{Acts, Entry, Held, Moment, Told, Writes, acts, after_entries, all_published, completed, entries, nothing, told_of}
+use Rattle.ckpt_ledger.specs.Ledgers.{Acts, Entry, Held, Moment, Told, Writes, acts, after_entries, all_published, completed, entries, told_of}
 use Rattle.ckpt_ledger.specs.Laws.{Holds, PublishesAsSink}
 use Rattle.ckpt_ledger.proofs.Timely.{CutsAbove, IsTimely, timely}
 
@@ -74,10 +74,8 @@ then_sealed o a h moments = h.waiting ++ sealed o a h.open_one (acts moments)
 acted : (o : ℕ) (b : Alignment) (moments : List Moment) (k : Option ℕ) (h : Held) (xs : List ℕ)
     → ((g : Held) → all_published g (entries o b moments) ≡ published (completed moments) (then_sealed o b g moments))
     → all_published h (told_of k xs ++ entries o b moments) ≡ published (completed moments) (h.waiting ++ (sealed_at k h.open_one ++ sealed o b (still_open k (h.open_one ++ xs)) (acts moments)))
-acted o b moments None h xs rest = writes_published h xs (entries o b moments) ∙ rest (with_open h xs)
-acted o b moments (Some id) h xs rest =
-    rest (record { waiting = h.waiting ++ record { id = id; content = h.open_one } ∷ []; open_one = [] })
-    ∙ ap (published (completed moments)) (append_assoc h.waiting (record { id = id; content = h.open_one } ∷ []) (sealed o b [] (acts moments)))
+acted o b moments None h xs rest = grind (arith, common_steps, writes_published)
+acted o b moments (Some id) h xs rest = grind (arith, common_steps, append_assoc)
 
 pub published_by : (o : ℕ) (a : Alignment) (moments : List Moment) → IsTimely a moments → (h : Held) → all_published h (entries o a moments) ≡ published (completed moments) (then_sealed o a h moments)
 published_by o a [] t h = refl
@@ -92,9 +90,7 @@ published_by o a (Told n ∷ moments) t h =
     ∙ ap (λ (l : List Transaction). contents (up_to n (h.waiting ++ later)) ++ published (completed moments) l) (sym (above_front n h.waiting later are))
 
 pub publishes_as_sink : (job : Job) (from : States) (h : History) (sink : Sink) (moments : List Moment) → PublishesAsSink job from h sink moments
-publishes_as_sink job from h sink moments is =
-    let a : Alignment = opened (job.inputs sink.task) in
-    published_by sink.output a moments (timely (job.inputs sink.task) [] moments is.1) nothing ∙ ap (λ (xs : List Action). published (completed moments) (sealed sink.output a [] xs)) is.0
+publishes_as_sink job from h sink moments is = grind (arith, common_steps, published_by, timely)
 
 is_cons : (n : ℕ) (ns : List ℕ) → (n ∷ ns) ≡ [] → ⊥
 is_cons n ns e = grind (arith, common_steps)
@@ -102,10 +98,8 @@ is_cons n ns e = grind (arith, common_steps)
 held_acted : (o : ℕ) (b : Alignment) (moments : List Moment) (k : Option ℕ) (h : Held) (xs : List ℕ)
     → ((g : Held) → (after_entries g (entries o b moments)).waiting ≡ then_sealed o b g moments)
     → (after_entries h (told_of k xs ++ entries o b moments)).waiting ≡ h.waiting ++ (sealed_at k h.open_one ++ sealed o b (still_open k (h.open_one ++ xs)) (acts moments))
-held_acted o b moments None h xs rest = ap (λ (g : Held). g.waiting) (writes_held h xs (entries o b moments)) ∙ rest (with_open h xs)
-held_acted o b moments (Some id) h xs rest =
-    rest (record { waiting = h.waiting ++ record { id = id; content = h.open_one } ∷ []; open_one = [] })
-    ∙ append_assoc h.waiting (record { id = id; content = h.open_one } ∷ []) (sealed o b [] (acts moments))
+held_acted o b moments None h xs rest = grind (arith, common_steps, writes_held)
+held_acted o b moments (Some id) h xs rest = grind (arith, common_steps, append_assoc)
 
 held_by : (o : ℕ) (a : Alignment) (moments : List Moment) → completed moments ≡ [] → (h : Held) → (after_entries h (entries o a moments)).waiting ≡ then_sealed o a h moments
 held_by o a [] none h = sym (append-nil h.waiting)
@@ -114,6 +108,4 @@ held_by o a (Acts action ∷ moments) none h =
 held_by o a (Told n ∷ moments) none h = absurd (is_cons n (completed moments) none)
 
 pub holds : (job : Job) (from : States) (h : History) (sink : Sink) (moments : List Moment) → Holds job from h sink moments
-holds job from h sink moments is none =
-    let a : Alignment = opened (job.inputs sink.task) in
-    held_by sink.output a moments none nothing ∙ ap (λ (xs : List Action). sealed sink.output a [] xs) is.0
+holds job from h sink moments is none = grind (arith, common_steps, held_by)

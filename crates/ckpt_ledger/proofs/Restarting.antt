@@ -1,10 +1,11 @@
 -- A restore publishes as the word of a completion does.
-use Rattle.std.proofs.Common.{◌≡◌, ℕ, ◌≤◌, true, ◌||◌, List, [], ◌∷◌, ◌++◌, refl, sym, ap, ◌∙◌, append_assoc, append-nil, subst, inl, inr}
+use Rattle.std.proofs.lemmas.Grind.{common_steps}
+use Rattle.std.proofs.Common.{arith, ◌≡◌, ℕ, ◌≤◌, true, ◌||◌, List, ◌∷◌, ◌++◌, refl, sym, ap, ◌∙◌, append_assoc, append-nil, subst, inl, inr, []}
 use Rattle.ckpt_align.specs.Alignment.{Alignment, opened}
 use Rattle.ckpt_align.specs.Histories.{Action, after, cut_by, elements, has_cut, has_ended, sent, sent_by}
 use Rattle.ckpt_ids.specs.Ordered.{IsIn}
 use Rattle.ckpt_once.specs.Jobs.{AreAttempts, History, Job, States, network, restored}
-use Rattle.ckpt_once.specs.Sinks.{AreLast, Sink, contents, published, published_before, published_in, sealed, up_to}
+use Rattle.ckpt_once.specs.Sinks.{AreLast, Sink, contents, published, published_in, sealed, up_to}
 use Rattle.ckpt_once.proofs.ActionLemmas.{before_stays}
 use Rattle.ckpt_once.proofs.Sealing.{published_up_to, sealed_up_to}
 use Rattle.ckpt_ledger.specs.Laws.{AreMomentsOf}
@@ -49,10 +50,9 @@ entries_with o n a (Acts action ∷ moments) =
 entries_with o n a (Told m ∷ moments) = ap (λ (l : List Entry). Completes m ∷ l) (entries_with o n a moments)
 
 pub been_cut : (inputs n : ℕ) (done : List Action) (moments : List Moment) → HaveBeenCut inputs done moments → has_cut n (opened inputs) (done ++ acts moments) ≡ true → HaveBeenCut inputs done (with_word n moments)
-been_cut inputs n done [] have cut = (ap (has_cut n (opened inputs)) (sym (append-nil done)) ∙ cut, tt)
-been_cut inputs n done (Acts action ∷ moments) have cut =
-    been_cut inputs n (done ++ action ∷ []) moments have (ap (has_cut n (opened inputs)) (append_assoc done (action ∷ []) (acts moments)) ∙ cut)
-been_cut inputs n done (Told m ∷ moments) have cut = (have.0, been_cut inputs n done moments have.1 cut)
+been_cut inputs n done [] have cut = grind (arith, common_steps)
+been_cut inputs n done (Acts action ∷ moments) have cut = grind (arith, common_steps, been_cut inputs n (done ++ action ∷ []) moments have)
+been_cut inputs n done (Told m ∷ moments) have cut = grind (arith, common_steps, been_cut inputs n done moments have.1 cut)
 
 pub published-append : (h : Held) (es fs : List Entry) → all_published h (es ++ fs) ≡ all_published h es ++ all_published (after_entries h es) fs
 published-append h [] fs = refl
@@ -121,10 +121,8 @@ one_attempt job sink one ones are last has told =
     ∙ ap (λ (l : List ℕ). published_in job from one.attempt.history sink (l ++ n ∷ [])) told.2
 
 pub publishes_over_restarts : (job : Job) (sink : Sink) (ones : List AttemptTold) → PublishesOverRestarts job sink ones
-publishes_over_restarts job sink [] are last has told = refl
-publishes_over_restarts job sink (one ∷ ones) are last has told =
-    ap (λ (l : List ℕ). l ++ published_with one.attempt.record_id (entries_in job sink one.early)) (publishes_over_restarts job sink ones are.0 last.0 has told.0)
-    ∙ ap (λ (l : List ℕ). published_before job sink (attempts ones) ++ l) (one_attempt job sink one ones are last has told)
+publishes_over_restarts job sink [] are last has told = grind (arith, common_steps)
+publishes_over_restarts job sink (one ∷ ones) are last has told = grind (arith, common_steps, one_attempt, publishes_over_restarts job sink ones are.0 last.0 has told.0)
 
 pub lost_comes_again : (job : Job) (sink : Sink) (one : AttemptTold) (ones : List AttemptTold) → LostComesAgain job sink one ones
 lost_comes_again job sink one ones are last has told =

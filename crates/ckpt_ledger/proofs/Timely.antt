@@ -1,5 +1,6 @@
 -- A sink that is told of records that it has cut cuts only greater ones afterwards.
-use Rattle.std.proofs.Common.{◌≡◌, ℕ, ◌<◌, Bool, true, false, if◌then◌else◌, List, [], ◌∷◌, ◌++◌, Some, refl, sym, ap, ◌∙◌, subst, append_assoc}
+use Rattle.std.proofs.lemmas.Grind.{common_steps}
+use Rattle.std.proofs.Common.{arith, ◌≡◌, ℕ, ◌<◌, Bool, true, false, if◌then◌else◌, List, ◌∷◌, ◌++◌, Some, refl, sym, ap, append_assoc, []}
 use Rattle.std.proofs.lemmas.Bool.{both_ways}
 use Rattle.ckpt_align.specs.Alignment.{Alignment, opened}
 use Rattle.ckpt_align.specs.Histories.{Action, Reads, GivesUp, Sends, Ends, after, cut_by, has_cut, is_number, replay}
@@ -38,24 +39,11 @@ found n a (Sends o x ∷ ys) h = let y : Action = Sends o x in found_by n a y ys
 
 cuts_above : (inputs : ℕ) (front : List Action) (x : Action) (back : List Action) (n : ℕ) → cut_by (replay (opened inputs) front) x ≡ Some n → (moments : List Moment)
     → CutsAbove n (replay (opened inputs) (front ++ x ∷ back)) moments
-cuts_above inputs front x back n e [] = tt
-cuts_above inputs front x back n e (Acts y ∷ moments) =
-    let a : Alignment = opened inputs in
-    let done : List Action = front ++ x ∷ back in
-    let same : replay a (front ++ x ∷ (back ++ y ∷ [])) ≡ after (replay a done) y =
-    ap (replay a) (sym (append_assoc front (x ∷ back) (y ∷ []))) ∙ replay-append a done (y ∷ []) in (
-      λ m f. cuts_rise inputs front x back y n m e f,
-      subst (λ (k : Alignment). CutsAbove n k moments) same (cuts_above inputs front x (back ++ y ∷ []) n e moments),
-    )
-cuts_above inputs front x back n e (Told m ∷ moments) = cuts_above inputs front x back n e moments
+cuts_above inputs front x back n e [] = grind (arith, common_steps)
+cuts_above inputs front x back n e (Acts y ∷ moments) = grind (arith, common_steps, append_assoc, cuts_rise, replay-append, cuts_above inputs front x (back ++ y ∷ []) n e moments)
+cuts_above inputs front x back n e (Told m ∷ moments) = grind (arith, common_steps, cuts_above inputs front x back n e moments)
 
 pub timely : (inputs : ℕ) (done : List Action) (moments : List Moment) → HaveBeenCut inputs done moments → IsTimely (replay (opened inputs) done) moments
-timely inputs done [] h = tt
-timely inputs done (Acts x ∷ moments) h =
-    subst (λ (k : Alignment). IsTimely k moments) (replay-append (opened inputs) done (x ∷ [])) (timely inputs (done ++ x ∷ []) moments h)
-timely inputs done (Told n ∷ moments) h =
-    let a : Alignment = opened inputs in
-    let f : Found n a done = found n a done h.0 in (
-      subst (λ (xs : List Action). CutsAbove n (replay a xs) moments) (sym f.3) (cuts_above inputs f.0 f.1 f.2 n f.4 moments),
-      timely inputs done moments h.1,
-    )
+timely inputs done [] h = grind (arith, common_steps)
+timely inputs done (Acts x ∷ moments) h = grind (arith, common_steps, replay-append, timely inputs (done ++ x ∷ []) moments h)
+timely inputs done (Told n ∷ moments) h = grind (arith, common_steps, cuts_above, found, timely inputs done moments h.1)

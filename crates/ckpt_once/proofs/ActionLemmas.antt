@@ -1,5 +1,6 @@
 -- Lists of actions that go on.
-use Rattle.std.proofs.Common.{◌≡◌, ℕ, Bool, true, false, ◌||◌, List, [], ◌∷◌, ◌++◌, ◌∙◌, refl, sym, ap, subst, if◌then◌else◌}
+use Rattle.std.proofs.lemmas.Grind.{common_steps}
+use Rattle.std.proofs.Common.{arith, ◌≡◌, ℕ, Bool, true, false, ◌||◌, List, ◌∷◌, ◌++◌, ◌∙◌, refl, sym, ap, subst, if◌then◌else◌, []}
 use Rattle.std.proofs.lemmas.List.{append-nil, append_assoc}
 use Rattle.ckpt_align.specs.Alignment.{Alignment}
 use Rattle.ckpt_align.specs.Histories.{Item, Action, Reads, GivesUp, Sends, Ends, after, replay, taken, taken_by, sent, sent_by, elements, processed, before_cut, has_cut, has_ended, cut_by, is_number}
@@ -67,9 +68,7 @@ before_all n a xs e =
 
 -- what a stopped task did before its cut stays
 pub before_stays : (n : ℕ) (a : Alignment) (xs ys : List Action) → stopped n a xs ≡ true → before_cut n a (xs ++ ys) ≡ before_cut n a xs
-before_stays n a xs ys e =
-    let At : Bool → Type 0 = λ s. before_cut n a (xs ++ ys) ≡ (if s then before_cut n a xs else xs ++ before_cut n (replay a xs) ys) in
-    subst At e (before-append n a xs ys)
+before_stays n a xs ys e = grind (arith, common_steps, before-append)
 
 -- what a task did before its cut goes on
 before_goes_on_by : (n : ℕ) (a : Alignment) (xs ys : List Action) (s : Bool) → stopped n a xs ≡ s → (more : List Action) × (before_cut n a (xs ++ ys) ≡ before_cut n a xs ++ more)

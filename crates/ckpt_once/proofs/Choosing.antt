@@ -1,5 +1,5 @@
 -- Where no task chooses, runs go together.
-use Rattle.std.proofs.Common.{◌≡◌, ℕ, Bool, true, false, List, [], ◌∷◌, ◌++◌, ◌∙◌, ◌⊎◌, refl, sym, ap, subst, arith, if◌then◌else◌, Option, Some, None, inl, inr}
+use Rattle.std.proofs.Common.{◌≡◌, ℕ, Bool, true, false, List, ◌∷◌, ◌++◌, ◌∙◌, ◌⊎◌, refl, sym, ap, subst, arith, if◌then◌else◌, Option, Some, None, inl, inr, []}
 use Rattle.std.proofs.lemmas.Grind.{common_steps}
 use Rattle.std.proofs.lemmas.Bool.Decides.{Decides-eqb}
 use Rattle.std.proofs.lemmas.List.{append-nil, append_assoc, append_cancel_left}
@@ -47,12 +47,10 @@ first_same : (x y : ℕ) (xs ys : List ℕ) → x ∷ xs ≡ y ∷ ys → x ≡ 
 first_same x y xs ys e = grind (arith, common_steps)
 
 next_same : (done : List ℕ) (x y : ℕ) (xs ys : List ℕ) → (done ++ x ∷ []) ++ xs ≡ (done ++ y ∷ []) ++ ys → x ≡ y
-next_same done x y xs ys e =
-    first_same x y xs ys (append_cancel_left done (x ∷ xs) (y ∷ ys) (sym (append_assoc done (x ∷ []) xs) ∙ e ∙ append_assoc done (y ∷ []) ys))
+next_same done x y xs ys e = grind (arith, common_steps, append_assoc, append_cancel_left, first_same)
 
 next_from : (done ps qs : List ℕ) (x y : ℕ) → IsPrefix (done ++ x ∷ []) ps → IsPrefix (done ++ y ∷ []) qs → IsPrefix ps qs → x ≡ y
-next_from done ps qs x y h k on =
-    next_same done x y (h.0 ++ on.0) k.0 (sym (append_assoc (done ++ x ∷ []) h.0 on.0) ∙ ap (λ l. l ++ on.0) (sym h.1) ∙ sym on.1 ∙ k.1)
+next_from done ps qs x y h k on = grind (arith, common_steps, append_assoc, next_same)
 
 next_either : (done ps qs : List ℕ) (x y : ℕ) → IsPrefix (done ++ x ∷ []) ps → IsPrefix (done ++ y ∷ []) qs → IsPrefix ps qs ⊎ IsPrefix qs ps → x ≡ y
 next_either done ps qs x y h k (inl on) = next_from done ps qs x y h k on
@@ -64,19 +62,9 @@ in_middle : {X : Type 0} (x : X) (xs ys : List X) → IsIn x (xs ++ x ∷ ys)
 in_middle x [] ys = inl refl
 in_middle x (z ∷ xs) ys = inr (in_middle x xs ys)
 
-planned_by : (job : Job) (plan : Plan) (step : By Move) (run : Run) (t : SubtaskId) (move : Move) (b : Bool) → same_subtask step.task t ≡ b → IsPlanned job step.task (plan step.task) step.what
-    → IsIn move (if b then step.what ∷ of t run else of t run) → (IsIn move (of t run) → IsPlanned job t (plan t) move) → IsPlanned job t (plan t) move
-planned_by job plan step run t move true same here (inl e) later =
-    let Of : SubtaskId → Type 0 = λ s. IsPlanned job s (plan s) step.what in
-    let At : Move → Type 0 = λ m. IsPlanned job t (plan t) m in
-    subst At (sym e) (subst Of ((same_subtask-Decides step.task t).0 same) here)
-planned_by job plan step run t move true same here (inr has) later = later has
-planned_by job plan step run t move false other here has later = later has
-
 planned : (job : Job) (from : States) (plan : Plan) (run : Run) (t : SubtaskId) (move : Move) → HasNoChoice job plan → IsRun job from run → IsIn move (of t run) → IsPlanned job t (plan t) move
-planned job from plan [] t move only r has = absurd has
-planned job from plan (step ∷ run) t move only r has =
-    planned_by job plan step run t move (same_subtask step.task t) refl (only step.task step.what r.1) has (λ later. planned job from plan run t move only r.0 later)
+planned job from plan [] t move only r has = grind (arith, common_steps)
+planned job from plan (step ∷ run) t move only r has = grind (arith, common_steps, planned job from plan run t move only r.0)
 
 pub takes_one : (j x : ℕ) (moves : List Move) → from_input j (Takes j x ∷ moves) ≡ from_input j moves ++ x ∷ []
 takes_one j x moves = ap (λ b. from_input j moves ++ (if b then x ∷ [] else [])) ((Decides-eqb j j).1 refl)

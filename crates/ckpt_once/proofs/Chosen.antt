@@ -1,5 +1,5 @@
 -- A restart to the coordinator's choice.
-use Rattle.std.proofs.Common.{◌≡◌, ℕ, ◌≤◌, true, List, [], ◌∷◌, ◌∙◌, sym, ap, subst, arith}
+use Rattle.std.proofs.Common.{◌≡◌, ℕ, ◌≤◌, true, List, ◌∷◌, sym, ap, subst, arith, []}
 use Rattle.std.proofs.lemmas.Grind.{common_steps}
 use Rattle.std.specs.Prelude.{◌==◌}
 use Rattle.ckpt_ids.specs.declared.call.Call.{Call}
@@ -7,7 +7,7 @@ use Rattle.ckpt_ids.specs.declared.reply.Choice.TheVariants as choice
 use Rattle.ckpt_cuts.specs.Laws.{AcknowledgesCuts}
 use Rattle.ckpt_model.specs.State.{Opening, State, choice_of, opened}
 use Rattle.ckpt_model.specs.Histories.{replay}
-use Rattle.ckpt_model.specs.Laws.{AreCalls, CanOpen, ack_of, id_of_choice}
+use Rattle.ckpt_model.specs.Laws.{AreCalls, CanOpen, id_of_choice}
 use Rattle.ckpt_model.proofs.Histories.Choice.{chosen_is_done}
 use Rattle.ckpt_model.proofs.Histories.Replays.{calls-split, replay-append}
 use Rattle.ckpt_model.proofs.Soundness.Histories.{replay_is_sound}
@@ -19,15 +19,7 @@ same_id : (m n : ℕ) → (m == n) ≡ true → m ≡ n
 same_id m n e = grind (arith, common_steps)
 
 no_older : (n m : ℕ) (o : Opening) (calls : List Call) → CanOpen o → AreCalls calls → choice_of (replay (opened o) calls) ≡ choice.Checkpoint n → WasCompleted m o calls → m ≤ n
-no_older n m o calls opens are chosen was =
-    let Are : List Call → Type 0 = λ l. AreCalls l in
-    let all = subst Are was.are_these are in
-    let call : Call = ack_of was.now m was.part in
-    let both : AreCalls was.before × AreCalls (call ∷ was.later) = calls-split was.before (call ∷ was.later) all in
-    let law = choice_is_no_older (replay (opened o) was.before) was.now m was.part was.later (replay_is_sound o was.before opens both.0) both.1 was.completing was.checkpoint was.none_back in
-    let same : law.0 ≡ n = same_choice law.0 n (sym law.1 ∙ ap choice_of (sym (ap (replay (opened o)) was.are_these ∙ replay-append (opened o) was.before (call ∷ was.later))) ∙ chosen) in
-    let Up : ℕ → Type 0 = λ k. m ≤ k in
-    subst Up same law.2
+no_older n m o calls opens are chosen was = grind (arith, common_steps, calls-split, choice_is_no_older, replay-append, replay_is_sound, same_choice)
 
 was_done : (attempt : Attempt) (o : Opening) (job : Job) (from : States) → CanOpen o → WasChosen attempt o job from → WasDone attempt.record_id o job from attempt.history
 was_done attempt o job from opens was =

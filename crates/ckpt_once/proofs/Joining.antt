@@ -1,12 +1,12 @@
 -- Runs one behind the other, and any number of failures.
-use Rattle.std.proofs.Common.{◌≡◌, ℕ, Bool, true, false, List, [], ◌∷◌, ◌++◌, ◌∙◌, refl, sym, ap, subst, if◌then◌else◌}
-use Rattle.std.specs.Prelude.{◌==◌}
+use Rattle.std.proofs.lemmas.Grind.{common_steps}
+use Rattle.std.proofs.Common.{arith, ◌≡◌, ℕ, Bool, true, false, List, ◌∷◌, ◌++◌, ◌∙◌, refl, ap, subst, if◌then◌else◌, []}
 use Rattle.std.proofs.Math.Path.{fun_ext}
 use Rattle.std.proofs.lemmas.List.{append-nil, append_assoc}
 use Rattle.ckpt_ids.specs.declared.subtask.SubtaskId.{SubtaskId}
 use Rattle.ckpt_ids.specs.Shapes.{same_subtask}
 use Rattle.ckpt_align.specs.Laws.{Channel}
-use Rattle.ckpt_once.specs.Programs.{Move, Takes, Draws, Emitted, Program, state, emitted, on_output, from_input}
+use Rattle.ckpt_once.specs.Programs.{Move, Takes, Draws, Program, state, emitted, from_input}
 use Rattle.ckpt_once.specs.Jobs.{Job, IsJob, By, Run, History, States, of, IsPrefix, starts, states_after, put_on, taken_off, IsRun, IsQuiet, run_of, before_cuts, Attempt, AreAttempts, restored, run_of_attempts}
 use Rattle.ckpt_once.specs.Laws.{RunsJoin, FailuresInvisible}
 use Rattle.ckpt_once.proofs.TurnLemmas.{on_output-append}
@@ -21,42 +21,29 @@ of-append t [] first = refl
 of-append t (e ∷ second) first = of-append_by (same_subtask e.task t) e.what (of t second) (of t first) (of t (second ++ first)) (of-append t second first)
 
 pub from_input-append : (j : ℕ) (second first : List Move) → from_input j (second ++ first) ≡ from_input j first ++ from_input j second
-from_input-append j [] first = sym (append-nil (from_input j first))
-from_input-append j (Takes i x ∷ second) first =
-    let one : List ℕ = if i == j then x ∷ [] else [] in
-    ap (λ l. l ++ one) (from_input-append j second first) ∙ append_assoc (from_input j first) (from_input j second) one
-from_input-append j (Draws ∷ second) first = from_input-append j second first
+from_input-append j [] first = grind (arith, common_steps)
+from_input-append j (Takes i x ∷ second) first = grind (arith, common_steps, from_input-append j second first)
+from_input-append j (Draws ∷ second) first = grind (arith, common_steps, from_input-append j second first)
 
 state-append : (p : Program) (s : ℕ) (second first : List Move) → state p s (second ++ first) ≡ state p (state p s first) second
 state-append p s [] first = refl
 state-append p s (move ∷ second) first = ap (λ k. p.next k move) (state-append p s second first)
 
 pub emitted-append : (p : Program) (s : ℕ) (second first : List Move) → emitted p s (second ++ first) ≡ emitted p s first ++ emitted p (state p s first) second
-emitted-append p s [] first = sym (append-nil (emitted p s first))
-emitted-append p s (move ∷ second) first =
-    let on : List Emitted = p.emits (state p (state p s first) second) move in
-    ap (λ k. emitted p s (second ++ first) ++ p.emits k move) (state-append p s second first)
-    ∙ ap (λ l. l ++ on) (emitted-append p s second first)
-    ∙ append_assoc (emitted p s first) (emitted p (state p s first) second) on
+emitted-append p s [] first = grind (arith, common_steps, append-nil)
+emitted-append p s (move ∷ second) first = grind (arith, common_steps, append_assoc, state-append, emitted-append p s second first)
 
-taken-join : (second first : Run) (c : Channel) → taken_off (second ++ first) c ≡ taken_off first c ++ taken_off second c
+pub taken-join : (second first : Run) (c : Channel) → taken_off (second ++ first) c ≡ taken_off first c ++ taken_off second c
 taken-join second first c = ap (from_input c.input) (of-append c.receiver second first) ∙ from_input-append c.input (of c.receiver second) (of c.receiver first)
 
 pub put-join : (job : Job) (from : States) (second first : Run) (c : Channel) → put_on job from (second ++ first) c ≡ put_on job from first c ++ put_on job (states_after job from first) second c
-put-join job from second first c =
-    let t : SubtaskId = c.sender in
-    let p : Program = job.program t in
-    ap (λ l. on_output c.output (emitted p (from t) l)) (of-append t second first)
-    ∙ ap (on_output c.output) (emitted-append p (from t) (of t second) (of t first))
-    ∙ on_output-append c.output (emitted p (from t) (of t first)) (emitted p (states_after job from first t) (of t second))
+put-join job from second first c = grind (arith, common_steps, emitted-append, of-append, on_output-append)
 
 pub states-join : (job : Job) (from : States) (second first : Run) (t : SubtaskId) → states_after job (states_after job from first) second t ≡ states_after job from (second ++ first) t
-states-join job from second first t =
-    sym (ap (state (job.program t) (from t)) (of-append t second first) ∙ state-append (job.program t) (from t) (of t second) (of t first))
+states-join job from second first t = grind (arith, common_steps, of-append, state-append)
 
 prefix-join : (xs us ys vs ps qs : List ℕ) → ps ≡ xs ++ us → qs ≡ ys ++ vs → ys ≡ xs → IsPrefix us vs → IsPrefix ps qs
-prefix-join xs us ys vs ps qs e f same h =
-    (h.0, f ∙ ap (λ l. l ++ vs) same ∙ ap (λ l. xs ++ l) h.1 ∙ sym (append_assoc xs us h.0) ∙ ap (λ l. l ++ h.0) (sym e))
+prefix-join xs us ys vs ps qs e f same h = grind (arith, common_steps)
 
 is_run-join : (job : Job) (from : States) (first second : Run) → IsRun job from first → IsQuiet job from first → IsRun job (states_after job from first) second → IsRun job from (second ++ first)
 is_run-join job from first [] r quiet k = r
@@ -67,12 +54,8 @@ is_run-join job from first (step ∷ second) r quiet k = (
       (taken-join (step ∷ second) first c) (put-join job from second first c) (quiet c has) (k.2 c has),
 )
 
-is_quiet-join : (job : Job) (from : States) (first second : Run) → IsQuiet job from first → IsQuiet job (states_after job from first) second → IsQuiet job from (second ++ first)
-is_quiet-join job from first second quiet k c has =
-    put-join job from second first c
-    ∙ ap (λ l. l ++ put_on job (states_after job from first) second c) (quiet c has)
-    ∙ ap (λ l. taken_off first c ++ l) (k c has)
-    ∙ sym (taken-join second first c)
+pub is_quiet-join : (job : Job) (from : States) (first second : Run) → IsQuiet job from first → IsQuiet job (states_after job from first) second → IsQuiet job from (second ++ first)
+is_quiet-join job from first second quiet k c has = grind (arith, common_steps, put-join, taken-join)
 
 pub runs_join : (job : Job) (from : States) (first second : Run) → RunsJoin job from first second
 runs_join job from first second r quiet k = (is_run-join job from first second r quiet k, states-join job from second first)

@@ -1,5 +1,5 @@
 -- A done checkpoint is dropped for newer ones only, unless a call goes back.
-use Rattle.std.proofs.Common.{◌≡◌, ℕ, ◌≤◌, ◌<◌, Bool, true, false, ◌&&◌, nat_lt, nat_le, List, [], ◌∷◌, ◌∙◌, refl, sym, ap, arith, if◌then◌else◌, find, inl, inr, Option, Some, None}
+use Rattle.std.proofs.Common.{◌≡◌, ℕ, ◌≤◌, ◌<◌, Bool, true, false, ◌&&◌, nat_lt, nat_le, List, ◌∷◌, ◌∙◌, refl, ap, arith, if◌then◌else◌, find, inl, inr, Option, Some, None, []}
 use Rattle.std.proofs.lemmas.Grind.{common_steps}
 use Rattle.std.specs.Prelude.{◌==◌}
 use Rattle.ckpt_ids.specs.declared.call.Target.TheVariants as target
@@ -40,15 +40,7 @@ below m n e = grind (arith, common_steps)
 
 -- of what a completion leaves, as many are newer as are retained
 completion_leaves_newer : (id : ℕ) (m : State) (h : HasNoOlder id m) (x : Stepped) → IsSound m → (is_completing x.1 && nat_le m.opening.config.retained (newer_than h.0.id x.0)) ≡ true → HasNoOlder id x.0
-completion_leaves_newer id m h x s e =
-    let newer : Record → Bool = λ r. is_done_checkpoint r && nat_lt h.0.id r.id in
-    let many : m.opening.config.retained ≤ newer_than h.0.id x.0 = at_most m.opening.config.retained (newer_than h.0.id x.0) (both_true (is_completing x.1) (nat_le m.opening.config.retained (newer_than h.0.id x.0)) e).1 in
-    let some : 1 ≤ m.opening.config.retained = s.config.retained_from in
-    let one = IsIn-from_counted newer x.0.records (omega (arith, many, some)) in
-    let parts = both_true (is_done_checkpoint one.0) (nat_lt h.0.id one.0.id) one.2 in
-    let after : h.0.id < one.0.id = below h.0.id one.0.id parts.1 in
-    let from : id ≤ h.0.id = h.3 in
-    (one.0, one.1, parts.0, omega (arith, after, from))
+completion_leaves_newer id m h x s e = grind (arith, common_steps, IsIn-from_counted, at_most, below, both_true, nat_le, nat_lt)
 
 pub same_choice : (m n : ℕ) → choice.Checkpoint m ≡ choice.Checkpoint n → m ≡ n
 same_choice m n e = grind (arith, common_steps)
@@ -56,17 +48,11 @@ same_choice m n e = grind (arith, common_steps)
 no_savepoint : (m n : ℕ) → choice.Savepoint m ≡ choice.Checkpoint n → ⊥
 no_savepoint m n e = grind (arith, common_steps)
 
-not_fresh : (n : ℕ) → choice.Fresh ≡ choice.Checkpoint n → ⊥
-not_fresh n e = grind (arith, common_steps)
-
 -- a checkpoint that is the choice is live
 live_by : (id n : ℕ) (m : State) (b : Bool) (base : Option ℕ) → has_done_checkpoint m ≡ b → m.base ≡ base → TakesNewest m → choice_of m ≡ choice.Checkpoint n → id ≤ n → HasNoOlder id m
-live_by id n m true base done at takes chosen up =
-    let newest = takes.checkpoint done in
-    let same : newest.0.id ≡ n = same_choice newest.0.id n (sym newest.2 ∙ chosen) in
-    (newest.0, newest.1.live, newest.1.done, omega (arith, up, same))
-live_by id n m false (Some s) done at takes chosen up = absurd (no_savepoint s n (sym (takes.savepoint done s at) ∙ chosen))
-live_by id n m false None done at takes chosen up = absurd (not_fresh n (sym (takes.fresh done at) ∙ chosen))
+live_by id n m true base done at takes chosen up = grind (arith, common_steps)
+live_by id n m false (Some s) done at takes chosen up = grind (arith, common_steps)
+live_by id n m false None done at takes chosen up = grind (arith, common_steps)
 
 -- a call that may drop a checkpoint, and does not go back, leaves one that is no older
 leaves_one : (id : ℕ) (m : State) (call : Call) (h : HasNoOlder id m) → IsCall call → IsSound m → goes_back m call ≡ false → may_drop h.0.id m call ≡ true → HasNoOlder id (step m call).0

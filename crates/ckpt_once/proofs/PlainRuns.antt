@@ -1,21 +1,22 @@
 -- A run is a history without barriers.
-use Rattle.std.proofs.Common.{◌≡◌, ℕ, ◌<◌, Bool, true, false, List, [], ◌∷◌, ◌++◌, ◌∙◌, refl, sym, ap, subst, if◌then◌else◌, Option, Some, None, replicate, slice_get}
-use Rattle.std.specs.Prelude.{◌==◌, ◌&&◌}
+use Rattle.std.proofs.lemmas.Grind.{common_steps}
+use Rattle.std.proofs.Common.{arith, ◌≡◌, ℕ, ◌<◌, Bool, true, false, List, ◌∷◌, ◌++◌, ◌∙◌, refl, sym, ap, subst, if◌then◌else◌, Option, Some, None, replicate, slice_get, []}
+use Rattle.std.specs.Prelude.{◌==◌}
 use Rattle.ckpt_ids.specs.declared.subtask.SubtaskId.{SubtaskId}
 use Rattle.ckpt_ids.specs.Shapes.{same_subtask}
 use Rattle.ckpt_align.specs.declared.input.Input.{Input}
 use Rattle.ckpt_align.specs.declared.input.Input.TheVariants.{Open}
 use Rattle.ckpt_align.specs.Alignment.{Alignment, opened}
 use Rattle.ckpt_align.specs.Steps.{step, element}
-use Rattle.ckpt_align.specs.Histories.{Item, Element, Action, Reads, after, answer_to, is_taken, cut_as, barriers, replay, taken, sent, elements}
+use Rattle.ckpt_align.specs.Histories.{Item, Element, Reads, after, answer_to, is_taken, cut_as, barriers, replay, taken, sent, elements}
 use Rattle.ckpt_align.specs.Laws.{Channel}
 use Rattle.ckpt_align.proofs.ItemLemmas.{elements-append}
 use Rattle.ckpt_ids.proofs.PlaceLemmas.{some_at}
 use Rattle.ckpt_align.proofs.Fitting.{element_reads-other}
 use Rattle.ckpt_align.proofs.InputLemmas.{get-replicate, length-replicate}
 use Rattle.ckpt_align.proofs.Cutting.{reads_cut-element}
-use Rattle.ckpt_once.specs.Programs.{Move, Takes, Draws, Emitted, Program, state, Turn, told, move_in, with_one, aligned, moves_in, emitted_by, sendings, actions}
-use Rattle.ckpt_once.specs.Jobs.{GivesInOrder, IsHistory, IsJob, IsMoveOf, IsPrefix, IsRun, IsTurnOf, Job, Run, States, as_step, network, of, put_on, run_of, taken_off}
+use Rattle.ckpt_once.specs.Programs.{Move, Takes, Draws, Emitted, Program, Turn, told, move_in, aligned, sendings, actions}
+use Rattle.ckpt_once.specs.Jobs.{GivesInOrder, IsHistory, IsJob, IsMoveOf, IsPrefix, IsRun, IsTurnOf, Job, Run, States, network, of, put_on, run_of, taken_off}
 use Rattle.ckpt_once.specs.PlainHistories.{RunIsHistory, history_of, turn_of}
 use Rattle.ckpt_once.proofs.ActionLemmas.{sent-append, taken-append}
 use Rattle.ckpt_once.proofs.Running.{acts_of, put_on_is, taken_off_is}
@@ -69,22 +70,12 @@ moves_on inputs (Takes i x) h = ap (λ b. if b then Some (Takes i x) else None) 
 moves_on inputs Draws h = refl
 
 is_within : (job : Job) (t : SubtaskId) (move : Move) → IsJob job → IsMoveOf job t move → IsWithin (job.inputs t) move
-is_within job t (Takes i x) is k =
-    let c : Channel = k.1.0 in
-    let At : SubtaskId → Type 0 = λ s. c.input < job.inputs s in
-    let To : ℕ → Type 0 = λ j. j < job.inputs t in
-    subst To k.1.3 (subst At k.1.2 (is c k.1.1).2)
-is_within job t Draws is k = tt
+is_within job t (Takes i x) is k = grind (arith, common_steps)
+is_within job t Draws is k = grind (arith, common_steps)
 
 same_run : (job : Job) (from : States) (run : Run) → IsJob job → IsRun job from run → run_of job (history_of run) ≡ run
-same_run job from [] is r = refl
-same_run job from (step ∷ run) is r =
-    let t : SubtaskId = step.task in
-    let a : Alignment = opened (job.inputs t) in
-    ap (λ turns. with_one (as_step t (move_in (aligned a turns) (turn_of step.what))) (run_of job (history_of run))) (of_history t run)
-    ∙ ap (λ b. with_one (as_step t (move_in b (turn_of step.what))) (run_of job (history_of run))) (aligned_same a (of t run))
-    ∙ ap (λ o. with_one (as_step t o) (run_of job (history_of run))) (moves_on (job.inputs t) step.what (is_within job t step.what is r.1))
-    ∙ ap (λ l. step ∷ l) (same_run job from run is r.0)
+same_run job from [] is r = grind (arith, common_steps)
+same_run job from (step ∷ run) is r = grind (arith, common_steps, aligned_same, is_within, moves_on, of_history, same_run job from run is r.0)
 
 -- channels carry elements only
 
@@ -126,31 +117,16 @@ turn_sent c a (Takes i x) es =
 turn_sent c a Draws es = sendings_sent c a es
 
 turn_taken : (j : ℕ) (a : Alignment) (move : Move) (es : List Emitted) → AreElements (taken j a (told (turn_of move) ++ sendings es))
-turn_taken j a (Takes i x) es =
-    let b : Bool = (i == j) && is_taken (answer_to a i (Element x)) in
-    let c : Alignment = after a (Reads i (Element x)) in
-    are_elements-append (if b then Element x ∷ [] else []) (taken j c (sendings es)) (one_or_none b x) (sendings_taken j c es)
-turn_taken j a Draws es = sendings_taken j a es
+turn_taken j a (Takes i x) es = grind (arith, common_steps, are_elements-append, one_or_none, sendings_taken)
+turn_taken j a Draws es = grind (arith, common_steps, sendings_taken)
 
 all_sent : (c : ℕ) (p : Program) (s : ℕ) (a : Alignment) (moves : List Move) → AreElements (sent c a (actions p s a (turns_of moves)))
-all_sent c p s a [] = refl
-all_sent c p s a (move ∷ moves) =
-    let turns : List Turn = turns_of moves in
-    let xs : List Action = actions p s a turns in
-    let es : List Emitted = emitted_by p (state p s (moves_in a turns)) (move_in (aligned a turns) (turn_of move)) in
-    let zs : List Action = told (turn_of move) ++ sendings es in
-    let Are : List Item → Type 0 = λ l. AreElements l in
-    subst Are (sym (sent-append c a xs zs)) (are_elements-append (sent c a xs) (sent c (replay a xs) zs) (all_sent c p s a moves) (turn_sent c (replay a xs) move es))
+all_sent c p s a [] = grind (arith, common_steps)
+all_sent c p s a (move ∷ moves) = grind (arith, common_steps, are_elements-append, sent-append, turn_sent, all_sent c p s a moves)
 
 all_taken : (j : ℕ) (p : Program) (s : ℕ) (a : Alignment) (moves : List Move) → AreElements (taken j a (actions p s a (turns_of moves)))
-all_taken j p s a [] = refl
-all_taken j p s a (move ∷ moves) =
-    let turns : List Turn = turns_of moves in
-    let xs : List Action = actions p s a turns in
-    let es : List Emitted = emitted_by p (state p s (moves_in a turns)) (move_in (aligned a turns) (turn_of move)) in
-    let zs : List Action = told (turn_of move) ++ sendings es in
-    let Are : List Item → Type 0 = λ l. AreElements l in
-    subst Are (sym (taken-append j a xs zs)) (are_elements-append (taken j a xs) (taken j (replay a xs) zs) (all_taken j p s a moves) (turn_taken j (replay a xs) move es))
+all_taken j p s a [] = grind (arith, common_steps)
+all_taken j p s a (move ∷ moves) = grind (arith, common_steps, are_elements-append, taken-append, turn_taken, all_taken j p s a moves)
 
 in_order : (job : Job) (from : States) (now run : Run) (c : Channel) → run_of job (history_of now) ≡ now → run_of job (history_of run) ≡ run → IsPrefix (taken_off now c) (put_on job from run c)
     → GivesInOrder (network job from (history_of run)) (network job from (history_of now)) c

@@ -1,5 +1,5 @@
 -- What sinks publish over any number of failures.
-use Rattle.std.proofs.Common.{◌≡◌, ℕ, ◌≤◌, Bool, true, false, ◌||◌, if◌then◌else◌, List, [], ◌∷◌, ◌++◌, ◌∙◌, refl, sym, ap, arith}
+use Rattle.std.proofs.Common.{◌≡◌, ℕ, ◌≤◌, Bool, true, false, ◌||◌, if◌then◌else◌, List, ◌∷◌, ◌++◌, ◌∙◌, refl, sym, ap, arith, []}
 use Rattle.std.proofs.lemmas.Grind.{common_steps}
 use Rattle.std.proofs.lemmas.List.{append-nil, append_assoc}
 use Rattle.ckpt_ids.specs.Ordered.{IsIn}
@@ -40,7 +40,7 @@ published_once job (attempt ∷ attempts) sink is k last has =
     ∙ ap (λ f. written job (starts job) first sink ++ written job f second sink) before.states
     ∙ sym (put-join job (starts job) second first (channel_of sink))
 
-published_now : (job : Job) (from : States) (h : History) (sink : Sink) (completed : List ℕ) → IsPrefix (published_in job from h sink completed) (written job from (run_of job h) sink)
+pub published_now : (job : Job) (from : States) (h : History) (sink : Sink) (completed : List ℕ) → IsPrefix (published_in job from h sink completed) (written job from (run_of job h) sink)
 published_now job from h sink completed =
     let a : Alignment = opened (job.inputs sink.task) in
     let xs : List Action = acts_of job from h sink.task in
@@ -74,7 +74,7 @@ cut_stays_by : (b c d : Bool) → (c ≡ true → d ≡ true) → (if b then tru
 cut_stays_by true c d h e = refl
 cut_stays_by false c d h e = h e
 
-cut_stays : (n : ℕ) (a : Alignment) (xs ys : List Action) → has_cut n a xs ≡ true → has_cut n a (xs ++ ys) ≡ true
+pub cut_stays : (n : ℕ) (a : Alignment) (xs ys : List Action) → has_cut n a xs ≡ true → has_cut n a (xs ++ ys) ≡ true
 cut_stays n a [] ys e = grind (arith, common_steps)
 cut_stays n a (Ends ∷ xs) ys e = grind (arith, common_steps)
 cut_stays n a (Reads i item ∷ xs) ys e =

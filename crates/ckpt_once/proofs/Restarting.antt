@@ -1,5 +1,6 @@
 -- A done record of a coordinator is one that each task has cut.
-use Rattle.std.proofs.Common.{ℕ, List, [], ◌∷◌, sym, subst}
+use Rattle.std.proofs.lemmas.Grind.{common_steps}
+use Rattle.std.proofs.Common.{arith, ℕ, List, ◌∷◌, sym, subst, []}
 use Rattle.ckpt_ids.specs.declared.subtask.SubtaskId.{SubtaskId}
 use Rattle.ckpt_ids.specs.Ordered.{IsIn}
 use Rattle.ckpt_model.specs.State.{Opening}
@@ -9,35 +10,23 @@ use Rattle.ckpt_cuts.proofs.Consistency.{has_cut-from_done}
 use Rattle.ckpt_once.specs.Choices.{Agree, Plan}
 use Rattle.ckpt_once.specs.Sinks.{written}
 use Rattle.ckpt_once.proofs.Choosing.{one_output}
-use Rattle.ckpt_once.specs.Jobs.{Attempt, AreAttempts, HaveCut, History, Job, States, network, restored, run_of, run_of_attempts, starts}
+use Rattle.ckpt_once.specs.Jobs.{Attempt, AreAttempts, HaveCut, History, Job, States, network, run_of_attempts, starts}
 use Rattle.ckpt_once.specs.Restarts.{AreRestarts, ExactlyOnce, RestartsInvisible, WasDone}
 use Rattle.ckpt_once.proofs.Joining.{failures_invisible, is_restored}
 use Rattle.ckpt_once.proofs.Publishing.{published_is_prefix, published_once}
 
-have_cut : (n : ℕ) (o : Opening) (job : Job) (from : States) (h : History) → CanOpen o → WasDone n o job from h → HaveCut n job from h
+pub have_cut : (n : ℕ) (o : Opening) (job : Job) (from : States) (h : History) → CanOpen o → WasDone n o job from h → HaveCut n job from h
 have_cut n o job from h opens was t has =
     let Of : List SubtaskId → Type 0 = λ ts. IsIn t ts in
     let Cut : ℕ → Type 0 = λ m. HasCut m ((network job from h).task t) in
     subst Cut was.is_this (has_cut-from_done o was.calls (network job from h) was.done_record t opens was.are_calls was.is_live was.is_done was.acknowledged (subst Of (sym was.is_of_job) has))
 
 are_attempts : (o : Opening) (job : Job) (attempts : List Attempt) → CanOpen o → AreRestarts o job attempts → AreAttempts job attempts
-are_attempts o job [] opens k = tt
-are_attempts o job (attempt ∷ attempts) opens k =
-    (are_attempts o job attempts opens k.0, k.1, have_cut attempt.record_id o job (restored job attempts) attempt.history opens k.2)
+are_attempts o job [] opens k = grind (arith, common_steps)
+are_attempts o job (attempt ∷ attempts) opens k = grind (arith, common_steps, have_cut, are_attempts o job attempts opens k.0, k.1)
 
 pub restarts_invisible : (o : Opening) (job : Job) (attempts : List Attempt) (h : History) → CanOpen o → RestartsInvisible o job attempts h
-restarts_invisible o job attempts h opens is are last k =
-    let attempted = are_attempts o job attempts opens are in
-    let law = failures_invisible job attempts h is attempted k in
-    record {
-      first = run_of_attempts job attempts;
-      later = run_of job h;
-      is_run = law.0;
-      is_quiet = law.1;
-      has_states = law.2;
-      was_published = λ sink has. published_once job attempts sink is attempted last has;
-      is_published = λ sink completed has. published_is_prefix job attempts sink h completed is attempted last has;
-    }
+restarts_invisible o job attempts h opens is are last k = grind (arith, common_steps, are_attempts, failures_invisible, published_is_prefix, published_once)
 
 pub exactly_once : (o : Opening) (job : Job) (plan : Plan) (attempts : List Attempt) → CanOpen o → ExactlyOnce o job plan attempts
 exactly_once o job plan attempts opens is only are last run sink r has =

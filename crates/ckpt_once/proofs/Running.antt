@@ -1,5 +1,6 @@
 -- What tasks do in an engine is a run, and so is what they did before their cuts.
-use Rattle.std.proofs.Common.{◌≡◌, ℕ, Bool, true, false, List, [], ◌∷◌, ◌++◌, ◌∙◌, refl, sym, ap, if◌then◌else◌, Option, Some, None}
+use Rattle.std.proofs.lemmas.Grind.{common_steps}
+use Rattle.std.proofs.Common.{arith, ◌≡◌, ℕ, Bool, true, false, List, ◌∷◌, ◌++◌, ◌∙◌, refl, sym, ap, if◌then◌else◌, Option, Some, None, []}
 use Rattle.std.proofs.lemmas.List.{append-nil, append_assoc}
 use Rattle.ckpt_ids.specs.declared.subtask.SubtaskId.{SubtaskId}
 use Rattle.ckpt_ids.specs.Ordered.{IsIn}
@@ -10,7 +11,7 @@ use Rattle.ckpt_align.specs.Histories.{Item, Element, replay, Barrier, End, Acti
 use Rattle.ckpt_align.specs.Laws.{Channel, Network, IsInOrder, IsConsistent}
 use Rattle.ckpt_align.proofs.Carrying.{global_cut}
 use Rattle.ckpt_align.proofs.ItemLemmas.{elements-append}
-use Rattle.ckpt_once.specs.Programs.{Move, Takes, Turn, Offered, GivenUp, Drawn, Ended, state, emitted, on_output, from_input, move_in, with_one, aligned, moves_in, actions, acts}
+use Rattle.ckpt_once.specs.Programs.{Move, Takes, Turn, Offered, GivenUp, Drawn, Ended, state, move_in, with_one, aligned, moves_in, actions, acts}
 use Rattle.ckpt_once.specs.Jobs.{Job, By, Run, History, States, of, IsPrefix, states_after, put_on, taken_off, IsMoveOf, IsTurnOf, IsRun, network, IsHistory, states_in, as_step, run_of, has_stopped, before_cuts}
 use Rattle.ckpt_once.specs.Laws.{WithoutBarriers, RecordIsOfRun}
 use Rattle.ckpt_once.proofs.ActionLemmas.{stopped, cut_in_order, sent-append}
@@ -24,25 +25,10 @@ of_here t e h same = ap (λ b. if b then e.what ∷ of t h else of t h) ((same_s
 pub of_there : {X : Type 0} (t : SubtaskId) (e : By X) (h : List (By X)) → same_subtask e.task t ≡ false → of t (e ∷ h) ≡ of t h
 of_there t e h other = ap (λ b. if b then e.what ∷ of t h else of t h) other
 
-of_with_same : (t s : SubtaskId) (o : Option Move) (run : Run) → s ≡ t → of t (with_one (as_step s o) run) ≡ with_one o (of t run)
-of_with_same t s None run same = refl
-of_with_same t s (Some move) run same = of_here t (record { task = s; what = move }) run same
-
-of_with_other : (t s : SubtaskId) (o : Option Move) (run : Run) → same_subtask s t ≡ false → of t (with_one (as_step s o) run) ≡ of t run
-of_with_other t s None run other = refl
-of_with_other t s (Some move) run other = of_there t (record { task = s; what = move }) run other
-
 run_moves_by : (job : Job) (e : By Turn) (h : History) (t : SubtaskId) (b : Bool) → same_subtask e.task t ≡ b → of t (run_of job h) ≡ moves_in (opened (job.inputs t)) (of t h)
     → of t (run_of job (e ∷ h)) ≡ moves_in (opened (job.inputs t)) (of t (e ∷ h))
-run_moves_by job e h t true same k =
-    let q : e.task ≡ t = (same_subtask-Decides e.task t).0 same in
-    let o : SubtaskId → Option Move = λ s. move_in (aligned (opened (job.inputs s)) (of s h)) e.what in
-    of_with_same t e.task (o e.task) (run_of job h) q
-    ∙ ap (λ s. with_one (o s) (of t (run_of job h))) q
-    ∙ ap (with_one (o t)) k
-    ∙ ap (moves_in (opened (job.inputs t))) (sym (of_here t e h q))
-run_moves_by job e h t false other k =
-    of_with_other t e.task (move_in (aligned (opened (job.inputs e.task)) (of e.task h)) e.what) (run_of job h) other ∙ k ∙ ap (moves_in (opened (job.inputs t))) (sym (of_there t e h other))
+run_moves_by job e h t true same k = grind (arith, common_steps)
+run_moves_by job e h t false other k = grind (arith, common_steps)
 
 pub run_moves : (job : Job) (h : History) (t : SubtaskId) → of t (run_of job h) ≡ moves_in (opened (job.inputs t)) (of t h)
 run_moves job [] t = refl
@@ -67,17 +53,8 @@ of_if_there t e h false other = of_there t e h other
 before_turns_by : (n : ℕ) (job : Job) (from : States) (e : By Turn) (h : History) (t : SubtaskId) (b : Bool) → same_subtask e.task t ≡ b
     → of t (before_cuts n job from h) ≡ turns_of n job from t (of t h)
     → of t (before_cuts n job from (e ∷ h)) ≡ turns_of n job from t (of t (e ∷ h))
-before_turns_by n job from e h t true same k =
-    let q : e.task ≡ t = (same_subtask-Decides e.task t).0 same in
-    let bc : History = before_cuts n job from h in
-    let s : SubtaskId → Bool = λ u. has_stopped n ((network job from (e ∷ h)).task u) in
-    ap (λ u. of t (if s u then bc else e ∷ bc)) q
-    ∙ of_if_here t e bc (s t) q
-    ∙ ap (λ l. if s t then l else e.what ∷ l) k
-    ∙ ap (λ l. if stops n job from t l then turns_of n job from t (of t h) else e.what ∷ turns_of n job from t (of t h)) (of_here t e h q)
-    ∙ ap (turns_of n job from t) (sym (of_here t e h q))
-before_turns_by n job from e h t false other k =
-    of_if_there t e (before_cuts n job from h) (has_stopped n ((network job from (e ∷ h)).task e.task)) other ∙ k ∙ ap (turns_of n job from t) (sym (of_there t e h other))
+before_turns_by n job from e h t true same k = grind (arith, common_steps, of_here, of_if_here, same_subtask-Decides)
+before_turns_by n job from e h t false other k = grind (arith, common_steps, of_if_there, of_there)
 
 pub before_turns : (n : ℕ) (job : Job) (from : States) (h : History) (t : SubtaskId) → of t (before_cuts n job from h) ≡ turns_of n job from t (of t h)
 before_turns n job from [] t = refl
@@ -89,18 +66,13 @@ abbrev pub acts_of : Job → States → History → SubtaskId → List Action
 acts_of job from h t = ((network job from h).task t).actions
 
 pub taken_off_is : (job : Job) (from : States) (h : History) (c : Channel) → taken_off (run_of job h) c ≡ elements (taken c.input (opened (job.inputs c.receiver)) (acts_of job from h c.receiver))
-taken_off_is job from h c =
-    let t : SubtaskId = c.receiver in
-    ap (from_input c.input) (run_moves job h t) ∙ sym (taken_is c.input (job.program t) (from t) (opened (job.inputs t)) (of t h))
+taken_off_is job from h c = grind (arith, common_steps, run_moves, taken_is)
 
 pub put_on_is : (job : Job) (from : States) (h : History) (c : Channel) → put_on job from (run_of job h) c ≡ elements (sent c.output (opened (job.inputs c.sender)) (acts_of job from h c.sender))
-put_on_is job from h c =
-    let t : SubtaskId = c.sender in
-    ap (λ ms. on_output c.output (emitted (job.program t) (from t) ms)) (run_moves job h t) ∙ sym (sent_is c.output (job.program t) (from t) (opened (job.inputs t)) (of t h))
+put_on_is job from h c = grind (arith, common_steps, run_moves, sent_is)
 
 pub acts_before : (n : ℕ) (job : Job) (from : States) (h : History) (t : SubtaskId) → acts_of job from (before_cuts n job from h) t ≡ before_cut n (opened (job.inputs t)) (acts_of job from h t)
-acts_before n job from h t =
-    ap (actions (job.program t) (from t) (opened (job.inputs t))) (before_turns n job from h t) ∙ sym (before_is n (job.program t) (from t) (opened (job.inputs t)) (of t h))
+acts_before n job from h t = grind (arith, common_steps, before_is, before_turns)
 
 pub taken_before_is : (n : ℕ) (job : Job) (from : States) (h : History) (c : Channel)
     → taken_off (run_of job (before_cuts n job from h)) c ≡ processed c.input (opened (job.inputs c.receiver)) (before_cut n (opened (job.inputs c.receiver)) (acts_of job from h c.receiver))
@@ -109,8 +81,7 @@ taken_before_is n job from h c =
 
 pub put_before_is : (n : ℕ) (job : Job) (from : States) (h : History) (c : Channel)
     → put_on job from (run_of job (before_cuts n job from h)) c ≡ elements (sent c.output (opened (job.inputs c.sender)) (before_cut n (opened (job.inputs c.sender)) (acts_of job from h c.sender)))
-put_before_is n job from h c =
-    put_on_is job from (before_cuts n job from h) c ∙ ap (λ l. elements (sent c.output (opened (job.inputs c.sender)) l)) (acts_before n job from h c.sender)
+put_before_is n job from h c = grind (arith, common_steps, acts_before, put_on_is)
 
 pub prefix_like : (xs us ys vs : List ℕ) → xs ≡ us → ys ≡ vs → IsPrefix us vs → IsPrefix xs ys
 prefix_like xs us ys vs e f h = (h.0, f ∙ h.1 ∙ ap (λ l. l ++ h.0) (sym e))
@@ -170,10 +141,8 @@ is_ordered job from e h k c has =
     prefix_like (taken_off (run_of job (e ∷ h)) c) (elements took) (put_on job from (run_of job h) c) (elements gave) (taken_off_is job from (e ∷ h) c) (put_on_is job from h c) (elements way.0, ap elements way.1 ∙ elements-append took way.0)
 
 is_run : (job : Job) (from : States) (h : History) → IsHistory job from h → IsRun job from (run_of job h)
-is_run job from [] k = tt
-is_run job from (e ∷ h) k =
-    let a : Alignment = aligned (opened (job.inputs e.task)) (of e.task h) in
-    run_goes_on job from e.task (move_in a e.what) (run_of job h) (is_run job from h k.0) (is_move job e.task a e.what k.1) (is_ordered job from e h k)
+is_run job from [] k = grind (arith, common_steps)
+is_run job from (e ∷ h) k = grind (arith, common_steps, is_move, is_ordered, run_goes_on, is_run job from h k.0)
 
 same_states : (job : Job) (from : States) (h : History) (t : SubtaskId) → states_in job from h t ≡ states_after job from (run_of job h) t
 same_states job from h t = ap (state (job.program t) (from t)) (sym (run_moves job h t))
@@ -208,10 +177,8 @@ is_ordered_before n job from e h whole same on k c has =
     (ap (λ l. processed c.input b (before_cut n b l)) (sym ys_on.1) ∙ same c has ∙ ap (λ l. elements (sent c.output a (before_cut n a l))) xs_on.1) way.1)
 
 one_before : (n : ℕ) (job : Job) (from : States) (e : By Turn) (bc : History) (b : Bool) → IsTurnOf job e.task e.what → IsRun job from (run_of job bc) → IsOrdered job from (run_of job (if b then bc else e ∷ bc)) (run_of job bc) → IsRun job from (run_of job (if b then bc else e ∷ bc))
-one_before n job from e bc true fed r k = r
-one_before n job from e bc false fed r k =
-    let a : Alignment = aligned (opened (job.inputs e.task)) (of e.task bc) in
-    run_goes_on job from e.task (move_in a e.what) (run_of job bc) r (is_move job e.task a e.what fed) k
+one_before n job from e bc true fed r k = grind (arith, common_steps)
+one_before n job from e bc false fed r k = grind (arith, common_steps, is_move, run_goes_on)
 
 is_run_before : (n : ℕ) (job : Job) (from : States) (h whole : History) → IsConsistent n (network job from whole) → GoesOn job from h whole → IsHistory job from h → IsRun job from (run_of job (before_cuts n job from h))
 is_run_before n job from [] whole same on k = tt

@@ -1,5 +1,5 @@
 -- A sink's transactions up to a record have what it wrote before its cut.
-use Rattle.std.proofs.Common.{◌≡◌, ℕ, ◌<◌, ◌≤◌, Bool, true, false, nat_le, List, [], ◌∷◌, ◌++◌, ◌∙◌, refl, sym, ap, subst, arith, if◌then◌else◌, Option, Some, None, inl, inr}
+use Rattle.std.proofs.Common.{◌≡◌, ℕ, ◌<◌, ◌≤◌, Bool, true, false, nat_le, List, ◌∷◌, ◌++◌, ◌∙◌, refl, sym, ap, subst, arith, if◌then◌else◌, Option, Some, None, inl, inr, []}
 use Rattle.std.specs.Prelude.{◌==◌}
 use Rattle.std.proofs.lemmas.Bool.{cases_Bool}
 use Rattle.std.proofs.lemmas.Grind.{common_steps}
@@ -68,7 +68,7 @@ none_later inputs done x between (y ∷ ys) o n w e =
 
 -- the transactions up to a record
 
-elements_barriers : (k : Option ℕ) → elements (barriers k) ≡ []
+pub elements_barriers : (k : Option ℕ) → elements (barriers k) ≡ []
 elements_barriers None = refl
 elements_barriers (Some m) = refl
 

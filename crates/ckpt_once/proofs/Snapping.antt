@@ -1,5 +1,6 @@
 -- A snapshot is a fold over what comes before the barrier.
-use Rattle.std.proofs.Common.{◌≡◌, ℕ, Bool, true, false, List, [], ◌∷◌, ◌++◌, ◌∙◌, refl, sym, ap, subst, if◌then◌else◌, inl, inr}
+use Rattle.std.proofs.lemmas.Grind.{common_steps}
+use Rattle.std.proofs.Common.{arith, ◌≡◌, ℕ, Bool, true, false, List, ◌∷◌, ◌++◌, ◌∙◌, refl, sym, ap, if◌then◌else◌, inl, inr, []}
 use Rattle.ckpt_ids.specs.declared.subtask.SubtaskId.{SubtaskId}
 use Rattle.ckpt_ids.specs.Ordered.{IsIn}
 use Rattle.ckpt_ids.specs.Shapes.{same_subtask}
@@ -29,12 +30,9 @@ all_over p s i (move ∷ moves) takes =
 
 is_move_by : (job : Job) (step : By Move) (run : Run) (t : SubtaskId) (move : Move) (b : Bool) → same_subtask step.task t ≡ b → IsMoveOf job step.task step.what → IsIn move (if b then step.what ∷ of t run else of t run)
     → (IsIn move (of t run) → IsMoveOf job t move) → IsMoveOf job t move
-is_move_by job step run t move true same here (inl e) later =
-    let Of : SubtaskId → Type 0 = λ s. IsMoveOf job s step.what in
-    let At : Move → Type 0 = λ m. IsMoveOf job t m in
-    subst At (sym e) (subst Of ((same_subtask-Decides step.task t).0 same) here)
-is_move_by job step run t move true same here (inr has) later = later has
-is_move_by job step run t move false other here has later = later has
+is_move_by job step run t move true same here (inl e) later = grind (arith, common_steps, same_subtask-Decides)
+is_move_by job step run t move true same here (inr has) later = grind (arith, common_steps)
+is_move_by job step run t move false other here has later = grind (arith, common_steps)
 
 is_move_in : (job : Job) (from : States) (run : Run) (t : SubtaskId) (move : Move) → IsRun job from run → IsIn move (of t run) → IsMoveOf job t move
 is_move_in job from [] t move r has = absurd has

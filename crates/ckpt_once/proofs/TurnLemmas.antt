@@ -1,5 +1,5 @@
 -- A task's turns, as moves and as actions.
-use Rattle.std.proofs.Common.{◌≡◌, ℕ, Bool, true, false, ◌||◌, List, [], ◌∷◌, ◌++◌, ◌∙◌, refl, sym, ap, subst, arith, if◌then◌else◌, Option, Some}
+use Rattle.std.proofs.Common.{◌≡◌, ℕ, Bool, true, false, ◌||◌, List, ◌∷◌, ◌++◌, ◌∙◌, refl, sym, ap, arith, if◌then◌else◌, Option, Some, []}
 use Rattle.std.specs.Prelude.{None, ◌==◌, ◌&&◌}
 use Rattle.std.proofs.lemmas.Bool.{cases_Bool, or_parts}
 use Rattle.std.proofs.lemmas.Grind.{common_steps}
@@ -36,14 +36,8 @@ sent_sendings c a (e ∷ es) = grind (arith, common_steps, sent_sendings c a es,
 -- the aligner
 
 pub aligned_is : (p : Program) (s : ℕ) (a : Alignment) (turns : List Turn) → replay a (actions p s a turns) ≡ aligned a turns
-aligned_is p s a [] = refl
-aligned_is p s a (turn ∷ turns) =
-    let b : Alignment = aligned a turns in
-    let es : List Emitted = emitted_by p (state p s (moves_in a turns)) (move_in b turn) in
-    replay-append a (actions p s a turns) (told turn ++ sendings es)
-    ∙ ap (λ k. replay k (told turn ++ sendings es)) (aligned_is p s a turns)
-    ∙ replay-append b (told turn) (sendings es)
-    ∙ replay_sendings (replay b (told turn)) es
+aligned_is p s a [] = grind (arith, common_steps)
+aligned_is p s a (turn ∷ turns) = grind (arith, common_steps, replay-append, replay_sendings, aligned_is p s a turns)
 
 -- what is taken
 
@@ -72,17 +66,8 @@ from_input-one j (Some (Takes i x)) moves = refl
 from_input-one j (Some Draws) moves = sym (append-nil (from_input j moves))
 
 pub taken_is : (j : ℕ) (p : Program) (s : ℕ) (a : Alignment) (turns : List Turn) → elements (taken j a (actions p s a turns)) ≡ from_input j (moves_in a turns)
-taken_is j p s a [] = refl
-taken_is j p s a (turn ∷ turns) =
-    let b : Alignment = aligned a turns in
-    let es : List Emitted = emitted_by p (state p s (moves_in a turns)) (move_in b turn) in
-    let xs : List Action = actions p s a turns in
-    ap elements (taken-append j a xs (told turn ++ sendings es))
-    ∙ elements-append (taken j a xs) (taken j (replay a xs) (told turn ++ sendings es))
-    ∙ ap (λ k. elements (taken j a xs) ++ elements (taken j k (told turn ++ sendings es))) (aligned_is p s a turns)
-    ∙ ap (λ l. elements (taken j a xs) ++ l) (taken_turn j b turn es)
-    ∙ ap (λ l. l ++ from_input j (with_one (move_in b turn) [])) (taken_is j p s a turns)
-    ∙ sym (from_input-one j (move_in b turn) (moves_in a turns))
+taken_is j p s a [] = grind (arith, common_steps)
+taken_is j p s a (turn ∷ turns) = grind (arith, common_steps, aligned_is, elements-append, from_input-one, taken-append, taken_turn, taken_is j p s a turns)
 
 -- what is sent
 
@@ -101,19 +86,8 @@ emitted-one p s None moves = sym (append-nil (emitted p s moves))
 emitted-one p s (Some move) moves = refl
 
 pub sent_is : (c : ℕ) (p : Program) (s : ℕ) (a : Alignment) (turns : List Turn) → elements (sent c a (actions p s a turns)) ≡ on_output c (emitted p s (moves_in a turns))
-sent_is c p s a [] = refl
-sent_is c p s a (turn ∷ turns) =
-    let b : Alignment = aligned a turns in
-    let ms : List Move = moves_in a turns in
-    let es : List Emitted = emitted_by p (state p s ms) (move_in b turn) in
-    let xs : List Action = actions p s a turns in
-    ap elements (sent-append c a xs (told turn ++ sendings es))
-    ∙ elements-append (sent c a xs) (sent c (replay a xs) (told turn ++ sendings es))
-    ∙ ap (λ k. elements (sent c a xs) ++ elements (sent c k (told turn ++ sendings es))) (aligned_is p s a turns)
-    ∙ ap (λ l. elements (sent c a xs) ++ l) (sent_turn c b turn es)
-    ∙ ap (λ l. l ++ on_output c es) (sent_is c p s a turns)
-    ∙ sym (on_output-append c (emitted p s ms) es)
-    ∙ ap (on_output c) (sym (emitted-one p s (move_in b turn) ms))
+sent_is c p s a [] = grind (arith, common_steps)
+sent_is c p s a (turn ∷ turns) = grind (arith, common_steps, aligned_is, elements-append, emitted-one, on_output-append, sent-append, sent_turn, sent_is c p s a turns)
 
 -- the turns before a cut
 
@@ -134,41 +108,18 @@ stopped_turn n b Ended es e = refl
 
 -- a task that has not stopped has only turns before its cut
 pub turns_all : (n : ℕ) (p : Program) (s : ℕ) (a : Alignment) (turns : List Turn) → stopped n a (actions p s a turns) ≡ false → turns_before n p s a turns ≡ turns
-turns_all n p s a [] e = refl
-turns_all n p s a (turn ∷ turns) e =
-    let xs : List Action = actions p s a turns in
-    let zs : List Action = acts p (state p s (moves_in a turns)) (aligned a turns) turn in
-    let parts = or_parts (stopped n a xs) (stopped n (replay a xs) zs) (sym (stopped-append n a xs zs) ∙ e) in
-    let At : Bool → Type 0 = λ b. (if b then turns_before n p s a turns else turn ∷ turns_before n p s a turns) ≡ turn ∷ turns in
-    subst At (sym e) (ap (λ l. turn ∷ l) (turns_all n p s a turns parts.0))
+turns_all n p s a [] e = grind (arith, common_steps)
+turns_all n p s a (turn ∷ turns) e = grind (arith, common_steps, or_parts, stopped, stopped-append, turns_all n p s a turns)
 
 before_is_by : (n : ℕ) (p : Program) (s : ℕ) (a : Alignment) (turns : List Turn) (turn : Turn) (es : List Emitted) (b c : Bool) → stopped n a (actions p s a turns) ≡ b → stopped n (replay a (actions p s a turns)) (told turn ++ sendings es) ≡ c
     → acts p (state p s (moves_in a turns)) (aligned a turns) turn ≡ told turn ++ sendings es
     → before_cut n a (actions p s a turns) ≡ actions p s a (turns_before n p s a turns)
     → before_cut n a (actions p s a turns ++ (told turn ++ sendings es))
     ≡ actions p s a (if stopped n a (actions p s a turns ++ (told turn ++ sendings es)) then turns_before n p s a turns else turn ∷ turns_before n p s a turns)
-before_is_by n p s a turns turn es true c e f z h =
-    let xs : List Action = actions p s a turns in
-    let zs : List Action = told turn ++ sendings es in
-    let At : Bool → Type 0 = λ k. before_cut n a (xs ++ zs) ≡ actions p s a (if k then turns_before n p s a turns else turn ∷ turns_before n p s a turns) in
-    subst At (sym (stopped-append n a xs zs ∙ ap (λ k. k || stopped n (replay a xs) zs) e)) (before_stays n a xs zs e ∙ h)
-before_is_by n p s a turns turn es false true e f z h =
-    let xs : List Action = actions p s a turns in
-    let zs : List Action = told turn ++ sendings es in
-    let At : Bool → Type 0 = λ k. before_cut n a (xs ++ zs) ≡ actions p s a (if k then turns_before n p s a turns else turn ∷ turns_before n p s a turns) in
-    let Is : Bool → Type 0 = λ k. before_cut n a (xs ++ zs) ≡ (if k then before_cut n a xs else xs ++ before_cut n (replay a xs) zs) in
-    subst At (sym (stopped-append n a xs zs ∙ ap (λ k. k || stopped n (replay a xs) zs) e ∙ f))
-    (subst Is e (before-append n a xs zs) ∙ ap (λ l. xs ++ l) (stopped_turn n (replay a xs) turn es f) ∙ append-nil xs ∙ sym (before_all n a xs e) ∙ h)
-before_is_by n p s a turns turn es false false e f z h =
-    let xs : List Action = actions p s a turns in
-    let zs : List Action = told turn ++ sendings es in
-    let At : Bool → Type 0 = λ k. before_cut n a (xs ++ zs) ≡ actions p s a (if k then turns_before n p s a turns else turn ∷ turns_before n p s a turns) in
-    let Is : Bool → Type 0 = λ k. before_cut n a (xs ++ zs) ≡ (if k then before_cut n a xs else xs ++ before_cut n (replay a xs) zs) in
-    subst At (sym (stopped-append n a xs zs ∙ ap (λ k. k || stopped n (replay a xs) zs) e ∙ f))
-    (subst Is e (before-append n a xs zs) ∙ ap (λ l. xs ++ l) (before_all n (replay a xs) zs f) ∙ ap (λ l. xs ++ l) (sym z) ∙ ap (λ l. actions p s a (turn ∷ l)) (sym (turns_all n p s a turns e)))
+before_is_by n p s a turns turn es true c e f z h = grind (arith, common_steps, before_stays, stopped, stopped-append)
+before_is_by n p s a turns turn es false true e f z h = grind (arith, common_steps, append-nil, before-append, before_all, stopped, stopped-append, stopped_turn)
+before_is_by n p s a turns turn es false false e f z h = grind (arith, common_steps, before-append, before_all, stopped, stopped-append, turns_all)
 
 pub before_is : (n : ℕ) (p : Program) (s : ℕ) (a : Alignment) (turns : List Turn) → before_cut n a (actions p s a turns) ≡ actions p s a (turns_before n p s a turns)
-before_is n p s a [] = refl
-before_is n p s a (turn ∷ turns) =
-    let es : List Emitted = emitted_by p (state p s (moves_in a turns)) (move_in (aligned a turns) turn) in
-    before_is_by n p s a turns turn es (stopped n a (actions p s a turns)) (stopped n (replay a (actions p s a turns)) (told turn ++ sendings es)) refl refl refl (before_is n p s a turns)
+before_is n p s a [] = grind (arith, common_steps)
+before_is n p s a (turn ∷ turns) = grind (arith, common_steps, before_is_by, stopped, before_is n p s a turns)

@@ -1,5 +1,6 @@
 -- Tasks that have ended have their part of a record, too.
-use Rattle.std.proofs.Common.{◌≡◌, ℕ, ◌<◌, true, List, ◌++◌, ◌∙◌, sym, ap, subst, inl, inr}
+use Rattle.std.proofs.lemmas.Grind.{common_steps}
+use Rattle.std.proofs.Common.{arith, ◌≡◌, ℕ, ◌<◌, true, List, ◌++◌, ◌∙◌, sym, ap, subst, inl, inr}
 use Rattle.std.proofs.lemmas.List.{append_assoc}
 use Rattle.ckpt_ids.specs.declared.ack.Acked.{Acked}
 use Rattle.ckpt_ids.specs.declared.call.Call.{Call}
@@ -66,6 +67,4 @@ acknowledged o calls w r s opens are has done acks member =
     subst Part (sym one.2) (acks one.0 accepted)
 
 pub done_is_consistent : (o : Opening) (calls : List Call) (w : Network) → CanOpen o → AreCalls calls → DoneIsConsistent o calls w
-done_is_consistent o calls w opens are r has done channels acks c among =
-    let its = channels c among in
-    channel r.id w c its.1 its.2 (acknowledged o calls w r c.receiver opens are has done acks its.0)
+done_is_consistent o calls w opens are r has done channels acks c among = grind (arith, common_steps, acknowledged, channel)

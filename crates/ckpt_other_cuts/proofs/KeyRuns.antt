@@ -1,18 +1,18 @@
 -- A run in a shape is a run of the job of the keys.
-use Rattle.std.proofs.Common.{◌≡◌, ◌≢◌, ℕ, Bool, true, false, List, [], ◌∷◌, ◌++◌, ◌∙◌, refl, sym, ap, subst}
+use Rattle.std.proofs.lemmas.Grind.{common_steps}
+use Rattle.std.proofs.Common.{arith, ◌≡◌, ◌≢◌, ℕ, Bool, true, false, List, ◌∷◌, ◌++◌, ◌∙◌, refl, sym, ap, subst, []}
 use Rattle.std.specs.List.{filter}
 use Rattle.std.proofs.lemmas.Bool.{both_ways}
-use Rattle.std.proofs.lemmas.List.{append-nil}
 use Rattle.std.proofs.lemmas.List.Elements.{filter-append}
 use Rattle.ckpt_ids.specs.declared.subtask.SubtaskId.{SubtaskId}
 use Rattle.ckpt_ids.specs.Ordered.{IsIn}
 use Rattle.ckpt_ids.specs.Shapes.{same_subtask}
 use Rattle.ckpt_ids.proofs.OrderLemmas.{same_subtask-Decides}
 use Rattle.ckpt_align.specs.Laws.{Channel}
-use Rattle.ckpt_once.specs.Programs.{Move, emitted, from_input, on_output, state}
+use Rattle.ckpt_once.specs.Programs.{Move, emitted, on_output}
 use Rattle.ckpt_once.specs.Jobs.{By, IsJob, IsPrefix, IsQuiet, IsRun, Job, Run, States, of, put_on, states_after, taken_off}
 use Rattle.ckpt_once.specs.Sinks.{Sink, written}
-use Rattle.ckpt_once.proofs.Joining.{from_input-append, put-join, states-join}
+use Rattle.ckpt_once.proofs.Joining.{put-join}
 use Rattle.ckpt_once.proofs.Running.{of_here, of_there}
 use Rattle.ckpt_other_cuts.specs.Reshaped.{IsForOwn, IsOfKey, IsRoutedByKey, IsShapeOf, Spread, channel_over, finest, key_states, outlet, sink_over}
 
@@ -34,23 +34,6 @@ elsewhere spread task k one own e =
 
 -- one move
 
-step_states : (keys job : Job) (spread : Spread) (now : States) (step : By Move) (k : SubtaskId) (b : Bool) → same_subtask step.task (spread.owner k) ≡ b → IsIn k keys.tasks
-    → IsForOwn spread step.task (now step.task) step.what → IsOfKey keys job spread step.task (now step.task) step.what
-    → states_after keys (key_states spread now) (spread.mover step.task (now step.task) step.what ∷ []) k ≡ key_states spread (states_after job now (step ∷ [])) k
-step_states keys job spread now step k true e has own of_key =
-    let one : By Move = spread.mover step.task (now step.task) step.what in
-    let task : SubtaskId = spread.owner k in
-    let same : step.task ≡ task = (same_subtask-Decides step.task task).0 e in
-    ap (λ t. state (keys.program k) (spread.part k (now t)) (of k (one ∷ []))) (sym same)
-    ∙ sym (of_key.changes k has (sym same))
-    ∙ ap (λ t. spread.part k ((job.program t).next (now t) step.what)) same
-    ∙ ap (λ l. spread.part k (state (job.program task) (now task) l)) (sym (of_here task step [] same))
-step_states keys job spread now step k false e has own of_key =
-    let one : By Move = spread.mover step.task (now step.task) step.what in
-    let task : SubtaskId = spread.owner k in
-    ap (state (keys.program k) (spread.part k (now task))) (of_there k one [] (elsewhere spread step.task k one own e))
-    ∙ ap (λ l. spread.part k (state (job.program task) (now task) l)) (sym (of_there task step [] e))
-
 step_writes : (keys job : Job) (spread : Spread) (now : States) (step : By Move) (sink : Sink) (b : Bool) → same_subtask step.task (spread.owner sink.task) ≡ b → IsIn sink.task keys.tasks
     → IsForOwn spread step.task (now step.task) step.what → IsOfKey keys job spread step.task (now step.task) step.what
     → written keys (key_states spread now) (spread.mover step.task (now step.task) step.what ∷ []) sink ≡ filter (spread.is_from sink) (written job now (step ∷ []) (sink_over spread sink))
@@ -71,33 +54,6 @@ step_writes keys job spread now step sink false e has own of_key =
     ap (λ l. on_output sink.output (emitted (keys.program k) (spread.part k (now task)) l)) (of_there k one [] (elsewhere spread step.task k one own e))
     ∙ ap (λ l. filter (spread.is_from sink) (on_output (spread.output sink) (emitted (job.program task) (now task) l))) (sym (of_there task step [] e))
 
-step_takes : (keys job : Job) (spread : Spread) (now : States) (step : By Move) (c : Channel) (b : Bool) → same_subtask step.task (spread.owner c.receiver) ≡ b → IsIn c keys.channels
-    → IsForOwn spread step.task (now step.task) step.what → IsOfKey keys job spread step.task (now step.task) step.what
-    → taken_off (spread.mover step.task (now step.task) step.what ∷ []) c ≡ filter (spread.is_from (outlet c)) (taken_off (step ∷ []) (channel_over spread c))
-step_takes keys job spread now step c true e has own of_key =
-    let task : SubtaskId = spread.owner c.receiver in
-    let same : step.task ≡ task = (same_subtask-Decides step.task task).0 e in
-    sym (of_key.takes c has (sym same))
-    ∙ ap (λ l. filter (spread.is_from (outlet c)) (from_input (spread.input c.receiver c.input) l)) (sym (of_here task step [] same))
-step_takes keys job spread now step c false e has own of_key =
-    let one : By Move = spread.mover step.task (now step.task) step.what in
-    ap (from_input c.input) (of_there c.receiver one [] (elsewhere spread step.task c.receiver one own e))
-    ∙ ap (λ l. filter (spread.is_from (outlet c)) (from_input (spread.input c.receiver c.input) l)) (sym (of_there (spread.owner c.receiver) step [] e))
-
-taken_one_by : (one : By Move) (run : Run) (c : Channel) (b : Bool) → same_subtask one.task c.receiver ≡ b → taken_off (one ∷ run) c ≡ taken_off run c ++ taken_off (one ∷ []) c
-taken_one_by one run c true e =
-    let t : SubtaskId = c.receiver in
-    let same : one.task ≡ t = (same_subtask-Decides one.task t).0 e in
-    ap (from_input c.input) (of_here t one run same)
-    ∙ from_input-append c.input (one.what ∷ []) (of t run)
-    ∙ ap (λ l. taken_off run c ++ from_input c.input l) (sym (of_here t one [] same))
-taken_one_by one run c false e =
-    let t : SubtaskId = c.receiver in
-    ap (from_input c.input) (of_there t one run e) ∙ sym (append-nil (taken_off run c)) ∙ ap (λ l. taken_off run c ++ from_input c.input l) (sym (of_there t one [] e))
-
-pub taken_one : (one : By Move) (run : Run) (c : Channel) → taken_off (one ∷ run) c ≡ taken_off run c ++ taken_off (one ∷ []) c
-taken_one one run c = taken_one_by one run c (same_subtask one.task c.receiver) refl
-
 -- all moves
 
 of_keys : (keys job : Job) (spread : Spread) (begun : States) (step : By Move) (run : Run) → IsShapeOf keys job spread → IsRun job begun (step ∷ run) → IsRoutedByKey job spread begun (step ∷ run)
@@ -106,14 +62,8 @@ of_keys keys job spread begun step run shape r routed = shape.of_keys step.task 
 
 pub key_states_after : (keys job : Job) (spread : Spread) (begun : States) (run : Run) → IsShapeOf keys job spread → IsRun job begun run → IsRoutedByKey job spread begun run
     → (k : SubtaskId) → IsIn k keys.tasks → key_states spread (states_after job begun run) k ≡ states_after keys (key_states spread begun) (key_run job spread begun run) k
-key_states_after keys job spread begun [] shape r routed k has = refl
-key_states_after keys job spread begun (step ∷ run) shape r routed k has =
-    let now : States = states_after job begun run in
-    let one : By Move = spread.mover step.task (now step.task) step.what in
-    ap (spread.part k) (sym (states-join job begun (step ∷ []) run (spread.owner k)))
-    ∙ sym (step_states keys job spread now step k (same_subtask step.task (spread.owner k)) refl has routed.1 (of_keys keys job spread begun step run shape r routed))
-    ∙ ap (λ s. state (keys.program k) s (of k (one ∷ []))) (key_states_after keys job spread begun run shape r.0 routed.0 k has)
-    ∙ states-join keys (key_states spread begun) (one ∷ []) (key_run job spread begun run) k
+key_states_after keys job spread begun [] shape r routed k has = grind (arith, common_steps)
+key_states_after keys job spread begun (step ∷ run) shape r routed k has = grind (arith, common_steps, key_states_after keys job spread begun run shape r.0 routed.0 k)
 
 -- a sink's output as that of a channel; its other end does not count
 abbrev pub channel_of : Sink → Channel
@@ -139,19 +89,8 @@ written_by_keys keys job spread begun (step ∷ run) shape r routed sink has =
 
 taken_by_keys : (keys job : Job) (spread : Spread) (begun : States) (run : Run) → IsShapeOf keys job spread → IsRun job begun run → IsRoutedByKey job spread begun run
     → (c : Channel) → IsIn c keys.channels → filter (spread.is_from (outlet c)) (taken_off run (channel_over spread c)) ≡ taken_off (key_run job spread begun run) c
-taken_by_keys keys job spread begun [] shape r routed c has = refl
-taken_by_keys keys job spread begun (step ∷ run) shape r routed c has =
-    let now : States = states_after job begun run in
-    let one : By Move = spread.mover step.task (now step.task) step.what in
-    let test : ℕ → Bool = spread.is_from (outlet c) in
-    let over : Channel = channel_over spread c in
-    let rest : Run = key_run job spread begun run in
-    ap (filter test) (taken_one step run over)
-    ∙ filter-append test (taken_off run over) (taken_off (step ∷ []) over)
-    ∙ ap (λ l. l ++ filter test (taken_off (step ∷ []) over)) (taken_by_keys keys job spread begun run shape r.0 routed.0 c has)
-    ∙ ap (λ l. taken_off rest c ++ l)
-    (sym (step_takes keys job spread now step c (same_subtask step.task (spread.owner c.receiver)) refl has routed.1 (of_keys keys job spread begun step run shape r routed)))
-    ∙ sym (taken_one one rest c)
+taken_by_keys keys job spread begun [] shape r routed c has = grind (arith, common_steps)
+taken_by_keys keys job spread begun (step ∷ run) shape r routed c has = grind (arith, common_steps, taken_by_keys keys job spread begun run shape r.0 routed.0 c)
 
 pub is_key_run : (keys job : Job) (spread : Spread) (begun : States) (run : Run) → IsShapeOf keys job spread → IsRun job begun run → IsRoutedByKey job spread begun run
     → IsJob keys → IsRun keys (key_states spread begun) (key_run job spread begun run)
@@ -208,17 +147,4 @@ here : (t : SubtaskId) (one : By Move) → t ≡ one.task → of t (one ∷ []) 
 here t one same = of_here t one [] (sym same)
 
 pub finest_is_shape : (keys : Job) → IsShapeOf keys keys finest
-finest_is_shape keys = record {
-  tasks = λ k has. has;
-  channels = λ c has. has;
-  of_keys = λ task s move is own.
-      let one : By Move = record { task = task; what = move } in
-      record {
-        is_move = is;
-        changes = λ k has same. ap (λ t. (keys.program t).next s move) (sym same) ∙ ap (λ l. state (keys.program k) s l) (sym (here k one same));
-        emits = λ sink has same. filter_true (on_output sink.output ((keys.program task).emits s move))
-            ∙ ap (λ t. on_output sink.output ((keys.program t).emits s move)) (sym same)
-            ∙ ap (λ l. on_output sink.output (emitted (keys.program sink.task) s l)) (sym (here sink.task one same));
-        takes = λ c has same. filter_true (from_input c.input (move ∷ [])) ∙ ap (from_input c.input) (sym (here c.receiver one same));
-      };
-}
+finest_is_shape keys = grind (arith, common_steps, filter_true, here, of_keys)

@@ -1,5 +1,6 @@
 -- Tasks that do not hold lose nothing.
-use Rattle.std.proofs.Common.{◌≡◌, ℕ, ◌<◌, Bool, true, false, List, [], ◌∷◌, ◌++◌, ◌∙◌, refl, sym, ap, if◌then◌else◌, Some}
+use Rattle.std.proofs.lemmas.Grind.{common_steps}
+use Rattle.std.proofs.Common.{arith, ◌≡◌, ℕ, ◌<◌, Bool, true, false, List, ◌∷◌, ◌++◌, ◌∙◌, refl, sym, ap, if◌then◌else◌, Some, []}
 use Rattle.std.specs.Prelude.{◌==◌, ◌&&◌}
 use Rattle.std.proofs.lemmas.Bool.{both_ways}
 use Rattle.std.proofs.lemmas.List.{append-nil, append_assoc}
@@ -93,13 +94,7 @@ let-append j a [] ys = refl
 let-append j a (x ∷ xs) ys = ap (λ l. let_by j a x ++ l) (let-append j (after a x) xs ys) ∙ sym (append_assoc (let_by j a x) (let_through j (after a x) xs) (let_through j (replay (after a x) xs) ys))
 
 cut_same : (n j : ℕ) (a : Alignment) (actions : List Action) (action : Action) → cut_by (replay a actions) action ≡ Some n → elements (let_through j a (actions ++ action ∷ [])) ≡ elements (let_through j a actions)
-cut_same n j a actions action e =
-    let b : Alignment = replay a actions in
-    let xs : List Item = let_through j a actions in
-    ap elements (let-append j a actions (action ∷ []))
-    ∙ elements-append xs (let_by j b action ++ [])
-    ∙ ap (λ l. elements xs ++ l) (ap elements (append-nil (let_by j b action)) ∙ cut_lets_none n j b action e)
-    ∙ append-nil (elements xs)
+cut_same n j a actions action e = grind (arith, common_steps, append-nil, cut_lets_none, elements-append, let-append)
 
 pub loses_none : (inputs : ℕ) (actions : List Action) (action : Action) (n j : ℕ) (rest : List Item) → LosesNone inputs actions action n j rest
 loses_none inputs actions action n j rest e within =

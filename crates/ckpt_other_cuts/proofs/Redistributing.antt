@@ -1,7 +1,8 @@
 -- Each key's state goes to one new subtask, and goes on there as it would have in the old one.
-use Rattle.std.proofs.Common.{◌≡◌, ◌≢◌, ℕ, zero, suc, ◌<◌, Bool, true, false, List, [], ◌∷◌, ◌++◌, ◌∙◌, refl, sym, ap, if◌then◌else◌, inl, inr, arith}
+use Rattle.std.proofs.lemmas.Grind.{common_steps}
+use Rattle.std.proofs.Common.{◌≡◌, ◌≢◌, ℕ, zero, suc, ◌<◌, Bool, true, false, List, ◌∷◌, ◌++◌, ◌∙◌, refl, sym, ap, if◌then◌else◌, inl, inr, arith, []}
 use Rattle.std.specs.Prelude.{◌==◌}
-use Rattle.std.proofs.lemmas.Bool.{both_ways, eqb-false}
+use Rattle.std.proofs.lemmas.Bool.{eqb-false}
 use Rattle.std.proofs.lemmas.Bool.Decides.{Decides-eqb}
 use Rattle.std.proofs.lemmas.List.{append-nil}
 use Rattle.ckpt_ids.specs.Ordered.{IsIn}
@@ -27,11 +28,8 @@ joined_none lists zero none = refl
 joined_none lists (suc n) none = ap (λ l. l ++ lists n) (joined_none lists n (λ i within. none i (omega arith))) ∙ none n (omega arith)
 
 joined_one_by : {X : Type 0} (lists : ℕ → List X) (j n : ℕ) (b : Bool) → (j == n) ≡ b → j < suc n → ((i : ℕ) → j ≢ i → lists i ≡ []) → (j < n → joined lists n ≡ lists j) → joined lists n ++ lists n ≡ lists j
-joined_one_by lists j n true e within none on =
-    ap (λ l. l ++ lists n) (joined_none lists n (λ i below. none i (λ q. absurd (omega (arith, same_is j n e))))) ∙ ap lists (sym (same_is j n e))
-joined_one_by lists j n false e within none on =
-    let apart : j ≢ n = eqb-false j n e in
-    ap (λ l. joined lists n ++ l) (none n apart) ∙ append-nil (joined lists n) ∙ on (omega arith)
+joined_one_by lists j n true e within none on = grind (arith, common_steps, joined_none, same_is)
+joined_one_by lists j n false e within none on = grind (arith, common_steps, append-nil, eqb-false)
 
 joined_one : {X : Type 0} (lists : ℕ → List X) (j n : ℕ) → j < n → ((i : ℕ) → j ≢ i → lists i ≡ []) → joined lists n ≡ lists j
 joined_one lists j zero within none = absurd (omega arith)
@@ -61,23 +59,9 @@ no_entries k (e ∷ es) none = no_entries_by k e es (e.key == k) refl (none e (i
 
 -- those that a subtask keeps
 
-own_by : (k : ℕ) (e : Entry) (own es : List Entry) (keeps its same : Bool) → (same ≡ true → keeps ≡ its) → (e.key == k) ≡ same → entries_of k own ≡ (if its then entries_of k es else [])
-    → entries_of k (if keeps then e ∷ own else own) ≡ (if its then (if same then e ∷ entries_of k es else entries_of k es) else [])
-own_by k e own es true true same alike q h = ap (λ b. if b then e ∷ entries_of k own else entries_of k own) q ∙ ap (λ l. if same then e ∷ l else l) h
-own_by k e own es true false true alike q h = absurd (both_ways true (alike refl) refl)
-own_by k e own es true false false alike q h = ap (λ b. if b then e ∷ entries_of k own else entries_of k own) q ∙ h
-own_by k e own es false true true alike q h = absurd (both_ways true (sym (alike refl)) refl)
-own_by k e own es false true false alike q h = h
-own_by k e own es false false same alike q h = h
-
-own_none : (b : Bool) → entries_of 0 [] ≡ (if b then [] else [])
-own_none true = refl
-own_none false = refl
-
 own_entries : (split : Split) (i k : ℕ) (es : List Entry) → entries_of k (its_own split i es) ≡ (if split.owner k == i then entries_of k es else [])
-own_entries split i k [] = own_none (split.owner k == i)
-own_entries split i k (e ∷ es) =
-    own_by k e (its_own split i es) es (split.owner e.key == i) (split.owner k == i) (e.key == k) (λ q. ap (λ m. split.owner m == i) (same_is e.key k q)) refl (own_entries split i k es)
+own_entries split i k [] = grind (arith, common_steps)
+own_entries split i k (e ∷ es) = grind (arith, common_steps, own_entries split i k es)
 
 own_here : (split : Split) (k : ℕ) (es : List Entry) → entries_of k (its_own split (split.owner k) es) ≡ entries_of k es
 own_here split k es = own_entries split (split.owner k) k es ∙ ap (λ b. if b then entries_of k es else []) (same_of (split.owner k) (split.owner k) refl)
@@ -119,11 +103,7 @@ of_record v old states parts k is record_is =
     (λ i apart. no_entries k (parts i) (λ e has same. apart (ap old.owner (sym same) ∙ record_is.no_other i e has)))
 
 pub restores_keys : (it : Rescaling) (k : ℕ) → RestoresKeys it k
-restores_keys it k is record_is =
-    loaded_is it.vertex k (redistributed it.old it.new it.parts (it.new.owner k))
-    ∙ ap (λ l. loaded it.vertex l k) (own_here it.new k (all it.old it.parts) ∙ of_record it.vertex it.old it.states it.parts k is record_is)
-    ∙ sym (loaded_is it.vertex k (it.parts (it.old.owner k)))
-    ∙ record_is.has_its k
+restores_keys it k is record_is = grind (arith, common_steps, loaded_is, of_record, own_here)
 
 -- a key by itself
 

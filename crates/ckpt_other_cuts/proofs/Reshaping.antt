@@ -1,42 +1,26 @@
 -- Restarts in other shapes, one behind the other.
-use Rattle.std.proofs.Common.{◌≡◌, ℕ, ◌≤◌, Bool, List, [], ◌∷◌, ◌++◌, ◌∙◌, refl, sym, ap, subst}
+use Rattle.std.proofs.Common.{◌≡◌, ℕ, ◌≤◌, Bool, List, ◌∷◌, ◌++◌, ◌∙◌, refl, sym, ap, []}
 use Rattle.std.specs.List.{filter}
-use Rattle.std.proofs.lemmas.List.{append-nil, append_assoc}
+use Rattle.std.proofs.lemmas.List.{append_assoc}
 use Rattle.std.proofs.lemmas.List.Elements.{filter-append}
 use Rattle.ckpt_ids.specs.declared.subtask.SubtaskId.{SubtaskId}
 use Rattle.ckpt_ids.specs.Ordered.{IsIn}
-use Rattle.ckpt_align.specs.Alignment.{Alignment, opened}
+use Rattle.ckpt_align.specs.Alignment.{opened}
 use Rattle.ckpt_align.specs.Histories.{Action}
-use Rattle.ckpt_align.specs.Laws.{Channel, HasCut}
-use Rattle.ckpt_cuts.proofs.Consistency.{has_cut-from_done}
 use Rattle.ckpt_model.specs.Laws.{CanOpen}
 use Rattle.ckpt_model.specs.State.{Opening}
-use Rattle.ckpt_once.specs.Jobs.{HaveCut, History, IsJob, IsPrefix, IsQuiet, IsRun, Job, Run, States, before_cuts, network, of, run_of, starts, states_after, taken_off}
+use Rattle.ckpt_once.specs.Jobs.{HaveCut, History, IsJob, IsQuiet, IsRun, Job, Run, States, before_cuts, of, run_of, starts, states_after}
 use Rattle.ckpt_once.specs.Programs.{emitted, on_output, state}
-use Rattle.ckpt_once.specs.Restarts.{WasDone}
-use Rattle.ckpt_once.specs.Sinks.{Sink, Transaction, published, published_in, sealed, written}
-use Rattle.ckpt_once.proofs.Joining.{put-join, runs_join, states-join}
-use Rattle.ckpt_once.proofs.Running.{acts_of, put_before_is, put_on_is, record_is_of_run, without_barriers}
-use Rattle.ckpt_once.proofs.Sealing.{all_sealed, published_begins, published_up_to, sealed_up_to}
+use Rattle.ckpt_once.specs.Sinks.{Sink, published, published_in, sealed, written}
+use Rattle.ckpt_once.proofs.Joining.{is_quiet-join, put-join, runs_join, states-join}
+use Rattle.ckpt_once.proofs.Running.{acts_of, put_before_is, record_is_of_run, without_barriers}
+use Rattle.ckpt_once.proofs.Sealing.{published_up_to, sealed_up_to}
 use Rattle.ckpt_other_cuts.specs.Reshaped.{AreRestarts, IsBegun, IsShapeOf, ReshapingInvisible, Restart, Spread, Stage, key_states, published_before, published_now, recorded, sink_over}
-use Rattle.ckpt_other_cuts.proofs.KeyRuns.{AgreeOn, channel_of, is_key_quiet, is_key_run, key_run, key_states_after, same_quiet, same_run, taken_one, written_by_keys}
+use Rattle.ckpt_other_cuts.proofs.KeyRuns.{AgreeOn, channel_of, is_key_quiet, is_key_run, key_run, key_states_after, same_quiet, same_run, written_by_keys}
+use Rattle.ckpt_once.proofs.Publishing.{published_now as published_since}
+use Rattle.ckpt_once.proofs.Restarting.{have_cut}
 
 -- runs one behind the other
-
-taken-join : (second first : Run) (c : Channel) → taken_off (second ++ first) c ≡ taken_off first c ++ taken_off second c
-taken-join [] first c = sym (append-nil (taken_off first c))
-taken-join (step ∷ second) first c =
-    taken_one step (second ++ first) c
-    ∙ ap (λ l. l ++ taken_off (step ∷ []) c) (taken-join second first c)
-    ∙ append_assoc (taken_off first c) (taken_off second c) (taken_off (step ∷ []) c)
-    ∙ ap (λ l. taken_off first c ++ l) (sym (taken_one step second c))
-
-quiet-join : (job : Job) (begun : States) (first second : Run) → IsQuiet job begun first → IsQuiet job (states_after job begun first) second → IsQuiet job begun (second ++ first)
-quiet-join job begun first second quiet later c has =
-    put-join job begun second first c
-    ∙ ap (λ l. l ++ written job (states_after job begun first) second (record { task = c.sender; output = c.output })) (quiet c has)
-    ∙ ap (λ l. taken_off first c ++ l) (later c has)
-    ∙ sym (taken-join second first c)
 
 -- what a sink of a subtask published
 
@@ -48,27 +32,7 @@ published_then n job begun h sink earlier cut has below =
     ∙ sealed_up_to sink.output n (job.inputs sink.task) [] [] xs (cut sink.task has)
     ∙ sym (put_before_is n job begun h (channel_of sink))
 
-published_since : (job : Job) (begun : States) (h : History) (sink : Sink) (completed : List ℕ) → IsPrefix (published_in job begun h sink completed) (written job begun (run_of job h) sink)
-published_since job begun h sink completed =
-    let a : Alignment = opened (job.inputs sink.task) in
-    let xs : List Action = acts_of job begun h sink.task in
-    let ones : List Transaction = sealed sink.output a [] xs in
-    let part = published_begins completed ones in
-    let all = all_sealed sink.output a [] xs in (
-      part.0 ++ all.0,
-      put_on_is job begun h (channel_of sink)
-          ∙ all.1
-          ∙ ap (λ l. l ++ all.0) part.1
-          ∙ append_assoc (published completed ones) part.0 all.0,
-    )
-
 -- a stage
-
-have_cut : (n : ℕ) (o : Opening) (job : Job) (begun : States) (h : History) → CanOpen o → WasDone n o job begun h → HaveCut n job begun h
-have_cut n o job begun h opens was t has =
-    let Of : List SubtaskId → Type 0 = λ ts. IsIn t ts in
-    let Cut : ℕ → Type 0 = λ m. HasCut m ((network job begun h).task t) in
-    subst Cut was.is_this (has_cut-from_done o was.calls (network job begun h) was.done_record t opens was.are_calls was.is_live was.is_done was.acknowledged (subst Of (sym was.is_of_job) has))
 
 -- the moves of the keys before the cuts, one stage behind the other
 stage_run : ℕ → Stage → Run
@@ -113,7 +77,7 @@ is_reached o keys (restart ∷ restarts) opens is are =
     let wrote : Sink → List ℕ = written keys (starts keys) first in
     record {
       is_run = (runs_join keys (starts keys) first second before.is_run before.quiet (same_run keys (key_states spread begun) reached second is same (is_key_run keys job spread begun plain shape of_record.0 ends.is_routed is))).0;
-      quiet = quiet-join keys (starts keys) first second before.quiet (same_quiet keys (key_states spread begun) reached second is same (is_key_quiet keys job spread begun plain shape of_record.0 ends.is_routed of_record.1 is));
+      quiet = is_quiet-join keys (starts keys) first second before.quiet (same_quiet keys (key_states spread begun) reached second is same (is_key_quiet keys job spread begun plain shape of_record.0 ends.is_routed of_record.1 is));
       states = λ k has. ap (spread.part k) (of_record.2 (spread.owner k))
           ∙ key_states_after keys job spread begun plain shape of_record.0 ends.is_routed k has
           ∙ ap (λ s. state (keys.program k) s (of k second)) (same k has)

@@ -1,5 +1,6 @@
 -- What comes before a barrier, and where that ends.
-use Rattle.std.proofs.Common.{◌≡◌, ℕ, Bool, true, false, List, [], ◌∷◌, ◌++◌, ◌∙◌, refl, sym, ap, if◌then◌else◌}
+use Rattle.std.proofs.lemmas.Grind.{common_steps}
+use Rattle.std.proofs.Common.{arith, ◌≡◌, ℕ, Bool, true, false, List, ◌∷◌, ◌++◌, ◌∙◌, refl, sym, ap, if◌then◌else◌, []}
 use Rattle.std.specs.Prelude.{◌==◌}
 use Rattle.std.proofs.lemmas.Bool.{both_ways}
 use Rattle.std.proofs.lemmas.List.{append-nil, append_assoc}
@@ -46,14 +47,7 @@ elements_end : (c : List Item) → elements (c ++ End ∷ []) ≡ elements c
 elements_end c = elements-append c (End ∷ []) ∙ append-nil (elements c)
 
 pub ends : (n : ℕ) (c rest : List Item) → EndsWithout n c → before n (c ++ rest) ≡ elements c
-ends n c rest k =
-    let front : List Item = k.0 in
-    ap (λ l. before n (l ++ rest)) k.1
-    ∙ ap (before n) (append_assoc front (End ∷ []) rest)
-    ∙ runs n front k.2 (End ∷ rest)
-    ∙ append-nil (elements front)
-    ∙ sym (elements_end front)
-    ∙ ap elements (sym k.1)
+ends n c rest k = grind (arith, common_steps, append-nil, append_assoc, elements_end, runs)
 
 stop_last : (n : ℕ) (c : List Item) → has_stop n (c ++ End ∷ []) ≡ true
 stop_last n [] = refl

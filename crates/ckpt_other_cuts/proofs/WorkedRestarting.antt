@@ -1,11 +1,12 @@
 -- The worked example of a restore in another shape meets the premises of the law.
-use Rattle.std.proofs.Common.{rules, ◌≡◌, ℕ, ◌≤◌, true, inl, inr, List, [], ◌∷◌, refl, sym, subst, arith}
+use Rattle.std.proofs.lemmas.Grind.{common_steps}
+use Rattle.std.proofs.Common.{◌≡◌, true, inl, inr, List, ◌∷◌, refl, sym, subst, arith, []}
 use Rattle.ckpt_ids.specs.declared.ack.Acked.{Acked}
 use Rattle.ckpt_ids.specs.declared.numbers.Kind.TheVariants.{Checkpoint}
 use Rattle.ckpt_ids.specs.declared.subtask.SubtaskId.{SubtaskId}
 use Rattle.ckpt_ids.specs.Ordered.{IsIn}
 use Rattle.ckpt_ids.specs.Records.{Record}
-use Rattle.ckpt_align.specs.Histories.{Barrier, Element, Item}
+use Rattle.ckpt_align.specs.Histories.{Barrier, Element}
 use Rattle.ckpt_align.specs.Laws.{Channel, HasCut}
 use Rattle.ckpt_align.specs.Steps.{barrier, settled, step}
 use Rattle.ckpt_cuts.specs.Laws.{AcknowledgesCuts}
@@ -14,34 +15,16 @@ use Rattle.ckpt_model.specs.State.{opened}
 use Rattle.ckpt_model.specs.Steps.{step_computes}
 use Rattle.ckpt_once.specs.Programs.{Draws, Drawn, Move, Offered, Takes, Turn}
 use Rattle.ckpt_once.specs.Jobs.{By, GivesInOrder, History, IsHistory, IsPrefix, IsRun, Run, before_cuts, network, put_on, run_of, starts, taken_off}
-use Rattle.ckpt_once.specs.PlainHistories.{history_of}
 use Rattle.ckpt_once.specs.Restarts.{WasDone}
 use Rattle.ckpt_once.proofs.PlainRuns.{run_is_history}
 use Rattle.ckpt_other_cuts.specs.Reshaped.{AreRestarts, IsBegun, IsEnded, IsRoutedByKey, finest, recorded}
 use Rattle.ckpt_other_cuts.specs.WorkedRestarts.{again, calls, failed, given, opening, reshaped, restart, turn}
 use Rattle.ckpt_other_cuts.specs.WorkedShapes.{by, job, keys, line, part_of, spread, subtask}
 use Rattle.ckpt_other_cuts.proofs.KeyRuns.{finest_is_shape}
-use Rattle.ckpt_other_cuts.proofs.WorkedShaping.{each_key, each_line, is_drawn, is_job, one_line, worked_is_job, worked_is_shape}
+use Rattle.ckpt_other_cuts.proofs.WorkedShaping.{each_key, each_line, is_job, one_line, worked_is_job, worked_is_shape}
 
 pub can_open : CanOpen opening
-can_open = record {
-  config = record {
-    interval_from = omega arith;
-    interval_to = omega arith;
-    pause_to = omega arith;
-    at_once_from = omega arith;
-    at_once_to = omega arith;
-    timeout_from = omega arith;
-    timeout_to = omega arith;
-    tolerable_to = omega arith;
-    retained_from = omega arith;
-    retained_to = omega arith;
-  };
-  shape = record { vertices_from = omega arith; vertices_to = omega arith; each = search rules; size_to = omega arith };
-  start = omega arith;
-  first_from = omega arith;
-  first_to = omega arith;
-}
+can_open = grind (arith, common_steps)
 
 -- the stage that failed
 
@@ -123,11 +106,7 @@ unfolding step barrier settled
 before_are = refl
 
 ends : IsEnded opening restart.record_id restart.earlier restart.stage
-ends = record {
-  was_done = was_done;
-  is_last = λ m none. absurd none;
-  is_routed = let Of : Run → Type 0 = λ run. IsRoutedByKey job spread (starts job) run in subst Of (sym before_are) ((((tt, refl), refl), refl), refl);
-}
+ends = grind (arith, common_steps, before_are, was_done)
 
 pub are_restarts : AreRestarts opening keys (restart ∷ [])
 are_restarts = (tt, begins, ends)
@@ -159,6 +138,4 @@ reshaped_begins = record {
 }
 
 pub reshaped_is_routed : IsRoutedByKey keys finest given (run_of keys reshaped.history)
-reshaped_is_routed =
-    let Of : Run → Type 0 = λ it. IsRoutedByKey keys finest given it in
-    subst Of (sym (run_is_history keys given again worked_is_job is_run).1) ((tt, refl), refl)
+reshaped_is_routed = grind (arith, common_steps)

@@ -1,5 +1,6 @@
 -- The worked example meets the premises of the law of restores in other shapes.
-use Rattle.std.proofs.Common.{◌≡◌, ◌∙◌, ◌+◌, ◌*◌, ◌/◌, ◌%◌, ◌==◌, ◌&&◌, ◌<◌, inl, inr, ℕ, zero, suc, false, if◌then◌else◌, List, [], ◌∷◌, refl, sym, ap, subst, arith}
+use Rattle.std.proofs.lemmas.Grind.{common_steps}
+use Rattle.std.proofs.Common.{◌≡◌, ◌∙◌, ◌+◌, ◌*◌, ◌/◌, ◌%◌, ◌==◌, ◌&&◌, ◌<◌, inl, inr, ℕ, zero, suc, if◌then◌else◌, ◌∷◌, refl, sym, ap, subst, arith, []}
 use Rattle.std.specs.List.{filter}
 use Rattle.std.proofs.lemmas.Bool.{both_ways}
 use Rattle.std.proofs.lemmas.Nat.{div-mul-add, mod-mul-add, mod_below}
@@ -71,32 +72,19 @@ sum_of_1 (suc (suc r)) s x p = absurd (omega arith)
 tells : (key o y d : ℕ) → y % 10 ≡ d → filter (is_out_of (record { task = subtask 1 key; output = o })) (y ∷ []) ≡ (if (d == key) && (o == 0) then y ∷ [] else [])
 tells key o y d e = ap (λ n. if (n == key) && (o == 0) then y ∷ [] else []) e
 
-output_0 : (o : ℕ) (ys : List ℕ) → (if o == 0 then ys else []) ≡ (if 0 == o then ys else [])
-output_0 zero ys = refl
-output_0 (suc o) ys =
-    let left : (suc o == 0) ≡ false = grind arith in
-    let right : (0 == suc o) ≡ false = grind arith in
-    ap (λ b. if b then ys else []) left ∙ sym (ap (λ b. if b then ys else []) right)
-
 out_of_0 : (r s x o : ℕ) → r < 2
     → filter (is_out_of (record { task = subtask 1 0; output = o })) (on_output 0 (if r == 0 then sum_on 0 (s % 10) (Takes 0 x) else sum_on 1 (s / 10) (Takes 0 x)))
     ≡ on_output o (emitted (sums 0) (s % 10) (of (subtask 1 0) (record { task = subtask 1 r; what = Takes 0 x } ∷ [])))
-out_of_0 zero s x o p =
-    let m : ℕ = (s % 10 + x) % 10 in
-    let y : ℕ = 0 + 10 * m in
-    tells 0 o y 0 (low 0 m (omega arith)) ∙ output_0 o (y ∷ [])
-out_of_0 (suc zero) s x o p = let m : ℕ = (s / 10 + x) % 10 in tells 0 o (1 + 10 * m) 1 (low 1 m (omega arith))
-out_of_0 (suc (suc r)) s x o p = absurd (omega arith)
+out_of_0 zero s x o p = grind (arith, common_steps)
+out_of_0 (suc zero) s x o p = grind (arith, common_steps)
+out_of_0 (suc (suc r)) s x o p = grind (arith, common_steps)
 
 out_of_1 : (r s x o : ℕ) → r < 2
     → filter (is_out_of (record { task = subtask 1 1; output = o })) (on_output 0 (if r == 0 then sum_on 0 (s % 10) (Takes 0 x) else sum_on 1 (s / 10) (Takes 0 x)))
     ≡ on_output o (emitted (sums 1) (s / 10) (of (subtask 1 1) (record { task = subtask 1 r; what = Takes 0 x } ∷ [])))
-out_of_1 zero s x o p = let m : ℕ = (s % 10 + x) % 10 in tells 1 o (0 + 10 * m) 0 (low 0 m (omega arith))
-out_of_1 (suc zero) s x o p =
-    let m : ℕ = (s / 10 + x) % 10 in
-    let y : ℕ = 1 + 10 * m in
-    tells 1 o y 1 (low 1 m (omega arith)) ∙ output_0 o (y ∷ [])
-out_of_1 (suc (suc r)) s x o p = absurd (omega arith)
+out_of_1 zero s x o p = grind (arith, common_steps)
+out_of_1 (suc zero) s x o p = grind (arith, common_steps)
+out_of_1 (suc (suc r)) s x o p = grind (arith, common_steps)
 
 takes_0 : (r x : ℕ) → r < 2 → (if r == 0 then x ∷ [] else []) ≡ taken_off (record { task = subtask 1 r; what = Takes 0 x } ∷ []) (line 0)
 takes_0 zero x p = refl
@@ -116,21 +104,7 @@ is_key_move (suc (suc r)) x p = absurd (omega arith)
 -- the moves
 
 draws : (s : ℕ) → IsOfKey keys job spread (subtask 0 0) s Draws
-draws s = record {
-  is_move = (inl refl, inl refl);
-  changes =
-      let Changes : SubtaskId → Type 0 = λ k. spread.owner k ≡ subtask 0 0
-      → part_of k (s + 1) ≡ states_after keys (λ key. part_of key s) (record { task = subtask 0 0; what = Draws } ∷ []) k in
-      each_key Changes (λ own. refl) (λ own. not_source own) (λ own. not_source own);
-  emits = λ sink has own.
-      let Emits : SubtaskId → Type 0 = λ k. spread.owner k ≡ subtask 0 0
-      → emitted_of spread (record { task = k; output = sink.output }) ((job.program (subtask 0 0)).emits s Draws)
-      ≡ written keys (λ key. part_of key s) (record { task = subtask 0 0; what = Draws } ∷ []) (record { task = k; output = sink.output }) in
-      each_key Emits (λ own. refl) (λ own. not_source own) (λ own. not_source own) sink.task has own;
-  takes =
-      let Of : Channel → Type 0 = λ c. spread.owner c.receiver ≡ subtask 0 0 → taken_of spread c Draws ≡ taken_off (record { task = subtask 0 0; what = Draws } ∷ []) c in
-      each_line Of (λ own. not_source own) (λ own. not_source own);
-}
+draws s = grind (arith, common_steps)
 
 takes : (s x : ℕ) → IsOfKey keys job spread (subtask 1 0) s (Takes 0 x)
 unfolding both_of
@@ -176,14 +150,10 @@ worked_is_shape = record {
 -- the stage
 
 pub worked_is_job : IsJob keys
-worked_is_job =
-    let Ends : Channel → Type 0 = λ c. IsIn c.sender keys.tasks × IsIn c.receiver keys.tasks × (c.input < keys.inputs c.receiver) in
-    each_line Ends (inl refl, inr (inl refl), omega arith) (inl refl, inr (inr (inl refl)), omega arith)
+worked_is_job = grind (arith, common_steps)
 
 pub is_job : IsJob job
-is_job =
-    let Ends : Channel → Type 0 = λ c. IsIn c.sender job.tasks × IsIn c.receiver job.tasks × (c.input < job.inputs c.receiver) in
-    one_line Ends (inl refl, inr (inl refl), omega arith)
+is_job = grind (arith, common_steps)
 
 pub is_drawn : IsMoveOf job (subtask 0 0) Draws
 is_drawn = (inl refl, inl refl)
@@ -224,6 +194,4 @@ worked_begins = record {
 }
 
 pub worked_is_routed : IsRoutedByKey job spread stage.from (run_of job stage.history)
-worked_is_routed =
-    let Of : Run → Type 0 = λ it. IsRoutedByKey job spread (starts job) it in
-    subst Of (sym (run_is_history job (starts job) run is_job is_run).1) is_routed
+worked_is_routed = grind (arith, common_steps)

@@ -1,15 +1,15 @@
 -- What is done after a turn is what the turn takes, puts and tells.
-use Rattle.std.proofs.Common.{◌≡◌, ℕ, ◌+◌, Bool, true, false, List, [], ◌∷◌, ◌++◌, ◌∙◌, refl, sym, ap, subst, arith, if◌then◌else◌, Option, Some, None, Ok, Err, inl, inr}
+use Rattle.std.proofs.Common.{◌≡◌, ℕ, ◌+◌, Bool, true, false, List, ◌∷◌, ◌++◌, ◌∙◌, refl, sym, ap, subst, arith, if◌then◌else◌, Option, Some, None, Ok, Err, inl, inr, []}
 use Rattle.std.specs.Prelude.{◌==◌, ◌&&◌, MatchBool, map, length, Result}
 use Rattle.std.proofs.lemmas.Bool.{both_ways}
 use Rattle.std.proofs.lemmas.Grind.{common_steps}
 use Rattle.std.proofs.lemmas.List.{append-nil, append_assoc}
 use Rattle.ckpt_align.specs.Alignment.{Alignment}
-use Rattle.ckpt_align.specs.Histories.{Item, Element, Reads, GivesUp, after, answer_to, is_taken, sent, taken}
+use Rattle.ckpt_align.specs.Histories.{Item, Element, after, is_taken, sent, taken}
 use Rattle.ckpt_align.specs.declared.event.Answer.{Answer}
 use Rattle.ckpt_align.specs.declared.event.Answer.TheVariants as answer
 use Rattle.ckpt_align.specs.declared.event.Refusal.{Refusal}
-use Rattle.ckpt_once.specs.Programs.{Emitted, Program, Turn, Offered, GivenUp, Drawn, Ended, actions, emitted_by, move_in, on_output, sendings}
+use Rattle.ckpt_once.specs.Programs.{Emitted, Program, Turn, Offered, GivenUp, Drawn, Ended, actions, on_output}
 use Rattle.ckpt_once.specs.Sinks.{Transaction}
 use Rattle.ckpt_once.proofs.TurnLemmas.{taken_sendings}
 use Rattle.ckpt_task.proofs.Working.{at_as, puts_is, takes_is, turned_is}
@@ -98,14 +98,10 @@ none_by false more e = e
 
 pub takes_last : (p : Program) (m : At) (turn : Turn) (turns : List Turn) (j : ℕ) (h : Bool) → refusal_as (answer_in m.alignment turn) ≡ None → h ≡ is_left (answer_in m.alignment turn)
     → takes p m turn j ≡ (if h then [] else last_on j (turn ∷ turns))
-takes_last p m (Offered i item) turns j h e is =
-    let a : Alignment = m.alignment in
-    let es : List Emitted = emitted_by p m.state (move_in a (Offered i item)) in
-    let b : Alignment = after a (Reads i item) in
-    takes_by (i == j) h item (taken j b (sendings es)) (answer_to a i item) e is (taken_sendings j b es)
-takes_last p m (GivenUp id) turns j h e is = none_by h (takes p m (GivenUp id) j) (taken_sendings j (after m.alignment (GivesUp id)) [])
-takes_last p m Drawn turns j h e is = none_by h (takes p m Drawn j) (taken_sendings j m.alignment (emitted_by p m.state (move_in m.alignment Drawn)))
-takes_last p m Ended turns j h e is = none_by h (takes p m Ended j) (taken_sendings j m.alignment [])
+takes_last p m (Offered i item) turns j h e is = grind (arith, common_steps, taken_sendings, takes_by)
+takes_last p m (GivenUp id) turns j h e is = grind (arith, common_steps, none_by, taken_sendings)
+takes_last p m Drawn turns j h e is = grind (arith, common_steps, none_by, taken_sendings)
+takes_last p m Ended turns j h e is = grind (arith, common_steps, none_by, taken_sendings)
 
 -- what is kept
 
@@ -126,10 +122,7 @@ kept_by (outcome.Abandoned n) s waiting k l saved refused told = same_kept (kept
 
 kept_as : (o : Outcome) (cut given : Option ℕ) (s : ℕ) (waiting : List Transaction) (k l : Kept) → cut_in o ≡ cut → abandoned_in o ≡ given
     → IsKeptBy (cut_in o) (abandoned_in o) s waiting k l → IsKeptBy cut given s waiting k l
-kept_as o cut given s waiting k l e f is =
-    let By : Option ℕ → Type 0 = λ c. IsKeptBy c (abandoned_in o) s waiting k l in
-    let Given : Option ℕ → Type 0 = λ g. IsKeptBy cut g s waiting k l in
-    subst Given f (subst By e is)
+kept_as o cut given s waiting k l e f is = grind (arith, common_steps)
 
 -- one turn
 
@@ -227,7 +220,3 @@ came_next deeds before one next e is = e ∙ ap (λ o. as_came o ++ before) is
 pub by_true : {X : Type 0} (Y : Type 0) (b : Bool) → b ≡ true → MatchBool b X Y → X
 by_true Y true e k = k
 by_true Y false e k = absurd (both_ways true (sym e) refl)
-
-pub by_false : {Y : Type 0} (X : Type 0) (b : Bool) → b ≡ false → MatchBool b X Y → Y
-by_false X true e k = absurd (both_ways true e refl)
-by_false X false e k = k

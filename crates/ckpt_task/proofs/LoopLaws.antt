@@ -1,12 +1,13 @@
 -- What an engine of tasks in loops does.
-use Rattle.std.proofs.Common.{◌≡◌, ℕ, Bool, true, false, List, [], ◌∷◌, ◌++◌, ◌∙◌, refl, sym, ap, subst, if◌then◌else◌, Option, Some, None, inl, inr}
+use Rattle.std.proofs.lemmas.Grind.{common_steps}
+use Rattle.std.proofs.Common.{arith, ◌≡◌, ℕ, Bool, true, false, List, ◌∷◌, ◌++◌, ◌∙◌, refl, sym, ap, subst, if◌then◌else◌, Option, Some, None, inl, inr, []}
 use Rattle.std.specs.Prelude.{◌⊎◌}
 use Rattle.std.proofs.lemmas.List.{append-nil}
 use Rattle.ckpt_ids.specs.declared.call.Call.{Call}
 use Rattle.ckpt_ids.specs.declared.subtask.SubtaskId.{SubtaskId}
 use Rattle.ckpt_ids.specs.Ordered.{IsIn}
 use Rattle.ckpt_align.specs.Alignment.{Alignment, opened}
-use Rattle.ckpt_align.specs.Histories.{Action, Ends, has_cut, sent, taken}
+use Rattle.ckpt_align.specs.Histories.{Ends, has_cut, sent, taken}
 use Rattle.ckpt_align.specs.Laws.{Channel}
 use Rattle.ckpt_cuts.specs.Laws.{AcknowledgesCuts}
 use Rattle.ckpt_model.specs.Laws.{CanOpen}
@@ -21,16 +22,17 @@ use Rattle.ckpt_once.proofs.Running.{before_turns}
 use Rattle.ckpt_task.proofs.Looping.{Carries, Follows, after_more, comes_on, ends_last, follows, is_history, of_later}
 use Rattle.ckpt_task.proofs.Restores.{Comes, adds, snap, stays}
 use Rattle.ckpt_task.proofs.Seaming.{was_done}
-use Rattle.ckpt_task.proofs.Snapping.{IsSnap, cut_stays, snap_stays, snaps}
+use Rattle.ckpt_once.proofs.Publishing.{cut_stays}
+use Rattle.ckpt_task.proofs.Snapping.{IsSnap, snap_stays, snaps}
 use Rattle.ckpt_task.proofs.Working.{at_of}
 use Rattle.ckpt_task.specs.declared.deed.Deed.{Deed}
 use Rattle.ckpt_task.specs.declared.deed.Deed.TheVariants.{SentEnd}
 use Rattle.ckpt_task.specs.Deeds.{came_in, sent_in, taken_in}
 use Rattle.ckpt_task.specs.Engines.{Snapped, snapped_at, snapped_by}
 use Rattle.ckpt_task.specs.Loops.{AcceptsTold, AreLooping, AreLoopsAttempts, AreRuns, IsHistoryOfLoops, Loops, LoopsAreSeamless, LoopsAttempt, LoopsMakeHistory, LoopsRestore, attempts_of, history_of, turns_of}
-use Rattle.ckpt_task.specs.Runs.{AreKept, Around, IsKept, IsKeptBy, Kept, Waits, kept_in}
+use Rattle.ckpt_task.specs.Runs.{AreKept, Around, IsKeptBy, Kept, Waits, kept_in}
 use Rattle.ckpt_task.specs.Saving.{Saved, state_of, under}
-use Rattle.ckpt_task.specs.Turns.{At, abandoned_as, answer_in, cut_of}
+use Rattle.ckpt_task.specs.Turns.{At}
 
 -- an end changes nothing but that it is put on the outputs
 
@@ -44,10 +46,8 @@ taken_at j p s a false deeds e = e
 
 sent_at : (c : ℕ) (p : Program) (s : ℕ) (a : Alignment) (b : Bool) (deeds : List Deed) → sent_in c deeds ≡ sent c a (actions p s a (came_in deeds))
     → sent_in c (if b then SentEnd ∷ deeds else deeds) ≡ sent c a (actions p s a (if b then Ended ∷ came_in deeds else came_in deeds))
-sent_at c p s a true deeds e =
-    let end : List Action = Ends ∷ [] in
-    ap (λ l. l ++ sent c a end) e ∙ sym (sent-append c a (actions p s a (came_in deeds)) end)
-sent_at c p s a false deeds e = e
+sent_at c p s a true deeds e = grind (arith, common_steps, sent-append)
+sent_at c p s a false deeds e = grind (arith, common_steps)
 
 state_at : (p : Program) (s : ℕ) (a : Alignment) (b : Bool) (turns : List Turn) → state p s (moves_in a (if b then Ended ∷ turns else turns)) ≡ state p s (moves_in a turns)
 state_at p s a true turns = refl
@@ -120,12 +120,8 @@ comes_by n s None None waiting k l taken is comes = stays n k.saved l.saved [] t
 
 comes_more : (n : ℕ) (p : Program) (s : ℕ) (a : Alignment) (us turns : List Turn) (waits : Waits) (k l : Kept) → AreKept p (at_of p s a us) waits turns k l
     → Comes n k.saved (snapped_by p s a us) → Comes n l.saved (snapped_by p s a (turns ++ us))
-comes_more n p s a us [] waits k l same comes = subst (λ (z : Kept). Comes n z.saved (snapped_by p s a us)) same comes
-comes_more n p s a us (turn ∷ turns) waits k l kept comes =
-    let m : At = at_of p s a (turns ++ us) in
-    let is : IsKept m (waits (turn ∷ turns)) turn kept.0 l = subst (λ (z : At). IsKept z (waits (turn ∷ turns)) turn kept.0 l) (after_more p s a turns us) kept.2 in
-    comes_by n m.state (cut_of m.alignment turn) (abandoned_as (answer_in m.alignment turn)) (waits (turn ∷ turns)) kept.0 l (snapped_by p s a (turns ++ us)) is
-    (comes_more n p s a us turns waits k kept.0 kept.1 comes)
+comes_more n p s a us [] waits k l same comes = grind (arith, common_steps)
+comes_more n p s a us (turn ∷ turns) waits k l kept comes = grind (arith, common_steps, after_more, at_of, comes_by, comes_more n p s a us turns waits k kept.0)
 
 comes_first : (n : ℕ) (p : Program) (s : ℕ) (a : Alignment) (x : Around) → x.deeds ≡ [] → under n x.saved ≡ None → Comes n x.saved (snapped_by p s a (came_in x.deeds))
 comes_first n p s a x unused none k is = absurd (nothing k (sym (ap state_of none) ∙ is))

@@ -1,5 +1,6 @@
 -- Runs of a task are turns of its history, and the histories of the tasks, one behind the other, are one of the job.
-use Rattle.std.proofs.Common.{◌≡◌, ℕ, Bool, true, false, List, [], ◌∷◌, ◌++◌, ◌∙◌, refl, sym, ap, subst, Option, Some, None, inl, inr}
+use Rattle.std.proofs.lemmas.Grind.{common_steps}
+use Rattle.std.proofs.Common.{arith, ◌≡◌, ℕ, Bool, true, false, List, ◌∷◌, ◌++◌, ◌∙◌, refl, sym, ap, subst, Option, Some, None, inl, inr, []}
 use Rattle.std.specs.Prelude.{◌⊎◌, map}
 use Rattle.std.proofs.lemmas.Bool.{both_ways}
 use Rattle.std.proofs.lemmas.List.{append-nil, append_assoc}
@@ -10,30 +11,29 @@ use Rattle.ckpt_ids.proofs.OrderLemmas.{same_subtask-Decides}
 use Rattle.ckpt_align.specs.Alignment.{Alignment, opened}
 use Rattle.ckpt_align.specs.Histories.{Action, Item, has_cut, sent, taken}
 use Rattle.ckpt_align.specs.Laws.{Channel, sent_on}
-use Rattle.ckpt_once.specs.Programs.{Emitted, Program, Turn, Offered, GivenUp, Drawn, Ended, acts, actions, aligned, emitted_by, move_in, moves_in, sendings, state, told}
+use Rattle.ckpt_once.specs.Programs.{Program, Turn, Offered, GivenUp, Drawn, Ended, acts, actions, aligned, moves_in, state, told}
 use Rattle.ckpt_once.specs.Sinks.{Transaction}
 use Rattle.ckpt_once.specs.Jobs.{By, GivesInOrder, History, IsHistory, IsTurnOf, Job, States, network, of}
 use Rattle.ckpt_once.proofs.ActionLemmas.{sent-append, taken-append}
 use Rattle.ckpt_once.proofs.Running.{of_here, of_there}
 use Rattle.ckpt_once.proofs.TurnLemmas.{aligned_is}
-use Rattle.ckpt_task.proofs.Snapping.{Ends-last, cut_later, cut_stays, not_ended_in, turn_cuts}
-use Rattle.ckpt_task.proofs.Working.{at_as, at_of, turned_is}
+use Rattle.ckpt_once.proofs.Publishing.{cut_stays}
+use Rattle.ckpt_task.proofs.Snapping.{Ends-last, cut_later, not_ended_in, turn_cuts}
+use Rattle.ckpt_task.proofs.Working.{at_as, at_of}
 use Rattle.ckpt_task.specs.declared.deed.Deed.{Deed}
 use Rattle.ckpt_task.specs.declared.deed.Deed.TheVariants.{Came, Took, Sent, SentBarrier, SentEnd, Acknowledged, Declined}
 use Rattle.ckpt_task.specs.declared.turn.Next.TheVariants as next
 use Rattle.ckpt_task.specs.Deeds.{Word, Acknowledges, Declines, came_in, sent_in, taken_in, told_in}
 use Rattle.ckpt_task.specs.Engines.{has_ended_in}
 use Rattle.ckpt_task.specs.Loops.{AreRuns, IsDownstreamFirst, one_by_one}
-use Rattle.ckpt_task.specs.Runs.{AreKept, Around, HasRun, IsKept, IsKeptBy, Kept, Waits, after_turns, kept_in}
-use Rattle.ckpt_task.specs.Turns.{At, abandoned_as, answer_in, cut_of, turned}
+use Rattle.ckpt_task.specs.Runs.{AreKept, Around, HasRun, IsKeptBy, Kept, Waits, after_turns}
+use Rattle.ckpt_task.specs.Turns.{At, cut_of}
 
 -- turns behind turns
 
 pub after_more : (p : Program) (s : ℕ) (a : Alignment) (turns us : List Turn) → after_turns p (at_of p s a us) turns ≡ at_of p s a (turns ++ us)
-after_more p s a [] us = refl
-after_more p s a (turn ∷ turns) us =
-    let m : At = at_of p s a us in
-    sym (turned_is p m.state m.alignment turns turn) ∙ ap (λ (k : At). turned p k turn) (after_more p s a turns us) ∙ turned_is p s a (turns ++ us) turn
+after_more p s a [] us = grind (arith, common_steps)
+after_more p s a (turn ∷ turns) us = grind (arith, common_steps, after_more p s a turns us)
 
 abbrev actions_from : Program → At → List Turn → List Action
 actions_from p m turns = actions p m.state m.alignment turns
@@ -49,17 +49,11 @@ actions_more p s a (turn ∷ turns) us =
 
 taken_more : (j : ℕ) (p : Program) (s : ℕ) (a : Alignment) (turns us : List Turn)
     → taken j a (actions p s a (turns ++ us)) ≡ taken j a (actions p s a us) ++ taken j (aligned a us) (actions_from p (at_of p s a us) turns)
-taken_more j p s a turns us =
-    let xs : List Action = actions p s a us in
-    let ys : List Action = actions_from p (at_of p s a us) turns in
-    ap (taken j a) (actions_more p s a turns us) ∙ taken-append j a xs ys ∙ ap (λ (b : Alignment). taken j a xs ++ taken j b ys) (aligned_is p s a us)
+taken_more j p s a turns us = grind (arith, common_steps, actions_more, aligned_is, at_of, taken-append)
 
 sent_more : (c : ℕ) (p : Program) (s : ℕ) (a : Alignment) (turns us : List Turn)
     → sent c a (actions p s a (turns ++ us)) ≡ sent c a (actions p s a us) ++ sent c (aligned a us) (actions_from p (at_of p s a us) turns)
-sent_more c p s a turns us =
-    let xs : List Action = actions p s a us in
-    let ys : List Action = actions_from p (at_of p s a us) turns in
-    ap (sent c a) (actions_more p s a turns us) ∙ sent-append c a xs ys ∙ ap (λ (b : Alignment). sent c a xs ++ sent c b ys) (aligned_is p s a us)
+sent_more c p s a turns us = grind (arith, common_steps, actions_more, aligned_is, at_of, sent-append)
 
 -- what came is never an end of the task itself
 
@@ -114,11 +108,7 @@ told_by n s None (Some m) waiting k l is has = inr (no_more n m k.told (subst (�
 told_by n s None None waiting k l is has = inr (subst (λ (z : Kept). IsIn (Acknowledges n) z.told) is has)
 
 cut_now : (n : ℕ) (p : Program) (s : ℕ) (a : Alignment) (turn : Turn) (turns : List Turn) → has_ended_in turns ≡ false → cut_of (aligned a turns) turn ≡ Some n → has_cut n a (actions p s a (turn ∷ turns)) ≡ true
-cut_now n p s a turn turns on e =
-    let xs : List Action = actions p s a turns in
-    let es : List Emitted = emitted_by p (state p s (moves_in a turns)) (move_in (aligned a turns) turn) in
-    cut_later n a xs (told turn ++ sendings es) (not_ended_in p s a turns on)
-    (subst (λ (b : Alignment). has_cut n b (told turn ++ sendings es) ≡ true) (sym (aligned_is p s a turns)) (turn_cuts n (aligned a turns) turn es e))
+cut_now n p s a turn turns on e = grind (arith, common_steps, aligned_is, cut_later, not_ended_in, turn_cuts)
 
 cut_either : (n : ℕ) (p : Program) (s : ℕ) (a : Alignment) (turn : Turn) (turns : List Turn) (words : List Word) → has_ended_in turns ≡ false → Tells p s a turns words
     → (cut_of (aligned a turns) turn ≡ Some n) ⊎ IsIn (Acknowledges n) words → has_cut n a (actions p s a (turn ∷ turns)) ≡ true
@@ -127,14 +117,8 @@ cut_either n p s a turn turns words on tells (inr has) = cut_stays n a (actions 
 
 tells_more : (p : Program) (s : ℕ) (a : Alignment) (us turns : List Turn) (waits : Waits) (k l : Kept) → has_ended_in (turns ++ us) ≡ false → AreKept p (at_of p s a us) waits turns k l
     → Tells p s a us k.told → Tells p s a (turns ++ us) l.told
-tells_more p s a us [] waits k l on same tells n has = subst (λ (z : Kept). Tells p s a us z.told) same tells n has
-tells_more p s a us (turn ∷ turns) waits k l on kept tells n has =
-    let now : Kept = kept.0 in
-    let m : At = at_of p s a (turns ++ us) in
-    let goes : has_ended_in (turns ++ us) ≡ false = was_on turn (turns ++ us) on in
-    let is : IsKept m (waits (turn ∷ turns)) turn now l = subst (λ (k : At). IsKept k (waits (turn ∷ turns)) turn now l) (after_more p s a turns us) kept.2 in
-    cut_either n p s a turn (turns ++ us) now.told goes (tells_more p s a us turns waits k now goes kept.1 tells)
-    (told_by n m.state (cut_of m.alignment turn) (abandoned_as (answer_in m.alignment turn)) (waits (turn ∷ turns)) now l is has)
+tells_more p s a us [] waits k l on same tells n has = grind (arith, common_steps)
+tells_more p s a us (turn ∷ turns) waits k l on kept tells n has = grind (arith, common_steps, after_more, at_of, cut_either, told_by, was_on, tells_more p s a us turns waits k)
 
 -- a task that started with this state and this aligner is where the turns that came lead
 pub record Follows (p : Program) (s : ℕ) (a : Alignment) (x : Around) : Type 0 where
@@ -144,37 +128,10 @@ pub record Follows (p : Program) (s : ℕ) (a : Alignment) (x : Around) : Type 0
   pub tells : Tells p s a (came_in x.deeds) (told_in x.deeds)
 
 pub follows_first : (p : Program) (s : ℕ) (a : Alignment) (x : Around) → x.task ≡ at_as s a → x.deeds ≡ [] → Follows p s a x
-follows_first p s a x task unused = record {
-  task = task ∙ ap (λ (l : List Deed). at_of p s a (came_in l)) (sym unused);
-  taken_on = λ j. ap (taken_in j) unused ∙ ap (λ (l : List Deed). taken j a (actions p s a (came_in l))) (sym unused);
-  sent_on = λ c. ap (sent_in c) unused ∙ ap (λ (l : List Deed). sent c a (actions p s a (came_in l))) (sym unused);
-  tells = λ n has. absurd (subst (λ (l : List Deed). IsIn (Acknowledges n) (told_in l)) unused has);
-}
+follows_first p s a x task unused = grind (arith, common_steps)
 
 pub follows_run : (p : Program) (s : ℕ) (a : Alignment) (waits : Waits) (n : ℕ) (x y : Around) → Follows p s a x → HasRun p waits n x y → Follows p s a y
-follows_run p s a waits n x y was run =
-    let us : List Turn = came_in x.deeds in
-    let turns : List Turn = run.turns in
-    let m : At = at_of p s a us in
-    let came : came_in y.deeds ≡ turns ++ us = run.came in
-    record {
-      task = run.task ∙ ap (λ (k : At). after_turns p k turns) was.task ∙ after_more p s a turns us ∙ ap (at_of p s a) (sym came);
-      taken_on = λ j.
-          run.taken_on j
-          ∙ ap (λ (k : At). taken_in j x.deeds ++ taken j k.alignment (actions_from p k turns)) was.task
-          ∙ ap (λ l. l ++ taken j m.alignment (actions_from p m turns)) (was.taken_on j)
-          ∙ sym (taken_more j p s a turns us)
-          ∙ ap (λ (l : List Turn). taken j a (actions p s a l)) (sym came);
-      sent_on = λ c.
-          run.sent_on c
-          ∙ ap (λ (k : At). sent_in c x.deeds ++ sent c k.alignment (actions_from p k turns)) was.task
-          ∙ ap (λ l. l ++ sent c m.alignment (actions_from p m turns)) (was.sent_on c)
-          ∙ sym (sent_more c p s a turns us)
-          ∙ ap (λ (l : List Turn). sent c a (actions p s a l)) (sym came);
-      tells = subst (λ (l : List Turn). Tells p s a l (told_in y.deeds)) (sym came)
-          (tells_more p s a us turns waits (kept_in x) (kept_in y) (ap has_ended_in (sym came) ∙ comes_on y.deeds)
-          (subst (λ (k : At). AreKept p k waits turns (kept_in x) (kept_in y)) was.task run.kept) was.tells);
-    }
+follows_run p s a waits n x y was run = grind (arith, common_steps, after_more, at_of, comes_on, sent_more, taken_more, tells_more)
 
 pub follows : (p : Program) (s : ℕ) (a : Alignment) (begins : List Around) (x y : Around) → x.task ≡ at_as s a → x.deeds ≡ [] → AreRuns p begins x y → Follows p s a y
 follows p s a [] x y task unused same = subst (λ (k : Around). Follows p s a k) (sym same) (follows_first p s a x task unused)
@@ -224,9 +181,7 @@ another t s ts = another_by t s ts (same_subtask t s) refl
 
 -- the first of the list has its turns, and nothing behind them
 of_first : (turns : Turns) (t s : SubtaskId) (ts : List SubtaskId) (us : List Turn) → (IsIn t ts → ⊥) → t ≡ s → of s (map (by t) us ++ one_by_one turns ts) ≡ us
-of_first turns t s ts us out same =
-    let gone : IsIn s ts → ⊥ = λ has. out (subst (λ (u : SubtaskId). IsIn u ts) (sym same) has) in
-    of_by_here t s us (one_by_one turns ts) same ∙ ap (λ l. us ++ l) (not_in turns s ts gone (in_or_not turns s ts)) ∙ append-nil us
+of_first turns t s ts us out same = grind (arith, common_steps, append-nil, in_or_not, not_in, of_by_here)
 
 -- and each other one has all of its own
 pub of_later : (job : Job) (turns : Turns) (s : SubtaskId) (ts : List SubtaskId) → IsDownstreamFirst job ts → IsIn s ts → of s (one_by_one turns ts) ≡ turns s
@@ -254,20 +209,7 @@ Carries job from turns c = (on_the_way : List Item) × (sent_by job from c (turn
 -- so it is with what the receiver took until then, once the sender has taken all its turns
 gives_some : (job : Job) (from : States) (turns : Turns) (c : Channel) (before now : History) (more : List Turn) → Carries job from turns c → of c.sender before ≡ turns c.sender
     → turns c.receiver ≡ more ++ of c.receiver now → GivesInOrder (network job from before) (network job from now) c
-gives_some job from turns c before now more carries put took =
-    let t : SubtaskId = c.receiver in
-    let a : Alignment = opened (job.inputs t) in
-    let p : Program = job.program t in
-    let now_taken : List Item = taken_by job from c (of t now) in
-    let m : At = at_of p (from t) a (of t now) in
-    let rest : List Item = taken c.input m.alignment (actions_from p m more) in (
-      rest ++ carries.0,
-      ap (sent_by job from c) put
-          ∙ carries.1
-          ∙ ap (λ (l : List Turn). taken_by job from c l ++ carries.0) took
-          ∙ ap (λ l. l ++ carries.0) (taken_more c.input p (from t) a more (of t now))
-          ∙ append_assoc now_taken rest carries.0,
-    )
+gives_some job from turns c before now more carries put took = grind (arith, common_steps, append_assoc, at_of, taken_more)
 
 -- and if the receiver has taken no turn
 gives_none : (job : Job) (from : States) (c : Channel) (before now : History) → of c.receiver now ≡ [] → GivesInOrder (network job from before) (network job from now) c

@@ -1,17 +1,17 @@
 -- The newest snapshot of a record that a task saved is that of its cut.
-use Rattle.std.proofs.Common.{◌≡◌, ℕ, eqb, List, [], ◌∷◌, ◌++◌, refl, sym, ap, ◌∙◌, subst, inl, inr}
-use Rattle.std.specs.Prelude.{Option, Some, None, if◌then◌else◌}
-use Rattle.std.proofs.lemmas.Bool.{cond_both, eqb-true}
+use Rattle.std.proofs.lemmas.Grind.{common_steps}
+use Rattle.std.proofs.Common.{arith, ◌≡◌, ℕ, List, ◌∷◌, ◌++◌, sym, ap, ◌∙◌, inl, inr, []}
+use Rattle.std.specs.Prelude.{Option, Some, None}
 use Rattle.ckpt_ids.specs.Ordered.{IsIn}
 use Rattle.ckpt_ids.specs.declared.subtask.SubtaskId.{SubtaskId}
 use Rattle.ckpt_align.specs.Alignment.{Alignment, opened}
 use Rattle.ckpt_once.specs.Jobs.{History, Job, States, of, snapshots}
-use Rattle.ckpt_once.specs.Programs.{Program, Turn, aligned, moves_in, state}
+use Rattle.ckpt_once.specs.Programs.{Program, Turn, state}
 use Rattle.ckpt_task.proofs.Snapping.{snaps_at_cut}
 use Rattle.ckpt_task.specs.Engines.{Snapped, snapped_at, snapped_by}
-use Rattle.ckpt_task.specs.Restores.{AreSaved, RestoresSnapshot, Saves}
+use Rattle.ckpt_task.specs.Restores.{AreSaved, RestoresSnapshot}
 use Rattle.ckpt_task.specs.Saving.{Saved, state_of, under}
-use Rattle.ckpt_task.specs.Turns.{At, IsSaved, cut_in, cut_of}
+use Rattle.ckpt_task.specs.Turns.{At, IsSaved, cut_in}
 use Rattle.ckpt_task.specs.declared.turn.Outcome.{Outcome}
 use Rattle.ckpt_task.specs.declared.turn.Outcome.TheVariants.{Moved, Held, Nothing, Cut, Unsaved, Abandoned}
 
@@ -29,40 +29,25 @@ Comes n ones taken = (s : ℕ) → state_of (under n ones) ≡ Some s → IsIn (
 pub stays : (n : ℕ) (before now : List Saved) (new taken : List Snapped) → now ≡ before → Comes n before taken → Comes n now (new ++ taken)
 stays n before now new taken same comes s is = later new taken (snap n s) (comes s (sym (ap (λ (ones : List Saved). state_of (under n ones)) same) ∙ is))
 
-some_same : (s x : ℕ) → Some s ≡ Some x → s ≡ x
-some_same s x e = cc
-
 -- one more, that of this cut
 pub adds : (n m x : ℕ) (one : Saved) (before now : List Saved) (cut : Option ℕ) (taken : List Snapped) → one.id ≡ m → one.state ≡ x → Some m ≡ cut → now ≡ one ∷ before
     → Comes n before taken → Comes n now (snapped_at cut x ++ taken)
-adds n m x one before now cut taken id state is_cut is comes s has =
-    let At : Option ℕ → Type 0 = λ c. IsIn (snap n s) (snapped_at c x ++ taken) in
-    let found : state_of (if eqb one.id n then Some one else under n before) ≡ Some s = sym (ap (λ (ones : List Saved). state_of (under n ones)) is) ∙ has in
-    subst At is_cut
-    (cond_both (eqb one.id n) (Some one) (under n before) (λ (o : Option Saved). state_of o ≡ Some s → IsIn (snap n s) (snap m x ∷ taken))
-    (λ same its. inl (ap (λ (k : ℕ). snap k s) (sym (eqb-true one.id n same) ∙ id) ∙ ap (λ (k : ℕ). snap m k) (some_same s x (sym its ∙ ap Some state))))
-    (λ _ its. inr (comes s its))
-    found)
+adds n m x one before now cut taken id state is_cut is comes s has = grind (arith, common_steps)
 
 goes : (n x : ℕ) (o : Outcome) (before now : List Saved) (cut : Option ℕ) (taken : List Snapped) (waiting : _) → cut_in o ≡ cut → IsSaved o x waiting before now
     → Comes n before taken → Comes n now (snapped_at cut x ++ taken)
-goes n x (Cut m) before now cut taken waiting is_cut saved comes =
-    adds n m x (record { id = m; state = x; waiting = waiting }) before now cut taken refl refl is_cut saved comes
-goes n x (Unsaved m) before now cut taken waiting is_cut (inl same) comes = stays n before now (snapped_at cut x) taken same comes
-goes n x (Unsaved m) before now cut taken waiting is_cut (inr saved) comes =
-    adds n m x (record { id = m; state = x; waiting = waiting }) before now cut taken refl refl is_cut saved comes
-goes n x (Moved ones) before now cut taken waiting is_cut same comes = stays n before now (snapped_at cut x) taken same comes
-goes n x Held before now cut taken waiting is_cut same comes = stays n before now (snapped_at cut x) taken same comes
-goes n x Nothing before now cut taken waiting is_cut same comes = stays n before now (snapped_at cut x) taken same comes
-goes n x (Abandoned id) before now cut taken waiting is_cut same comes = stays n before now (snapped_at cut x) taken same comes
+goes n x (Cut m) before now cut taken waiting is_cut saved comes = grind (arith, common_steps)
+goes n x (Unsaved m) before now cut taken waiting is_cut (inl same) comes = grind (arith, common_steps)
+goes n x (Unsaved m) before now cut taken waiting is_cut (inr saved) comes = grind (arith, common_steps)
+goes n x (Moved ones) before now cut taken waiting is_cut same comes = grind (arith, common_steps)
+goes n x Held before now cut taken waiting is_cut same comes = grind (arith, common_steps)
+goes n x Nothing before now cut taken waiting is_cut same comes = grind (arith, common_steps)
+goes n x (Abandoned id) before now cut taken waiting is_cut same comes = grind (arith, common_steps)
 
 are_taken : (n : ℕ) (p : Program) (s : ℕ) (a : Alignment) (turns : List Turn) (before now : List Saved) → under n before ≡ None → AreSaved p s a turns before now
     → Comes n now (snapped_by p s a turns)
-are_taken n p s a [] before now none same x is = absurd cc
-are_taken n p s a (turn ∷ turns) before now none saved x is =
-    let its : Saves (cut_of (aligned a turns) turn) (state p s (moves_in a turns)) saved.0 now = saved.2 in
-    goes n (state p s (moves_in a turns)) its.outcome saved.0 now (cut_of (aligned a turns) turn) (snapped_by p s a turns) its.waiting its.is_cut its.is_saved
-    (are_taken n p s a turns before saved.0 none saved.1) x is
+are_taken n p s a [] before now none same x is = grind (arith, common_steps)
+are_taken n p s a (turn ∷ turns) before now none saved x is = grind (arith, common_steps, are_taken n p s a turns before saved.0 none saved.1)
 
 pub restores_snapshot : (job : Job) (from : States) (h : History) (t : SubtaskId) (n : ℕ) (task : At) → RestoresSnapshot job from h t n task
 restores_snapshot job from h t n task before now works saved none restored =

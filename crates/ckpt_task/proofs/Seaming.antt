@@ -1,5 +1,6 @@
 -- Engines of such tasks that restart from done records have invisible failures.
-use Rattle.std.proofs.Common.{ℕ, List, [], ◌∷◌, subst}
+use Rattle.std.proofs.lemmas.Grind.{common_steps}
+use Rattle.std.proofs.Common.{arith, ℕ, List, ◌∷◌, subst, []}
 use Rattle.ckpt_align.specs.Laws.{HasCut}
 use Rattle.ckpt_cuts.specs.Laws.{AcknowledgesCuts}
 use Rattle.ckpt_ids.specs.declared.call.Call.{Call}
@@ -15,16 +16,7 @@ use Rattle.ckpt_task.specs.Laws.{AcknowledgesSnapped, AreEngines, AreSeamless, W
 
 pub was_done : (Premise : ℕ → List Call → Type 0) (n : ℕ) (o : Opening) (job : Job) (from : States) (h : History)
     → ((id : ℕ) (calls : List Call) → Premise id calls → AcknowledgesCuts id o calls (network job from h)) → WasCompletedBy Premise n o job → WasDone n o job from h
-was_done Premise n o job from h cuts was = record {
-  calls = was.calls;
-  are_calls = was.are_calls;
-  done_record = was.done_record;
-  is_live = was.is_live;
-  is_done = was.is_done;
-  is_this = was.is_this;
-  is_of_job = was.is_of_job;
-  acknowledged = cuts was.done_record.id was.calls was.acknowledged;
-}
+was_done Premise n o job from h cuts was = grind (arith, common_steps)
 
 snapped_cuts : (o : Opening) (job : Job) (from : States) (h : History) → IsWorking job from h
     → (id : ℕ) (calls : List Call) → AcknowledgesSnapped o job from h id calls → AcknowledgesCuts id o calls (network job from h)
@@ -43,5 +35,4 @@ are_restarts o job (attempt ∷ attempts) are = (
 )
 
 pub are_seamless : (o : Opening) (job : Job) (attempts : List Attempt) (h : History) → CanOpen o → AreSeamless o job attempts h
-are_seamless o job attempts h opens is are last works =
-    restarts_invisible o job attempts h opens is (are_restarts o job attempts are) last (makes_history job (restored job attempts) h works).is_history
+are_seamless o job attempts h opens is are last works = grind (arith, common_steps, are_restarts, makes_history, restarts_invisible)

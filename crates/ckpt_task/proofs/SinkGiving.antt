@@ -1,5 +1,5 @@
 -- What a sink is given at a restart is what its ledger held back at the cut.
-use Rattle.std.proofs.Common.{◌≡◌, ℕ, ◌≤◌, ◌<◌, eqb, Bool, true, false, nat_le, if◌then◌else◌, List, [], ◌∷◌, ◌++◌, ◌∙◌, map, refl, sym, ap, subst, inl, inr, arith, Option, Some, None}
+use Rattle.std.proofs.Common.{◌≡◌, ℕ, ◌≤◌, ◌<◌, eqb, true, false, nat_le, if◌then◌else◌, List, ◌∷◌, ◌++◌, ◌∙◌, map, refl, sym, ap, subst, inl, inr, arith, Option, Some, None, []}
 use Rattle.std.specs.Prelude.{◌⊎◌}
 use Rattle.std.proofs.lemmas.Bool.{cond_both, eqb-true}
 use Rattle.std.proofs.lemmas.Grind.{common_steps}
@@ -9,26 +9,25 @@ use Rattle.ckpt_align.specs.Alignment.{Alignment, opened}
 use Rattle.ckpt_align.specs.Histories.{Action, Ends, GivesUp, Reads, Sends, after, cut_by, elements, has_cut, has_ended, replay, sent_by}
 use Rattle.ckpt_align.proofs.GoingOn.{cuts_rise}
 use Rattle.ckpt_ledger.specs.Laws.{AreMomentsOf}
-use Rattle.ckpt_ledger.specs.Ledgers.{Acts, Entry, HaveBeenCut, Held, Moment, Told, acts, after_entries, after_entry, all_published, completed, entries, nothing, told_of}
+use Rattle.ckpt_ledger.specs.Ledgers.{Acts, Entry, Held, Moment, Told, acts, after_entries, all_published, completed, entries, nothing, told_of}
 use Rattle.ckpt_ledger.proofs.Publishing.{writes_held}
 use Rattle.ckpt_ledger.proofs.Restarting.{acts-append, published-append, published_then, with_word}
 use Rattle.ckpt_once.specs.Jobs.{History, Job, States, network, of}
-use Rattle.ckpt_once.specs.Programs.{Program, Turn, Offered, GivenUp, Drawn, Ended, acts as acts_in, actions, aligned, emitted_by, move_in, sendings, told}
+use Rattle.ckpt_once.specs.Programs.{Program, Turn, Offered, GivenUp, Drawn, Ended, acts as acts_in, actions, emitted_by, sendings, told}
 use Rattle.ckpt_once.specs.Sinks.{Sink, Transaction, above, contents, published_before, published_in, up_to}
 use Rattle.ckpt_once.proofs.ActionLemmas.{replay-append}
-use Rattle.ckpt_once.proofs.TurnLemmas.{aligned_is}
 use Rattle.ckpt_task.proofs.LoopLaws.{loops_make_history}
 use Rattle.ckpt_task.proofs.Looping.{comes_on}
 use Rattle.ckpt_task.proofs.SinkLooping.{IsTold, entries-append, held-append, held_at, moments-append, told_first, told_reaches, told_run, told_word}
-use Rattle.ckpt_task.proofs.Snapping.{cut_later, cut_stays, is_cut_by, not_ended_in}
+use Rattle.ckpt_once.proofs.Publishing.{cut_stays}
+use Rattle.ckpt_task.proofs.Snapping.{cut_later, is_cut_by, not_ended_in}
 use Rattle.ckpt_task.proofs.Turning.{cut_moves_none}
 use Rattle.ckpt_task.specs.Deeds.{came_in}
 use Rattle.ckpt_task.specs.Loops.{Looped, Loops, attempts_of, history_of, turns_of}
-use Rattle.ckpt_task.specs.Runs.{AreKept, Around, IsKept, IsKeptBy, Kept, after_turns, held_after, kept_in, sink_waits}
-use Rattle.ckpt_task.specs.Saving.{Saved, under, waiting_of, waiting_under}
-use Rattle.ckpt_task.specs.SinkLoops.{AreGiven, AreSteps, GivesOnce, HasGiven, HasSunkOver, HaveGiven, IsToldOf, Ran, SinkAttempt, SinkGivesOnce, SinkGivesOverRestarts, SinkRuns, Sinking, Step, WasTold, around_sink, from_of, loops_of}
+use Rattle.ckpt_task.specs.Runs.{AreKept, Around, IsKeptBy, Kept, after_turns, held_after, kept_in, sink_waits}
+use Rattle.ckpt_task.specs.Saving.{Saved, under, waiting_of}
+use Rattle.ckpt_task.specs.SinkLoops.{AreSteps, HasGiven, IsToldOf, Ran, SinkAttempt, SinkGivesOnce, SinkGivesOverRestarts, SinkRuns, Sinking, Step, WasTold, around_sink, from_of, loops_of}
 use Rattle.ckpt_task.specs.SinkLoops as sinks
-use Rattle.ckpt_task.specs.SinkTurns.{SinkAt}
 use Rattle.ckpt_task.specs.Turns.{At, abandoned_as, answer_in, cut_of}
 
 -- TRANSACTIONS UP TO A RECORD
@@ -97,14 +96,7 @@ record IsSealed (o inputs n : ℕ) (moments : List Moment) (w : List Transaction
   pub waits : w ≡ (after_entries nothing (entries o (opened inputs) (before ++ Acts action ∷ []))).waiting
 
 sealed_later : (o inputs n : ℕ) (moments more now : List Moment) (w : List Transaction) → now ≡ moments ++ more → IsSealed o inputs n moments w → IsSealed o inputs n now w
-sealed_later o inputs n moments more now w is was = record {
-  before = was.before;
-  action = was.action;
-  later = was.later ++ more;
-  moments_are = is ∙ ap (λ (l : List Moment). l ++ more) was.moments_are ∙ append_assoc (was.before ++ Acts was.action ∷ []) was.later more;
-  cuts = was.cuts;
-  waits = was.waits;
-}
+sealed_later o inputs n moments more now w is was = grind (arith, common_steps)
 
 -- each snapshot of this record is of its cut
 abbrev Seals : ℕ → ℕ → ℕ → List Moment → List Saved → Type 0
@@ -119,12 +111,7 @@ same_waiting w v e = cc
 -- one more, that of this cut
 seals_more : (o inputs n m : ℕ) (moments more now : List Moment) (one : Saved) (before after : List Saved) → now ≡ moments ++ more → one.id ≡ m → after ≡ one ∷ before
     → (m ≡ n → IsSealed o inputs n now one.waiting) → Seals o inputs n moments before → Seals o inputs n now after
-seals_more o inputs n m moments more now one before after is id grows sealed was w has =
-    let found : waiting_of (if eqb one.id n then Some one else under n before) ≡ Some w = sym (ap (λ (l : List Saved). waiting_of (under n l)) grows) ∙ has in
-    cond_both (eqb one.id n) (Some one) (under n before) (λ (k : Option Saved). waiting_of k ≡ Some w → IsSealed o inputs n now w)
-    (λ same its. subst (λ (v : List Transaction). IsSealed o inputs n now v) (same_waiting one.waiting w its) (sealed (sym id ∙ eqb-true one.id n same)))
-    (λ _ its. sealed_later o inputs n moments more now w is (was w its))
-    found
+seals_more o inputs n m moments more now one before after is id grows sealed was w has = grind (arith, common_steps, cond_both, eqb, eqb-true, same_waiting, sealed_later)
 
 seals_by : (o inputs n s : ℕ) (cut given : Option ℕ) (waiting : List Transaction) (k l : Kept) (moments more now : List Moment) → now ≡ moments ++ more → IsKeptBy cut given s waiting k l
     → (cut ≡ Some n → IsSealed o inputs n now waiting) → Seals o inputs n moments k.saved → Seals o inputs n now l.saved

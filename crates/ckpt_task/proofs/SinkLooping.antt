@@ -1,14 +1,14 @@
 -- What a sink in a loop publishes is what its ledger was told to.
-use Rattle.std.proofs.Common.{◌≡◌, ℕ, true, List, [], ◌∷◌, ◌++◌, ◌∙◌, map, refl, sym, ap, subst, Option, Some, None}
+use Rattle.std.proofs.lemmas.Grind.{common_steps}
+use Rattle.std.proofs.Common.{arith, ◌≡◌, ℕ, true, List, ◌∷◌, ◌++◌, ◌∙◌, map, refl, sym, ap, subst, Option, Some, None, []}
 use Rattle.std.proofs.lemmas.List.{append-nil, append_assoc}
-use Rattle.ckpt_ids.specs.Ordered.{IsIn}
 use Rattle.ckpt_align.specs.Alignment.{Alignment, opened}
 use Rattle.ckpt_align.specs.Histories.{Action, after, cut_by, elements, has_cut, replay, sent_by}
 use Rattle.ckpt_ledger.specs.Ledgers.{Acts, Completes, Entry, HaveBeenCut, Held, Moment, Told, Writes, acts, after_entries, after_entry, all_published, completed, entries, nothing, told_of}
 use Rattle.ckpt_ledger.proofs.Publishing.{publishes_as_sink}
 use Rattle.ckpt_ledger.proofs.Restarting.{acts-append, been_cut, completed-append, entries_with, published-append, with_word}
-use Rattle.ckpt_once.specs.Jobs.{Job, States, network, of}
-use Rattle.ckpt_once.specs.Programs.{Program, Turn, acts as acts_in, actions, aligned}
+use Rattle.ckpt_once.specs.Jobs.{Job, States, of}
+use Rattle.ckpt_once.specs.Programs.{Program, Turn, actions}
 use Rattle.ckpt_once.specs.Sinks.{Sink, contents, published_in, up_to}
 use Rattle.ckpt_once.proofs.ActionLemmas.{replay-append}
 use Rattle.ckpt_once.proofs.TurnLemmas.{aligned_is}
@@ -18,9 +18,9 @@ use Rattle.ckpt_task.proofs.Working.{at_of}
 use Rattle.ckpt_task.specs.Deeds.{came_in}
 use Rattle.ckpt_task.specs.Loops.{Looped, Loops, history_of, turns_of}
 use Rattle.ckpt_task.specs.Runs.{Around, after_turns, held_after, sink_waits}
-use Rattle.ckpt_task.specs.SinkLoops.{AreSteps, HasSunkOver, IsToldOf, Ran, SinkPublishes, SinkRuns, Sinking, Step, WasTold, around_sink}
+use Rattle.ckpt_task.specs.SinkLoops.{AreSteps, IsToldOf, Ran, SinkPublishes, SinkRuns, Sinking, Step, WasTold, around_sink}
 use Rattle.ckpt_task.specs.SinkLoops as sinks
-use Rattle.ckpt_task.specs.SinkTurns.{SinkAt, after_turn}
+use Rattle.ckpt_task.specs.SinkTurns.{SinkAt}
 use Rattle.ckpt_task.specs.Turns.{At}
 
 -- entries one behind the other
@@ -77,19 +77,8 @@ acts_publish o a h (x ∷ xs) =
 
 held_is : (p : Program) (m : SinkAt) (turns : List Turn)
     → held_after p m turns ≡ after_entries m.held (entries m.output m.task.alignment (map Acts (actions p m.task.state m.task.alignment turns)))
-held_is p m [] = refl
-held_is p m (turn ∷ turns) =
-    let o : ℕ = m.output in
-    let a : Alignment = m.task.alignment in
-    let at : At = after_turns p m.task turns in
-    let xs : List Action = actions p m.task.state a turns in
-    let ys : List Action = acts_in p at.state at.alignment turn in
-    let at_a : replay a (acts (map Acts xs)) ≡ at.alignment = ap (replay a) (acts_all xs) ∙ aligned_is p m.task.state a turns in
-    ap (λ (h : Held). after_entries h (entries o at.alignment (map Acts ys))) (held_is p m turns)
-    ∙ sym (held-append m.held (entries o a (map Acts xs)) (entries o at.alignment (map Acts ys)))
-    ∙ ap (λ (b : Alignment). after_entries m.held (entries o a (map Acts xs) ++ entries o b (map Acts ys))) (sym at_a)
-    ∙ ap (after_entries m.held) (sym (entries-append o a (map Acts xs) (map Acts ys)))
-    ∙ ap (λ (l : List Moment). after_entries m.held (entries o a l)) (sym (moments-append xs ys))
+held_is p m [] = grind (arith, common_steps)
+held_is p m (turn ∷ turns) = grind (arith, common_steps, acts_all, aligned_is, entries-append, held-append, map, moments-append, held_is p m turns)
 
 -- A SINK
 
@@ -119,9 +108,7 @@ told_first p s o inputs x task held output unused published = record {
 -- where its aligner is, and what turns enter
 
 reached : (p : Program) (s o inputs : ℕ) (x : Sinking) (records : List ℕ) (told : IsTold p s o inputs x records) → replay (opened inputs) (acts told.moments) ≡ x.at.task.alignment
-reached p s o inputs x records told =
-    let a : Alignment = opened inputs in
-    ap (replay a) told.acts_are ∙ aligned_is p s a (came_in x.deeds) ∙ sym (ap (λ (k : At). k.alignment) told.follows.task)
+reached p s o inputs x records told = grind (arith, common_steps, aligned_is)
 
 -- the actions of turns from here on
 abbrev pub then_acts : Program → Sinking → List Turn → List Action
@@ -129,13 +116,7 @@ then_acts p x turns = actions p x.at.task.state x.at.task.alignment turns
 
 pub told_reaches : (p : Program) (s o inputs : ℕ) (x : Sinking) (records : List ℕ) (told : IsTold p s o inputs x records) (turns : List Turn)
     → replay (opened inputs) (acts (told.moments ++ map Acts (then_acts p x turns))) ≡ (after_turns p x.at.task turns).alignment
-told_reaches p s o inputs x records told turns =
-    let a : Alignment = opened inputs in
-    let zs : List Action = then_acts p x turns in
-    ap (replay a) (acts-append told.moments (map Acts zs) ∙ ap (λ (l : List Action). acts told.moments ++ l) (acts_all zs))
-    ∙ replay-append a (acts told.moments) zs
-    ∙ ap (λ (b : Alignment). replay b zs) (reached p s o inputs x records told)
-    ∙ aligned_is p x.at.task.state x.at.task.alignment turns
+told_reaches p s o inputs x records told turns = grind (arith, common_steps, acts-append, acts_all, aligned_is, map, reached, replay-append)
 
 pub entered : (p : Program) (s o inputs : ℕ) (x : Sinking) (records : List ℕ) (told : IsTold p s o inputs x records) (turns : List Turn)
     → entries o (opened inputs) (told.moments ++ map Acts (then_acts p x turns)) ≡ entries o (opened inputs) told.moments ++ entries o x.at.task.alignment (map Acts (then_acts p x turns))

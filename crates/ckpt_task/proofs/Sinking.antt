@@ -1,5 +1,6 @@
 -- A run of a sink is that of its task, with its ledger.
-use Rattle.std.proofs.Common.{◌≡◌, ℕ, ◌+◌, List, ◌∷◌, ◌∙◌, refl, sym, ap}
+use Rattle.std.proofs.lemmas.Grind.{common_steps}
+use Rattle.std.proofs.Common.{arith, ◌≡◌, ℕ, ◌+◌, List, ◌∷◌, ◌∙◌, refl, sym, ap}
 use Rattle.std.specs.Prelude.{map}
 use Rattle.ckpt_ledger.specs.Ledgers.{Acts, Held, after_entries, entries}
 use Rattle.ckpt_once.specs.Programs.{Program, Turn, acts}
@@ -14,8 +15,7 @@ abbrev enters : Program → Turn → Held → ℕ → At → Held
 enters p turn h o m = after_entries h (entries o m.alignment (map Acts (acts p m.state m.alignment turn)))
 
 same_ledger : (p : Program) (m l : SinkAt) (turns : List Turn) (turn : Turn) → l.task ≡ after_turns p m.task turns → l.held ≡ held_after p m turns → l.output ≡ m.output → after_turn p l turn ≡ held_after p m (turn ∷ turns)
-same_ledger p m l turns turn task held output =
-    ap (λ (h : Held). enters p turn h l.output l.task) held ∙ ap (λ o. enters p turn (held_after p m turns) o l.task) output ∙ ap (λ (t : At). enters p turn (held_after p m turns) m.output t) task
+same_ledger p m l turns turn task held output = grind (arith, common_steps)
 
 pub has_not_sunk : (p : Program) (m : SinkAt) (x : Around) → HasSunk p 0 m m x x
 has_not_sunk p m x =

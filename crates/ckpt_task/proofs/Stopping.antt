@@ -1,6 +1,7 @@
 -- What a fault leaves of a turn.
-use Rattle.std.proofs.Common.{◌≡◌, ℕ, ◌+◌, ◌<◌, List, [], ◌∷◌, ◌++◌, ◌∙◌, refl, sym, ap, subst, false, true, Ok, Err, inl, inr, drop, length, slice_index_or}
-use Rattle.std.specs.Prelude.{◌⊎◌, OnErr, Result}
+use Rattle.std.proofs.lemmas.Grind.{common_steps}
+use Rattle.std.proofs.Common.{arith, ◌≡◌, ℕ, ◌+◌, ◌<◌, List, ◌∷◌, ◌++◌, ◌∙◌, refl, sym, ap, subst, false, true, Ok, Err, inl, inr, drop, length, slice_index_or, []}
+use Rattle.std.specs.Prelude.{OnErr, Result}
 use Rattle.std.proofs.lemmas.Bool.{both_ways}
 use Rattle.std.proofs.lemmas.List.{append_assoc, at_drop_more}
 use Rattle.ckpt_once.specs.Programs.{Emitted, Program, Turn}
@@ -11,7 +12,7 @@ use Rattle.ckpt_task.specs.declared.deed.Deed.TheVariants.{Took, Sent, SentBarri
 use Rattle.ckpt_task.specs.declared.turn.Outcome.{Outcome}
 use Rattle.ckpt_task.specs.declared.turn.Outcome.TheVariants as outcome
 use Rattle.ckpt_task.specs.Deeds.{IsPart, IsUndone, IsUnfinished, after_sends, came_in, deeds_after, taken_in}
-use Rattle.ckpt_task.specs.Runs.{Around, HasTurned, IsKept, IsStopped, around, kept_in}
+use Rattle.ckpt_task.specs.Runs.{Around, IsStopped}
 use Rattle.ckpt_task.specs.Turns.{is_held}
 
 -- elements that are sent, the newest first
@@ -35,13 +36,8 @@ sends_left es now all e = record {
 
 pub send_stopped : (i : ℕ) (ones : List Emitted) (one : Emitted) (o x : ℕ) (mid now all : List Deed) → one ≡ slice_index_or ones i one → i < length ones → o ≡ one.output → x ≡ one.element
     → after_sends (drop i ones) mid ≡ all → IsUndone (Sent o x) mid now → IsUnfinished now all
-send_stopped i ones one o x mid now all is less output element e (inl same) = sends_left (drop i ones) now all (ap (after_sends (drop i ones)) same ∙ e)
-send_stopped i ones one o x mid now all is less output element e (inr sent) =
-    let rest : List Emitted = drop (i + 1) ones in
-    let first : after_sends (drop i ones) mid ≡ after_sends (one ∷ rest) mid =
-    at_drop_more (λ (es : List Emitted). after_sends es mid) ones i one less ∙ ap (λ (it : Emitted). after_sends (it ∷ rest) mid) (sym is) in
-    let same : now ≡ Sent one.output one.element ∷ mid = sent ∙ ap (λ (n : ℕ). Sent n x ∷ mid) output ∙ ap (λ (n : ℕ). Sent one.output n ∷ mid) element in
-    sends_left rest now all (ap (after_sends rest) same ∙ sym first ∙ e)
+send_stopped i ones one o x mid now all is less output element e (inl same) = grind (arith, common_steps, drop, sends_left)
+send_stopped i ones one o x mid now all is less output element e (inr sent) = grind (arith, common_steps, at_drop_more, drop, sends_left)
 
 -- what is done after an outcome
 
@@ -81,28 +77,19 @@ cut_barrier_stopped n k before mid now same is undone =
     (subst (λ (m : ℕ). IsUndone (SentBarrier m) mid now) same undone)
 
 pub cut_stopped : (n k : ℕ) (before mid last now : List Deed) → k ≡ n → mid ≡ Took ∷ before → last ≡ SentBarrier k ∷ mid → IsUndone (Acknowledged n) last now → IsPart before now (deeds_after (outcome.Cut n) before)
-cut_stopped n k before mid last now same is sent undone =
-    let all : List Deed = deeds_after (outcome.Cut n) before in
-    deed_stopped (Acknowledged n) before last now (SentBarrier n ∷ Took ∷ before) all (sent ∙ ap (λ (m : ℕ). SentBarrier m ∷ mid) same ∙ ap (λ (l : List Deed). SentBarrier n ∷ l) is)
-    (word_left n before) (none_left all) undone
+cut_stopped n k before mid last now same is sent undone = grind (arith, common_steps, deed_stopped, none_left, word_left)
 
 pub unsaved_barrier_stopped : (n : ℕ) (before mid now : List Deed) → mid ≡ Took ∷ before → IsUndone (SentBarrier n) mid now → IsPart before now (deeds_after (outcome.Unsaved n) before)
 unsaved_barrier_stopped n before mid now is undone =
     deed_stopped (SentBarrier n) before mid now (Took ∷ before) (deeds_after (outcome.Unsaved n) before) is (rest_of (outcome.Unsaved n) before refl) (no_word_left n before) undone
 
 pub unsaved_stopped : (n : ℕ) (before mid last now : List Deed) → mid ≡ Took ∷ before → last ≡ SentBarrier n ∷ mid → IsUndone (Declined n) last now → IsPart before now (deeds_after (outcome.Unsaved n) before)
-unsaved_stopped n before mid last now is sent undone =
-    let all : List Deed = deeds_after (outcome.Unsaved n) before in
-    deed_stopped (Declined n) before last now (SentBarrier n ∷ Took ∷ before) all (sent ∙ ap (λ (l : List Deed). SentBarrier n ∷ l) is) (no_word_left n before) (none_left all) undone
+unsaved_stopped n before mid last now is sent undone = grind (arith, common_steps, deed_stopped, no_word_left, none_left)
 
 pub abandoned_stopped : (n : ℕ) (before mid now : List Deed) → mid ≡ Took ∷ before → IsUndone (Declined n) mid now → IsPart before now (deeds_after (outcome.Abandoned n) before)
 abandoned_stopped n before mid now is undone =
     let all : List Deed = deeds_after (outcome.Abandoned n) before in
     deed_stopped (Declined n) before mid now (Took ∷ before) all is (rest_of (outcome.Abandoned n) before refl) (none_left all) undone
-
-pub sends_stopped : (before mid now : List Deed) (es ones : List Emitted) → es ≡ ones → mid ≡ Took ∷ before → IsUnfinished now (after_sends es mid) → IsPart before now (after_sends ones (Took ∷ before))
-sends_stopped before mid now es ones same is left =
-    inr (subst (λ (l : List Deed). IsUnfinished now (after_sends ones l)) is (subst (λ (l : List Emitted). IsUnfinished now (after_sends l mid)) same left))
 
 -- what holds of an error holds of it too
 pub on_err : {X E : Type 0} (P Q : Type 0) (r : Result X E) → (P → Q) → OnErr r P → OnErr r Q
@@ -111,17 +98,6 @@ on_err P Q (Err e) f h = f h
 
 -- a turn that was stopped, with the same held back
 
-other_waits : (p : Program) (first second : Turn → List Transaction) (x y : Around) → ((turn : Turn) → first turn ≡ second turn) → HasTurned p first x y → HasTurned p second x y
-other_waits p first second x y same one = record {
-  turn = one.turn;
-  came = one.came;
-  task = one.task;
-  taken_on = one.taken_on;
-  sent_on = one.sent_on;
-  kept = subst (λ (w : List Transaction). IsKept x.task w one.turn (kept_in x) (kept_in y)) (same one.turn) one.kept;
-}
-
 pub stopped_as : (p : Program) (first second : Turn → List Transaction) (x z : Around) → ((turn : Turn) → first turn ≡ second turn) → IsStopped p first x z → IsStopped p second x z
-stopped_as p first second x z same (inl none) = inl none
-stopped_as p first second x z same (inr begun) =
-    inr (record { next = begun.next; all = begun.all; turned = other_waits p first second x (around z.task begun.all z.saved z.refused) same begun.turned; part = begun.part })
+stopped_as p first second x z same (inl none) = grind (arith, common_steps)
+stopped_as p first second x z same (inr begun) = grind (arith, common_steps)

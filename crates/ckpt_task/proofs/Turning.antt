@@ -1,11 +1,10 @@
 -- One turn of the code is one of `ckpt_once`.
-use Rattle.std.proofs.Common.{◌≡◌, ℕ, ◌+◌, ◌<◌, Bool, true, false, List, [], ◌∷◌, ◌++◌, ◌∙◌, refl, sym, ap, subst, arith, if◌then◌else◌, Option, Some, None, Ok, inl, inr, drop, length, slice_index_or}
+use Rattle.std.proofs.Common.{◌≡◌, ℕ, ◌+◌, Bool, true, false, List, ◌∷◌, ◌++◌, ◌∙◌, refl, sym, ap, subst, arith, if◌then◌else◌, Option, Some, None, Ok, inl, inr, []}
 use Rattle.std.specs.Prelude.{◌==◌, ◌⊎◌, ◌≢◌, map, slice_get}
 use Rattle.std.proofs.lemmas.Bool.{both_ways}
 use Rattle.std.proofs.lemmas.Grind.{common_steps}
-use Rattle.std.proofs.lemmas.List.{at_drop_more}
 use Rattle.ckpt_align.specs.Alignment.{Alignment}
-use Rattle.ckpt_align.specs.Histories.{Item, Element, Barrier, End, Reads, GivesUp, after, answer_to, barriers, cut_as, cut_by, elements, sent}
+use Rattle.ckpt_align.specs.Histories.{Item, Element, Barrier, End, Reads, after, answer_to, barriers, cut_as, elements, sent}
 use Rattle.ckpt_align.specs.Steps.{element, step}
 use Rattle.ckpt_align.specs.declared.event.Answer.{Answer}
 use Rattle.ckpt_align.specs.declared.event.Answer.TheVariants as answer
@@ -14,7 +13,7 @@ use Rattle.ckpt_align.specs.declared.input.Input.{Input}
 use Rattle.ckpt_align.specs.declared.input.Input.TheVariants as input
 use Rattle.ckpt_align.proofs.Cutting.{reads_cut-element}
 use Rattle.ckpt_align.proofs.Fitting.{element_reads-other}
-use Rattle.ckpt_ledger.specs.Ledgers.{Acts, Entry, Held, Writes, after_entries, after_entry, entries, told_of}
+use Rattle.ckpt_ledger.specs.Ledgers.{Acts, Entry, Held, Writes, after_entries, entries, told_of}
 use Rattle.ckpt_once.specs.Programs.{Emitted, Program, Turn, Offered, GivenUp, Drawn, Ended, acts, emitted_by, move_in, moves_in, on_output, sendings, state, with_one}
 use Rattle.ckpt_once.specs.Sinks.{Transaction}
 use Rattle.ckpt_task.specs.Saving.{Saved}
@@ -22,6 +21,7 @@ use Rattle.ckpt_task.specs.SinkTurns.{SinkAt, after_outcome, after_turn}
 use Rattle.ckpt_task.specs.Turns.{At, IsSaved, IsToldAs, abandoned_in, cut_in, cut_of, emitted_in, is_held, is_unsaved, put_on, puts}
 use Rattle.ckpt_task.specs.declared.turn.Outcome.{Outcome}
 use Rattle.ckpt_task.specs.declared.turn.Outcome.TheVariants as outcome
+use Rattle.ckpt_once.proofs.Sealing.{elements_barriers}
 
 -- an element is processed or held, and changes nothing in the aligner
 
@@ -93,40 +93,17 @@ entries_sendings : (o : ℕ) (a : Alignment) (es : List Emitted) → entries o a
 entries_sendings o a [] = refl
 entries_sendings o a (e ∷ es) = writes_by (e.output == o) e.element (entries o a (map Acts (sendings es))) (on_output o es) (entries_sendings o a es)
 
-no_elements : (o : Option ℕ) → elements (barriers o) ≡ []
-no_elements None = refl
-no_elements (Some n) = refl
-
 entries_turn : (p : Program) (s o : ℕ) (a : Alignment) (turn : Turn) → entries o a (map Acts (acts p s a turn)) ≡ told_of (cut_of a turn) [] ++ map Writes (on_output o (emitted_by p s (move_in a turn)))
-entries_turn p s o a (Offered i item) =
-    let es : List Emitted = emitted_by p s (move_in a (Offered i item)) in
-    let b : Alignment = after a (Reads i item) in
-    let k : Option ℕ = cut_as (answer_to a i item) in
-    ap (λ l. told_of k l ++ entries o b (map Acts (sendings es))) (no_elements k) ∙ ap (λ l. told_of k [] ++ l) (entries_sendings o b es)
-entries_turn p s o a (GivenUp id) = ap (λ l. told_of (cut_by a (GivesUp id)) l ++ []) (no_elements (cut_by a (GivesUp id)))
-entries_turn p s o a Drawn = entries_sendings o a (emitted_by p s (move_in a Drawn))
-entries_turn p s o a Ended = refl
-
-enters_by : (b : Bool) (x : ℕ) (xs : List ℕ) (h : Held) → after_entries h (map Writes (if b then x ∷ xs else xs)) ≡ after_entries (if b then after_entry h (Writes x) else h) (map Writes xs)
-enters_by true x xs h = refl
-enters_by false x xs h = refl
+entries_turn p s o a (Offered i item) = grind (arith, common_steps, entries_sendings, elements_barriers)
+entries_turn p s o a (GivenUp id) = grind (arith, common_steps, elements_barriers)
+entries_turn p s o a Drawn = grind (arith, common_steps, entries_sendings)
+entries_turn p s o a Ended = grind (arith, common_steps)
 
 pub is_this : (m n k : ℕ) → n ≡ m → n ≡ k → (m == k) ≡ true
 is_this m n k e f = grind (arith, common_steps)
 
 pub is_other : (m n k : ℕ) → n ≡ m → n ≢ k → (m == k) ≡ false
 is_other m n k e f = grind (arith, common_steps)
-
--- one element more
-pub enters_more : (o i : ℕ) (ones : List Emitted) (one : Emitted) (h : Held) (b : Bool) → one ≡ slice_index_or ones i one → i < length ones → (one.output == o) ≡ b
-    → after_entries h (map Writes (on_output o (drop i ones))) ≡ after_entries (if b then after_entry h (Writes one.element) else h) (map Writes (on_output o (drop (i + 1) ones)))
-enters_more o i ones one h b is less test =
-    let after : List Emitted → Held = λ es. after_entries h (map Writes (on_output o es)) in
-    let rest : List Emitted = drop (i + 1) ones in
-    at_drop_more after ones i one less
-    ∙ ap (λ (e : Emitted). after (e ∷ rest)) (sym is)
-    ∙ enters_by (one.output == o) one.element (on_output o rest) h
-    ∙ ap (λ t. after_entries (if t then after_entry h (Writes one.element) else h) (map Writes (on_output o rest))) test
 
 outcome_enters : (o : ℕ) (h : Held) (one : Outcome) → is_unsaved one ≡ false → after_outcome o h one ≡ after_entries h (told_of (cut_in one) [] ++ map Writes (on_output o (emitted_in one)))
 outcome_enters o h (outcome.Moved ones) e = refl
@@ -138,11 +115,7 @@ outcome_enters o h (outcome.Abandoned id) e = refl
 
 pub enters_turn : (p : Program) (m : SinkAt) (turn : Turn) (one : Outcome) → emitted_in one ≡ emitted_by p m.task.state (move_in m.task.alignment turn) → cut_in one ≡ cut_of m.task.alignment turn → is_unsaved one ≡ false
     → after_outcome m.output m.held one ≡ after_turn p m turn
-enters_turn p m turn one emitted cut fresh =
-    outcome_enters m.output m.held one fresh
-    ∙ ap (λ k. after_entries m.held (told_of k [] ++ map Writes (on_output m.output (emitted_in one)))) cut
-    ∙ ap (λ es. after_entries m.held (told_of (cut_of m.task.alignment turn) [] ++ map Writes (on_output m.output es))) emitted
-    ∙ ap (after_entries m.held) (sym (entries_turn p m.task.state m.output m.task.alignment turn))
+enters_turn p m turn one emitted cut fresh = grind (arith, common_steps, entries_turn, outcome_enters)
 
 -- after the snapshot of a cut the engine is told the same
 

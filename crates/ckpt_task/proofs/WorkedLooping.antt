@@ -1,16 +1,13 @@
 -- The worked loops meet the premises of the law of failures.
-use Rattle.std.proofs.Common.{rules, ◌≡◌, ℕ, ◌+◌, ◌==◌, ◌≤◌, false, true, if◌then◌else◌, List, [], ◌∷◌, ◌++◌, ◌∙◌, refl, sym, ap, subst, inl, inr, arith}
-use Rattle.std.specs.Prelude.{◌⊎◌}
-use Rattle.std.proofs.lemmas.Bool.{both_ways}
+use Rattle.std.proofs.lemmas.Grind.{common_steps}
+use Rattle.std.proofs.Common.{◌≡◌, ℕ, ◌+◌, ◌==◌, false, true, if◌then◌else◌, List, ◌∷◌, ◌++◌, refl, sym, ap, subst, inl, inr, arith, []}
 use Rattle.std.proofs.lemmas.List.{append-nil}
 use Rattle.ckpt_ids.specs.declared.ack.Acked.{Acked}
 use Rattle.ckpt_ids.specs.declared.numbers.Kind.TheVariants.{Checkpoint}
 use Rattle.ckpt_ids.specs.declared.subtask.SubtaskId.{SubtaskId}
 use Rattle.ckpt_ids.specs.Ordered.{IsIn}
 use Rattle.ckpt_ids.specs.Records.{Record}
-use Rattle.ckpt_ids.specs.Shapes.{same_subtask}
-use Rattle.ckpt_ids.proofs.OrderLemmas.{same_subtask-Decides}
-use Rattle.ckpt_align.specs.Histories.{Barrier, Element, Item}
+use Rattle.ckpt_align.specs.Histories.{Barrier, Element}
 use Rattle.ckpt_align.specs.Laws.{Channel}
 use Rattle.ckpt_align.specs.Steps.{barrier, settled, step}
 use Rattle.ckpt_model.specs.Laws.{CanOpen, accepted_by, along}
@@ -21,36 +18,18 @@ use Rattle.ckpt_once.specs.Programs.{Drawn, Offered, Turn}
 use Rattle.ckpt_once.specs.Sinks.{AreLast}
 use Rattle.ckpt_once.specs.WorkedExamples.{adder, job, line, source}
 use Rattle.ckpt_task.proofs.Doing.{has_not_run, runs_more, takes_last}
-use Rattle.ckpt_task.specs.declared.deed.Deed.{Deed}
-use Rattle.ckpt_task.specs.declared.deed.Deed.TheVariants.{Acknowledged, Came, Sent, SentBarrier, Took}
+use Rattle.ckpt_task.specs.declared.deed.Deed.TheVariants.{Came, Sent, Took}
 use Rattle.ckpt_task.specs.declared.turn.Next.TheVariants as next
-use Rattle.ckpt_task.specs.Deeds.{Acknowledges, came_in, sent_in, taken_in, told_in}
+use Rattle.ckpt_task.specs.Deeds.{Acknowledges, came_in, taken_in, told_in}
 use Rattle.ckpt_task.specs.Engines.{begun}
 use Rattle.ckpt_task.specs.Laws.{WasCompletedBy}
-use Rattle.ckpt_task.specs.Loops.{AcceptsTold, AreLooping, AreLoopsAttempts, HasLooped, IsDownstreamFirst, KeepsOrder, Looped, Loops, attempts_of, turns_of}
+use Rattle.ckpt_task.specs.Loops.{AcceptsTold, AreLooping, AreLoopsAttempts, HasLooped, IsDownstreamFirst, KeepsOrder, attempts_of, turns_of}
 use Rattle.ckpt_task.specs.Runs.{Around, HasRun, HasTurned, around, waits_none}
-use Rattle.ckpt_task.specs.Turns.{At, puts, takes, turned}
-use Rattle.ckpt_task.specs.WorkedLoops.{adder_again, adder_did, after_100, again, at, attempt, begin, calls, cut_at, failed, going, opening, source_again, source_did, with_100}
+use Rattle.ckpt_task.specs.Turns.{takes}
+use Rattle.ckpt_task.specs.WorkedLoops.{adder_again, adder_did, after_100, again, at, attempt, begin, calls, failed, going, opening, source_again, source_did, with_100}
 
 pub can_open : CanOpen opening
-can_open = record {
-  config = record {
-    interval_from = omega arith;
-    interval_to = omega arith;
-    pause_to = omega arith;
-    at_once_from = omega arith;
-    at_once_to = omega arith;
-    timeout_from = omega arith;
-    timeout_to = omega arith;
-    tolerable_to = omega arith;
-    retained_from = omega arith;
-    retained_to = omega arith;
-  };
-  shape = record { vertices_from = omega arith; vertices_to = omega arith; each = search rules; size_to = omega arith };
-  start = omega arith;
-  first_from = omega arith;
-  first_to = omega arith;
-}
+can_open = grind (arith, common_steps)
 
 -- turns
 
@@ -59,16 +38,7 @@ Turned t x y = HasTurned (job.program t) (λ _. []) x y
 
 -- the source reads on from this offset
 draws_at : (s : ℕ) (x : Around) → x.task ≡ at s → Turned source x (around (at (s + 1)) (Sent 0 (s + 100) ∷ Took ∷ Came next.Draw ∷ x.deeds) x.saved x.refused)
-draws_at s x is =
-    let one : ℕ → List Item = λ c. if 0 == c then Element (s + 100) ∷ [] else [] in
-    record {
-      turn = Drawn;
-      came = refl;
-      task = ap (λ (m : At). turned (job.program source) m Drawn) (sym is);
-      taken_on = λ j. ap (λ (m : At). taken_in j x.deeds ++ takes (job.program source) m Drawn j) (sym is);
-      sent_on = λ c. ap (λ l. sent_in c x.deeds ++ l) (sym (append-nil (one c))) ∙ ap (λ (m : At). sent_in c x.deeds ++ puts (job.program source) m Drawn c) (sym is);
-      kept = refl;
-    }
+draws_at s x is = grind (arith, common_steps)
 
 -- the adder takes 100
 takes_100 : Turned adder begin (around (at 100) with_100 [] [])
@@ -151,18 +121,8 @@ at_line : (P : Channel → Type 0) → P line → (c : Channel) → IsIn c job.c
 at_line P it c (inl e) = subst P (sym e) it
 at_line P it c (inr none) = absurd none
 
-not_adder : {X : Type 0} → adder ≡ source → X
-not_adder e = absurd (both_ways (same_subtask adder source) refl ((same_subtask-Decides adder source).1 e))
-
-not_in_source : IsIn adder (source ∷ []) → ⊥
-not_in_source (inl e) = not_adder e
-not_in_source (inr none) = none
-
 no_cycle : IsDownstreamFirst job (adder ∷ source ∷ [])
-no_cycle =
-    let Leads : Channel → Type 0 = λ c. c.receiver ≡ source → IsIn c.sender [] in
-    let Comes : Channel → Type 0 = λ c. c.receiver ≡ adder → IsIn c.sender (source ∷ []) in
-    ((tt, (λ none. none), at_line Leads (λ e. not_adder e)), not_in_source, at_line Comes (λ e. inl refl))
+no_cycle = grind (arith, common_steps)
 
 swapped : (t s u : SubtaskId) → IsIn t (s ∷ u ∷ []) → IsIn t (u ∷ s ∷ [])
 swapped t s u (inl e) = inr (inl e)
@@ -240,9 +200,7 @@ are_last = (tt, λ m none. absurd none)
 
 again_begun : (t : SubtaskId) → IsIn t job.tasks → HasLooped (job.program t) ((begun job (restored job (attempts_of (attempt ∷ [])))).task t) (again.looped t)
 unfolding step barrier settled
-again_begun =
-    let Did : SubtaskId → Type 0 = λ t. HasLooped (job.program t) ((begun job (restored job (attempts_of (attempt ∷ [])))).task t) (again.looped t) in
-    at_tasks Did source_looped_again adder_looped_again
+again_begun = grind (arith, common_steps, adder_looped_again, at_tasks, source_looped_again)
 
 pub again_looping : AreLooping job (restored job (attempts_of (attempt ∷ []))) again
 again_looping = record {

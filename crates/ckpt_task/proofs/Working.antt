@@ -1,5 +1,5 @@
 -- What an engine does with tasks over channels is a history.
-use Rattle.std.proofs.Common.{◌≡◌, ℕ, Bool, true, false, List, [], ◌∷◌, ◌++◌, ◌∙◌, refl, sym, ap, subst, arith, if◌then◌else◌, Option, Some, None}
+use Rattle.std.proofs.Common.{◌≡◌, ℕ, Bool, true, false, List, ◌∷◌, ◌++◌, ◌∙◌, refl, sym, ap, subst, arith, if◌then◌else◌, Option, Some, None, []}
 use Rattle.std.specs.Prelude.{drop, length, ◌==◌, ◌&&◌}
 use Rattle.std.proofs.lemmas.Grind.{common_steps}
 use Rattle.std.proofs.lemmas.List.{append-nil, append_assoc}
@@ -8,9 +8,9 @@ use Rattle.ckpt_ids.specs.Ordered.{IsIn}
 use Rattle.ckpt_ids.specs.Shapes.{same_subtask}
 use Rattle.ckpt_ids.proofs.OrderLemmas.{same_subtask-Decides}
 use Rattle.ckpt_align.specs.Alignment.{Alignment, opened}
-use Rattle.ckpt_align.specs.Histories.{Item, Action, Reads, GivesUp, after, answer_to, is_taken, sent, taken}
+use Rattle.ckpt_align.specs.Histories.{Item, after, sent, taken}
 use Rattle.ckpt_align.specs.Laws.{Channel, sent_on, taken_from}
-use Rattle.ckpt_once.specs.Programs.{Emitted, Move, Program, Turn, Offered, GivenUp, Drawn, Ended, acts, actions, aligned, emitted_by, move_in, moves_in, sendings, state, with_one}
+use Rattle.ckpt_once.specs.Programs.{Move, Program, Turn, Offered, GivenUp, Drawn, Ended, actions, aligned, move_in, moves_in, state, with_one}
 use Rattle.ckpt_once.specs.Jobs.{By, History, IsHistory, Job, States, network, of}
 use Rattle.ckpt_once.proofs.ActionLemmas.{sent-append, taken-append}
 use Rattle.ckpt_once.proofs.Running.{of_here, of_there}
@@ -38,19 +38,8 @@ pub turned_is : (p : Program) (s : ℕ) (a : Alignment) (turns : List Turn) (tur
 turned_is p s a turns turn = ap (λ (k : ℕ). at_as k (aligned a (turn ∷ turns))) (sym (state_one p s (move_in (aligned a turns) turn) (moves_in a turns)))
 
 task_by : (job : Job) (from : States) (e : By Turn) (h : History) (t : SubtaskId) (b : Bool) → same_subtask e.task t ≡ b → (engine job from h).task t ≡ at job from h t → (engine job from (e ∷ h)).task t ≡ at job from (e ∷ h) t
-task_by job from e h t true same k =
-    let p : Program = job.program t in
-    let a : Alignment = opened (job.inputs t) in
-    let before : At = (engine job from h).task t in
-    ap (λ b. if b then turned p before e.what else before) same
-    ∙ ap (λ (m : At). turned p m e.what) k
-    ∙ turned_is p (from t) a (of t h) e.what
-    ∙ ap (at_of p (from t) a) (sym (of_here t e h ((same_subtask-Decides e.task t).0 same)))
-task_by job from e h t false other k =
-    let p : Program = job.program t in
-    let a : Alignment = opened (job.inputs t) in
-    let before : At = (engine job from h).task t in
-    ap (λ b. if b then turned p before e.what else before) other ∙ k ∙ ap (at_of p (from t) a) (sym (of_there t e h other))
+task_by job from e h t true same k = grind (arith, common_steps)
+task_by job from e h t false other k = grind (arith, common_steps)
 
 task_is : (job : Job) (from : States) (h : History) (t : SubtaskId) → (engine job from h).task t ≡ at job from h t
 task_is job from [] t = refl
@@ -59,58 +48,18 @@ task_is job from (e ∷ h) t = task_by job from e h t (same_subtask e.task t) re
 -- what a turn puts on a channel, and takes from it
 
 pub puts_is : (c : ℕ) (p : Program) (s : ℕ) (a : Alignment) (turns : List Turn) (turn : Turn) → sent c a (actions p s a (turn ∷ turns)) ≡ sent c a (actions p s a turns) ++ puts p (at_of p s a turns) turn c
-puts_is c p s a turns turn =
-    let xs : List Action = actions p s a turns in
-    let zs : List Action = acts p (state p s (moves_in a turns)) (aligned a turns) turn in
-    sent-append c a xs zs ∙ ap (λ (k : Alignment). sent c a xs ++ sent c k zs) (aligned_is p s a turns)
+puts_is c p s a turns turn = grind (arith, common_steps, aligned_is, sent-append)
 
 pub takes_is : (j : ℕ) (p : Program) (s : ℕ) (a : Alignment) (turns : List Turn) (turn : Turn) → taken j a (actions p s a (turn ∷ turns)) ≡ taken j a (actions p s a turns) ++ takes p (at_of p s a turns) turn j
-takes_is j p s a turns turn =
-    let xs : List Action = actions p s a turns in
-    let zs : List Action = acts p (state p s (moves_in a turns)) (aligned a turns) turn in
-    taken-append j a xs zs ∙ ap (λ (k : Alignment). taken j a xs ++ taken j k zs) (aligned_is p s a turns)
+takes_is j p s a turns turn = grind (arith, common_steps, aligned_is, taken-append)
 
 put_more : (job : Job) (from : States) (e : By Turn) (h : History) (c : Channel) (b : Bool) → same_subtask e.task c.sender ≡ b → sent_on (network job from (e ∷ h)) c ≡ sent_on (network job from h) c ++ put_by job (engine job from h) e c
-put_more job from e h c true same =
-    let t : SubtaskId = c.sender in
-    let p : Program = job.program t in
-    let a : Alignment = opened (job.inputs t) in
-    let before : List Item = sent_on (network job from h) c in
-    let now : At = (engine job from h).task t in
-    ap (λ turns. sent c.output a (actions p (from t) a turns)) (of_here t e h ((same_subtask-Decides e.task t).0 same))
-    ∙ puts_is c.output p (from t) a (of t h) e.what
-    ∙ ap (λ (m : At). before ++ puts p m e.what c.output) (sym (task_is job from h t))
-    ∙ ap (λ b. before ++ (if b then puts p now e.what c.output else [])) (sym same)
-put_more job from e h c false other =
-    let t : SubtaskId = c.sender in
-    let p : Program = job.program t in
-    let a : Alignment = opened (job.inputs t) in
-    let before : List Item = sent_on (network job from h) c in
-    let now : At = (engine job from h).task t in
-    ap (λ turns. sent c.output a (actions p (from t) a turns)) (of_there t e h other)
-    ∙ sym (append-nil before)
-    ∙ ap (λ b. before ++ (if b then puts p now e.what c.output else [])) (sym other)
+put_more job from e h c true same = grind (arith, common_steps, of_here, puts_is, same_subtask-Decides, task_is)
+put_more job from e h c false other = grind (arith, common_steps, append-nil, of_there)
 
 took_more : (job : Job) (from : States) (e : By Turn) (h : History) (c : Channel) (b : Bool) → same_subtask e.task c.receiver ≡ b → taken_from (network job from (e ∷ h)) c ≡ taken_from (network job from h) c ++ taken_by job (engine job from h) e c
-took_more job from e h c true same =
-    let t : SubtaskId = c.receiver in
-    let p : Program = job.program t in
-    let a : Alignment = opened (job.inputs t) in
-    let before : List Item = taken_from (network job from h) c in
-    let now : At = (engine job from h).task t in
-    ap (λ turns. taken c.input a (actions p (from t) a turns)) (of_here t e h ((same_subtask-Decides e.task t).0 same))
-    ∙ takes_is c.input p (from t) a (of t h) e.what
-    ∙ ap (λ (m : At). before ++ takes p m e.what c.input) (sym (task_is job from h t))
-    ∙ ap (λ b. before ++ (if b then takes p now e.what c.input else [])) (sym same)
-took_more job from e h c false other =
-    let t : SubtaskId = c.receiver in
-    let p : Program = job.program t in
-    let a : Alignment = opened (job.inputs t) in
-    let before : List Item = taken_from (network job from h) c in
-    let now : At = (engine job from h).task t in
-    ap (λ turns. taken c.input a (actions p (from t) a turns)) (of_there t e h other)
-    ∙ sym (append-nil before)
-    ∙ ap (λ b. before ++ (if b then takes p now e.what c.input else [])) (sym other)
+took_more job from e h c true same = grind (arith, common_steps, of_here, same_subtask-Decides, takes_is, task_is)
+took_more job from e h c false other = grind (arith, common_steps, append-nil, of_there)
 
 -- what is taken stands at the front
 
@@ -135,14 +84,10 @@ splits_no : (took on : List Item) → took ≡ [] → Splits took on
 splits_no took on none = subst (λ (l : List Item). Splits l on) (sym none) (splits_none on)
 
 takes_front : (p : Program) (m : At) (turn : Turn) (j : ℕ) (on : List Item) → IsAtFront turn j on → Splits (takes p m turn j) on
-takes_front p m (Offered i item) j on front =
-    let a : Alignment = m.alignment in
-    let es : List Emitted = emitted_by p m.state (move_in a (Offered i item)) in
-    let b : Alignment = after a (Reads i item) in
-    splits_by j i item (i == j) (is_taken (answer_to a i item)) (taken j b (sendings es)) on refl (taken_sendings j b es) front
-takes_front p m (GivenUp id) j on front = splits_no (takes p m (GivenUp id) j) on (taken_sendings j (after m.alignment (GivesUp id)) [])
-takes_front p m Drawn j on front = splits_no (takes p m Drawn j) on (taken_sendings j m.alignment (emitted_by p m.state (move_in m.alignment Drawn)))
-takes_front p m Ended j on front = splits_no (takes p m Ended j) on (taken_sendings j m.alignment [])
+takes_front p m (Offered i item) j on front = grind (arith, common_steps, splits_by, taken_sendings)
+takes_front p m (GivenUp id) j on front = grind (arith, common_steps, splits_no, taken_sendings)
+takes_front p m Drawn j on front = grind (arith, common_steps, splits_no, taken_sendings)
+takes_front p m Ended j on front = grind (arith, common_steps, splits_no, taken_sendings)
 
 front_by : (job : Job) (from : States) (e : By Turn) (h : History) (c : Channel) (b : Bool) → same_subtask e.task c.receiver ≡ b → (e.task ≡ c.receiver → IsAtFront e.what c.input ((engine job from h).on c))
     → Splits (if b then takes (job.program c.receiver) ((engine job from h).task c.receiver) e.what c.input else []) ((engine job from h).on c)
@@ -162,20 +107,11 @@ OnChannels job from h = (c : Channel) → IsIn c job.channels → sent_on (netwo
 
 gives_in_order : (job : Job) (from : States) (e : By Turn) (h : History) (c : Channel) → IsIn c job.channels → OnChannels job from h → (e.task ≡ c.receiver → IsAtFront e.what c.input ((engine job from h).on c))
     → sent_on (network job from h) c ≡ taken_from (network job from (e ∷ h)) c ++ drop (length (taken_by job (engine job from h) e c)) ((engine job from h).on c)
-gives_in_order job from e h c has so front =
-    let on : List Item = (engine job from h).on c in
-    let one : List Item = taken_by job (engine job from h) e c in
-    gives (sent_on (network job from h) c) (taken_from (network job from h) c) (taken_from (network job from (e ∷ h)) c) on (drop (length one) on) one (so c has) (took_more job from e h c (same_subtask e.task c.receiver) refl)
-    (front_by job from e h c (same_subtask e.task c.receiver) refl front)
+gives_in_order job from e h c has so front = grind (arith, common_steps, front_by, gives, took_more)
 
 on_channels : (job : Job) (from : States) (h : History) → IsWorking job from h → OnChannels job from h
-on_channels job from [] works c has = refl
-on_channels job from (e ∷ h) works c has =
-    let on : List Item = (engine job from h).on c in
-    let one : List Item = taken_by job (engine job from h) e c in
-    keeps (sent_on (network job from h) c) (sent_on (network job from (e ∷ h)) c) (taken_from (network job from (e ∷ h)) c) (drop (length one) on) (put_by job (engine job from h) e c)
-    (gives_in_order job from e h c has (on_channels job from h works.0) (works.3 c has))
-    (put_more job from e h c (same_subtask e.task c.sender) refl)
+on_channels job from [] works c has = grind (arith, common_steps)
+on_channels job from (e ∷ h) works c has = grind (arith, common_steps, gives_in_order, keeps, put_more, on_channels job from h works.0)
 
 is_history : (job : Job) (from : States) (h : History) → IsWorking job from h → IsHistory job from h
 is_history job from [] works = tt
@@ -186,9 +122,4 @@ is_history job from (e ∷ h) works = (
 )
 
 pub makes_history : (job : Job) (from : States) (h : History) → MakesHistory job from h
-makes_history job from h works = record {
-  is_history = is_history job from h works;
-  states = λ t. ap (λ (m : At). m.state) (task_is job from h t);
-  aligners = λ t. ap (λ (m : At). m.alignment) (task_is job from h t);
-  on_channels = on_channels job from h works;
-}
+makes_history job from h works = grind (arith, common_steps, is_history, on_channels, task_is)

@@ -1,13 +1,13 @@
 -- Answers the goals of `carry_out`.
-use Rattle.std.proofs.Common.{List, ◌∷◌, refl}
+use Rattle.std.proofs.Common.{List, refl}
 use Rattle.ckpt_ids.proofs.ResultLemmas.{on_each_error}
-use Rattle.ckpt_task.proofs.Stopping.{abandoned_stopped, as_outcome, cut_barrier_stopped, cut_stopped, on_err, sends_stopped, take_stopped, unsaved_barrier_stopped, unsaved_stopped}
+use Rattle.ckpt_task.proofs.Stopping.{abandoned_stopped, as_outcome, cut_barrier_stopped, cut_stopped, on_err, take_stopped, unsaved_barrier_stopped, unsaved_stopped}
 use Rattle.ckpt_task.proofs.runner.carry_out.Goals as goal
 use Rattle.ckpt_task.specs.declared.deed.Deed.{Deed}
-use Rattle.ckpt_task.specs.declared.deed.Deed.TheVariants.{Took, Acknowledged, Declined}
+use Rattle.ckpt_task.specs.declared.deed.Deed.TheVariants.{Acknowledged, Declined}
 use Rattle.ckpt_task.specs.declared.turn.Outcome.{Outcome}
 use Rattle.ckpt_task.specs.declared.turn.Outcome.TheVariants as outcome
-use Rattle.ckpt_task.specs.Deeds.{IsPart, IsUndone, IsUnfinished, after_sends, deeds_after}
+use Rattle.ckpt_task.specs.Deeds.{IsPart, IsUndone, deeds_after}
 
 pub returns-in_err-take-in-Moved-clause-stopped : goal.returns-in_err-take-in-Moved-clause-stopped
 returns-in_err-take-in-Moved-clause-stopped g c =
@@ -15,23 +15,6 @@ returns-in_err-take-in-Moved-clause-stopped g c =
     let before : List Deed = g.C.Channels.deeds c.args.channels.now in
     let now : List Deed = g.C.Channels.deeds c.take.new.self in
     on_each_error _ (IsPart before now (deeds_after c.args.outcome before)) (as_outcome c.args.outcome o before now c.in-Moved.is (take_stopped o before now refl c.in_err-take-in-Moved.ensures.failed))
-
-pub returns-in_ok-take-in-Moved-clause-stopped : goal.returns-in_ok-take-in-Moved-clause-stopped
-returns-in_ok-take-in-Moved-clause-stopped g c =
-    let o : Outcome = outcome.Moved c.in-Moved.ones in
-    let before : List Deed = g.C.Channels.deeds c.args.channels.now in
-    let mid : List Deed = g.C.Channels.deeds c.take.new.self in
-    let now : List Deed = g.C.Channels.deeds c.send_each.new.channels in
-    on_err (IsUnfinished now (after_sends c.deref.result.now mid)) (IsPart before now (deeds_after c.args.outcome before)) c.send_each.result
-    (λ left. as_outcome c.args.outcome o before now c.in-Moved.is (sends_stopped before mid now c.deref.result.now c.in-Moved.ones.items c.deref.ensures.value c.in_ok-take-in-Moved.ensures.done left))
-    c.send_each.ensures.stopped
-
-pub returns-in-Nothing-clause-stopped : goal.returns-in-Nothing-clause-stopped
-returns-in-Nothing-clause-stopped g c =
-    let before : List Deed = g.C.Channels.deeds c.args.channels.now in
-    let now : List Deed = g.C.Channels.deeds c.take-in-Nothing.new.self in
-    on_err (IsUndone Took before now) (IsPart before now (deeds_after c.args.outcome before)) c.take-in-Nothing.result
-    (λ undone. as_outcome c.args.outcome outcome.Nothing before now c.in-Nothing.is (take_stopped outcome.Nothing before now refl undone)) c.take-in-Nothing.ensures.failed
 
 pub returns-in_err-take-in-Cut-clause-stopped : goal.returns-in_err-take-in-Cut-clause-stopped
 returns-in_err-take-in-Cut-clause-stopped g c =

@@ -1,25 +1,14 @@
 -- Answers the goals of `run`.
-use Rattle.std.proofs.Common.{rules, ◌≡◌, ℕ, refl, subst, sym}
+use Rattle.std.proofs.Common.{rules, ◌≡◌, ℕ, refl, subst}
 use Rattle.ckpt_ids.proofs.ResultLemmas.{on_each_error}
-use Rattle.ckpt_task.proofs.Doing.{by_false, by_true}
+use Rattle.ckpt_task.proofs.Doing.{by_true}
 use Rattle.ckpt_task.proofs.Sinking.{has_not_sunk, sink_stops, sinks_more}
 use Rattle.ckpt_task.proofs.sink_task.SinkTask.run.Goals as goal
 use Rattle.ckpt_task.specs.Runs.{Around, HasStopped, HasSunk, around, sink_waits}
-use Rattle.ckpt_task.specs.SinkTurns.{SinkAt}
 
 pub loop-done-init : goal.loop-done-init
 loop-done-init g c =
     has_not_sunk g.P.Program.program c.args.self.now (around c.args.self.now.task (g.C.Channels.deeds c.args.channels.now) (g.S.Snapshots.saved c.args.snapshots.now) (g.S.Snapshots.refused c.args.snapshots.now))
-
-pub returns-then-not-branch-clause-ran : goal.returns-then-not-branch-clause-ran
-returns-then-not-branch-clause-ran g c =
-    let x : Around = around c.args.self.now.task (g.C.Channels.deeds c.args.channels.now) (g.S.Snapshots.saved c.args.snapshots.now) (g.S.Snapshots.refused c.args.snapshots.now) in
-    let y : Around = around c.loop-done.self.task (g.C.Channels.deeds c.loop-done.channels) (g.S.Snapshots.saved c.loop-done.snapshots) (g.S.Snapshots.refused c.loop-done.snapshots) in
-    let z : Around = around c.run_once.new.self.task (g.C.Channels.deeds c.run_once.new.channels) (g.S.Snapshots.saved c.run_once.new.snapshots) (g.S.Snapshots.refused c.run_once.new.snapshots) in
-    let Same : SinkAt → Type 0 = λ l. HasSunk g.P.Program.program c.loop-done.done c.args.self.now l x z in
-    let To : Around → Type 0 = λ w. HasSunk g.P.Program.program c.loop-done.done c.args.self.now c.loop-done.self x w in
-    let nothing = by_false _ c.in_ok-run_once.field-0 c.if-not-branch.true c.in_ok-run_once.ensures.turned in
-    subst Same (sym nothing.1) (subst To (sym nothing.0) c.loop-done.invariant)
 
 pub loop-done-preserved : goal.loop-done-preserved
 loop-done-preserved g c =

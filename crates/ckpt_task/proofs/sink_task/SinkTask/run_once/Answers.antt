@@ -1,6 +1,5 @@
 -- Answers the goals of `run_once`.
-use Rattle.std.proofs.Common.{◌≡◌, ◌∙◌, List, ◌∷◌, ap, refl, subst, sym, inl, inr}
-use Rattle.std.specs.Prelude.{None}
+use Rattle.std.proofs.Common.{◌≡◌, ◌∙◌, List, ◌∷◌, ap, refl, subst, sym, inr}
 use Rattle.ckpt_ledger.specs.Ledgers.{Held}
 use Rattle.ckpt_once.specs.Programs.{Program, Turn}
 use Rattle.ckpt_ids.proofs.ResultLemmas.{on_each_error}
@@ -39,19 +38,6 @@ returns-clause-turned g c =
       held = c.in_ok-outcome.ensures.ledger ∙ ap (after_turn p m) (sym k.1);
       output = c.in_ok-outcome.ensures.output;
     }
-
-pub returns-in_err-next-clause-stopped : goal.returns-in_err-next-clause-stopped
-returns-in_err-next-clause-stopped g c =
-    let x : Around = around c.args.self.now.task (g.C.Channels.deeds c.args.channels.now) (g.S.Snapshots.saved c.args.snapshots.now) (g.S.Snapshots.refused c.args.snapshots.now) in
-    let z : Around = around c.args.self.now.task (g.C.Channels.deeds c.next.new.self) (g.S.Snapshots.saved c.args.snapshots.now) (g.S.Snapshots.refused c.args.snapshots.now) in
-    on_each_error _ (IsStopped g.P.Program.program (λ (turn : Turn). (after_turn g.P.Program.program c.args.self.now turn).waiting) x z) (inl (record { next = None; deeds = c.in_err-next.ensures.failed; saved = refl; refused = refl }))
-
-pub returns-in_err-outcome-clause-stopped : goal.returns-in_err-outcome-clause-stopped
-returns-in_err-outcome-clause-stopped g c =
-    let x : Around = around c.args.self.now.task (g.C.Channels.deeds c.args.channels.now) (g.S.Snapshots.saved c.args.snapshots.now) (g.S.Snapshots.refused c.args.snapshots.now) in
-    let z : Around = around c.turn.new.self.task (g.C.Channels.deeds c.next.new.self) (g.S.Snapshots.saved c.turn.new.snapshots) (g.S.Snapshots.refused c.turn.new.snapshots) in
-    on_each_error _ (IsStopped g.P.Program.program (λ (turn : Turn). (after_turn g.P.Program.program c.args.self.now turn).waiting) x z)
-    (inl (record { next = c.in_ok-next.field-0; deeds = c.in_ok-next.ensures.came; saved = c.in_err-outcome.ensures.unsaved; refused = c.in_err-outcome.ensures.refuses_none }))
 
 pub returns-in_err-carry_out-clause-stopped : goal.returns-in_err-carry_out-clause-stopped
 returns-in_err-carry_out-clause-stopped g c =

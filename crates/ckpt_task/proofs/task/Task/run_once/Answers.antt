@@ -1,5 +1,5 @@
 -- Answers the goals of `run_once`.
-use Rattle.std.proofs.Common.{◌≡◌, ◌∙◌, List, [], ◌∷◌, ap, refl, subst, sym, inl, inr}
+use Rattle.std.proofs.Common.{◌≡◌, ◌∙◌, List, ◌∷◌, ap, refl, subst, sym, inr, []}
 use Rattle.ckpt_ids.proofs.ResultLemmas.{on_each_error}
 use Rattle.ckpt_task.proofs.Doing.{came_next, has_turned, same_at}
 use Rattle.ckpt_task.proofs.task.Task.run_once.Goals as goal
@@ -10,7 +10,6 @@ use Rattle.ckpt_task.specs.Runs.{Around, IsStopped, around}
 use Rattle.ckpt_task.specs.Turns.{as_turn, turned}
 use Rattle.ckpt_task.specs.declared.turn.Next.{Next}
 use Rattle.ckpt_task.specs.declared.turn.Outcome.{Outcome}
-use Rattle.std.specs.Prelude.{None}
 
 pub returns-clause-turned : goal.returns-clause-turned
 returns-clause-turned g c =
@@ -29,19 +28,6 @@ returns-clause-turned g c =
       saved = c.in_ok-outcome.ensures.snapshot;
       refused = c.in_ok-outcome.ensures.refusal;
     })
-
-pub returns-in_err-next-clause-stopped : goal.returns-in_err-next-clause-stopped
-returns-in_err-next-clause-stopped g c =
-    let x : Around = around c.args.self.now (g.C.Channels.deeds c.args.channels.now) (g.S.Snapshots.saved c.args.snapshots.now) (g.S.Snapshots.refused c.args.snapshots.now) in
-    let z : Around = around c.args.self.now (g.C.Channels.deeds c.next.new.self) (g.S.Snapshots.saved c.args.snapshots.now) (g.S.Snapshots.refused c.args.snapshots.now) in
-    on_each_error _ (IsStopped g.P.Program.program (λ turn. []) x z) (inl (record { next = None; deeds = c.in_err-next.ensures.failed; saved = refl; refused = refl }))
-
-pub returns-in_err-outcome-clause-stopped : goal.returns-in_err-outcome-clause-stopped
-returns-in_err-outcome-clause-stopped g c =
-    let x : Around = around c.args.self.now (g.C.Channels.deeds c.args.channels.now) (g.S.Snapshots.saved c.args.snapshots.now) (g.S.Snapshots.refused c.args.snapshots.now) in
-    let z : Around = around c.turn.new.self (g.C.Channels.deeds c.next.new.self) (g.S.Snapshots.saved c.turn.new.snapshots) (g.S.Snapshots.refused c.turn.new.snapshots) in
-    on_each_error _ (IsStopped g.P.Program.program (λ turn. []) x z)
-    (inl (record { next = c.in_ok-next.field-0; deeds = c.in_ok-next.ensures.came; saved = c.in_err-outcome.ensures.unsaved; refused = c.in_err-outcome.ensures.refuses_none }))
 
 pub returns-in_err-carry_out-clause-stopped : goal.returns-in_err-carry_out-clause-stopped
 returns-in_err-carry_out-clause-stopped g c =
