@@ -15,6 +15,8 @@
 
 relkvanu_answer proved_ack(relkvanu *handle, uint64_t now, uint64_t id, uint16_t vertex, uint16_t index, const uint64_t *fresh,
     size_t fresh_len, const uint64_t *reused, size_t reused_len);
+relkvanu_answer proved_ack_in(relkvanu *handle, uint64_t term, uint64_t now, uint64_t id, uint16_t vertex, uint16_t index,
+    const uint64_t *fresh, size_t fresh_len, const uint64_t *reused, size_t reused_len);
 relkvanu_answer proved_deleted(relkvanu *handle, uint64_t file);
 relkvanu_answer proved_tick(relkvanu *handle, uint64_t now);
 relkvanu_answer proved_show(relkvanu *handle, uint64_t id, uint8_t *json, size_t json_len);
@@ -37,12 +39,22 @@ static bool is_without_memory(const char *call) {
     return named != NULL && strcmp(named, call) == 0;
 }
 
-relkvanu_answer relkvanu_ack(relkvanu *handle, uint64_t now, uint64_t id, uint16_t vertex, uint16_t index, const uint64_t *fresh,
-    size_t fresh_len, const uint64_t *reused, size_t reused_len) {
+static void tell_acknowledged(const uint64_t *fresh, size_t fresh_len) {
     for (size_t place = 0; place < fresh_len; place++) {
         tell("ack", fresh[place]);
     }
+}
+
+relkvanu_answer relkvanu_ack(relkvanu *handle, uint64_t now, uint64_t id, uint16_t vertex, uint16_t index, const uint64_t *fresh,
+    size_t fresh_len, const uint64_t *reused, size_t reused_len) {
+    tell_acknowledged(fresh, fresh_len);
     return proved_ack(handle, now, id, vertex, index, fresh, fresh_len, reused, reused_len);
+}
+
+relkvanu_answer relkvanu_ack_in(relkvanu *handle, uint64_t term, uint64_t now, uint64_t id, uint16_t vertex, uint16_t index,
+    const uint64_t *fresh, size_t fresh_len, const uint64_t *reused, size_t reused_len) {
+    tell_acknowledged(fresh, fresh_len);
+    return proved_ack_in(handle, term, now, id, vertex, index, fresh, fresh_len, reused, reused_len);
 }
 
 relkvanu_answer relkvanu_deleted(relkvanu *handle, uint64_t file) {
