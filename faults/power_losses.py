@@ -197,7 +197,7 @@ class StoreJob(LogJob):
     syncs = (("the store's log", lambda path: path == "job.db-wal"), ("the store", lambda path: path == "job.db"),
              ("its state files", is_state), ("its storage", lambda path: path == "state"), ("its folder", lambda path: path == ""))
     # The first process has a last record that it never comes to, however late the kill. Mostly it has completed some 8.
-    lives = ((["1000000"], 8), (["20"], None))
+    lives = ((["1000000", "new"], 8), (["20", "new"], None))  # a loss while the job is made may leave none
     # whether the process waits for its discarder before it ends
     joins_discarder = True
 
@@ -226,7 +226,7 @@ class StoreJob(LogJob):
 
     def goes_on(self, choice, folder):
         """Runs the job from this record on. Returns the number that its last record has at least."""
-        ran = self.run(folder, str(choice + 4))
+        ran = self.run(folder, str(choice + 4), "new")
         assert ran.returncode == 0, ran.stdout.decode()
         return choice + 3
 
@@ -279,7 +279,7 @@ class PutBack:
     def lost(self):
         chance = random.Random(self.name)
         (self.root / "state").mkdir(parents=True)
-        self.run("stored.py", self.root, "20")
+        self.run("stored.py", self.root, "20", "new")
         self.run("back_up.py", self.root, self.copy)
         self.run("stored.py", self.root, "30")
         start = read_tree(self.root)

@@ -1,8 +1,8 @@
 #!/usr/bin/env python3
 """engines.py KILLS COMMAND..: starts the engine `COMMAND FOLDER`, and kills it at a random moment, KILLS times. After each kill each file that the
 coordinator names as in use is there. After each second one, and in the end, the engine recovers and runs to a checkpoint: then the folder has what
-the coordinator knows, and nothing else. TASKS is their number in the environment, MARKER that of a folder which the store does not know, and
-NEW the word behind the others with which the engine makes the job, if it needs one."""
+the coordinator knows, and nothing else. TASKS is their number in the environment, MARKER that of a folder which the store does not know. A process that is
+killed may not have made the job yet, so each gets the word `new`."""
 import os
 import pathlib
 import random
@@ -19,7 +19,7 @@ TASKS = int(os.environ.get("TASKS", 3))
 FILES = 4 * TASKS
 MARKER = os.environ.get("MARKER", ".relkvanu-job")
 SEED = os.environ.get("SEED", str(time.time()))
-NEW = os.environ.get("NEW", "").split()
+NEW = "new"  # makes the job, if there is none
 LONGEST = 600  # seconds of a process, on a busy machine
 
 
@@ -83,7 +83,7 @@ def await_checkpoints(folder, process, before):
 
 def recovers(folder, command, last):
     """The engine goes on up to this checkpoint. Returns the files in use."""
-    ran = subprocess.run([*command, folder, str(last), *NEW], stderr=subprocess.PIPE, text=True, timeout=LONGEST)
+    ran = subprocess.run([*command, folder, str(last), NEW], stderr=subprocess.PIPE, text=True, timeout=LONGEST)
     assert ran.returncode == 0, ran.stderr
     used, waiting, taken, _ = known(folder)
     assert not taken, f"nobody deletes {taken}"  # what a process took that was killed, too
@@ -99,7 +99,7 @@ def main(kills, *command):
         reached, exact = [], 0
         for nth in range(int(kills)):
             before = listed(folder)
-            with subprocess.Popen([*command, folder, *NEW], stderr=subprocess.PIPE, text=True) as process:
+            with subprocess.Popen([*command, folder, NEW], stderr=subprocess.PIPE, text=True) as process:
                 await_opening(folder, process)
                 if nth % 2 == 1:
                     await_checkpoints(folder, process, before)

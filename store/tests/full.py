@@ -7,7 +7,7 @@ import subprocess
 import sys
 import tempfile
 
-from engines import LONGEST, known, listed
+from engines import LONGEST, NEW, known, listed
 
 LAST = 20
 
@@ -18,7 +18,7 @@ def main(fault, shim, *command):
             folder = pathlib.Path(name)
             (folder / "state").mkdir()
             told = {"STORE_IN": name, "STORE_FAULT": fault, "STORE_ON": "/state/", "STORE_AT": str(place), "STORE_FOR": "1"}
-            ran = subprocess.run([*command, name, str(LAST)], env={**os.environ, "LD_PRELOAD": shim, **told}, stderr=subprocess.PIPE, text=True, timeout=LONGEST)
+            ran = subprocess.run([*command, name, str(LAST), NEW], env={**os.environ, "LD_PRELOAD": shim, **told}, stderr=subprocess.PIPE, text=True, timeout=LONGEST)
             assert ran.returncode == 0, ran.stderr
             assert "is complete" in ran.stderr, "no write failed: the job was not restored, or had nothing to begin from"
             used, waiting, taken, last = known(folder)

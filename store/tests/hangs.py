@@ -6,7 +6,7 @@ import subprocess
 import sys
 import tempfile
 
-from engines import recovers
+from engines import NEW, recovers
 
 LONGEST = 900  # seconds, of which the put hangs 600 at most
 
@@ -38,7 +38,7 @@ def main(stored):
     with tempfile.TemporaryDirectory() as name:
         folder = pathlib.Path(name)
         (folder / "state").mkdir()
-        ran = subprocess.run([sys.executable, "-c", HANGING, stored, name, "60"], stderr=subprocess.PIPE, text=True, timeout=LONGEST)
+        ran = subprocess.run([sys.executable, "-c", HANGING, stored, name, "60", NEW], stderr=subprocess.PIPE, text=True, timeout=LONGEST)
         assert ran.returncode == 0, ran.stderr
         before, is_back, _ = ran.stderr.partition("came back")
         assert is_back and before.count(" is complete") > 30, ran.stderr

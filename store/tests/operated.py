@@ -15,7 +15,7 @@ import sys
 import tempfile
 import time
 
-from engines import LONGEST, SEED, known, listed
+from engines import LONGEST, NEW, SEED, known, listed
 from relkvanu import Kind, Settings, Standing
 from relkvanu.store import Phase, Store
 
@@ -65,7 +65,7 @@ def look(folder):
 
 @contextlib.contextmanager
 def running(engine, folder):
-    with subprocess.Popen([sys.executable, engine, folder], stderr=subprocess.PIPE, text=True) as process:
+    with subprocess.Popen([sys.executable, engine, folder, NEW], stderr=subprocess.PIPE, text=True) as process:
         await_answer(folder, "phase", "JobPhase")
         try:
             yield process

@@ -19,7 +19,7 @@ import tempfile
 import time
 
 sys.path.insert(0, str(pathlib.Path(__file__).resolve().parent.parent.parent / "faults"))
-from engines import recovers as runs_to
+from engines import NEW, recovers as runs_to
 from power import Journal, Loss, read_tree, write_tree
 from relkvanu import Settings
 from relkvanu.manifest import files_in
@@ -94,7 +94,7 @@ def lost_logs(it):
 
 def completes_some(engine, folder, seconds):
     """Runs an engine of the pages, which says on the standard error what is complete, and kills it later. Returns the last number that it said."""
-    with subprocess.Popen([*engine, folder], stderr=subprocess.PIPE, text=True) as process:
+    with subprocess.Popen([*engine, folder, NEW], stderr=subprocess.PIPE, text=True) as process:
         lines = [process.stderr.readline() for _ in range(3)]
         time.sleep(seconds)
         process.send_signal(signal.SIGKILL)

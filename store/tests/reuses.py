@@ -9,7 +9,7 @@ import subprocess
 import sys
 import tempfile
 
-from engines import LONGEST, TASKS, known
+from engines import LONGEST, NEW, TASKS, known
 
 PARTS = 8
 
@@ -41,7 +41,7 @@ def main(*command):
         (folder / "state").mkdir()
         found = [{} for _ in range(TASKS)]
         for last in ("20", "40"):
-            ran = subprocess.run([*command, folder, last], stderr=subprocess.PIPE, text=True, timeout=LONGEST)
+            ran = subprocess.run([*command, folder, last, NEW], stderr=subprocess.PIPE, text=True, timeout=LONGEST)
             assert ran.returncode == 0, (ran.returncode, ran.stderr)
             found = [{**it, **acknowledged(folder, index)} for index, it in enumerate(found)]
         for it in found:
