@@ -2,6 +2,7 @@
 all the time. At the end its folder has the files that the job knows, and no other."""
 import os
 import subprocess
+import sys
 import threading
 from contextlib import contextmanager
 
@@ -190,6 +191,33 @@ def test_the_loop_of_the_page():
         except Failed as failed:
             assert "is its disk not mounted" in str(failed) and not os.listdir(f"{at}/empty"), failed
         return f"{len(engine.starts)} starts, {len(sweeps)} sweeps beside them, {len(there)} files at the end"
+
+
+def test_the_first_engine_of_the_page():
+    """It counts once for each checkpoint, and goes on from the last complete one, also after a kill."""
+    with open(f"{TOP}/docs/SERVICE-ENGINE.md", encoding="utf-8") as it:
+        program = it.read().split("```python counts.py\n")[1].partition("```")[0]
+    assert program.count('"interval": 1000') == 1
+    program = program.replace('"interval": 1000', f'"interval": 40, "timeout": {1000 * lease_of(8)}')
+    known = {**os.environ, "PYTHONPATH": f"{TOP}/service/client/python"}
+
+    def engine(url, last):
+        return subprocess.Popen([sys.executable, "-c", program, url, str(last)], env=known, stdout=subprocess.PIPE, text=True)
+
+    with served(names=True) as server:
+        with engine(server.url, 3) as first:
+            assert first.communicate()[0] == "begins with 0\ncomplete: 1\ncomplete: 2\ncomplete: 3\n"
+        with engine(server.url, 1 << 40) as killed:
+            assert killed.stdout.readline() == "begins with 3\n"
+            seen = int(killed.stdout.readline().removeprefix("complete: "))
+            killed.kill()
+        with engine(server.url, seen + 3) as last:
+            begins, *complete = last.communicate()[0].splitlines()
+        begun, ids = int(begins.removeprefix("begins with ")), [int(it.removeprefix("complete: ")) for it in complete]
+        assert begun >= 4 and ids[-1] >= seen + 3 and last.returncode == 0, (begins, complete)
+        states = Service(server.url).job("counts").load(ids[-1])["subtasks"]
+        assert int(states["0.0"]["payload"]) == begun + len(ids), (states, begins, complete)
+        return f"it began with {begun} after a kill"
 
 
 def test_the_loop_ends_if_a_backup_was_restored():
