@@ -103,7 +103,7 @@ pub fn completed()
 {}
 
 /// A done checkpoint stays, unchanged, but for a restore to a savepoint, a cancel that does not keep
-/// it, and a completion that leaves as many newer ones as are retained.
+/// it, and a completion or a change of settings that leaves as many newer ones as are retained.
 pub fn kept()
     ensures step { (m : State) (call : Call) → IsSound m → Keeps m call }
     ensures calls { (m : State) (calls : List Call) → IsSound m → AreCalls calls → KeepsThrough m calls }
