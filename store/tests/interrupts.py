@@ -12,7 +12,7 @@ import time
 
 from engines import slowed
 from relkvanu import Settings
-from relkvanu.store import Call, Store, StoreError
+from relkvanu.store import Call, NextFailed, Store, StoreError
 
 SETTINGS = Settings(interval=10**9)
 LONGEST = 600  # seconds without an end of a test: it hangs
@@ -75,7 +75,7 @@ def works(job):
         lambda: job.reserve(job.report.term, 1),
         lambda: job.calls([Call.reserve(job.report.term, 1)] * 3),
         job.now, job.counts, job.measures, job.next_tick, job.term, job.sweep,
-        lambda: job.await_tick(60_000),
+        lambda: job.await_tick(60_000), lambda: job.await_next(60_000), lambda: job.await_next(1),
         lambda: job.put(next(names), b"state"),
         lambda: discards(job),
     ]
@@ -141,17 +141,24 @@ def waits(job):
         while True:
             look(job)
             job.await_tick(60_000)
+            job.await_next(60_000)
     except StoreError as why:
         assert why.name in ("Stopped", "Closed"), why
 
 
 def test_waits(folder):
-    """A handler runs soon in each long wait: for a tick, for files to discard, for a read of another thread, and in close()."""
+    """A handler runs soon in each long wait: for a tick, also of a job that has failed, for files to discard, for a read of another thread, and in close()."""
     os.mkdir(f"{folder}/state")
     job = Store(f"{folder}/job.db", SETTINGS, [1], storage=f"{folder}/state", create=True)
     alarm, holds, ends = Alarm(), threading.Event(), threading.Event()
-    until_interrupted(alarm, 0.5, lambda: job.await_tick(60_000))
+    for wait in (job.await_tick, job.await_next):
+        until_interrupted(alarm, 0.5, lambda: wait(60_000))
     until_interrupted(alarm, 0.5, job.discard)
+    job.decline_in(1, job.trigger().reply.id, 0, 0)
+    while job.await_next(60_000) != NextFailed():
+        pass
+    until_interrupted(alarm, 0.5, lambda: job.await_next(60_000))
+    assert job.restore().term == 2
 
     def reads():
         with job.read():
@@ -161,12 +168,12 @@ def test_waits(folder):
     reader = threading.Thread(target=reads)
     reader.start()
     holds.wait()
-    for work in (lambda: look(job), lambda: job.reserve(1, 1), job.close):
+    for work in (lambda: look(job), lambda: job.reserve(2, 1), job.close):
         until_interrupted(alarm, 0.3, work)
     ends.set()
     reader.join()
     job.close()
-    check_late(alarm, 5)
+    check_late(alarm, 7)
 
 
 def main(many=1000):

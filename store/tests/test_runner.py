@@ -901,6 +901,11 @@ class Running(unittest.TestCase):
         self.assertEqual([it[0] for it in engine.said[:3]], ["end", "start", "barrier"])
         self.assertEqual(engine.said[1][2:], (id, TASKS))
 
+    def test_a_stop_of_the_handle(self):
+        store, engine, await_end = self.idle()
+        store.stop()
+        self.assertEqual((await_end(), engine.said[1:]), (Ended.CLOSED, [("end",)]))
+
     def test_a_last_record(self):
         engine = Words()
         store = Store(self.folder / "job.db", Settings(interval=20), [TASKS], storage=self.folder / "state", create=True)

@@ -5,6 +5,7 @@ import errno
 import gc
 import os
 import pathlib
+import queue
 import resource
 import select
 import tempfile
@@ -16,13 +17,17 @@ from unittest import mock
 
 from relkvanu import (
     AckCompleted, AckLate, AckPending, BadArgument, Chosen, Closed, Configured, Fenced, Forfeited, Kind, Mode, OutOfRange, Refused, Reserved,
-    RestoredCheckpoint, RestoredSavepoint, SavepointTriggered, Settings, Taken, Triggered, header,
+    RestoredCheckpoint, RestoredSavepoint, SavepointTriggered, Settings, Taken, Triggered, header, store_header,
 )
 from relkvanu.manifest import members, sealed, sums_in
-from relkvanu.store import Call, FileFault, JobPhase, Made, Phase, Step, StopFailed, Store, StoreError
+from relkvanu.store import (
+    Call, FileFault, JobPhase, Made, NextBarrier, NextBegun, NextCancelled, NextEnded, NextFailed, NextIdle, NextNotStopped, NextStopped, Phase, Step,
+    StopFailed, Store, StoreError,
+)
 from relkvanu.whole import Ending, Part, Whole
 
 SETTINGS = Settings(interval=10, timeout=1 << 30)
+LONGEST = 600  # seconds that a busy machine may take for a step
 
 
 class Folder(unittest.TestCase):
@@ -523,6 +528,7 @@ class Threads(Folder):
         job.close()
         timer.join()
         self.assertIn(ends, (["Stopped"], ["Closed"]))
+        self.raises("Closed", job.await_next, 1)
 
     def test_a_close_beside_threads(self):
         """Threads that were told to stop are within the store until they have asked what it says: each is slow there."""
@@ -531,7 +537,12 @@ class Threads(Folder):
         def slow(*words):
             time.sleep(0.05)
             return fault(*words)
-        for work in (lambda job: job.await_tick(60_000), lambda job: job.put(1, b""), lambda job: job.discard(), lambda job: job.reserve(1, 1)):
+
+        def awaits(job):
+            if job.await_next(60_000) == NextEnded():
+                raise StoreError("Stopped", "", False)
+
+        for work in (lambda job: job.await_tick(60_000), awaits, lambda job: job.put(1, b""), lambda job: job.discard(), lambda job: job.reserve(1, 1)):
             job = self.open(storage=self.storage)
             ends = []
 
@@ -557,8 +568,8 @@ class Threads(Folder):
         """A call of the thread that reads would wait for itself."""
         with self.open() as job:
             with job.read() as reads:
-                for call in (lambda: job.reserve(1, 1), job.term, lambda: job.await_tick(0), lambda: job.read().__enter__(), job.sweep,
-                             job.discard, lambda: job.discard(lambda file: True), lambda: job.discard_lists(list)):
+                for call in (lambda: job.reserve(1, 1), job.term, lambda: job.await_tick(0), lambda: job.await_next(0), lambda: job.read().__enter__(),
+                             job.sweep, job.discard, lambda: job.discard(lambda file: True), lambda: job.discard_lists(list)):
                     self.raises("InRead", call)
                 self.assertEqual(job.now(), job.now())
                 token = job.submit([Call.reserve(1, 5)])
@@ -817,6 +828,77 @@ class Objects:
         return list(self.found)
 
 
+def timer(job):
+    """A thread that waits again and again for what is next, until stop() or close(). Returns the queue of what it is told."""
+    told = queue.Queue()
+
+    def run():
+        it = None
+        while it != NextEnded():
+            it = job.await_next(600_000)
+            told.put(it)
+    threading.Thread(target=run).start()
+    return told
+
+
+class Nexts(Folder):
+    """What a timer has for the loop of an engine that nobody gives commands to."""
+
+    def open(self, **settings):
+        return Store(self.path, Settings(**{"interval": 60_000, "timeout": 1 << 30, "tolerable": 0, **settings}), [2], create=True)
+
+    def test_idle(self):
+        with self.open(interval=1 << 39) as job:
+            began = time.monotonic()
+            told = job.await_next(250)
+            self.assertEqual((told, told.ended), (NextIdle(), ()))
+            self.assertTrue(0.2 < time.monotonic() - began < 30)
+            for longest in (-1, 1 << 64):
+                with self.assertRaises(OutOfRange):
+                    job.await_next(longest)
+
+    def test_ticks(self):
+        """A due checkpoint; then a record that has expired while no other may be triggered."""
+        with self.open(interval=10, timeout=50, tolerable=5) as job:
+            self.assertEqual(job.await_next(60_000), NextBarrier(1, Kind.CHECKPOINT, None))
+            began, told = time.monotonic(), []
+            while NextBarrier(2, Kind.CHECKPOINT, None) not in told and time.monotonic() < began + 600:
+                told.append(job.await_next(60_000))
+            self.assertEqual([it for it in told if not isinstance(it, NextIdle)], [NextBarrier(2, Kind.CHECKPOINT, None)])
+            self.assertEqual([id for it in told for id in it.ended], [1])
+
+    def test_a_tick_that_fails_the_job(self):
+        """The tick says so, and later calls as long as the job is not restored."""
+        with self.open(interval=1 << 39, timeout=50) as job:
+            job.trigger()
+            self.assertEqual(job.await_next(60_000), NextBarrier(1, Kind.CHECKPOINT, None))
+            told = job.await_next(60_000)
+            self.assertEqual((told, told.ended), (NextFailed(), (1,)))
+            self.assertEqual(job.await_next(60_000), NextFailed())
+            self.assertEqual(job.restore().term, 2)
+            self.assertEqual(job.await_next(1), NextIdle())
+
+    def test_a_job_that_another_thread_ends(self):
+        """It has failed by a decline, or was cancelled: a timer that waits is told at once, and the next one when its time is up."""
+        for end, expected in ((lambda job: job.decline_in(1, 1, 0, 0), NextFailed()), (lambda job: job.cancel(), NextCancelled())):
+            self.path = self.folder / f"{type(expected).__name__}.db"
+            with self.open() as job:
+                told = timer(job)
+                job.trigger()
+                self.assertEqual(told.get(timeout=LONGEST), NextBarrier(1, Kind.CHECKPOINT, None))
+                end(job)
+                self.assertEqual(told.get(timeout=LONGEST), expected)
+                self.assertEqual([job.await_next(1) for _ in range(2)], [expected] * 2)
+
+    def test_a_stop_of_the_handle(self):
+        """Ends a timer that waits, and each later one."""
+        with self.open() as job:
+            told = timer(job)
+            job.stop()
+            self.assertEqual(told.get(timeout=LONGEST), NextEnded())
+            self.assertEqual([job.await_next(60_000) for _ in range(2)], [NextEnded()] * 2)
+
+
 class Commands(Folder):
     """What an operator wants of a job: each is made in one thread, and the timer of another hands it over."""
 
@@ -888,6 +970,37 @@ class Commands(Folder):
             job.restore(shape=[2])
             with self.assertRaises(BadArgument):
                 job.go_back(5, accept_published=True)
+
+    def test_what_is_next_of_a_stop(self):
+        """Also of one that fails while a timer waits, and of a tick that is refused since the job was stopped just before it."""
+        with self.open() as job:
+            first = job.trigger()
+            self.assertEqual(job.await_next(60_000), NextBarrier(first.reply.id, Kind.CHECKPOINT, None))
+            self.acks(job, first.reply.id, 1)
+            id = job.stop_job().reply.id
+            self.assertEqual(job.await_next(60_000), NextBarrier(id, Kind.SAVEPOINT, Chosen(first.reply.id, Kind.CHECKPOINT)))
+            self.acks(job, id, 1)
+            began = time.monotonic()
+            self.assertEqual(job.await_next(60_000), NextStopped())  # at once
+            self.assertEqual(job.await_next(250), NextStopped())  # and then it does not spin
+            self.assertTrue(0.2 < time.monotonic() - began < 30)
+            with mock.patch.object(Store, "_timed", lambda *_: (store_header.OK, Refused("NotRunning", None))):
+                self.assertEqual(job.await_next(1), NextStopped())
+            begun = job.begin_job()
+            self.assertEqual(job.await_next(60_000), NextBegun(Chosen(id, Kind.SAVEPOINT), begun.term))
+            told, before = timer(job), Chosen(id, Kind.SAVEPOINT)
+            id = job.stop_job().reply.id
+            self.assertEqual(told.get(timeout=LONGEST), NextBarrier(id, Kind.SAVEPOINT, before))
+            job.decline_in(begun.term, id, 0, 0)
+            self.assertEqual(told.get(timeout=LONGEST), NextNotStopped())
+            self.assertEqual((job.phase().stop_failed, job.await_next(1)), (StopFailed.DECLINED, NextIdle()))
+
+    def test_what_is_next_of_a_way_back(self):
+        with self.open() as job:
+            for _ in range(2):
+                self.acks(job, job.trigger().reply.id, 1)
+            back = job.go_back(1, accept_published=True)
+            self.assertEqual(job.await_next(60_000), NextBegun(Chosen(back.reply.id, Kind.SAVEPOINT), back.term))
 
     def test_an_advance(self):
         with self.open() as job:

@@ -13,14 +13,15 @@ from relkvanu.coordinator import Fenced, OutOfMemory, Refused
 from relkvanu.errors import Error
 from relkvanu.inputs import Barrier, Inputs
 from relkvanu.reads import Chosen, Kind, Mode
-from relkvanu.replies import AckCompleted, RestoredCheckpoint, RestoredFresh, RestoredSavepoint, SavepointTriggered, Triggered
-from relkvanu.store import Made, Phase, Step, Store, StoreError
+from relkvanu.replies import AckCompleted, SavepointTriggered
+from relkvanu.store import (
+    Made, Next, NextBarrier, NextBegun, NextCancelled, NextEnded, NextFailed, NextIdle, NextNotStopped, NextStopped, Phase, Step, Store, StoreError,
+)
 from relkvanu.store_header import MOST_HISTORY
 from relkvanu.whole import Ending, Part, Whole as Record
 
 __all__ = ["Barrier", "Ended", "Ending", "Engine", "FileLost", "Inputs", "Part", "Record", "Runner", "SavepointFailed"]
 
-RESTORES = (RestoredCheckpoint, RestoredSavepoint, RestoredFresh)
 LOOKS_AGAIN = 200  # ms after which the loop looks whether it shall end or restart
 T = TypeVar("T")
 
@@ -50,6 +51,9 @@ class Ended(Enum):
     CLOSED = 1  # Runner.close() was called: the next process goes on
     STOPPED = 2  # the job is stopped with a savepoint, and goes on from it once Store.begin_job() was called
     CANCELLED = 3  # the job has ended for good. One sweep was made, and all that it and the job's records gave up is deleted
+
+
+ENDS: Dict[type, Ended] = {NextStopped: Ended.STOPPED, NextCancelled: Ended.CANCELLED, NextEnded: Ended.CLOSED}
 
 
 class Engine(Protocol):
@@ -248,8 +252,9 @@ class Runner:
             return self._over() or self._restore()
         self._sweep_again()
         self._look_at_commands()
-        made = self._awaited()
-        return self._act(made) if made is not None else self._look()
+        it = _with_memory(lambda: self.store.await_next(LOOKS_AGAIN))
+        self._abort(self.term, it.ended)
+        return self._act(it)
 
     def _look_at_commands(self) -> None:
         """What other threads have asked for."""
@@ -307,44 +312,26 @@ class Runner:
             if why.name != "NotNow":
                 raise
 
-    def _awaited(self) -> Optional[Made]:
-        """None: nothing is due, or the job has failed or is being stopped since the tick was."""
-        try:
-            return _with_memory(lambda: self.store.await_tick(LOOKS_AGAIN))
-        except Refused as refused:
-            if refused.name != "NotRunning":
-                raise
-            return None
-
-    def _act(self, made: Made) -> Optional[Ended]:
-        """What a tick, or a call of an operator, asks of the engine."""
-        reply = made.reply
-        self._abort(self.term, made.ended)
-        if isinstance(reply, Triggered):
-            self._send(reply.id, Kind.CHECKPOINT, made.choice, False)
-        elif isinstance(reply, SavepointTriggered):
-            self._send(reply.id, Kind.SAVEPOINT, made.choice, self.store.phase().phase != Phase.RUNNING)
-        elif isinstance(reply, RESTORES):
+    def _act(self, it: Next) -> Optional[Ended]:
+        """What the timer asks of the engine."""
+        if isinstance(it, NextBarrier):
+            self._send(it.id, it.kind, it.base, it.kind == Kind.SAVEPOINT and self.store.phase().phase != Phase.RUNNING)
+        elif isinstance(it, NextBegun):
             self.engine.end()
-            self._begin(made.term)
-        return None
+            self._begin(it.term)
+        elif isinstance(it, NextFailed):
+            return self._restore()
+        elif isinstance(it, NextNotStopped) or (isinstance(it, NextIdle) and self.store.phase().phase == Phase.RUNNING):
+            self._go_on()
+        elif isinstance(it, NextStopped):
+            self._tell_of_stop()
+        return ENDS.get(type(it))
 
     def _send(self, id: int, kind: Kind, base: Optional[Chosen], holds: bool) -> None:
         self._go_on()  # nobody may have said that the stop has failed for which tasks hold
         self._pending.add(id)
         self._holds = holds
         self._in_term(self.engine.barrier, Barrier(id, kind, base, self.term, holds))
-
-    def _look(self) -> Optional[Ended]:
-        """No tick is due: the job waits, or has failed, was stopped or cancelled, or a stop has failed."""
-        ended = self._over()
-        if ended == Ended.STOPPED:
-            self._tell_of_stop()
-        elif ended is None and self._mode() == Mode.FAILED:
-            return self._restore()
-        elif ended is None and self.store.phase().phase == Phase.RUNNING:
-            self._go_on()
-        return ended
 
     def _mode(self) -> Mode:
         with self.store.read() as reads:

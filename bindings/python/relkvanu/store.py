@@ -20,8 +20,14 @@ from relkvanu.coordinator import (
     U64, BadArgument, Coordinator, Error, Fenced, OutOfMemory, Refused, Settings, _done, _made, _settings, _told, _u64, _within, _words,
 )
 from relkvanu.lines import _numbers
+from relkvanu.nexts import (
+    Next as Next, NextBarrier as NextBarrier, NextBegun as NextBegun, NextCancelled as NextCancelled, NextEnded as NextEnded, NextFailed as NextFailed,
+    NextIdle as NextIdle, NextNotStopped as NextNotStopped, NextStopped as NextStopped,
+)
 from relkvanu.reads import CHOSEN, Chosen, Garbage, Kind, Mode, RunningTerm
-from relkvanu.replies import Reply, Reserved, RestoredCheckpoint, RestoredSavepoint, Taken
+from relkvanu.replies import (
+    Failed, Reply, Reserved, RestoredCheckpoint, RestoredFresh, RestoredSavepoint, SavepointTriggered, Taken, Triggered,
+)
 from relkvanu.storage import Marker
 from relkvanu.waits import Once, Task, is_main
 from relkvanu.whole import KINDS, Part, Past, Restored, Whole, _part, _past, _whole
@@ -283,6 +289,29 @@ class Made:
 Outcome = Union[Made, Error]
 
 
+def _made_of(outcome: Outcome) -> Made:
+    """The call, if it was made."""
+    if isinstance(outcome, Error):
+        raise outcome
+    return outcome
+
+
+def _next_of(made: Made) -> Next:
+    """The case of a tick, or of what a timer hands over."""
+    reply = made.reply
+    if isinstance(reply, Triggered):
+        return NextBarrier(reply.id, Kind.CHECKPOINT, made.choice, made.ended)
+    if isinstance(reply, SavepointTriggered):
+        return NextBarrier(reply.id, Kind.SAVEPOINT, made.choice, made.ended)
+    if isinstance(reply, RestoredCheckpoint):
+        return NextBegun(Chosen(reply.id, Kind.CHECKPOINT), made.term, made.ended)
+    if isinstance(reply, RestoredSavepoint):
+        return NextBegun(Chosen(reply.id, Kind.SAVEPOINT), made.term, made.ended)
+    if isinstance(reply, RestoredFresh):
+        return NextBegun(None, made.term, made.ended)
+    return NextFailed(made.ended) if isinstance(reply, Failed) else NextIdle(made.ended)
+
+
 def _loaded() -> ctypes.CDLL:
     folder = os.environ.get("RELKVANU_LIB")
     beside = pathlib.Path(__file__).resolve().parent / LIBRARY
@@ -338,6 +367,9 @@ def _chosen(answer: header.relkvanu_answer) -> Optional[Chosen]:
     return Chosen(answer.a, CHOSEN[answer.what]) if answer.what in CHOSEN else None
 
 
+UNTICKED: Dict[int, Callable[[], Next]] = {
+    store_header.TIMED_OUT: NextIdle, store_header.JOB_STOPPED: NextStopped, store_header.NOT_STOPPED: NextNotStopped}
+STANDSTILLS: Dict[Mode, Callable[[], Next]] = {Mode.FAILED: NextFailed, Mode.CANCELLED: NextCancelled}
 ENDED = {header.CALL_ACK: 80, header.CALL_RESERVE: 0, header.CALL_FORFEIT: 0, header.CALL_TAKE: 0}  # records that such a call ends at most
 
 
@@ -679,9 +711,7 @@ class Store:
     def call(self, call: Call) -> Made:
         """One call."""
         (outcome,) = self.calls([call])
-        if isinstance(outcome, Error):
-            raise outcome
-        return outcome
+        return _made_of(outcome)
 
     # bindings/generate makes the calls of one number of a store
     def tick(self, now: Optional[int] = None) -> Made:
@@ -826,10 +856,7 @@ class Store:
         fault = self._waits(work)
         if fault is not None:
             raise fault
-        outcome = _List.outcome(call)
-        if isinstance(outcome, Error):
-            raise outcome
-        return outcome
+        return _made_of(_List.outcome(call))
 
     def submit(self, calls: Sequence[Call]) -> int:
         """For event loops: as calls(), but returns a token at once. completed() returns it with the outcomes."""
@@ -907,7 +934,39 @@ class Store:
         """A timer in a loop of a thread: sleeps until a tick is due, at most so many milliseconds, and makes it. It also hands over what trigger(),
         stop_job(), begin_job() and go_back() have made, once: the reply of the call, with its choice and its term. Triggered: the engine sends the
         barrier. SavepointTriggered: the same, and each task holds after its acknowledgement. A restore: the engine begins there, as after one of its own.
-        None: none was due. It comes at once if the job has failed or was cancelled (read the mode), is stopped, or its stop has failed (see phase())."""
+        None: none was due. It comes at once if the job has failed or was cancelled (read the mode), is stopped, or its stop has failed (see phase()).
+        await_next() tells these apart."""
+        status, outcome = self._timed(longest)
+        return _made_of(outcome) if status == store_header.OK else None
+
+    def await_next(self, longest: int = 1000) -> Next:
+        """As await_tick(), with one case for each thing that an engine does next: see relkvanu.nexts. Waits at most `longest` milliseconds, 0 to 2^64 - 1. A
+        job that is not running is told of at once when that begins, to one caller, and then each time after `longest`. After stop() it is NextEnded at once.
+
+        Raises Refused as tick(), but not "NotRunning"; OutOfMemory: no tick was made; OutOfRange for another `longest`; StoreError "Closed" after close(),
+        "InRead" in a thread that reads, "Forked" in a child of the process, and one that `closes` if a commit has failed."""
+        try:
+            status, outcome = self._timed(longest)
+        except StoreError as why:
+            if why.name != "Stopped":
+                raise
+            return NextEnded()
+        if status in UNTICKED:
+            return UNTICKED[status]()
+        if isinstance(outcome, Refused) and outcome.name == "NotRunning":
+            return self._standstill()
+        return _next_of(_made_of(outcome))
+
+    def _standstill(self) -> Next:
+        """Why a tick was refused, or none is due. Nothing is due if that is over by now."""
+        if self.phase().phase is Phase.STOPPED:
+            return NextStopped()
+        with self.read() as reads:
+            mode: Mode = reads.mode()
+        return STANDSTILLS.get(mode, NextIdle)()
+
+    def _timed(self, longest: int) -> Tuple[int, Outcome]:
+        """Waits for a tick, and for what is handed over, in slices if it is the main thread. Returns what C does, and the outcome, if a call was made."""
         call, left, more = store_header.relkvanu_store_call(), _u64(longest), _more(store_header.MOST_ENDED)
         status, waits = store_header.TIMED_OUT, (store_header.NOT_RUNNING, store_header.JOB_STOPPED)
         while status == store_header.TIMED_OUT or (status in waits and call.answer.a == 0):
@@ -916,12 +975,7 @@ class Store:
             status = self._awaited(part, call, more)
             if left == 0:
                 break
-        if status != store_header.OK:
-            return None
-        outcome = _List.outcome(call)
-        if isinstance(outcome, Error):
-            raise outcome
-        return outcome
+        return status, _List.outcome(call)
 
     def _awaited(self, longest: int, call: store_header.relkvanu_store_call, more: Any) -> int:
         def work(store: ctypes.c_void_p) -> Tuple[int, Optional[Exception]]:

@@ -1194,6 +1194,21 @@ fn what_a_timer_has_for_an_engine() {
     assert_eq!(store.call(tick).unwrap().ended, [1]); // it has expired, and the job has failed
     assert_eq!(store.await_next(1).unwrap().next, Next::Failed);
     store.restore_whole(None, None).unwrap();
+    let Some(Answer::SavepointTriggered(id)) = store.stop_job().unwrap().called() else { panic!("a stop") };
+    let barrier = |id| Next::Barrier { id, kind: Kind::Savepoint, base: Choice::Fresh };
+    assert_eq!(store.await_next(1).unwrap().next, barrier(id));
+    store.call(Call::DeclineIn { term: 2, now: NOW, id, subtask: (0, 0) }).unwrap();
+    assert_eq!(store.await_next(1).unwrap().next, Next::NotStopped);
+    let Some(Answer::SavepointTriggered(id)) = store.stop_job().unwrap().called() else { panic!("a stop") };
+    assert_eq!(store.await_next(1).unwrap().next, barrier(id));
+    for index in 0..TASKS {
+        store.call(Call::AckIn { term: 2, now: NOW, id, subtask: (0, index), fresh: &[], reused: &[] }).unwrap();
+    }
+    assert_eq!([1, 1].map(|it| store.await_next(it).unwrap().next), [Next::Stopped; 2]);
+    let term = store.begin_job().unwrap().term.unwrap();
+    assert_eq!(store.await_next(1).unwrap().next, Next::Begun { from: Choice::Savepoint(id), term });
+    store.call(Call::Cancel { now: NOW }).unwrap();
+    assert_eq!([1, 1].map(|it| store.await_next(it).unwrap().next), [Next::Cancelled; 2]);
     store.stop();
     assert_eq!(store.await_next(1).unwrap().next, Next::Ended);
 }
