@@ -12,7 +12,7 @@ import time
 import unittest
 from unittest import mock
 
-from relkvanu import BadStep, Chosen, Fenced, Kind, OutOfMemory, Refused, Settings
+from relkvanu import BadStep, Chosen, Fenced, Kind, OutOfMemory, OutOfRange, Refused, Settings
 from relkvanu.runner import Barrier, Ended, Ending, FileLost, Inputs, Record, Runner, SavepointFailed
 from relkvanu.store import Phase, Store, StoreError
 
@@ -1050,6 +1050,133 @@ class Taking(unittest.TestCase):
         for it in (barrier(1), barrier(1), "a", barrier(2)):
             inputs.put(0, it)
         self.assertEqual([inputs.take() for _ in range(3)], [(0, barrier(1)), (0, "a"), (0, barrier(2))])
+
+    def of(self, *channels):
+        """Inputs with these items, of which None is the end."""
+        inputs = Inputs(len(channels))
+        for input, items in enumerate(channels):
+            for it in items:
+                inputs.end(input) if it is None else inputs.put(input, it)
+        return inputs
+
+    def all_of(self, inputs, taken=None):
+        """All that is taken until each input has ended."""
+        taken = [] if taken is None else taken
+        while True:
+            try:
+                taken.append(inputs.take())
+            except BadStep as end:
+                self.assertEqual(end.name, "EndedInput")
+                return taken
+
+    def test_an_input_that_ends_before_a_barrier(self):
+        """It counts as one on which that has come: whether its end comes first, or the barrier on the other input."""
+        inputs = self.of(["a", None], ["p", barrier(1), "q", barrier(2), None])
+        self.assertEqual(self.all_of(inputs), [(0, "a"), (1, "p"), (1, barrier(1)), (1, "q"), (1, barrier(2))])
+        inputs = self.of(["a", "b", None], [barrier(1), "behind", None])
+        self.assertEqual(self.all_of(inputs), [(0, "a"), (0, "b"), (0, barrier(1)), (1, "behind")])
+
+    def test_an_input_that_ends_at_and_behind_a_barrier(self):
+        """The end waits on its input as the elements do: no record is cut before its barrier has come on the other one."""
+        inputs = self.of([barrier(1), None], ["p", "q", barrier(1), "r", barrier(2), "s", None])
+        self.assertEqual(self.all_of(inputs), [(1, "p"), (1, "q"), (1, barrier(1)), (1, "r"), (1, barrier(2)), (1, "s")])
+        inputs = self.of([barrier(1), "behind", None], ["p", "q", barrier(1), barrier(2), "r", None])
+        self.assertEqual(self.all_of(inputs), [(1, "p"), (1, "q"), (1, barrier(1)), (0, "behind"), (0, barrier(2)), (1, "r")])
+
+    def test_an_end_while_the_task_waits(self):
+        inputs, taken = self.of([barrier(1)], []), []
+        thread = threading.Thread(target=self.all_of, args=(inputs, taken), daemon=True)
+        thread.start()
+        time.sleep(0.05)
+        self.assertEqual(taken, [])
+        inputs.end(1)
+        self.await_taken(taken, [(1, barrier(1))])
+        thread.join(0.05)
+        self.assertTrue(thread.is_alive())
+        inputs.end(0)
+        thread.join(LONGEST)
+        self.assertEqual((taken, thread.is_alive()), ([(1, barrier(1))], False))
+
+    def await_taken(self, taken, expected):
+        until = time.monotonic() + LONGEST
+        while len(taken) < len(expected) and time.monotonic() < until:
+            time.sleep(0.001)
+        self.assertEqual(taken, expected)
+
+    def test_three_inputs_of_which_two_have_ended(self):
+        inputs = self.of([None], [barrier(1), None], ["p", None])
+        self.assertEqual(self.all_of(inputs), [(2, "p"), (2, barrier(1))])
+        self.assertEqual(self.all_of(inputs), [])  # and then always
+
+    def test_what_comes_behind_an_end(self):
+        """Nobody puts it, also after the end was taken. An input that ends while it is full waits for room."""
+        inputs = Inputs(2, room=1)
+        inputs.put(0, "a")
+        thread = threading.Thread(target=inputs.end, args=(0,), daemon=True)
+        thread.start()
+        thread.join(0.05)
+        self.assertTrue(thread.is_alive())
+        self.assertEqual(inputs.take(), (0, "a"))
+        thread.join(LONGEST)
+        inputs.put(1, "p")
+        self.assertEqual(inputs.take(), (1, "p"))
+        inputs.put(1, "q")
+        self.assertEqual(inputs.take(), (1, "q"))  # the end of the other one was taken before
+        for put in (lambda: inputs.put(0, "b"), lambda: inputs.put(0, barrier(1)), lambda: inputs.end(0)):
+            with self.assertRaises(BadStep) as caught:
+                put()
+            self.assertEqual(caught.exception.name, "EndedInput")
+        with self.assertRaises(IndexError):
+            inputs.end(2)
+        inputs.end(1)
+        self.assertEqual(self.all_of(inputs), [])
+
+    def test_a_record_that_is_given_up(self):
+        """What its barriers held comes to a task that waits, in order, each input has its turn, and its other barriers are dropped. The next record is cut."""
+        inputs = self.of([barrier(1), "a", "b", barrier(2), "c"], ["p"], [barrier(1), "x"])
+        self.assertEqual(inputs.take(), (1, "p"))
+        taken = []
+        thread = threading.Thread(target=lambda: taken.extend(inputs.take() for _ in range(7)), daemon=True)
+        thread.start()
+        time.sleep(0.05)
+        self.assertEqual(taken, [])
+        self.assertTrue(inputs.give_up(1))
+        self.await_taken(taken, [(0, "a"), (2, "x"), (0, "b")])
+        for input, it in ((1, barrier(1)), (1, "q"), (1, barrier(2)), (1, "r"), (2, barrier(2))):
+            inputs.put(input, it)
+        thread.join(LONGEST)
+        self.assertEqual((taken[3], taken[4][1], sorted(taken[5:])), ((1, "q"), barrier(2), [(0, "c"), (1, "r")]))
+
+    def test_a_record_that_is_given_up_with_ends(self):
+        """An end that its barrier held comes too, and cuts nothing. A later record is cut by an end with its own barrier, though one of the other comes last."""
+        inputs = self.of([barrier(1), None], ["p"])
+        self.assertEqual(inputs.take(), (1, "p"))
+        self.assertTrue(inputs.give_up(1))
+        inputs.put(1, "q")
+        inputs.put(1, barrier(2))
+        inputs.end(1)
+        self.assertEqual(self.all_of(inputs), [(1, "q"), (1, barrier(2))])
+        inputs = self.of([barrier(1), barrier(2)], ["p"], ["x"])
+        self.assertEqual([inputs.take() for _ in range(2)], [(1, "p"), (2, "x")])
+        self.assertTrue(inputs.give_up(1))
+        for input in (1, 2):
+            inputs.put(input, barrier(1))
+            inputs.end(input)
+        self.assertEqual(inputs.take(), (2, barrier(2)))
+
+    def test_a_record_that_is_not_aligned_is_not_given_up(self):
+        """One of which nothing has come is cut when it comes, and one that was cut stays so."""
+        inputs = self.of([barrier(1), "a"], ["p", barrier(1)])
+        self.assertEqual(inputs.take(), (1, "p"))
+        self.assertFalse(inputs.give_up(2))
+        self.assertEqual([inputs.take() for _ in range(2)], [(1, barrier(1)), (0, "a")])
+        for id in (0, 1, (1 << 64) - 1):
+            self.assertFalse(inputs.give_up(id))
+        inputs.put(0, barrier(2))
+        inputs.put(1, barrier(2))
+        self.assertEqual(inputs.take(), (0, barrier(2)))
+        with self.assertRaises(OutOfRange):
+            inputs.give_up(1 << 64)
 
 
 if __name__ == "__main__":

@@ -51,7 +51,7 @@ Stepped = Union[Step, Cut, Abandon]
 
 class BadStep(Error, ValueError):
     """The engine broke the rules, and nothing has changed. `name` says how: "UnknownInput", "HeldInput" or "EndedInput". Of relkvanu.runner.Inputs also
-    "TwoOrders"."""
+    "TwoOrders"; and "EndedInput" of its take() breaks no rule: each input has ended."""
 
     def __init__(self, name: str) -> None:
         super().__init__(name)

@@ -2,7 +2,7 @@
 import collections
 import threading
 from dataclasses import dataclass
-from typing import Any, Deque, List, Optional, Tuple
+from typing import Any, Deque, List, Optional, Tuple, Union
 
 from relkvanu.aligner import Abandon, Aligner, BadStep, Cut, Step
 from relkvanu.reads import Chosen, Kind
@@ -20,43 +20,86 @@ class Barrier:
     holds: bool
 
 
+class _End:
+    """What comes on an input behind its last item."""
+
+
 class Inputs:
-    """The inputs of a task, from 0, each a channel of at most `room` items: elements and barriers. Threads put them, and the task takes them. What comes behind
-    a barrier stays on its input until the barrier has come on each one, as an Aligner says. Make it anew when tasks start."""
+    """The inputs of a task, from 0, each a channel of at most `room` items: elements, barriers and the end. Threads put them, and the task takes them. What
+    comes behind a barrier stays on its input until the barrier has come on each one, as an Aligner says, or until its record is given up. An input that has
+    ended counts as one on which each barrier has come. Make it anew when tasks start, and end again the inputs that had ended: no record says so.
+    Nothing closes it: who waits in put() or end() waits until the task takes, and who waits in take() until something comes or each input has ended."""
 
     def __init__(self, inputs: int, room: int = 100) -> None:
+        """So many inputs, 1 to MOST_INPUTS, otherwise it raises BadArgument("BadInputs"). An input has room for one item at least."""
         self._aligner, self._room, self._last = Aligner(inputs), max(room, 1), inputs - 1
         self._channels: List[Deque[Any]] = [collections.deque() for _ in range(inputs)]
+        self._ended = [False] * inputs  # whether the end of each was put
+        self._left = list(range(inputs))  # those whose end was not taken
+        self._barrier: Optional[Barrier] = None  # the last one that came, of the record that is being aligned
         lock = threading.Lock()
         self._free = self._asked()
         self._filled, self._emptied = threading.Condition(lock), threading.Condition(lock)
 
     def put(self, input: int, item: Any) -> None:
-        """Puts an element, which is no Barrier, or a barrier. Waits while the input is full."""
+        """Puts an element, which is no Barrier, or a barrier. Waits while the input is full. Raises IndexError if there is no such input, and
+        BadStep("EndedInput") behind its end."""
         channel = self._channels[input]
         with self._emptied:
             self._emptied.wait_for(lambda: len(channel) < self._room)
+            if self._ended[input]:
+                raise BadStep("EndedInput")
+            self._ended[input] = isinstance(item, _End)
             channel.append(item)
             if len(channel) == 1:  # otherwise the task waits for no item of this input
                 self._filled.notify()
 
-    def take(self) -> Tuple[int, Any]:
-        """Waits for an element, and returns it with its input. Or it returns a Barrier that has come on each input: the task takes its snapshot now, sends the
-        barrier on, and acknowledges. Raises BadStep("TwoOrders") if barriers come in another order on another input."""
+    def end(self, input: int) -> None:
+        """Nothing more comes on this input. Waits while it is full, and raises as put(). If the others have delivered a barrier, take() returns that barrier once
+        it has come to the end."""
+        self.put(input, _End())
+
+    def give_up(self, id: int) -> bool:
+        """The coordinator or the task gives this record up, as in an engine's aborted(). True: it was being aligned. What its barriers held comes next, each input
+        in its order, and barriers of it that come later are dropped. False: nothing has changed. It was cut or given up before, or none of its barriers was
+        taken so far: these may still come, and then it is cut. A task that gives up by itself declines the record. Any thread may call it, and it waits for
+        none. Raises OutOfRange unless the number is 0 to 2^64 - 1."""
         with self._filled:
-            while True:
+            is_aligned = isinstance(self._aligner.give_up(id), Abandon)
+            if is_aligned:
+                self._free = self._asked()
+                self._filled.notify()
+        return is_aligned
+
+    def take(self) -> Tuple[int, Any]:
+        """Waits for an element, and returns it with its input. Or it returns a Barrier that has come on each input that has not ended, with the input that was
+        the last: the task takes its snapshot now, sends the barrier on, and acknowledges. Raises BadStep("EndedInput") once each input has ended, and all was
+        taken; and BadStep("TwoOrders") if barriers come in another order on another input."""
+        with self._filled:
+            while self._left:
                 [self._last] = self._filled.wait_for(self._open)
                 item = self._channels[self._last].popleft()
                 if len(self._channels[self._last]) == self._room - 1:
                     self._emptied.notify_all()
-                if not isinstance(item, Barrier):
+                if not isinstance(item, (Barrier, _End)):
                     return self._last, item
-                step = self._aligner.barrier(self._last, item.id)
-                self._free = self._asked()
-                if isinstance(step, Abandon):
-                    raise BadStep("TwoOrders")
-                if isinstance(step, Cut):
-                    return self._last, item
+                if self._is_cut(item):
+                    return self._last, self._barrier
+        raise BadStep("EndedInput")
+
+    def _is_cut(self, item: Union[Barrier, _End]) -> bool:
+        """Whether the task has to cut the record of the last barrier, since this came."""
+        if isinstance(item, Barrier):
+            step = self._aligner.barrier(self._last, item.id)
+        else:
+            step = self._aligner.end(self._last)
+            self._left.remove(self._last)
+        if isinstance(item, Barrier) and step is not Step.LATE:
+            self._barrier = item
+        self._free = self._asked()
+        if isinstance(step, Abandon):
+            raise BadStep("TwoOrders")
+        return isinstance(step, Cut)
 
     def _open(self) -> List[int]:
         """The input to take from, if there is one: each has its turn."""
@@ -65,5 +108,5 @@ class Inputs:
         return next(([it] for it in turns if self._channels[it] and it in self._free), [])
 
     def _asked(self) -> List[int]:
-        """The inputs whose elements may be processed. Only a barrier changes that, so the aligner is not asked of each element."""
-        return [it for it in range(len(self._channels)) if self._aligner.element(it) is Step.PROCESS]
+        """The inputs whose items may be taken. Only barriers, ends and what is given up change that, so the aligner is not asked of each element."""
+        return [it for it in self._left if self._aligner.element(it) is Step.PROCESS]

@@ -53,7 +53,7 @@ pub enum AlignFault {
     UnknownInput,
     /// The barrier or the end has to wait until the input is released.
     HeldInput,
-    /// The input has ended.
+    /// The input has ended. Of `take` of the inputs of a `runner`: each of them has, which breaks no rule.
     EndedInput,
     /// A task has 1 to [`MOST_INPUTS`] inputs.
     BadInputs,

@@ -1043,7 +1043,7 @@ fn putter(inputs: &Arc<Inputs<u64>>, input: usize, element: u64) -> JoinHandle<(
     thread
 }
 
-fn assert_finishes(thread: &JoinHandle<()>) {
+fn assert_finishes<T>(thread: &JoinHandle<T>) {
     let until = Instant::now() + LONGEST;
     while !thread.is_finished() && Instant::now() < until {
         thread::sleep(Duration::from_millis(1));
@@ -1089,6 +1089,148 @@ fn barriers_in_two_orders_and_one_that_comes_twice() {
     let taken = [inputs.take().unwrap(), inputs.take().unwrap()];
     assert_eq!(taken, [Taken::Cut(barrier(1)), Taken::Element(0, "a")]);
     assert_eq!(Inputs::<()>::new(0, 1).unwrap_err(), AlignFault::BadInputs);
+}
+
+#[derive(Clone, Copy)]
+enum Put {
+    Is(&'static str),
+    At(u64), // the barrier of this record
+    Last,    // the end of the input
+}
+use Put::*;
+
+fn put(inputs: &Inputs<&'static str>, input: usize, items: &[Put]) {
+    for it in items {
+        match *it {
+            Is(element) => inputs.put(input, element),
+            At(id) => inputs.put_barrier(input, barrier(id)),
+            Last => inputs.end(input),
+        }
+    }
+}
+
+fn of(channels: &[&[Put]]) -> Arc<Inputs<&'static str>> {
+    let inputs = Inputs::new(channels.len(), 100).unwrap();
+    channels.iter().enumerate().for_each(|(input, items)| put(&inputs, input, items));
+    Arc::new(inputs)
+}
+
+/// All that is taken until each input has ended, in words.
+fn all_of(inputs: &Inputs<&'static str>) -> String {
+    let word = |it| match it {
+        Taken::Element(input, element) => format!("{element}{input}"),
+        Taken::Cut(barrier) => format!("cut{}", barrier.id),
+    };
+    let mut taken = Vec::new();
+    loop {
+        match inputs.take() {
+            Err(AlignFault::EndedInput) => return taken.join(" "),
+            told => taken.push(word(told.unwrap())),
+        }
+    }
+}
+
+/// It counts as one on which the barrier has come: whether its end comes first, or the barrier on the other input.
+#[test]
+fn an_input_that_ends_before_a_barrier() {
+    let inputs = of(&[&[Is("a"), Last], &[Is("p"), At(1), Is("q"), At(2), Last]]);
+    assert_eq!(all_of(&inputs), "a0 p1 cut1 q1 cut2");
+    let inputs = of(&[&[Is("a"), Is("b"), Last], &[At(1), Is("behind"), Last]]);
+    assert_eq!(all_of(&inputs), "a0 b0 cut1 behind1");
+    let inputs = of(&[&[Last], &[At(1), Last], &[Is("p"), Last]]);
+    assert_eq!(all_of(&inputs), "p2 cut1");
+    assert_eq!(all_of(&inputs), ""); // and then always
+}
+
+/// The end waits on its input as the elements do: no record is cut before its barrier has come on the other one.
+#[test]
+fn an_input_that_ends_at_and_behind_a_barrier() {
+    let other = &[Is("p"), Is("q"), At(1), Is("r"), At(2), Is("s"), Last];
+    assert_eq!(all_of(&of(&[&[At(1), Last], other])), "p1 q1 cut1 r1 cut2 s1");
+    let inputs = of(&[&[At(1), Is("behind"), Last], &[Is("p"), Is("q"), At(1), At(2), Is("r"), Last]]);
+    assert_eq!(all_of(&inputs), "p1 q1 cut1 behind0 cut2 r1");
+}
+
+#[test]
+fn an_end_while_the_task_waits() {
+    let inputs = of(&[&[At(1)], &[]]);
+    let takes = inputs.clone();
+    let taker = thread::spawn(move || (takes.take(), takes.take()));
+    thread::sleep(Duration::from_millis(50));
+    inputs.end(1);
+    thread::sleep(Duration::from_millis(50));
+    assert!(!taker.is_finished());
+    inputs.end(0);
+    assert_eq!(taker.join().unwrap(), (Ok(Taken::Cut(barrier(1))), Err(AlignFault::EndedInput)));
+}
+
+/// Nobody puts it, also after the end was taken. An input that ends while it is full waits for room.
+#[test]
+fn what_comes_behind_an_end() {
+    let inputs = Arc::new(Inputs::new(2, 1).unwrap());
+    inputs.put(0, "a");
+    let ends = inputs.clone();
+    let ender = thread::spawn(move || ends.end(0));
+    thread::sleep(Duration::from_millis(50));
+    assert!(!ender.is_finished());
+    assert_eq!(inputs.take(), Ok(Taken::Element(0, "a")));
+    ender.join().unwrap();
+    for element in ["p", "q"] {
+        inputs.put(1, element);
+        assert_eq!(inputs.take(), Ok(Taken::Element(1, element))); // the end of the other one is taken before the second
+    }
+    for (input, it) in [(0, Is("b")), (0, At(1)), (0, Last), (2, Last)] {
+        let puts = inputs.clone();
+        assert!(thread::spawn(move || put(&puts, input, &[it])).join().is_err());
+    }
+    inputs.end(1);
+    assert_eq!(inputs.take(), Err(AlignFault::EndedInput));
+}
+
+/// What its barriers held comes to a task that waits, in order, each input has its turn, and its other barriers are dropped. The next record is cut.
+#[test]
+fn a_record_that_is_given_up() {
+    let inputs = of(&[&[At(1), Is("a"), Is("b"), At(2), Is("c"), Last], &[Is("p")], &[At(1), Is("x")]]);
+    assert_eq!(inputs.take(), Ok(Taken::Element(1, "p")));
+    let takes = inputs.clone();
+    let taker = thread::spawn(move || [(); 3].map(|()| takes.take()));
+    thread::sleep(Duration::from_millis(50));
+    assert!(!taker.is_finished());
+    assert_eq!(inputs.give_up(1), Ok(true));
+    assert_finishes(&taker);
+    assert_eq!(taker.join().unwrap(), [(0, "a"), (2, "x"), (0, "b")].map(|(input, it)| Ok(Taken::Element(input, it))));
+    put(&inputs, 1, &[At(1), Is("q"), At(2), Is("r"), Last]);
+    put(&inputs, 2, &[At(2), Last]);
+    assert_eq!(all_of(&inputs), "q1 cut2 c0 r1");
+}
+
+/// An end that its barrier held comes too, and cuts nothing. A later record is cut by an end with its own barrier, though one of the other comes last.
+#[test]
+fn a_record_that_is_given_up_with_ends() {
+    let inputs = of(&[&[At(1), Last], &[Is("p")]]);
+    assert_eq!(inputs.take(), Ok(Taken::Element(1, "p")));
+    assert_eq!(inputs.give_up(1), Ok(true));
+    put(&inputs, 1, &[Is("q"), At(2), Last]);
+    assert_eq!(all_of(&inputs), "q1 cut2");
+    let inputs = of(&[&[At(1), At(2), Last], &[Is("p")], &[Is("x")]]);
+    assert_eq!([(); 2].map(|()| inputs.take()), [Ok(Taken::Element(1, "p")), Ok(Taken::Element(2, "x"))]);
+    assert_eq!(inputs.give_up(1), Ok(true));
+    [1, 2].into_iter().for_each(|it| put(&inputs, it, &[At(1), Last]));
+    assert_eq!(all_of(&inputs), "cut2");
+}
+
+/// One of which nothing has come is cut when it comes, and one that was cut stays so.
+#[test]
+fn a_record_that_is_not_aligned_is_not_given_up() {
+    let inputs = of(&[&[At(1), Is("a")], &[Is("p"), At(1)]]);
+    assert_eq!(inputs.take(), Ok(Taken::Element(1, "p")));
+    assert_eq!(inputs.give_up(2), Ok(false));
+    assert_eq!([(); 2].map(|()| inputs.take()), [Ok(Taken::Cut(barrier(1))), Ok(Taken::Element(0, "a"))]);
+    for id in [0, 1, u64::MAX] {
+        assert_eq!(inputs.give_up(id), Ok(false));
+    }
+    [0, 1].into_iter().for_each(|it| put(&inputs, it, &[At(2), Last]));
+    assert_eq!(all_of(&inputs), "cut2");
 }
 
 fn named(store: &Store, term: u64, id: u64, index: u16, payload: &[u8]) -> u64 {
