@@ -1,5 +1,5 @@
 #!/usr/bin/env python3
-"""faults/kill_chained.py KILLS [SEED]: runs chained.py of docs/CUT.md and mini.py and mini-rust of docs/RUNNER.md, kills a process of theirs KILLS times, and
+"""faults/kill_chained.py KILLS [SEED]: runs chained.py of docs/CUT.md and mini.py and mini-rust of docs/RUNNER-MINI.md, kills a process of theirs KILLS times, and
 looks at what they published: each number of each source once, in its order, and the sums of one run. A job whose files were put back, as a backup is, has to
 refuse to publish a number again, and one whose transaction is lost has to refuse to start. Its status tells a supervisor when to start it again. One that
 dies between a stop and its publication publishes at the next start. A worker that stands still keeps its target: the start beside it ends, and names it.
