@@ -104,7 +104,7 @@ int rks_check_closed(relkvanu_store *s, const char *path) {
 
 /* SQLite would make the file with the mode 0644. It gives the -wal the mode of the file. */
 int rks_make_file(relkvanu_store *s) {
-    int file = open(s->path, O_RDWR | O_CREAT | O_CLOEXEC, 0600);
+    int file = rks_open_beside(s->path);
     if (file < 0) {
         return rks_file_fault(s, s->path, errno);
     }

@@ -93,13 +93,21 @@ static int set_mode(relkvanu_store *s, const char *pragma, const char *mode) {
     return status;
 }
 
+/* The path has no link, unless somebody puts one there now. SQLite gives a -wal that it makes to the user of the file. */
+#ifdef SQLITE_OPEN_NOFOLLOW
+enum { RKS_NOFOLLOW = SQLITE_OPEN_NOFOLLOW };
+#else
+enum { RKS_NOFOLLOW = 0 };
+#endif
+
 /* The lock of the whole file is set first: then SQLite keeps its index of the -wal in memory, and PATH-shm is free for rks_lock. */
 int rks_open_database(relkvanu_store *s) {
     if (sqlite3_threadsafe() == 0) {
         snprintf(s->fault, sizeof s->fault, "SQLite was compiled without threads");
         return RELKVANU_STORE_FAILED;
     }
-    if (sqlite3_open_v2(s->path, &s->db, SQLITE_OPEN_READWRITE | SQLITE_OPEN_NOMUTEX, NULL) != SQLITE_OK) {
+    int follows = rks_is_guest(s->path) ? RKS_NOFOLLOW : 0;
+    if (sqlite3_open_v2(s->path, &s->db, SQLITE_OPEN_READWRITE | SQLITE_OPEN_NOMUTEX | follows, NULL) != SQLITE_OK) {
         return rks_fault(s, "open");
     }
     sqlite3_extended_result_codes(s->db, 1);

@@ -80,8 +80,17 @@ static char *in_real_folder(const char *path) {
     return real;
 }
 
+/* Whether another user than root has put a link where root would go on. */
+static bool is_others_link(const char *path) {
+    struct stat found;
+    return rks_is_guest(path) && lstat(path, &found) == 0 && S_ISLNK(found.st_mode) && found.st_uid != 0;
+}
+
 /* The path without symbolic links, each of which would have a lock of its own. The file itself need not be there. */
 static int set_paths(relkvanu_store *s, const char *path) {
+    if (is_others_link(path)) {
+        return rks_file_fault(s, path, ELOOP);
+    }
     s->path = realpath(path, NULL);
     if (s->path == NULL && errno == ENOENT) {
         s->path = in_real_folder(path);
@@ -107,7 +116,7 @@ static unsigned count_forks(void) {
  * file and does not know of it, so it is not locked, and another one is made. No fork waits for a disk here. */
 static bool is_opened(const char *name, int *file) {
     unsigned before = count_forks();
-    int opened = open(name, O_RDWR | O_CREAT | O_CLOEXEC, 0600), error = errno;
+    int opened = rks_open_beside(name), error = errno;
     pthread_mutex_lock(&all_mutex);
     bool is_known = forks == before || opened < 0;
     *file = is_known ? opened : -1;

@@ -294,7 +294,7 @@ int rks_put_manifest(int folder, uint64_t id, const struct rks_text *text) {
     char name[RKS_MANIFEST_NAME], part[RKS_MANIFEST_NAME];
     rks_manifest_name(id, "", name);
     rks_manifest_name(id, PART, part);
-    int file = openat(folder, part, O_WRONLY | O_CREAT | O_TRUNC | O_NOFOLLOW | O_NONBLOCK | O_CLOEXEC, 0600);
+    int file = rks_open_new(folder, part);
     if (file < 0) {
         return errno;
     }

@@ -72,7 +72,7 @@ int rks_owner_of(int folder, const char *job, uint64_t epoch) {
 int rks_marker_write(int folder, const char *job, uint64_t epoch) {
     char text[MARKER_LEN];
     snprintf(text, sizeof text, "relkvanu job %s\nepoch %" PRIu64 "\n", job, epoch);
-    int file = openat(folder, RKS_NEW_MARKER, O_WRONLY | O_CREAT | O_TRUNC | O_NOFOLLOW | O_NONBLOCK | O_CLOEXEC, 0600);
+    int file = rks_open_new(folder, RKS_NEW_MARKER);
     if (file < 0) {
         return errno;
     }

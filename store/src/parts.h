@@ -403,6 +403,16 @@ bool rks_in_place(relkvanu_store *s);
 void rks_list(relkvanu_store *s);
 void rks_unlist(relkvanu_store *s);
 
+/* owner.c: whether root is in the folder of another user, by the name of a file there. Gives what was made to the user of the folder, or of the folder of the path:
+ * 0, or what is wrong as errno. */
+bool rks_is_guest(const char *path);
+int rks_give(int made, int folder);
+int rks_give_beside(int made, const char *path);
+
+/* Opens a file to be written anew, and one that stays, each of which is that user's if it is made. Returns -1 with errno, or a descriptor. */
+int rks_open_new(int folder, const char *name);
+int rks_open_beside(const char *path);
+
 /* files.c */
 int rks_status_of_errno(int error);
 int rks_file_fault(relkvanu_store *s, const char *what, int error);

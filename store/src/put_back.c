@@ -33,15 +33,16 @@ static char *joined(const char *one, const char *other) {
 }
 
 /* Copies a file, which is on the disk then. */
-static int copy(struct putting *p, const char *from, const char *to) {
+static int copy(struct putting *p, const char *from, int follows, const char *to) {
     char piece[PIECE];
     off_t at = 0;
     ssize_t len = 1;
-    int source = open(from, O_RDONLY | O_CLOEXEC);
+    int source = open(from, O_RDONLY | O_CLOEXEC | follows);
     if (source < 0) {
         return rks_file_fault(p->old, from, errno);
     }
-    int target = open(to, O_WRONLY | O_CREAT | O_EXCL | O_NOFOLLOW | O_CLOEXEC, 0600), error = target < 0 ? errno : 0;
+    int target = open(to, O_WRONLY | O_CREAT | O_EXCL | O_NOFOLLOW | O_CLOEXEC, 0600);
+    int error = target < 0 ? errno : rks_give_beside(target, to);
     while (error == 0 && len != 0) {
         len = pread(source, piece, sizeof piece, at);
         error = len < 0 && errno != EINTR ? errno : 0;
@@ -212,7 +213,7 @@ static int prepare(struct putting *p, const char *backup) {
     if (marks.folder >= 0) {
         close(marks.folder);
     }
-    status = status == RELKVANU_STORE_OK ? copy(p, backup, p->path) : status;
+    status = status == RELKVANU_STORE_OK ? copy(p, backup, 0, p->path) : status;
     status = status == RELKVANU_STORE_OK ? open_copy(p, &report) : status;
     if (status == RELKVANU_STORE_OK) {
         status = restore(p, &report);
@@ -236,15 +237,26 @@ static int set_aside(struct putting *p, const char *from, const char *name) {
     return status;
 }
 
+/* Makes the folder of what is set aside. */
+static int make_aside(struct putting *p) {
+    int made = mkdtemp(p->aside) == NULL ? -1 : open(p->aside, O_RDONLY | O_DIRECTORY | O_NOFOLLOW | O_CLOEXEC);
+    int error = made < 0 ? errno : rks_give_beside(made, p->aside);
+    if (made >= 0) {
+        close(made);
+    }
+    return error == 0 ? RELKVANU_STORE_OK : rks_file_fault(p->old, p->aside, error);
+}
+
 /* Sets the job's files and a copy of the marker aside, each under a second name before it loses its first. */
 static int set_all_aside(struct putting *p, const char *folder) {
     static const char *const ends[] = {"", "-wal", "-shm"};
     const char *base = strrchr(p->old->path, '/') + 1;
-    if (mkdtemp(p->aside) == NULL) {
-        return rks_file_fault(p->old, p->aside, errno);
+    int status = make_aside(p);
+    if (status != RELKVANU_STORE_OK) {
+        return status;
     }
     char *marker = joined(folder, "/.relkvanu-job"), *kept = joined(p->aside, "/.relkvanu-job");
-    int status = marker != NULL && kept != NULL ? copy(p, marker, kept) : RELKVANU_STORE_NO_MEMORY;
+    status = marker != NULL && kept != NULL ? copy(p, marker, O_NOFOLLOW, kept) : RELKVANU_STORE_NO_MEMORY;
     for (size_t i = 0; i < sizeof ends / sizeof *ends && status == RELKVANU_STORE_OK; i++) {
         char from[4200], to[300];
         snprintf(from, sizeof from, "%.4000s%s", p->old->path, ends[i]);

@@ -62,7 +62,8 @@ static int copy_file(const struct transfer *t, const char *name, uint32_t *sum) 
         return errno;
     }
     int to = openat(t->to, name, O_WRONLY | O_CREAT | O_EXCL | O_NOFOLLOW | O_CLOEXEC, 0600);
-    int error = to < 0 ? errno : copy_contents(from, to, sum);
+    int error = to < 0 ? errno : rks_give(to, t->to);
+    error = error == 0 ? copy_contents(from, to, sum) : error;
     error = to >= 0 && close(to) != 0 && error == 0 ? errno : error;
     close(from);
     return error;
@@ -173,6 +174,16 @@ static int lock_part(struct transfer *t) {
     return status == RELKVANU_STORE_NOT_NOW ? set_fault(t, RELKVANU_STORE_IN_USE, t->part, "other exports or imports write it") : status;
 }
 
+/* The part is that of the user of an empty folder whose name it gets, or else of the folder that it is in. */
+static int give_part(struct transfer *t) {
+    int empty = open(t->to_name, O_RDONLY | O_DIRECTORY | O_NOFOLLOW | O_CLOEXEC);
+    int error = empty >= 0 ? rks_give(t->to, empty) : rks_give_beside(t->to, t->part);
+    if (empty >= 0) {
+        close(empty);
+    }
+    return error == 0 ? RELKVANU_STORE_OK : failed(t, t->part, error);
+}
+
 /* Makes the part anew. */
 static int make_folder(struct transfer *t) {
     int status = lock_part(t);
@@ -185,7 +196,8 @@ static int make_folder(struct transfer *t) {
         status = failed(t, t->part, errno);
     }
     status = status == RELKVANU_STORE_OK ? lock_part(t) : status;
-    return status == RELKVANU_STORE_OK && t->to < 0 ? failed(t, t->part, ENOENT) : status;
+    status = status == RELKVANU_STORE_OK && t->to < 0 ? failed(t, t->part, ENOENT) : status;
+    return status == RELKVANU_STORE_OK ? give_part(t) : status;
 }
 
 static void drop_folder(struct transfer *t) {
@@ -205,7 +217,7 @@ static int write_manifest(struct transfer *t, uint64_t id, const struct rks_text
     char name[RKS_MANIFEST_NAME];
     rks_manifest_name(id, "", name);
     int file = openat(t->to, name, O_WRONLY | O_CREAT | O_EXCL | O_NOFOLLOW | O_CLOEXEC, 0600);
-    int error = file < 0 ? errno : 0;
+    int error = file < 0 ? errno : rks_give(file, t->to);
     error = error == 0 && !(rks_write_whole(file, text->at, text->len, 0) && fsync(file) == 0) ? errno : error;
     error = file >= 0 && close(file) != 0 && error == 0 ? errno : error;
     return error == 0 ? RELKVANU_STORE_OK : failed(t, name, error);
