@@ -1,5 +1,6 @@
 /* relkvanu-store: what an operator does with a job of the durable coordinator that does not run. docs/DURABLE-RECOVERY.md describes it. */
 #include "../../include/relkvanu_store.h"
+#include "show_backup.h"
 
 #include <errno.h>
 #include <inttypes.h>
@@ -12,6 +13,8 @@
 static const char USAGE[] =
     "relkvanu-store show FOLDER                    the records in a storage folder, and which one a recovery begins from\n"
     "relkvanu-store show --whole FOLDER            the same, and reads the files: compares them with the checksums of the manifests\n"
+    "relkvanu-store show --backup BACKUP FOLDER    the records of a backup, whose files are in FOLDER, and which one a put-back begins "
+    "from\n"
     "relkvanu-store recover JOB FOLDER [RECORD]    makes the job file JOB again, which was lost, from its storage folder\n"
     "relkvanu-store export FOLDER TO [RECORD]      copies a record into the folder TO, which it makes\n"
     "relkvanu-store import FROM JOB FOLDER [RECORD]          begins another job, JOB over FOLDER, from a record in FROM\n"
@@ -244,6 +247,9 @@ int main(int argc, char **argv) {
     }
     if (argc == 4 && is(argv[1], "show") && is(argv[2], "--whole")) {
         return show_whole(argv[3]);
+    }
+    if (argc == 5 && is(argv[1], "show") && is(argv[2], "--backup")) {
+        return show_backup(argv[3], argv[4]);
     }
     if (argc > 3 && takes(argc, argv, "recover", 2, &record)) {
         return recover(argv[2], argv[3], record);

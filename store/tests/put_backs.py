@@ -233,7 +233,39 @@ def at_each_end(it):
         shutil.rmtree(started)
 
 
-TESTS = (with_a_savepoint, from_an_older_savepoint, far_above_the_names, a_stray_file, without_a_savepoint, no_backup, back_again, while_an_engine_runs,
+def a_look(it):
+    """It says what a put-back would begin from, and changes neither the backup nor the job, whose engine may run."""
+    folder, copy = it.job_behind()
+    before, there = copy.read_bytes(), contents(folder)
+
+    def looks(*files, status=0):
+        told = subprocess.run([it.command, "show", "--backup", *files], env={**os.environ, "TMPDIR": str(it.work)}, stdout=subprocess.PIPE, stderr=subprocess.STDOUT,
+                              text=True, timeout=LONGEST)
+        assert told.returncode == status and copy.read_bytes() == before and not list(it.work.glob("relkvanu-store-*")), told.stdout
+        return told.stdout
+
+    rows = {int(line.split()[0]): line for line in looks(copy, folder / "state").splitlines()[1:]}
+    words = [(it[1], int(it[2]), it[4]) for it in (row.split(None, 4) for row in rows.values())]
+    # the savepoint has the files of the checkpoint that the job would begin from
+    assert words == [("checkpoint", 3, "whole; a put-back begins from it"), ("savepoint", 3, "whole")] and min(rows) == 20, rows
+    with open(folder / "engine", "w", encoding="utf-8") as told:
+        with subprocess.Popen([*it.engine, folder, "60"], stdout=told, stderr=told) as process:
+            await_opening(folder, process)
+            assert "a put-back begins from it" in looks(copy, folder / "state")
+            assert process.wait(LONGEST) == 0
+    assert contents(folder).keys() != there.keys()
+    for name in files(folder):
+        (folder / "state" / name).unlink()
+    told = looks(copy, folder / "state")
+    assert told.count("3 files are missing") == 2 and "no record has all its files there" in told, told
+    assert it.put_back(folder, copy).returncode != 0
+    # what is no backup
+    assert "backup" in looks(folder / "job.db", folder / "state", status=1)
+    for backup, storage, why in ((copy, folder / "none", "No such file"), (it.work / "none", folder / "state", "No such file"), (copy, folder, "it has no marker")):
+        assert why in looks(backup, storage, status=1), why
+
+
+TESTS = (a_look, with_a_savepoint, from_an_older_savepoint, far_above_the_names, a_stray_file, without_a_savepoint, no_backup, back_again, while_an_engine_runs,
          a_forgotten_engine, at_each_end)
 
 
