@@ -23,7 +23,7 @@ from typing import Any, Dict, Iterator, List, Optional
 
 from relkvanu.errors import Error
 from relkvanu.manifest import PIECE, files_in, members, name_of, of_job, sum_of, sums_in
-from relkvanu.places import MARKER, PLAIN, Gone, InBucket, InFolder, Owner, Path, Place, gone_if_absent, make_file, place, sync
+from relkvanu.places import MARKER, PLAIN, Gone, InBucket, InFolder, Owner, Path, Place, give, gone_if_absent, make_file, place, sync
 from relkvanu.store import Carried, Record, Recovered, Store, StoreError
 
 PART = ".relkvanu-part"
@@ -198,6 +198,8 @@ def part_folder(target: InFolder) -> Iterator[pathlib.Path]:
     part = pathlib.Path(f"{target.url.rstrip('/')}.part")
     lock = locked_part(part)
     try:
+        # the user of an empty folder whose name it gets, or else of the one that it is in
+        give(lock, target.path if target.path.is_dir() and not target.path.is_symlink() else part.parent)
         for it in part.iterdir():
             shutil.rmtree(it) if it.is_dir() and not it.is_symlink() else it.unlink()
         yield part

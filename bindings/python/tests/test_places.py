@@ -4,7 +4,8 @@ import tempfile
 import unittest
 
 from folders import InFolder
-from relkvanu.places import InFolder as Place
+from relkvanu.manifests import part_folder
+from relkvanu.places import InFolder as Place, make_file
 
 USER, GROUP = 12345, 12346
 
@@ -46,6 +47,12 @@ class WhatRootMakes(InFolder):
             place.write("name", b"text")
             self.assertEqual((other.read_bytes(), place.read("name"), other.stat().st_uid), (b"root's", b"text", 0))
             self.assertEqual(self.owners("name"), [(USER, GROUP)])
+
+    def test_what_is_carried_has_the_user_of_an_empty_folder(self):
+        for name, user in (("state", USER), ("other", 0)):
+            with part_folder(Place(self.path.parent / name)) as part:
+                make_file(part / "7", [b"state"])
+                self.assertEqual([os.stat(it).st_uid for it in (part, part / "7")], [user, user])
 
     def test_a_folder_of_roots_stays_so(self):
         os.chown(self.path, 0, 0)
