@@ -477,8 +477,8 @@ def with_payloads(server, at):
 
 
 def test_figures_go_with_their_records():
-    """What tasks told of their snapshots is in manifests, each if it was told, and so in a job of the durable coordinator, and in one that is recovered. Manifests without
-    it, or with what it can't be."""
+    """What tasks told of their snapshots is in manifests, each if it was told, and so in a job of the durable coordinator, in one that is imported, and in one that is
+    recovered, which also know the lengths of its files. Manifests without it, or with what it can't be."""
     from relkvanu import Settings
     from relkvanu.manifest import sealed
     from relkvanu.store import Store
@@ -489,13 +489,14 @@ def test_figures_go_with_their_records():
         job = Service(server.url).open("orders", SETTINGS, [3, 1])
         job.claim(at)
         task = job.begin().session(block=4)
-        name = task.name()
-        write(at / f"{PREFIX}{name}{SUFFIX}", "state")
+        name, other = task.name(), task.name()
+        for it, text in ((name, "state"), (other, "another")):
+            write(at / f"{PREFIX}{it}{SUFFIX}", text)
         record = job.checkpoint()["id"]
         task.ack(record, "0.0", payload=b"small", size=5, millis=7)
         task.ack(record, "0.1", millis=9)
         task.ack(record, "0.2", [name], sizes=[5])
-        task.ack(record, "1.0", size=40)
+        task.ack(record, "1.0", [other], size=40)
         wanted = {"0.0": {"bytes": 5, "millis": 7}, "0.1": {"millis": 9}, "0.2": {}, "1.0": {"bytes": 40}}
 
         def figures(subtasks):
@@ -529,7 +530,10 @@ def test_figures_go_with_their_records():
         did([PROGRAM, "keep", "orders", *place_of(server, at)])
         lose(server)
         did([PROGRAM, "recover", "orders", *place_of(server, at)])
-        assert figures(job.load(record)["subtasks"]) == wanted, job.load(record)
+        did([PROGRAM, "import", out, "copy", *place_of(server, at.parent / "copy")])
+        for it in (Service(server.url).job(of) for of in ("orders", "copy")):
+            assert figures(it.load(record)["subtasks"]) == wanted, it.load(record)
+            assert (it.state()["bytes"]["in_use"], it.file(name)["bytes"], it.file(other)["bytes"]) == (12, 5, 7), it.state()
         return "four subtasks"
 
 

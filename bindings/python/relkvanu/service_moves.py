@@ -102,11 +102,10 @@ def has_order(part: Dict[str, Any]) -> bool:
 
 
 def sizes_of(part: Dict[str, Any], fresh: List[int]) -> Dict[str, Any]:
-    """The lengths of its new files, if they are known. Otherwise the bytes of the snapshot, if its task told them."""
+    """The lengths of its new files, if they are known, and the bytes of the snapshot, if its task told them."""
     sizes = [part["files"][str(file)] for file in fresh]
-    if sizes and None not in sizes:
-        return {"sizes": sizes}
-    return {"size": part["bytes"]} if part.get("bytes") else {}
+    told = {"snapshot_bytes": part["bytes"]} if part.get("bytes") else {}
+    return {**told, "bytes": sizes} if sizes and None not in sizes else told
 
 
 class Making:
@@ -128,7 +127,8 @@ class Making:
             reused = [file for file in files if file in self.known]
             self.known.update(fresh)
             payload = bytes.fromhex(it.get("payload", "")) if has_order(it) else None
-            yield self.client.ack(record, f"{it['vertex']}.{it['index']}", fresh, reused, payload=payload, millis=it.get("millis"), **sizes_of(it, fresh))
+            call = self.client.ack(record, f"{it['vertex']}.{it['index']}", fresh, reused, payload=payload, millis=it.get("millis"))
+            yield {**call, **sizes_of(it, fresh)}
 
     def is_mixed(self, manifest: Dict[str, Any]) -> bool:
         """Whether a subtask with an order has files that no record has had behind others. The service keeps new files before others."""

@@ -102,6 +102,18 @@ impl Members<'_> {
         each(value, number).map_or_else(|| Err(self.wrong("bytes", why)), |list| Ok((list?, None)))
     }
 
+    /// The bytes of the whole snapshot, which may be said beside those of each fresh file.
+    fn whole_snapshot(&mut self, whole: Option<u64>) -> Checked<Option<u64>> {
+        const NAME: &str = "snapshot_bytes";
+        if !self.has(NAME) {
+            return Ok(whole);
+        }
+        if whole.is_some() {
+            return Err(self.wrong(NAME, "is said by bytes too, which is a list beside it"));
+        }
+        self.number(NAME, 0, GREATEST).map(Some)
+    }
+
     /// A payload in base64; `None` if there is no such member.
     fn payload(&mut self) -> Checked<Option<String>> {
         if !self.has("payload") {
@@ -308,6 +320,7 @@ fn ack(members: &mut Members, term: u64) -> Checked<Call> {
         let why = format!("has {} numbers, and fresh has {} files", bytes.len(), fresh.len());
         return Err(members.wrong("bytes", &why));
     }
+    let whole = members.whole_snapshot(whole)?;
     Ok(Call::Ack { term, id, subtask, fresh, reused, bytes, given: members.given(whole)? })
 }
 
@@ -503,6 +516,9 @@ mod tests {
         assert_eq!(given(r#","payload":"""#), Some((String::new(), None, None)));
         assert_eq!(given(r#","payload":"eA==","bytes":7,"millis":8"#), Some(("eA==".to_string(), Some(7), Some(8))));
         assert_eq!(given(r#","millis":0"#), Some((String::new(), None, Some(0))));
+        let beside_sizes = |more: &str| format!(r#","fresh":["3"],"bytes":[5],"snapshot_bytes":{more}"#);
+        assert_eq!(given(&beside_sizes("7")), Some((String::new(), Some(7), None)));
+        assert_eq!(given(r#","snapshot_bytes":0"#), Some((String::new(), Some(0), None)));
         let most = encode_block(&[255; MOST_PAYLOAD]);
         assert_eq!(given(&format!(r#","payload":"{most}""#)), Some((most, None, None)));
         let wrong = |rest: &str| calls(with(rest).as_bytes(), 1).err().map(|it| format!("{} {}", it.field, it.why));
@@ -514,6 +530,10 @@ mod tests {
             assert!(told.is_some_and(|it| it.starts_with("calls[0].payload ")), "{other}");
         }
         assert!(wrong(r#","millis":-1"#).is_some_and(|it| it.starts_with("calls[0].millis ")));
+        for whole in [r#"-1"#, r#"7,"bytes":7"#] {
+            let told = wrong(&format!(r#","snapshot_bytes":{whole}"#));
+            assert!(told.is_some_and(|it| it.starts_with("calls[0].snapshot_bytes ")), "{whole}");
+        }
         let decline =
             |reason: &str| format!(r#"{{"calls":[{{"call":"decline","id":1,"subtask":"0.0","reason":"{reason}"}}]}}"#);
         let long = "x".repeat(MOST_REASON + 1);
