@@ -230,13 +230,17 @@ pub struct Move {
 }
 
 #[derive(Args)]
-#[command(group = ArgGroup::new("kind").required(true).args(["self_signed", "certificate"]))]
+#[command(group = ArgGroup::new("kind").required(true).multiple(true).args(["self_signed", "certificate", "renew"]))]
 pub struct SetupTls {
     /// The name by which others reach the machine
     pub name: String,
     /// Make a certificate for the name that the machine signs itself, for 90 days
-    #[arg(long)]
+    #[arg(long, conflicts_with = "certificate")]
     pub self_signed: bool,
+    /// Put another certificate in the place of the one that is there: that of the folder `renewed` of the settings, which --self-signed makes, or
+    /// the one that is given
+    #[arg(long)]
+    pub renew: bool,
     /// A certificate with its chain, in PEM
     #[arg(long, value_name = "FILE", requires = "key")]
     pub certificate: Option<PathBuf>,

@@ -22,6 +22,7 @@ mod moving;
 mod process;
 mod put_back;
 mod remote;
+mod renew_tls;
 mod serve;
 mod setup_tls;
 mod sharing;

@@ -3,6 +3,7 @@
 use crate::cli;
 use crate::http::{NoTls, Tls, TlsFiles};
 use crate::log;
+use crate::renew_tls;
 use crate::store::sync_folder;
 use openssl::pkey::PKey;
 use openssl::x509::X509;
@@ -22,8 +23,8 @@ const DONE: &str = "setup-tls.done";
 const SETTINGS: &str = "service.toml";
 /// The settings as they were.
 const BEFORE: &str = "service.toml.before";
-const CERTIFICATE: &str = "certificate.pem";
-const KEY: &str = "key.pem";
+pub const CERTIFICATE: &str = "certificate.pem";
+pub const KEY: &str = "key.pem";
 const DROP_IN: &str = "tls.conf";
 const DROP_IN_FOLDER: &str = "relkvanu.service.d";
 const DAYS: &str = "90";
@@ -35,6 +36,9 @@ struct Part {
     name: &'static str,
     mode: u32,
 }
+
+/// Those of a certificate, with their modes.
+pub const OF_CERTIFICATE: [(&str, u32); 2] = [(KEY, 0o600), (CERTIFICATE, 0o644)];
 
 /// In the order in which they get in their place. With the settings the service speaks TLS.
 const PARTS: [Part; 7] = [
@@ -49,7 +53,7 @@ const PARTS: [Part; 7] = [
 
 /// Why nothing was set up, or not all.
 #[derive(Debug, Error)]
-enum NotSet {
+pub enum NotSet {
     #[error("{}: it is there, and is not replaced", .0.display())]
     Taken(PathBuf),
     #[error("{}: it has no lines `listen`, `# tls_certificate` and `# tls_key` as they are installed", .0.display())]
@@ -64,19 +68,21 @@ enum NotSet {
     Tls(#[from] NoTls),
     #[error("{}: another setup-tls runs", .0.display())]
     InUse(PathBuf),
+    #[error("{}: it is not there, so nothing is renewed", .0.display())]
+    NotThere(PathBuf),
     #[error("{}: {why}", .path.display())]
     File { path: PathBuf, why: io::Error },
 }
 
 /// What the system says of this file.
-fn of(path: &Path) -> impl Fn(io::Error) -> NotSet + '_ {
+pub fn of(path: &Path) -> impl Fn(io::Error) -> NotSet + '_ {
     |why| NotSet::File { path: path.to_path_buf(), why }
 }
 
 pub fn run(given: &cli::SetupTls) -> ExitCode {
-    match set_up(given) {
-        Ok(()) => {
-            log::info("the service speaks TLS from its next start on: systemctl daemon-reload, and systemctl restart relkvanu");
+    match if given.renew { renew_tls::renew(given) } else { set_up(given) } {
+        Ok(told) => {
+            log::info(&told);
             ExitCode::SUCCESS
         }
         Err(why) => {
@@ -86,7 +92,7 @@ pub fn run(given: &cli::SetupTls) -> ExitCode {
     }
 }
 
-fn set_up(given: &cli::SetupTls) -> Result<(), NotSet> {
+fn set_up(given: &cli::SetupTls) -> Result<String, NotSet> {
     let setup = Setup::open(given)?;
     let done = given.settings.join(DONE);
     if !setup.whole.exists() && !done.exists() {
@@ -98,7 +104,49 @@ fn set_up(given: &cli::SetupTls) -> Result<(), NotSet> {
         fs::rename(&setup.whole, &done).map_err(of(&done))?;
     }
     fs::remove_dir_all(&done).map_err(of(&done))?;
-    sync_folder(&done).map_err(of(&given.settings))
+    sync_folder(&done).map_err(of(&given.settings))?;
+    Ok("the service speaks TLS from its next start on: systemctl daemon-reload, and systemctl restart relkvanu"
+        .to_string())
+}
+
+/// No other command of this kind changes the settings as long as it is there.
+pub fn locked(settings: &Path) -> Result<File, NotSet> {
+    let lock = File::open(settings).map_err(of(settings))?;
+    flock(&lock, FlockOperation::NonBlockingLockExclusive).map_err(|_| NotSet::InUse(settings.to_path_buf()))?;
+    Ok(lock)
+}
+
+/// Makes a certificate and its key in a folder, or copies those that are given.
+pub fn make_certificate(given: &cli::SetupTls, folder: &Path) -> Result<(), NotSet> {
+    let files = TlsFiles { certificate: folder.join(CERTIFICATE), key: folder.join(KEY) };
+    match (&given.certificate, &given.key) {
+        (Some(certificate), Some(key)) => {
+            copied(certificate, &files.certificate)?;
+            copied(key, &files.key)?;
+        }
+        _ => sign(&given.name, &files)?,
+    }
+    for (name, mode) in OF_CERTIFICATE {
+        let path = folder.join(name);
+        fs::set_permissions(&path, Permissions::from_mode(mode)).map_err(of(&path))?;
+    }
+    if !fits(&files)? {
+        return Err(NotSet::OtherKey(files.key));
+    }
+    Tls::read(files)?; // as the service will
+    Ok(())
+}
+
+/// Makes a folder anew that an earlier run may have left, and which root alone reads.
+pub fn make_folder(path: &Path) -> Result<(), NotSet> {
+    if path.exists() {
+        fs::remove_dir_all(path).map_err(of(path))?;
+    }
+    DirBuilder::new().mode(0o700).create(path).map_err(of(path))
+}
+
+fn copied(from: &Path, to: &Path) -> Result<(), NotSet> {
+    written(to, fs::read_to_string(from).map_err(of(from))?.as_bytes(), 0o600)
 }
 
 /// Where all is made.
@@ -112,9 +160,8 @@ struct Setup<'a> {
 
 impl Setup<'_> {
     fn open(given: &cli::SetupTls) -> Result<Setup<'_>, NotSet> {
-        let lock = File::open(&given.settings).map_err(of(&given.settings))?;
-        flock(&lock, FlockOperation::NonBlockingLockExclusive).map_err(|_| NotSet::InUse(given.settings.clone()))?;
-        Ok(Setup { given, new: given.settings.join(NEW), whole: given.settings.join(WHOLE), _lock: lock })
+        let (new, whole) = (given.settings.join(NEW), given.settings.join(WHOLE));
+        Ok(Setup { given, new, whole, _lock: locked(&given.settings)? })
     }
 
     /// Where a part gets.
@@ -141,12 +188,9 @@ impl Setup<'_> {
 
     /// Makes all parts, and gives their folder its name once they are on the disk.
     fn make(&self) -> Result<(), NotSet> {
-        if self.new.exists() {
-            fs::remove_dir_all(&self.new).map_err(of(&self.new))?;
-        }
-        DirBuilder::new().mode(0o700).create(&self.new).map_err(of(&self.new))?;
+        make_folder(&self.new)?;
         self.make_tokens()?;
-        self.make_certificate()?;
+        make_certificate(self.given, &self.new)?;
         self.make_settings()?;
         PARTS.iter().try_for_each(|part| synced(&self.new.join(part.name)))?;
         sync_folder(&self.new.join(SETTINGS)).map_err(of(&self.new))?;
@@ -159,30 +203,6 @@ impl Setup<'_> {
         self.write("read-token", &format!("{read}\n"))?;
         self.write("write-token", &format!("{write}\n"))?;
         self.write("token", &format!("read {read}\nwrite {write}\n"))
-    }
-
-    fn make_certificate(&self) -> Result<(), NotSet> {
-        let files = TlsFiles { certificate: self.new.join(CERTIFICATE), key: self.new.join(KEY) };
-        match (&self.given.certificate, &self.given.key) {
-            (Some(certificate), Some(key)) => {
-                self.copy(certificate, CERTIFICATE)?;
-                self.copy(key, KEY)?;
-            }
-            _ => sign(&self.given.name, &files)?,
-        }
-        for part in PARTS.iter().filter(|part| [CERTIFICATE, KEY].contains(&part.name)) {
-            let path = self.new.join(part.name);
-            fs::set_permissions(&path, Permissions::from_mode(part.mode)).map_err(of(&path))?;
-        }
-        if !fits(&files)? {
-            return Err(NotSet::OtherKey(files.key));
-        }
-        Tls::read(files)?; // as the service will
-        Ok(())
-    }
-
-    fn copy(&self, from: &Path, name: &str) -> Result<(), NotSet> {
-        self.write(name, &fs::read_to_string(from).map_err(of(from))?)
     }
 
     fn make_settings(&self) -> Result<(), NotSet> {
@@ -247,14 +267,14 @@ fn taken(why: io::Error, path: &Path) -> NotSet {
 }
 
 /// Makes a file, which is on the disk then.
-fn written(path: &Path, contents: &[u8], mode: u32) -> Result<(), NotSet> {
+pub fn written(path: &Path, contents: &[u8], mode: u32) -> Result<(), NotSet> {
     let mut file = OpenOptions::new().write(true).create_new(true).mode(0o600).open(path).map_err(of(path))?;
     file.write_all(contents).map_err(of(path))?;
     file.set_permissions(Permissions::from_mode(mode)).map_err(of(path))?;
     file.sync_all().map_err(of(path))
 }
 
-fn synced(path: &Path) -> Result<(), NotSet> {
+pub fn synced(path: &Path) -> Result<(), NotSet> {
     File::open(path).and_then(|it| it.sync_all()).map_err(of(path))
 }
 

@@ -2,13 +2,14 @@
 not finish."""
 import os
 import shutil
+import signal
 import ssl
 import stat
 import subprocess
 import urllib.error
 import urllib.request
 
-from harness import COMMAND, PROGRAM, SERVICE, Server, folder
+from harness import COMMAND, PROGRAM, SERVICE, Server, folder, until
 from preloaded import SHIM, built, shim
 from test_security import certificate
 
@@ -130,6 +131,93 @@ def test_an_end_at_each_write():
         signed = sum(ends_at(machine, library, nth, 0, ("--self-signed",)) for nth in range(1, 60, 10))
         assert ended > 60 and signed > 3, (ended, signed)
         return f"{ended} ends, and {signed} while it signs"
+
+
+OTHER_CERTIFICATES = {"certificate.pem.before", "key.pem.before"}
+
+
+class Renewed(Machine):
+    """One that has a certificate, and gets another one."""
+
+    def fill(self):
+        super().fill()
+        assert self.ran("--self-signed")[0] == 0
+        self.first = self.pair()
+
+    def pair(self, at=""):
+        return tuple(content(f"{self.settings}/{at}{name}") for name in ("certificate.pem", "key.pem"))
+
+    def is_renewed(self, pair=None):
+        """With another certificate and its key, and those of before beside them."""
+        assert set(os.listdir(self.settings)) == MADE | OTHER_CERTIFICATES, os.listdir(self.settings)
+        assert self.pair() == pair if pair else self.pair()[0] != self.first[0]
+        assert tuple(content(f"{self.settings}/{name}.before") for name in ("certificate.pem", "key.pem")) == self.first
+        assert [stat.S_IMODE(os.stat(f"{self.settings}/{name}").st_mode) for name in ("certificate.pem", "key.pem")] == [0o644, 0o600]
+
+    def is_of_one(self, pair):
+        """Each of the two files is whole: the one of before, or the other one."""
+        assert all(found in (one, other) for found, one, other in zip(self.pair(), self.first, pair)), self.pair()
+
+
+def test_a_certificate_is_renewed():
+    with folder() as at:
+        machine = Renewed(at)
+        for _ in range(2):
+            status, told = machine.ran("--renew", "--self-signed")
+            assert status == 0 and "renewed/certificate.pem" in told and "beside that one" in told and machine.pair() == machine.first, told
+        made = machine.pair("renewed/")
+        assert made[0] != machine.first[0] and stat.S_IMODE(os.stat(f"{machine.settings}/renewed").st_mode) == 0o700
+        server = TlsServer(at, machine).start()
+        assert server.get("/readyz")[0] == 200
+        status, told = machine.ran("--renew")
+        assert status == 0 and "systemctl reload relkvanu" in told, told
+        machine.is_renewed(made)
+        server.process.send_signal(signal.SIGHUP)
+        until(lambda: answers(server))
+        assert server.stop() == 0
+        # nothing is prepared, or there is no certificate
+        status, told = machine.ran("--renew")
+        assert status == 1 and "renewed: it is not there" in told, told
+        bare = Machine(at)
+        status, told = bare.ran("--renew", "--self-signed")
+        assert status == 1 and "key.pem: it is not there" in told and os.listdir(bare.settings) == ["service.toml"], told
+        return "a reload"
+
+
+def answers(server):
+    try:
+        return answer(server, server.ca, "/readyz") == 200
+    except OSError:
+        return False
+
+
+def test_a_renewal_ends_at_each_write():
+    with folder() as at:
+        library, machine, ended = built(at, SHIM), Renewed(at), 0
+        certificate(at, "first")
+        pair = (content(f"{at}/certificate.pem"), content(f"{at}/key.pem"))
+        words = ("--renew", "--certificate", f"{at}/certificate.pem", "--key", f"{at}/key.pem")
+        while True:
+            machine.fill()
+            status, told = machine.ran(*words, before=shim(library, machine.at, die=ended // 2 + 1, die_after=ended % 2, raw=1))
+            machine.is_of_one(pair)
+            if status == 0:
+                break
+            assert status == KILLED, told
+            assert machine.ran(*words)[0] == 0
+            machine.is_renewed(pair)
+            ended += 1
+        machine.is_renewed(pair)
+        # another one is prepared: it is not replaced, and neither is anything where the key is of another certificate
+        machine.fill()
+        assert machine.ran("--renew", "--self-signed")[0] == 0
+        status, told = machine.ran(*words)
+        assert status == 1 and "renewed: it is there, and is not replaced" in told and machine.pair() == machine.first, told
+        shutil.rmtree(f"{machine.settings}/renewed")
+        status, told = machine.ran("--renew", "--certificate", f"{at}/certificate.pem", "--key", f"{machine.settings}/key.pem")
+        assert status == 1 and "is not the key of the certificate" in told and set(os.listdir(machine.settings)) == MADE, told
+        assert machine.ran("--renew", "--self-signed", *words[1:])[0] == 2 and ended > 20, ended
+        return f"{ended} ends"
 
 
 def test_nothing_is_replaced():

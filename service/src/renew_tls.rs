@@ -1,0 +1,89 @@
+//! `relkvanu setup-tls --renew`: makes another certificate in a folder of its own, and puts it in the place of the one that is there, which gets another name. After
+//! an end at any moment the same command goes on.
+use crate::cli;
+use crate::setup_tls::{
+    locked, make_certificate, make_folder, of, synced, written, NotSet, CERTIFICATE, OF_CERTIFICATE,
+};
+use crate::store::sync_folder;
+use std::fs;
+use std::path::Path;
+
+/// The folder of what is made; and its name once all of it is there.
+const NEW: &str = "renewed.new";
+const WHOLE: &str = "renewed";
+
+/// Makes a certificate, puts one in its place, or both if it is given. Returns what was done, and what comes next.
+pub fn renew(given: &cli::SetupTls) -> Result<String, NotSet> {
+    let _lock = locked(&given.settings)?;
+    for (name, _) in OF_CERTIFICATE {
+        is_there(&given.settings.join(name))?;
+    }
+    let (new, whole) = (given.settings.join(NEW), given.settings.join(WHOLE));
+    if new.exists() {
+        fs::remove_dir_all(&new).map_err(of(&new))?; // an earlier run has left it
+    }
+    if given.self_signed {
+        let is_made = if whole.exists() { "was made before" } else { "is made" };
+        make(given, &whole)?;
+        let (at, name) = (whole.join(CERTIFICATE), &given.name);
+        return Ok(format!(
+            "{} {is_made}: give it to each machine that trusts the certificate that is there, beside that one. Then: relkvanu setup-tls {name} --renew",
+            at.display()
+        ));
+    }
+    if given.certificate.is_some() {
+        make(given, &whole)?;
+    }
+    is_there(&whole)?;
+    OF_CERTIFICATE.into_iter().try_for_each(|(name, mode)| put(&whole, &given.settings, name, mode))?;
+    fs::rename(&whole, &new).map_err(of(&whole))?;
+    sync_folder(&new).map_err(of(&given.settings))?;
+    fs::remove_dir_all(&new).map_err(of(&new))?;
+    Ok("the certificate is renewed, and served after: systemctl reload relkvanu".to_string())
+}
+
+fn is_there(path: &Path) -> Result<(), NotSet> {
+    if path.exists() {
+        Ok(())
+    } else {
+        Err(NotSet::NotThere(path.to_path_buf()))
+    }
+}
+
+/// Makes the folder, unless it is there: one that is given has to be that one then.
+fn make(given: &cli::SetupTls, whole: &Path) -> Result<(), NotSet> {
+    if whole.exists() {
+        let same = |from: &Path, name: &str| fs::read(from).ok() == fs::read(whole.join(name)).ok();
+        let is_given = given.certificate.as_deref().map_or(true, |it| same(it, CERTIFICATE));
+        return if is_given { Ok(()) } else { Err(NotSet::Taken(whole.to_path_buf())) };
+    }
+    let new = given.settings.join(NEW);
+    make_folder(&new)?;
+    if let Err(why) = make_certificate(given, &new) {
+        fs::remove_dir_all(&new).map_err(of(&new))?;
+        return Err(why);
+    }
+    OF_CERTIFICATE.into_iter().try_for_each(|(name, _)| synced(&new.join(name)))?;
+    sync_folder(&new.join(CERTIFICATE)).map_err(of(&new))?;
+    fs::rename(&new, whole).map_err(of(whole))?;
+    sync_folder(whole).map_err(of(&given.settings))
+}
+
+/// Replaces a file, unless it was replaced before. The one that was there stays under another name.
+fn put(whole: &Path, settings: &Path, name: &str, mode: u32) -> Result<(), NotSet> {
+    let (made, target) = (whole.join(name), settings.join(name));
+    let contents = fs::read(&made).map_err(of(&made))?;
+    if fs::read(&target).map_err(of(&target))? == contents {
+        return Ok(());
+    }
+    let (before, new) = (settings.join(format!("{name}.before")), settings.join(format!(".{name}.{NEW}")));
+    for left in [&before, &new] {
+        if left.symlink_metadata().is_ok() {
+            fs::remove_file(left).map_err(of(left))?;
+        }
+    }
+    fs::hard_link(&target, &before).map_err(of(&before))?;
+    written(&new, &contents, mode)?;
+    fs::rename(&new, &target).map_err(of(&target))?;
+    sync_folder(&target).map_err(of(settings))
+}
