@@ -147,6 +147,9 @@ pub struct Sweep {
     /// Begin again after this time, as 15m or 1h, until the command is ended
     #[arg(long, value_name = "TIME", value_parser = time)]
     pub every: Option<Duration>,
+    /// Wait at first, at most so long, until the place has the marker that the discarder of the job makes
+    #[arg(long, value_name = "SECONDS", default_value_t = 0)]
+    pub await_marker: u64,
     /// Print no names, only the sums of each sweep
     #[arg(long)]
     pub quiet: bool,
@@ -187,7 +190,7 @@ pub struct Backup {
 #[derive(Args)]
 pub struct PutBack {
     /// The copy, which stays as it is
-    #[arg(value_name = "COPY", required_unless_present = "back", conflicts_with = "back")]
+    #[arg(value_name = "COPY", required_unless_present_any = ["back", "none"], conflicts_with_all = ["back", "none"])]
     pub copy: Option<PathBuf>,
     /// The SQLite file
     #[arg(long, value_name = "FILE", default_value = "relkvanu.db")]
@@ -201,6 +204,9 @@ pub struct PutBack {
     /// Put the files back that were set aside, and set those aside that are there now
     #[arg(long)]
     pub back: bool,
+    /// Put no copy in the place of the files that are set aside: the next start of the service makes a new database
+    #[arg(long, conflicts_with = "back")]
+    pub none: bool,
 }
 
 #[derive(Args)]

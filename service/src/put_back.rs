@@ -1,5 +1,5 @@
-//! `relkvanu put-back`: puts a copy of an SQLite database in its place, and sets the files that are there aside. An end at any moment loses none of
-//! them: the same command goes on.
+//! `relkvanu put-back`: puts a copy of an SQLite database in its place, or nothing, and sets the files that are there aside. An end at any moment loses
+//! none of them: the same command goes on.
 use crate::check;
 use crate::cli;
 use crate::database::{Database, NoDatabase};
@@ -51,7 +51,12 @@ fn of(path: &Path) -> impl Fn(io::Error) -> NotPut + '_ {
 }
 
 pub fn run(given: &cli::PutBack) -> ExitCode {
-    match given.copy.as_deref().map_or_else(|| put_aside_back(given), |copy| put(given, copy)) {
+    let done = match given.copy.as_deref() {
+        Some(copy) => put(given, copy),
+        None if given.none => put_none(given),
+        None => put_aside_back(given),
+    };
+    match done {
         Ok(text) => {
             log::info(&text);
             ExitCode::SUCCESS
@@ -198,6 +203,14 @@ fn put(given: &cli::PutBack, copy: &Path) -> Result<String, NotPut> {
     fs::rename(&new, &place.database).map_err(of(&new))?;
     synced(&place.folder)?;
     Ok(format!("{} is the copy, and what was there is in {}", place.database.display(), place.aside.display()))
+}
+
+/// Sets the files aside, of a database that is lost. Returns what was done.
+fn put_none(given: &cli::PutBack) -> Result<String, NotPut> {
+    let place = Replaced::open(given)?;
+    make_folder(&place.aside)?;
+    place.move_all(&place.folder, &place.aside)?;
+    Ok(format!("{} is not there, and what was there is in {}", place.database.display(), place.aside.display()))
 }
 
 /// Puts the files back that were set aside. Those that are there go into another folder, and then the name of the first folder says that all that is in the place

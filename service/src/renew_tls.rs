@@ -54,8 +54,8 @@ fn is_there(path: &Path) -> Result<(), NotSet> {
 fn make(given: &cli::SetupTls, whole: &Path) -> Result<(), NotSet> {
     if whole.exists() {
         let same = |from: &Path, name: &str| fs::read(from).ok() == fs::read(whole.join(name)).ok();
-        let is_given = given.certificate.as_deref().map_or(true, |it| same(it, CERTIFICATE));
-        return if is_given { Ok(()) } else { Err(NotSet::Taken(whole.to_path_buf())) };
+        let other = given.certificate.as_deref().filter(|it| !same(it, CERTIFICATE));
+        return other.map_or(Ok(()), |_| Err(NotSet::Taken(whole.to_path_buf())));
     }
     let new = given.settings.join(NEW);
     make_folder(&new)?;
@@ -71,8 +71,8 @@ fn make(given: &cli::SetupTls, whole: &Path) -> Result<(), NotSet> {
 
 /// Replaces a file, unless it was replaced before. The one that was there stays under another name.
 fn put(whole: &Path, settings: &Path, name: &str, mode: u32) -> Result<(), NotSet> {
-    let (made, target) = (whole.join(name), settings.join(name));
-    let contents = fs::read(&made).map_err(of(&made))?;
+    let (from, target) = (whole.join(name), settings.join(name));
+    let contents = fs::read(&from).map_err(of(&from))?;
     if fs::read(&target).map_err(of(&target))? == contents {
         return Ok(());
     }

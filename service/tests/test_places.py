@@ -4,9 +4,11 @@ import os
 import re
 import subprocess
 import tempfile
+import time
 import urllib.request
+from contextlib import contextmanager
 
-from harness import COMMAND, SERVICE, free_port, until
+from harness import COMMAND, PROGRAM, SERVICE, free_port, served, until
 from places import Bucket, a_job, around, files, over_both, ran, words_of
 from relkvanu_service import Service, dispose, savepoint
 
@@ -394,3 +396,63 @@ def test_the_helper_ends_with_the_command():
                 run.kill()
         until(lambda: not os.path.exists(f"/proc/{pid}") or "Z" in open(f"/proc/{pid}/stat", encoding="ascii").read().rpartition(")")[2])
         return "its input ends"
+
+
+def command_of(unit, known):
+    """What a unit runs, with what systemd puts in."""
+    with open(f"{SERVICE}/deploy/{unit}.service", encoding="utf-8") as it:
+        text = it.read()
+    assert "EnvironmentFile=/etc/relkvanu/bucket-%i.conf\n" in text
+    (line,) = re.findall(r"^ExecStart=/usr/local/bin/relkvanu (.*)$", text, re.M)
+    for name, value in known.items():
+        line = line.replace(name, value)
+    assert "$" not in line and "%" not in line, line
+    return [PROGRAM, *line.split()]
+
+
+def left_in(place):
+    """The files of a bucket, though somebody deletes them meanwhile."""
+    pages = place.s3.get_paginator("list_objects_v2").paginate(Bucket=place.bucket, Prefix="orders/s-")
+    return [it["Key"].partition("/")[2] for page in pages for it in page.get("Contents", [])]
+
+
+@contextmanager
+def running(words, place):
+    """A process, which ends with the block."""
+    with subprocess.Popen(words, env=around(place), stdout=subprocess.PIPE, stderr=subprocess.DEVNULL, text=True) as process:
+        try:
+            yield process
+        finally:
+            process.terminate()
+
+
+def test_the_units_of_a_bucket():
+    """The sweeper waits for the marker, which the discarder makes. Then both delete."""
+    with served(names=True) as server:
+        job, place = Service(server.url).open("a", SETTINGS, [1]), Bucket(server.folder)
+        with open(f"{server.folder}/token", "w", encoding="utf-8") as it:
+            it.write("w" * 20)
+        options = " ".join(it for it in place.words("s-", "") if it not in ("--suffix", ""))
+        known = {"%i": "a", "%d": server.folder, "${EVERY}": "2s", "$OPTIONS": f"{options} --url {server.url}", "$DISCARD": "", "$SWEEP": "", "$RELKVANU_OPTIONS": ""}
+        sweeps, discards = (command_of(it, known) for it in ("relkvanu-bucket-sweep@", "relkvanu-bucket@"))
+        task = job.begin().session(block=3)
+        garbage = task.name()
+        place.put(f"s-{garbage}", b"state")
+        job.begin()
+        with running(sweeps, place) as sweeper:
+            time.sleep(4)
+            assert sweeper.poll() is None and left_in(place) == [f"s-{garbage}"], sweeper.poll()
+            with running(discards, place) as discarder:
+                until(lambda: left_in(place) == [])
+                names = released(job, job.begin().session(block=4), place, 2)
+                until(lambda: left_in(place) == [f"s-{names[2]}"] and counts(job) == (0, 0))
+                assert (sweeper.poll(), discarder.poll()) == (None, None)
+            sweeper.terminate()
+            assert f"deleted orders/s-{garbage} 5\n" in sweeper.stdout.read()
+        # without a discarder it ends, as somebody has to look
+        place.remove(job.marker()[0])
+        sweeps[sweeps.index("--await-marker") + 1] = "3"
+        began = time.monotonic()
+        told = subprocess.run(sweeps, env=around(place), capture_output=True, text=True, timeout=COMMAND, check=False)
+        assert told.returncode == 78 and "has no file .relkvanu-a" in told.stderr and time.monotonic() - began > 3, told
+        return "both over a bucket"

@@ -177,6 +177,60 @@ def test_a_restore_and_its_way_back():
         return f"{puts} ends of a restore, and {backs} of its way back"
 
 
+def test_a_lost_database_makes_room_for_a_new_one():
+    """The files of the lost one are set aside once: given again, the command serves the new one, which is never set aside with them."""
+    with folder() as at:
+        machine = Machine(at)
+        # a service that starts makes a database
+        write(f"{at}/systemctl", content(f"{at}/systemctl").replace("    case $word in\n", f"""    case $word.$name in
+    enable.relkvanu.service) [ -e {machine.lib}/relkvanu.db ] || printf new > {machine.lib}/relkvanu.db;;
+    esac
+    case $word in\n"""), 0o755)
+        new = {"relkvanu.db": "new"}
+
+        def fill(files):
+            machine.fill({})
+            shutil.rmtree(machine.lib)
+            os.mkdir(machine.lib)
+            for name, text in files.items():
+                write(f"{machine.lib}/{name}", text)
+
+        def is_new(files):
+            assert machine.files() == new and machine.files("lost") == files | {"whole": "the lost database is here\n"}, (machine.files(), machine.files("lost"))
+            assert machine.active() == machine.enabled() == ["relkvanu.service"] and content(machine.noted).split() == ENABLED
+            machine.is_tidy()
+
+        def none_is_lost():
+            folders = ["", *(["lost"] if os.path.isdir(f"{machine.lib}/lost") else [])]
+            found = [it for folder in folders for it in machine.files(folder).items()]
+            assert all(found.count(it) == 1 for it in DAMAGED.items()), found
+
+        ended = machine.steps.ends(["anew"], lambda: fill(DAMAGED), lambda: is_new(DAMAGED), none_is_lost)
+        status, told = machine.steps.run("anew")
+        assert status == 0 and "has a database already, and the one that is there is served" in told, told
+        is_new(DAMAGED)
+        # as a loss of power leaves it, and a disk that was lost with all
+        for moved in itertools.chain.from_iterable(itertools.combinations(DAMAGED, size) for size in range(4)):
+            fill(DAMAGED)
+            os.mkdir(f"{machine.lib}/lost")
+            for name in moved:
+                os.rename(f"{machine.lib}/{name}", f"{machine.lib}/lost/{name}")
+            assert machine.steps.run("anew")[0] == 0
+            is_new(DAMAGED)
+        fill({})
+        os.rmdir(machine.lib)
+        assert machine.steps.run("anew")[0] == 0
+        is_new({})
+        # a folder of somebody
+        fill(DAMAGED)
+        os.mkdir(f"{machine.lib}/lost")
+        write(f"{machine.lib}/lost/relkvanu.db", "another")
+        status, told = machine.steps.run("anew")
+        assert status == 1 and "lost has relkvanu.db already: name another folder" in told and machine.files() == DAMAGED and machine.active() == [], told
+        assert machine.steps.run("anew", "more")[0] == 2 and ended > 16, ended
+        return f"{ended} ends"
+
+
 def test_a_smaller_database_and_a_machine_that_is_left():
     """The copy has each call, since the service was stopped before it. One that is older than the database is not taken."""
     with folder() as at:
@@ -379,6 +433,29 @@ def test_the_end_of_a_job_takes_its_units():
         return f"{ended} ends"
 
 
+def test_discarders_of_a_bucket():
+    """`stop`, `discard` and `end` know their units too. The job `sweep-x` has the file that would be that of the sweeper of `x`."""
+    units = ["relkvanu-bucket-sweep@x.service", "relkvanu-bucket@sweep-x.service", "relkvanu-bucket@x.service"]
+    with folder() as at:
+        machine = Machine(at)
+        write(f"{at}/relkvanu", f"""#!/bin/sh
+            echo $* >> {at}/asked
+            printf '{{"files":{{"waiting":0,"taken":0}}}}'\n""", 0o755)
+        write(f"{at}/systemctl", content(f"{at}/systemctl").replace("word=$1; shift\n", f"""word=$1; shift
+            echo $word $1 $(cat {at}/run/*.options 2> /dev/null) >> {at}/told\n"""), 0o755)
+        machine.fill({}, units)
+        assert machine.steps.run("stop")[0] == 0 and machine.active() == [] and content(machine.noted).split() == units
+        write(f"{at}/told", "")
+        assert machine.steps.run("discard")[0] == 0 and machine.active() == units[1:]
+        assert [it for it in content(f"{at}/told").splitlines() if "options" in it.lower()] == [f"start {it} RELKVANU_OPTIONS=--allow-absent" for it in units[1:]]
+        assert machine.steps.run("start")[0] == 0
+        for name in ("bucket-x", "bucket-sweep-x"):
+            write(f"{at}/etc/{name}.conf", "OPTIONS=--bucket state\n")
+        assert machine.steps.run("end", "x", "--bucket", "state")[0] == 0
+        assert machine.enabled() == ["relkvanu-bucket@sweep-x.service"] and os.listdir(f"{at}/etc") == ["bucket-sweep-x.conf"]
+        return "three units"
+
+
 def tree(at, *names):
     """Each file of these folders, with its content and its mode."""
     found = [f"{folder}/{name}" for it in names for folder, _, those in os.walk(f"{at}/{it}") for name in those]
@@ -473,6 +550,112 @@ def check_what_add_refuses(machine, fill, files):
     write(f"{machine.at}/etc/write-token", "secret\n")
     assert machine.steps.run("add", "orders", files, "--every", "never")[0] == 0 and machine.enabled() == sorted([ENABLED[0], JOBS[0], "relkvanu.service"])
     assert not os.path.exists(f"{machine.at}/etc/sweep-orders.conf") and content(f"{machine.at}/etc/discard-orders.conf") == f"FOLDER={files}\nOPTIONS=\n"
+
+
+OF_BUCKET = {"etc/bucket-orders.conf": ("OPTIONS=--url https://a:1 --bucket state --prefix orders/state- --suffix .bin --endpoint http://b:2 --keeps-versions --region eu\n"
+                                        "DISCARD=--metrics 127.0.0.1:7784\nSWEEP=--metrics 127.0.0.1:7785\nEVERY=15m\n"),
+             "etc/discard-token": "secret\n", "etc/sweep-token": "secret\n"
+             } | {f"units/relkvanu-{it}@orders.service.d/job.conf": "[Service]\nUser=root\n" for it in ("bucket", "bucket-sweep")}
+
+
+def test_a_job_in_a_bucket_gets_its_units():
+    """Its sweeper awaits the marker itself. A user is named if it is not the machine that has the keys."""
+    with folder() as at:
+        machine = Machine(at, writers=SET_UP_WRITERS)
+        write(f"{at}/systemctl", content(f"{at}/systemctl").replace("    case $word in\n", '    [ "$word.${NO_UNIT:-}" != "cat.$it" ] || exit 1\n    case $word in\n'), 0o755)
+        write(f"{at}/bin/python3", "#!/bin/sh\n[ -z \"${NO_BOTO:-}\" ]\n", 0o755)
+        words = ["add", "orders", "s3://state/orders/state-", "--suffix", ".bin", "--endpoint", "http://b:2", "--keeps-versions", "--region", "eu",
+                 "--user", "root", "--metrics", "127.0.0.1:7784", "--every", "15m"]
+        mine = {"etc/write-token": "secret\n", "etc/bucket-bills.conf": "OPTIONS=--bucket bills --metrics 127.0.0.1:7790\n"}
+        units = ["relkvanu-bucket-sweep@orders.service", "relkvanu-bucket@orders.service", "relkvanu.service"]
+
+        def fill():
+            machine.fill({}, ())
+            for name, text in mine.items():
+                write(f"{at}/{name}", text)
+
+        def is_added(wanted):
+            found = tree(at, "etc", "units")
+            assert {name: it for name, (it, _) in found.items() if ".wants/" not in name} == mine | wanted, found
+            machine.is_tidy()
+
+        def runs():
+            is_added(OF_BUCKET)
+            assert machine.active() == machine.enabled() == units, machine.enabled()
+
+        settings = {"OPTIONS": "--url https://a:1"}
+        ended = machine.steps.ends(words, fill, runs, **settings)
+        before = tree(at, "etc", "units", "active")
+        assert machine.steps.run(*words, **settings)[0] == 0 and tree(at, "etc", "units", "active") == before
+        refusals(machine, [(1, "bucket-orders.conf is there, and says otherwise", *words[:3])], **settings)
+        # by the role of the machine, and without names
+        fill()
+        assert machine.steps.run("add", "orders", "s3://state/state-", "--every", "never")[0] == 0 and machine.enabled() == units[1:]
+        is_added({"etc/discard-token": "secret\n", "etc/sweep-token": "secret\n",
+                  "etc/bucket-orders.conf": "OPTIONS=--bucket state --prefix state-\nDISCARD=\nSWEEP=\nEVERY=never\n"})
+        fill()
+        refusals(machine, [
+            *((2, "name a bucket and the prefix", "add", "orders", it) for it in ("s3://", "s3://state", "s3://state/", "s3:///state-")),
+            (2, "can't be in settings", "add", "orders", "s3://state/a b"), (2, "--prefix is no word of it", "add", "orders", "s3://state/x-", "--prefix", "a"),
+            (2, "--user is no word of it", "add", "orders", at, "--user", "root"), (1, "nobody-here is no user", "add", "orders", "s3://state/x-", "--user", "nobody-here"),
+            *((1, "has another unit", "add", "orders", "s3://state/x-", "--metrics", f"127.0.0.1:{it}") for it in (7790, 7789)),
+        ])
+        refusals(machine, [(78, "python3-boto3 is missing", *words)], NO_BOTO="1")
+        for unit in ("relkvanu-bucket@orders", "relkvanu-bucket-sweep@orders"):
+            refusals(machine, [(1, f"the unit {unit} is not installed", *words)], NO_UNIT=unit)
+        os.remove(f"{at}/etc/write-token")
+        refusals(machine, [(1, "write-token: there is no such file", *words)])
+        assert ended > 30, ended
+        return f"{ended} ends"
+
+
+def test_a_service_gets_a_postgresql_database():
+    """The drop-in of its password, and three lines of its settings. Other lines stay, and a service that runs elsewhere does."""
+    with folder() as at:
+        machine = Machine(at, writers=SET_UP_WRITERS)
+        installed = content(f"{SERVICE}/deploy/service.toml")
+        words = ["postgres", "postgres://relkvanu@db.example/relkvanu?sslmode=require", "--listen", "10.0.0.5:7780", "--advertise", "https://relkvanu1.example:7780"]
+        wanted = installed.replace('listen = "127.0.0.1:7780"', 'listen = "10.0.0.5:7780"').replace(
+            '# advertise = "http://127.0.0.1:7780"', 'advertise = "https://relkvanu1.example:7780"').replace(
+            'database = "/var/lib/relkvanu/relkvanu.db"',
+            'database = "postgres://relkvanu@db.example/relkvanu?sslmode=require&passfile=/run/credentials/relkvanu.service/pgpass"')
+        assert sum(one != other for one, other in zip(installed.splitlines(), wanted.splitlines())) == 3
+        write(f"{at}/operate", content(f"{at}/operate").replace(f"{at}/run/credentials", "/run/credentials"), 0o755)
+
+        def fill():
+            machine.fill({}, ())
+            subprocess.run([f"{at}/systemctl", "disable", "--now", "relkvanu"], check=True, timeout=COMMAND)
+            write(f"{at}/etc/pgpass", "secret\n", 0o600)
+            write(f"{at}/etc/service.toml", installed)
+
+        def is_over_postgres():
+            assert content(f"{at}/etc/service.toml") == wanted
+            assert content(f"{at}/units/relkvanu.service.d/pgpass.conf") == f"[Service]\nLoadCredential=pgpass:{at}/etc/pgpass\n"
+            assert machine.active() == machine.enabled() == ["relkvanu.service"]
+            machine.is_tidy()
+
+        def is_whole():
+            assert content(f"{at}/etc/service.toml") in (installed, wanted)
+
+        ended = machine.steps.ends(words, fill, is_over_postgres, is_whole)
+        assert machine.steps.run(*words)[0] == 0
+        is_over_postgres()
+        refusals(machine, [(1, "names another database", "postgres", "postgres://relkvanu@other.example/relkvanu"), (2, "postgres URL", "postgres"),
+                           (2, "postgres URL", "postgres", "relkvanu.db"), (2, "is no word of it", *words, "--prefix", "x"),
+                           (2, "can't be in settings", "postgres", "postgres://a@b/c?passfile=x"), (2, "can't be in settings", *words[:2], "--listen", "a|b")])
+        # over SQLite a service runs
+        fill()
+        subprocess.run([f"{at}/systemctl", "enable", "--now", "relkvanu"], check=True, timeout=COMMAND)
+        refusals(machine, [(1, "runs over another database", *words)])
+        fill()
+        write(f"{at}/etc/service.toml", installed.replace("# advertise = ", "# other = "))
+        refusals(machine, [(1, "has no line advertise, or more than one", *words)])
+        for name in ("service.toml", "pgpass"):
+            fill()
+            os.remove(f"{at}/etc/{name}")
+            refusals(machine, [(1, f"{name}: there is no such file", *words)])
+        assert ended > 12, ended
+        return f"{ended} ends"
 
 
 DROP_INS = "units/relkvanu-backup.service.d"
@@ -789,10 +972,50 @@ def test_a_dump_gets_in_its_place():
         sql("drop database relkvanu_restored")
         write(f"{at}/check", "#!/bin/sh\nexit 1\n", 0o755)
         assert steps.run("copy.dump", url, **environment)[0] == 1 and of("relkvanu") == "damaged" and "relkvanu_aside" not in databases()
+        check_an_empty_one(steps, environment, url, databases, of, sql, fill)
+        write(f"{at}/check", f'#!/bin/sh\necho "$@" >> {at}/checked\n', 0o755)
+        check_a_try(steps, environment, url, databases, fill)
         # the disk was lost, and the copy was checked before
         drop()
         assert steps.run("copy.dump", url, "--checked", **environment)[0] == 0 and (databases(), of("relkvanu")) == ({"relkvanu"}, "dumped")
-        for words in ((), ("copy.dump",), ("copy.dump", "relkvanu.db"), ("copy.dump", "postgres://db/relkvanu")):
+        for words in ((), ("copy.dump",), ("copy.dump", "relkvanu.db"), ("copy.dump", "postgres://db/relkvanu"), ("--none",), ("--try", "copy.dump")):
             assert steps.run(*words, **environment)[0] == 2, words
         assert puts > 10 and backs > 4, (puts, backs)
         return f"{puts} ends, and {backs} of its way back"
+
+
+def check_an_empty_one(steps, environment, url, databases, of, sql, fill):
+    """In the place of a database that is lost. Once a service has run over it, it is not replaced."""
+    def is_empty():
+        assert databases() == {"relkvanu", "relkvanu_aside"} and of("relkvanu_aside") == "damaged", databases()
+        assert sql("select count(*) from pg_class where relnamespace = 'public'::regnamespace", "relkvanu") == "0"
+
+    def is_known():
+        assert of("relkvanu_aside" if "relkvanu_aside" in databases() else "relkvanu") == "damaged", databases()
+
+    ended = steps.ends(("--none", url), fill, is_empty, is_known, **environment)
+    sql("create table call(text text); insert into call values('later')", "relkvanu")
+    status, told = steps.run("--none", url, **environment)
+    assert status == 1 and "there is a database relkvanu_aside already" in told and of("relkvanu") == "later", told
+    assert steps.run("--back", url, **environment)[0] == 0 and (of("relkvanu"), of("relkvanu_not_used")) == ("damaged", "later")
+    sql("drop database relkvanu_not_used")
+    assert ended > 8, ended
+
+
+def check_a_try(steps, environment, url, databases, fill):
+    """The database of the service stays, and that of the try goes, also what an earlier one has left."""
+    tried, history = f"{url}_try", f"{steps.at}/relkvanu-try.history"
+
+    def filled():
+        fill()
+        write(f"{steps.at}/checked", "")
+
+    def is_tried():
+        assert databases() == {"relkvanu"} and not os.path.exists(history), databases()
+        assert content(f"{steps.at}/checked").splitlines()[-2:] == [
+            f"check --database {tried}", f"serve --database {tried} --listen 127.0.0.1:7799 --history {history} --accept-clock"]
+
+    settings = {**environment, "TMPDIR": steps.at}
+    assert steps.ends(("--try", "copy.dump", url), filled, is_tried, **settings) > 10
+    status, told = steps.run("--try", "none.dump", url, **settings)
+    assert status == 1 and "none.dump: there is no such file" in told and databases() == {"relkvanu"}, told

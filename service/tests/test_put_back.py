@@ -96,10 +96,19 @@ def test_ends_at_each_write():
             place.fill(DAMAGED)
             assert ran(place.copy, *place.words)[0] == 0
 
+        def is_none():
+            aside = {name: text.encode() for name, text in DAMAGED.items()}
+            assert (place.of(place.at), place.of(place.aside)) == ({}, aside), (place.of(place.at), place.of(place.aside))
+
         puts = ends(place, library, (place.copy, *place.words), lambda: place.fill(DAMAGED), is_put)
         backs = ends(place, library, ("--back", *place.words), put, is_back)
-        assert puts > 20 and backs > 16, (puts, backs)
-        return f"{puts} ends of a put, and {backs} of the way back"
+        nones = ends(place, library, ("--none", *place.words), lambda: place.fill(DAMAGED), is_none)
+        # given again it does nothing more, and the way back is the same
+        assert ran("--none", *place.words)[0] == 0
+        is_none()
+        assert ran("--back", *place.words)[0] == 0 and place.of(place.at) == {name: text.encode() for name, text in DAMAGED.items()}
+        assert puts > 20 and backs > 16 and nones > 8, (puts, backs, nones)
+        return f"{puts} ends of a put, {nones} of one of nothing, and {backs} of the way back"
 
 
 def test_what_is_there_stays():
@@ -117,6 +126,17 @@ def test_what_is_there_stays():
         assert status == 1 and "aside has relkvanu.db already: name another folder" in told, told
         assert content(f"{place.database}-wal") == b"later calls" and not os.path.exists(f"{place.database}.restored")
         assert ran(place.copy, *place.words, "--aside", f"{place.at}/another")[0] == 0 and sorted(place.of(f"{place.at}/another")) == ["relkvanu.db", "relkvanu.db-wal"]
+        # a new database that a service has made is not set aside beside the lost one
+        place.fill({"relkvanu.db": "damaged"})
+        assert ran("--none", *place.words)[0] == 0 and place.of(place.at) == {}
+        with open(place.database, "w", encoding="utf-8") as it:
+            it.write("new")
+        status, told = ran("--none", *place.words)
+        assert status == 1 and "aside has relkvanu.db already: name another folder" in told and content(place.database) == b"new", told
+        for words in ((), ("--none", "--back"), ("--none", place.copy), ("--back", place.copy)):
+            assert ran(*words, *place.words)[0] == 2, words
+        place.fill({})
+        assert ran(place.copy, *place.words)[0] == 0
         # a copy over which no service can run
         with open(f"{at}/bad.db", "w", encoding="utf-8") as it:
             it.write("no database")

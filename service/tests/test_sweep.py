@@ -299,12 +299,20 @@ def test_the_unit():
         assert told.startswith("deleted s-1 5\nlisted=1 garbage=1 bytes=5 deleted=1 failed=0 unissued=0"), told
     if not shutil.which("systemd-analyze"):
         raise Skipped("systemd-analyze", "it is not here")
+    found = [exposure_of(name) for name in ("relkvanu-sweep@", "relkvanu-bucket@", "relkvanu-bucket-sweep@")]
+    assert all(it < 3 for it in found), found
+    return f"it sweeps each {every}, exposure {found[0]}, and of those of a bucket {found[1]} and {found[2]}"
+
+
+def exposure_of(name):
+    """How open a unit is, which systemd can read."""
     with folder() as at:
-        shutil.copy(unit, f"{at}/relkvanu-sweep@orders.service")
-        words = ["systemd-analyze", "security", "--offline=true", f"{at}/relkvanu-sweep@orders.service"]
-        told = subprocess.run(words, text=True, stdout=subprocess.PIPE, stderr=subprocess.STDOUT, check=False).stdout
-    found = re.search(r"Overall exposure level for relkvanu-sweep@orders.service: ([0-9.]+)", told)
-    if not found:
-        raise Skipped("a running systemd-analyze", f"it does not run here: {told.strip().splitlines()[-1:]}")
-    assert float(found[1]) < 3, found[0]
-    return f"it sweeps each {every}, exposure {found[1]}"
+        unit = f"{at}/{name}orders.service"
+        shutil.copy(f"{SERVICE}/deploy/{name}.service", unit)
+        told = subprocess.run(["systemd-analyze", "security", "--offline=true", unit], text=True, stdout=subprocess.PIPE, stderr=subprocess.STDOUT, check=False).stdout
+        found = re.search(rf"Overall exposure level for {name}orders.service: ([0-9.]+)", told)
+        if not found:
+            raise Skipped("a running systemd-analyze", f"it does not run here: {told.strip().splitlines()[-1:]}")
+        read = subprocess.run(["systemd-analyze", "verify", unit], text=True, stdout=subprocess.PIPE, stderr=subprocess.STDOUT, check=False).stdout
+        assert not re.search(rf"{name}orders.service:\d+:", read), read
+    return float(found[1])

@@ -101,7 +101,8 @@ def install():
     as_the_page_says("install")
     assert os.access("/usr/local/lib/relkvanu/operate", os.X_OK)
     # the pages that the units name
-    for unit in ("relkvanu.service", "relkvanu-discard@.service", "relkvanu-sweep@.service", "relkvanu-backup.service", "relkvanu-savepoint@.service", "relkvanu-copy@.service"):
+    for unit in ("relkvanu.service", "relkvanu-discard@.service", "relkvanu-sweep@.service", "relkvanu-bucket@.service", "relkvanu-bucket-sweep@.service", "relkvanu-backup.service",
+                 "relkvanu-savepoint@.service", "relkvanu-copy@.service"):
         with open(f"/deploy/{unit}", encoding="utf-8") as it:
             [page] = re.findall("^Documentation=file://(.*)$", it.read(), re.MULTILINE)
         assert os.path.getsize(page) > 10_000, (unit, page)

@@ -530,7 +530,7 @@ mod tests {
             assert!(told.is_some_and(|it| it.starts_with("calls[0].payload ")), "{other}");
         }
         assert!(wrong(r#","millis":-1"#).is_some_and(|it| it.starts_with("calls[0].millis ")));
-        for whole in [r#"-1"#, r#"7,"bytes":7"#] {
+        for whole in ["-1", r#"7,"bytes":7"#] {
             let told = wrong(&format!(r#","snapshot_bytes":{whole}"#));
             assert!(told.is_some_and(|it| it.starts_with("calls[0].snapshot_bytes ")), "{whole}");
         }

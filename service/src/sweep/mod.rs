@@ -22,6 +22,8 @@ const PAGE: usize = 10_000;
 /// The exit status if there are files whose names were never given out.
 const UNISSUED: u8 = 3;
 const NO_NAMES: &str = "NoNames";
+/// Between two looks for a marker that is awaited.
+const LOOK: Duration = Duration::from_secs(2);
 
 /// Files by their numbers: one that is being written has another name.
 type Page = BTreeMap<u64, Vec<Found>>;
@@ -82,6 +84,7 @@ async fn work(given: &cli::Sweep) -> Result<Swept, Stop> {
     let patience = Duration::from_secs(given.within);
     let service = service.within(Some(patience)).noticing(move |error| noticed.lost(error));
     let job = service.job(&given.job);
+    await_marker(given, &job).await;
     loop {
         let began = Instant::now();
         let told = sweep(given, &job, &names, &metrics).await;
@@ -95,11 +98,28 @@ async fn work(given: &cli::Sweep) -> Result<Swept, Stop> {
     }
 }
 
+/// The discarder of the job may not have made the marker yet. The sweep tells what else is wrong.
+async fn await_marker(given: &cli::Sweep, job: &Job) {
+    let until = Instant::now() + Duration::from_secs(given.await_marker);
+    while Instant::now() < until && matches!(is_marked(given, job).await, Ok(false) | Err(Stop::Again(_))) {
+        tokio::time::sleep(LOOK).await;
+    }
+}
+
+async fn is_marked(given: &cli::Sweep, job: &Job) -> Result<bool, Stop> {
+    let owner = owner(given, job).await?;
+    Ok(given.place.open(&given.names, &owner)?.hold(&owner.marker())?.is_some())
+}
+
+async fn owner(given: &cli::Sweep, job: &Job) -> Result<Owner, Stop> {
+    let state = job.state().await.map_err(stopped)?;
+    Ok(Owner { job: given.job.clone(), opened: state["opened"].as_u64().unwrap_or_default() })
+}
+
 /// One sweep. It opens the place anew, so a disk that is mounted again is found.
 async fn sweep(given: &cli::Sweep, job: &Job, names: &FileNames, metrics: &Metrics) -> Result<Swept, Stop> {
     let began = Instant::now();
-    let state = job.state().await.map_err(stopped)?;
-    let owner = Owner { job: given.job.clone(), opened: state["opened"].as_u64().unwrap_or_default() };
+    let owner = owner(given, job).await?;
     let place = Marked::open(given.place.open(&given.names, &owner)?, &owner)?;
     files::check(&*place, place.marker(), names, Need::Prefix)?;
     // a job without names has no garbage to ask for, also if the place has no file
