@@ -70,6 +70,24 @@ def free_port():
         return port
 
 
+# The folder of a run (run.py) with what its tests make once, if they are tests of such a run.
+TEMPLATES = os.environ.get("RELKVANU_TEMPLATES")
+
+
+def made_once(at, name, make):
+    """The path of what `make(path)` has made: for all tests of a run, or in the folder `at`. Tests only read it."""
+    if not TEMPLATES:
+        make(f"{at}/{name}")
+        return f"{at}/{name}"
+    path = f"{TEMPLATES}/{name}"
+    with open(f"{TEMPLATES}/lock", "a", encoding="utf-8") as lock:
+        fcntl.flock(lock, fcntl.LOCK_EX)
+        if not os.path.exists(path):
+            make(f"{path}~")
+            os.rename(f"{path}~", path)
+    return path
+
+
 # How many times as long a busy machine may take.
 BUSY = 8
 # Seconds in which others let go of an SQLite database, and in which a command ends.

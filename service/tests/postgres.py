@@ -1,5 +1,4 @@
 """A PostgreSQL of the tests' own, in a folder."""
-import fcntl
 import glob
 import os
 import pwd
@@ -8,14 +7,12 @@ import subprocess
 import time
 from contextlib import contextmanager
 
-from harness import folder, free_port, until
+from harness import TEMPLATES, folder, free_port, made_once, until
 from preloaded import built
 from run import Skipped
 
 # in which pg_ctl starts and stops it, by default a minute
 os.environ.setdefault("PGCTLTIMEOUT", "600")
-# The folder of a run (run.py) with what initdb made, by its options. The tests copy it, since initdb takes half a second of a processor.
-TEMPLATES = os.environ.get("RELKVANU_TEMPLATES")
 
 
 class Postgres:
@@ -46,20 +43,19 @@ class Postgres:
         self.start()
 
     def initialize(self, options):
-        """By initdb, or as it did for another test of the run."""
+        """By initdb, or as it did for another test of the run: the tests copy it, since initdb takes half a second of a processor."""
         if not TEMPLATES:
             return self.make(self.data, options)
-        template = f"{TEMPLATES}/data{''.join(options)}"
-        with open(f"{TEMPLATES}/lock", "a", encoding="utf-8") as lock:
-            fcntl.flock(lock, fcntl.LOCK_EX)
-            if not os.path.isdir(f"{template}-whole"):
-                os.mkdir(template)
-                shutil.copystat(self.data, template)
-                if os.geteuid() == 0:
-                    shutil.chown(template, "postgres", "postgres")
-                self.make(template, options)
-                os.rename(template, f"{template}-whole")
-        subprocess.run(["cp", "-a", f"{template}-whole/.", self.data], check=True)
+
+        def made(template):
+            os.mkdir(template)
+            shutil.copystat(self.data, template)
+            if os.geteuid() == 0:
+                shutil.chown(template, "postgres", "postgres")
+            self.make(template, options)
+
+        template = made_once(TEMPLATES, f"data{''.join(options)}", made)
+        subprocess.run(["cp", "-a", f"{template}/.", self.data], check=True)
 
     def make(self, data, options):
         """Again if it fails: others on the machine may change what its programs need, for a moment. It leaves its folder empty then."""

@@ -5,17 +5,19 @@ import struct
 import subprocess
 import time
 
-from harness import TOP
+from harness import TOP, made_once
 
 SHIM = "shim"
 
 
 def built(at, name):
     """Compiles faults/NAME.c, and returns the library's path."""
-    library = f"{at}/{name}.so"
-    subprocess.run(["cc", "-std=gnu11", "-O1", "-shared", "-fPIC", "-o", library, f"{TOP}/faults/{name}.c", "-ldl"], check=True)
-    os.chmod(library, 0o755)
-    return library
+
+    def compiled(library):
+        subprocess.run(["cc", "-std=gnu11", "-O1", "-shared", "-fPIC", "-o", library, f"{TOP}/faults/{name}.c", "-ldl"], check=True)
+        os.chmod(library, 0o755)
+
+    return made_once(at, f"{name}.so", compiled)
 
 
 def shim(library, below, **given):
