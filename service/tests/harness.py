@@ -127,13 +127,11 @@ class Server:
 
     def wait_ready(self, seconds=30, kept=False):
         """Waits until it answers. It may end meanwhile if somebody starts it again."""
-        until = time.monotonic() + BUSY * seconds
-        while time.monotonic() < until:
+        for _ in looks(seconds, 0.01):
             if self.process.poll() is not None and not kept:
                 raise AssertionError(f"the service ended with {self.process.returncode}: {self.log()[-600:]}")
             if self.get("/readyz")[0] == 200:
                 return
-            time.sleep(0.01)
         raise AssertionError(f"the service is not ready: {self.log()[-600:]}")
 
     def kill(self):
@@ -436,12 +434,20 @@ class PgArchive:
         return json.loads(self.database.sql(f"select coalesce(json_agg(seq), '[]') from ({rows}) it"))
 
 
+def looks(seconds, each):
+    """Moments to look whether something has come to be, for so many seconds of an idle machine. Each look costs a request or a process, so those
+    after the first are seldom: up to ten times as long after one another as the first, and a tenth of a second."""
+    end, pause = time.monotonic() + BUSY * seconds, each
+    while time.monotonic() < end:
+        yield
+        time.sleep(pause)
+        pause = max(each, min(0.1, 1.05 * pause, 10 * each))
+
+
 def until(said, seconds=20, each=0.05, told=lambda: ""):
     """Waits until `said()` is true, and returns it. If it does not come to be in so many seconds of an idle machine, the error says what `told()`
     returns. A test of how long something takes compares the time itself."""
-    end = time.monotonic() + BUSY * seconds
-    while time.monotonic() < end:
+    for _ in looks(seconds, each):
         if found := said():
             return found
-        time.sleep(each)
     raise AssertionError(f"it did not come to be in time {told()}")

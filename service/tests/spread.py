@@ -55,7 +55,8 @@ def even(servers, seconds=30):
         counts = [shards(server) for server in servers]
         return None not in counts and sum(counts) == SHARDS and min(counts) >= part
 
-    until(are_even, seconds, told=lambda: [(shards(server), server.log()[-300:]) for server in servers])
+    # (a look has the metrics of all jobs)
+    until(are_even, seconds, 0.2, told=lambda: [(shards(server), server.log()[-300:]) for server in servers])
     return time.monotonic() - started
 
 

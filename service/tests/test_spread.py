@@ -413,8 +413,14 @@ def test_who_is_ready_after_a_kill():
         servers[1].start()
         even(servers)
         servers[1].kill()
-        statuses = set()
-        until(lambda: statuses.add(servers[0].get("/readyz")[0]) or shards(servers[0]) == SHARDS, each=0)
+        killed, statuses = time.monotonic(), set()
+
+        def has_all():
+            """Looks seldom while the lease lasts, and all the time when the shards come."""
+            time.sleep(0 if time.monotonic() > killed + 0.5 * LEASE else 0.1)
+            return statuses.add(servers[0].get("/readyz")[0]) or shards(servers[0]) == SHARDS
+
+        until(has_all, each=0)
         assert statuses == {200}, statuses
         servers[0].stop()
         return f"ready after {took:.1f} s with a lease of {LEASE} s"

@@ -51,10 +51,11 @@ def request(method, path, body=None, key="first", token=WRITE):
 
 def until(said, seconds=240):
     """Waits until it is so, on a busy machine too. Returns how many seconds that took."""
-    started = time.monotonic()
+    started, pause = time.monotonic(), 0.02
     while not said():
         assert time.monotonic() < started + seconds, journal()[-2000:]
-        time.sleep(0.02)
+        time.sleep(pause)
+        pause = min(0.2, 1.1 * pause)  # a look takes programs
     return time.monotonic() - started
 
 
