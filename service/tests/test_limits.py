@@ -296,10 +296,9 @@ def test_lists_of_many_jobs_come_in_pieces():
     """The writer reads a part of the jobs at a time. The list has each once, in the order of their numbers."""
     jobs = 1100
     with served() as server:
-        service = Service(server.url)
         for number in range(jobs):
-            service.open(f"j{number}", SETTINGS, [1])
-        told = [job["name"] for job in service.jobs()]
+            assert server.request("POST", "/v1/jobs", {"name": f"j{number}", "settings": SETTINGS, "shape": [1]})[0] == 201
+        told = [job["name"] for job in Service(server.url).jobs()]
         assert told == [f"j{number}" for number in range(jobs)], told[:5]
         text = server.get("/metrics")[2]
         assert len(re.findall(r"^relkvanu_mode\{", text, re.M)) == jobs

@@ -464,9 +464,9 @@ def test_many_jobs_move():
         first = member(at, database.url).start()
 
         def some(part):
-            service = Service(first.url)
             for number in range(part, 1600, 16):
-                service.open(f"j{number}", SETTINGS, [1]).call(savepoint())
+                assert first.request("POST", "/v1/jobs", {"name": f"j{number}", "settings": SETTINGS, "shape": [1]})[0] == 201
+                assert first.request("POST", f"/v1/jobs/j{number}/calls", {"calls": [savepoint()]}, headers={"Idempotency-Key": "k"})[0] == 200
 
         threads = [threading.Thread(target=some, args=(part,)) for part in range(16)]
         for thread in threads:
