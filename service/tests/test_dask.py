@@ -215,19 +215,12 @@ def test_a_driver_over_dask_whose_job_is_stopped_and_begun():
 
 
 def test_stops_of_a_stream_over_dask_while_all_are_killed():
-    return killed("0", "--stops", os.environ.get("RELKVANU_DASK_STOPS", "1"))
-
-
-def test_a_stream_over_dask_whose_driver_and_service_are_killed():
-    """engines/distributed/kills.py: each driver begins without a file."""
-    return killed(os.environ.get("RELKVANU_DASK_KILLS", "1"))
-
-
-def killed(kills, *options):
+    """engines/distributed/kills.py: each driver begins without a file. Kills of a stream that goes on, then stops of it, and then its end."""
+    kills, stops = (os.environ.get(f"RELKVANU_DASK_{it}", "1") for it in ("KILLS", "STOPS"))
     if subprocess.run(["/usr/bin/python3", "-c", "import streamz, distributed, pandas, xxhash"], stderr=subprocess.DEVNULL, check=False).returncode:
         raise Skipped("python3-streamz", "not all packages of engines/distributed/setup are here")
     with folder() as at:
-        words = ["/usr/bin/python3", f"{TOP}/engines/distributed/kills.py", "words", kills, "1", f"{at}/words", "--service", PROGRAM, *options]
+        words = ["/usr/bin/python3", f"{TOP}/engines/distributed/kills.py", "words", kills, "1", f"{at}/words", "--service", PROGRAM, "--stops", stops]
         paths = ("bindings/python", "engines/distributed", "service/client/python")
         told = subprocess.run(words, stdout=subprocess.PIPE, stderr=subprocess.STDOUT, text=True, check=False, timeout=LONGEST,
                               env={**os.environ, "PYTHONPATH": ":".join(f"{TOP}/{it}" for it in paths), "RELKVANU_LIB": "/nowhere"})
