@@ -1,5 +1,7 @@
-"""Scripts that end at each program that they run: before it, or after it."""
+"""Scripts that end at programs that they run: before them, or after them. With RELKVANU_EACH=1 at each, otherwise at one of three such moments, and which
+ones depends on SEED."""
 import os
+import random
 import shutil
 import signal
 import subprocess
@@ -7,6 +9,8 @@ import subprocess
 from harness import COMMAND
 
 KILLED = -signal.SIGKILL
+EACH = min(3, int(os.environ.get("RELKVANU_EACH", "3")))
+FIRST = random.Random(os.environ.get("SEED", "1")).randrange(EACH)
 # Counts its starts. At the one whose number DIE has it ends all of its group: before it does its work, or after it.
 STEP = """#!/bin/sh
 step=$(($(cat {at}/steps) + 1)); echo $step > {at}/steps
@@ -37,22 +41,20 @@ class Steps:
         return process.returncode, told
 
     def ends(self, words, fill, check, between=lambda: None, again=None, **environment):
-        """Ends the command before and after each program, and runs it again. Returns how often it ended."""
-        ended, step = 0, 1
+        """Ends the command at moments before and after its programs, and runs it again. Returns how many moments there are at least."""
+        moment = FIRST
         while True:
-            for after in (0, 1):
-                fill()
-                status, told = self.run(*words, die=f"{step}.{after}", **environment)
-                if status != KILLED:
-                    assert status == 0, (words, step, status, told)
-                    check()
-                    return ended
-                between()
-                status, told = self.run(*words, **environment)
-                assert status == 0 or (again is not None and again(told)), (words, step, after, status, told)
+            fill()
+            status, told = self.run(*words, die=f"{moment // 2 + 1}.{moment % 2}", **environment)
+            if status != KILLED:
+                assert status == 0, (words, moment, status, told)
                 check()
-                ended += 1
-            step += 1
+                return moment - EACH + 1
+            between()
+            status, told = self.run(*words, **environment)
+            assert status == 0 or (again is not None and again(told)), (words, moment, status, told)
+            check()
+            moment += EACH
 
 
 def write(path, text, mode=0o644):
