@@ -60,7 +60,7 @@ def run(kills, database=None, config=KEEPING, seed=1, names=False):
                 # on a busy machine they make few calls meanwhile
                 before = made_by(writers)
                 until(lambda: made_by(writers) > before + EACH, 60)
-                time.sleep(chance.uniform(0.1, 0.7))
+                time.sleep(chance.uniform(0.05, 0.4))
                 server.kill()
                 server.start()
             until(lambda: any(archive.cut(job) for job in JOBS) and all(archive.images(job) for job in JOBS), 60)

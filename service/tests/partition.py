@@ -21,7 +21,7 @@ SHAPE = [2, 4]
 CONFIG = "lease_seconds = 2\nimage_calls = 200\nkeep_calls = 400\n"
 HOUR = 3600
 LEAST, BUSY = 100, 900  # calls of each client; seconds more, on a busy machine
-PAUSE = float(os.environ.get("RELKVANU_PAUSE", "0.15"))  # of a client, in seconds: a fault lasts longer, so each meets it. Without they take two processors
+PAUSE = float(os.environ.get("RELKVANU_PAUSE", "0.25"))  # of a client, in seconds: a fault lasts longer, so each meets it. Without they take two processors
 
 
 class Line(Proxy):

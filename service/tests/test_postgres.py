@@ -95,7 +95,7 @@ def test_take_over():
         assert "relkvanu_leader 0" in servers[1].get("/metrics")[2] and "relkvanu_leader 1" in servers[0].get("/metrics")[2]
         found, times, epochs = [], [], []
         # (most of its time it waits for leases)
-        with kills.writers_at([server.url for server in servers], found, PgArchive(database), pause=0.15):
+        with kills.writers_at([server.url for server in servers], found, PgArchive(database), pause=0.3):
             for way in ("stop", "kill", "stop", "cut"):
                 leader = leader_of(servers)
                 standby = next(server for server in servers if server is not leader)

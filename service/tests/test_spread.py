@@ -367,7 +367,7 @@ def test_processes_come_and_go():
         all_of = [first, member(at, database.url), member(at, database.url)]
         clients = [Writer([server.url for server in all_of], names[number], number) for number in range(8)]
         for client in clients:
-            client.PAUSE = 0.15  # most of its time it waits for leases
+            client.PAUSE = 0.3  # most of its time it waits for leases
         answers = Answers()
         for client in clients:
             answers.listen(client, client.name_of_job)

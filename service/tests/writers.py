@@ -16,7 +16,7 @@ class Writer(threading.Thread):
     """Calls one job until it is stopped. `made` has each acknowledged call, with its answer."""
 
     TOKEN = None
-    PAUSE = 0.03  # seconds between two turns: eight of them so leave a processor for others, and make some hundred calls a second
+    PAUSE = 0.05  # seconds between two turns: eight of them so leave a processor for others, and make some hundred calls a second
 
     def __init__(self, urls, job, number):
         super().__init__(daemon=True)
