@@ -1,4 +1,4 @@
-"""Runs the service's tests: run.py [WORD..] runs those whose name has one of the words. Two modules run at a time, each in a process of its
+"""Runs the service's tests: run.py [WORD..] runs those whose name has one of the words. Some modules run at a time (LANES), each in a process of its
 own. Many tests wait for what has to come within seconds, which a machine that does much else may miss. So tests that failed are tried once
 more, alone, if they are few: SECOND_TRIES at most. A line says which these were. The last line has the counts."""
 import atexit
@@ -21,18 +21,18 @@ COUNTS = "counts of the module: "
 LONGEST = int(os.environ.get("RELKVANU_LONGEST", "3600"))
 # so many failed tests may be tried once more
 SECOND_TRIES = 2
-# the longest first
+# So many modules run at a time: most of their time they wait, and two of them keep less than a processor busy. The gate has other parts beside them.
+LANES = 5 if len(os.sched_getaffinity(0)) >= 4 else 2
+# The longest first, as they were measured. Of the two that boot systemd one waits for the other, so they begin at different times.
 MODULES = [
-    "test_spread",
-    "test_postgres", "test_long_reads",
-    "test_partition", "test_machines", "test_promotion", "test_lease", "test_dask", "test_page", "test_page_acts", "test_page_state", "test_events", "test_stream", "test_failover", "test_history",
-    "test_kills", "test_clocks", "test_put_off", "test_replay", "test_damaged", "test_tables", "test_end", "test_power", "test_wal", "test_disks", "test_images",
-    "test_long_images",
-    "test_start", "test_unit", "test_stuck", "test_connections", "test_limits", "test_herd", "test_bytes", "test_stop", "test_load", "test_api",
-    "test_clients", "test_sizes", "test_jobs_end", "test_payloads", "test_discard", "test_discard_folder", "test_discard_names", "test_memory", "test_metrics", "test_seen",
-    "test_names", "test_sweep", "test_places", "test_security", "test_summaries", "test_upkeep", "test_backup", "test_move", "test_dumps", "test_commands", "test_loop", "test_restore",
-    "test_lease_lengths", "test_tries", "test_bounds", "test_disk_order", "test_moves", "test_end_units", "test_operate", "test_portable",
-    "test_procedures", "test_put_back", "test_setup_tls", "test_stop_begin", "test_stop_rows",
+    "test_unit", "test_spread", "test_procedures", "test_portable", "test_move", "test_dask", "test_postgres", "test_lease", "test_stop_begin",
+    "test_lease_lengths", "test_put_back", "test_names", "test_limits", "test_machines", "test_long_reads", "test_stop_rows", "test_partition",
+    "test_setup_tls", "test_images", "test_power", "test_long_images", "test_damaged", "test_clocks", "test_events", "test_end_units", "test_end",
+    "test_page_acts", "test_page_state", "test_put_off", "test_disks", "test_stuck", "test_failover", "test_herd", "test_bytes", "test_connections",
+    "test_promotion", "test_replay", "test_sweep", "test_operate", "test_history", "test_restore", "test_places", "test_commands", "test_jobs_end",
+    "test_memory", "test_dumps", "test_metrics", "test_discard_folder", "test_discard", "test_discard_names", "test_payloads", "test_sizes", "test_stop",
+    "test_loop", "test_backup", "test_upkeep", "test_summaries", "test_security", "test_seen", "test_moves", "test_start", "test_wal", "test_page",
+    "test_stream", "test_load", "test_api", "test_clients", "test_kills", "test_bounds", "test_tries", "test_disk_order", "test_tables",
 ]
 
 
@@ -141,7 +141,9 @@ def main(words):
     with tempfile.TemporaryDirectory(prefix="relkvanu-templates-") as templates:
         os.chmod(templates, 0o755)  # PostgreSQL runs as a user of its own
         os.environ["RELKVANU_TEMPLATES"] = templates
-        with ThreadPoolExecutor(2) as pool:
+        # where programs run `python3` it is this one, for which service/setup has installed the packages, and no other that a user has
+        os.environ["PATH"] = os.pathsep.join([os.path.dirname(sys.executable), os.environ["PATH"]])
+        with ThreadPoolExecutor(LANES) as pool:
             done = list(pool.map(lambda name: in_process(name, words), MODULES))
         again = tried_again(done) if any(counts[1] for _, counts in done) else 0
     passed, failed = sum(one[1][0] for one in done), sum(one[1][1] for one in done)
