@@ -95,6 +95,8 @@ static void deletes_and_reports(void) {
         checkpoint_with_files(store, 1 + i * 100);
     }
     await_released(store, 0);
+    /* (first one that would end by itself) */
+    CHECK(relkvanu_store_discard_for(store, 5, 100, NULL, NULL) == RELKVANU_STORE_NOT_NOW, "a second discarder for a while");
     discards(&second);
     CHECK(second.status == RELKVANU_STORE_NOT_NOW, "a second discarder: status %d", second.status);
     CHECK(
