@@ -138,14 +138,19 @@ class LogJob:
         words = [*map(str, self.command), str(folder), *words]
         return subprocess.run(words, env=self.env, stdout=subprocess.PIPE, stderr=subprocess.STDOUT, timeout=SECONDS)
 
-    def check(self, lost, folder):
+    def look(self, lost, _):
+        """What has to hold of the files that are left. Returns the last record of the log."""
         told, log = lost_jobs.told_record(lost), lost.tree.get("log")
         last = max((int(it) for it in re.findall(rb"^ack \d+ (\d+) .*\n", log or b"", re.M)), default=0)
         assert last >= told, f"record {told} was complete, and the last one of the log is {last}"
         assert last == 0 or lost.tree.get(str(last)) == lost.whole[str(last)], f"file {last} is in use: it has {lost.tree.get(str(last))!r}"
         back = [file for file in re.findall(r"^deleted (\d+)\n", (log or b"").decode(), re.M) if file in lost.tree]
         assert not back, f"files {back} were reported as deleted, and are there"
-        ran = self.run(folder, *(["new"] if log is None else []))
+        return last
+
+    def check(self, lost, folder):
+        last = self.look(lost, folder)
+        ran = self.run(folder, *(["new"] if "log" not in lost.tree else []))
         complete = [int(one or other) for one, other in lost_jobs.COMPLETE.findall(ran.stdout)]
         is_told_again = complete[:1] == [last] or last == 0  # a start tells of the last record of its log once more
         assert ran.returncode == 0 and complete and is_told_again and complete[-1] > last, ran.stdout.decode()
@@ -163,6 +168,7 @@ class LogJob:
         trials = Trials(self.samples.work / f"losses of {self.name}", self.check)
         trials.all(journal, some_of(journal, self.most, chance), chance)
         self.lose_again(trials, journal, chance)
+        trials.check = self.look  # harm shows without a process that goes on
         for name, ignored in self.syncs:
             trials.control(name, journal, journal.some(CONTROLLED, chance), chance, ignored)
         return f"{trials.told(trials.tried // 4)}; each of {len(self.syncs)} syncs is missed"
@@ -208,8 +214,12 @@ class StoreJob(LogJob):
     def prepare(self):
         (self.root / "state").mkdir(parents=True)
 
+    def look(self, lost, folder):
+        """What has to hold of the job, which is opened."""
+        return lost_jobs.check(lost, folder, "state", self.is_marked, untold=self.untold)
+
     def check(self, lost, folder):
-        job = lost_jobs.check(lost, folder, "state", self.is_marked, untold=self.untold)
+        job = self.look(lost, folder)
         if job is not None and next(self.numbers) % EACH_GOES_ON != 0:
             return
         last = self.goes_on(0 if job is None else job.choice, folder)
