@@ -1,5 +1,6 @@
-"""Runs the explorer and the reader of traces, each as a process of its own."""
+"""Runs the explorer, and the reader of traces by its command or here."""
 import ast
+import importlib
 import pathlib
 import re
 import subprocess
@@ -75,3 +76,15 @@ def conform(trace):
     ran = subprocess.run([sys.executable, "-m", "relkvanu.conform", "-"], input=trace, stdout=subprocess.PIPE, stderr=subprocess.STDOUT, text=True,
                          cwd=PYTHON, timeout=MOST_SECONDS, check=False)
     return ran.returncode, ran.stdout
+
+
+def conform_here(trace):
+    """The same without a process, whose start takes longer than most traces. What makes a library for it has named that in RELKVANU_LIB before."""
+    if str(PYTHON) not in sys.path:
+        sys.path.insert(0, str(PYTHON))
+    reader = importlib.import_module("relkvanu.conform")
+    try:
+        findings = reader.check(trace.splitlines())
+    except reader.NoTrace as fault:
+        return 2, f"relkvanu-conform: {fault}\n"
+    return (1, "".join(f"{it}\n" for it in findings)) if findings else (0, "the trace obeys the rules\n")
