@@ -297,7 +297,7 @@ def source(job: Job) -> None:
             job.ends.update(ends)
             for channel in job.channels:
                 channel.advance(ends)
-        time.sleep(0.02)
+        time.sleep(0.05)
 
 
 def sweeper(job: Job) -> None:
@@ -306,7 +306,7 @@ def sweeper(job: Job) -> None:
         job.coordinator.sweep(job.storage)
         job.coordinator.look(job.storage)
         job.sweeps += 1
-        time.sleep(0.05)
+        time.sleep(0.1)
 
 
 def options() -> argparse.Namespace:

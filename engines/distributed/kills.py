@@ -23,7 +23,7 @@ from typing import NamedTuple, Sequence
 HERE = pathlib.Path(__file__).resolve().parent
 VICTIMS = "driver driver worker-0 worker-1 scheduler scheduler worker-0+worker-1 driver+worker-0 scheduler+driver".split()
 VICTIMS_TOO = "service service service+driver service+worker-1".split()  # where there is a service
-SPAN = 3  # seconds before a kill, at most
+SPAN = 1.5  # seconds before a kill, at most: more than there are between two checkpoints
 PACE = "0.3"  # seconds between two elements, or steps, of a driver that is to be killed
 LAST = 10  # steps of the last driver
 LAST_LINES = 400  # that it has, and those of the last record, if that was not published
