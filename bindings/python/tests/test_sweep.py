@@ -138,6 +138,7 @@ class BesideAJob(WithAJob):
             try:
                 while not over.is_set():
                     swept.append(sweep(self.folder, job.garbage, delete=True))
+                    time.sleep(0.001)  # some thirty sweeps come within a checkpoint
             except BaseException as fault:
                 faults.append(fault)
 
