@@ -1,4 +1,5 @@
 """What include/relkvanu.h says: its numbers, texts, structs, functions and enums. Debian's python3-pycparser reads it, and cc its macros."""
+import functools
 import pathlib
 import re
 import subprocess
@@ -74,7 +75,12 @@ class Enum(NamedTuple):
 
 def preprocessed(*flags: str, of: Sequence[pathlib.Path] = (HEADER,)) -> str:
     """Returns what cc makes of the headers without those that they include."""
-    text = re.sub(r"^#include .*$", "", "\n".join(it.read_text() for it in of), flags=re.M)
+    return expanded(re.sub(r"^#include .*$", "", "\n".join(it.read_text() for it in of), flags=re.M), flags)
+
+
+@functools.lru_cache(maxsize=None)
+def expanded(text: str, flags: Sequence[str]) -> str:
+    """The same of a text. What is generated asks for the same some hundred times."""
     told = subprocess.run(["cc", "-E", "-DRELKVANU_NODISCARD=", *flags, "-x", "c", "-"], input=text, capture_output=True, text=True, check=True)
     return told.stdout
 
@@ -86,6 +92,7 @@ def number_of(name: str, value: str, comment: str) -> Number:
     return Number(name, value, told.removesuffix(".") if found["form"] else told, found["a"], found["b"], found["form"])
 
 
+@functools.lru_cache(maxsize=None)
 def macros(path: pathlib.Path = HEADER) -> List[Number]:
     """Returns a header's numbers and texts, in its order. The names have RELKVANU_ here."""
     values = dict(re.findall(r"^#define (RELKVANU_\w+) (.+)$", preprocessed("-dM", of=[path]), re.M))
@@ -99,6 +106,7 @@ def numbers() -> Dict[str, Number]:
     return {it.name.removeprefix(OWN): it._replace(name=it.name.removeprefix(OWN)) for it in macros()}
 
 
+@functools.lru_cache(maxsize=None)
 def enums() -> Dict[str, Enum]:
     """Returns the enums, by name. The name of a member is the constant's after that of the enum."""
     found, known = {}, numbers()
@@ -183,8 +191,9 @@ def reads() -> List[str]:
     return re.findall(r"^relkvanu_answer (relkvanu_\w+)\(", HEADER.read_text(), re.M)
 
 
+@functools.lru_cache(maxsize=None)
 def parsed(text: str) -> Any:
-    """Returns the tree of what cc has made of headers."""
+    """Returns the tree of what cc has made of headers, which nobody changes."""
     known = "".join(f"typedef {c} {name};\n" for name, (c, _, _) in SCALARS.items() if name not in BUILT_IN)
     return c_parser.CParser().parse(known + text)
 
