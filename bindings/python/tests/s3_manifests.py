@@ -370,6 +370,15 @@ class Carrying(OnAServer):
             manifests.leave(self.at("orders"), in_bucket)
         self.assertLessEqual(set(self.of_bucket), set(self.numbers("orders/")))
 
+    def test_a_claim_of_shared_objects(self):
+        """An object of the claimed record stays if another record has it."""
+        with self.opened(create=True) as (job, files):
+            _, first = completes(job, files, job.report.term, savepoint=True)
+            record, second = completes(job, files, job.report.term, reused=first[:1])
+        self.imports(self.url("orders"), self.url("claimed"), record, CLAIM)
+        self.assertEqual(self.numbers("orders/"), sorted(first))
+        self.assertLessEqual({*first[:1], *second}, set(self.numbers("claimed/")))
+
     def test_an_address_with_more(self):
         for url in (self.url("orders#eu"), self.url("orders?eu")):
             status, told = self.runs("show", url)
