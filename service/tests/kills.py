@@ -64,6 +64,7 @@ def run(kills, database=None, config=KEEPING, seed=1, names=False):
                 server.kill()
                 server.start()
             until(lambda: any(archive.cut(job) for job in JOBS) and all(archive.images(job) for job in JOBS), 60)
+            until(lambda: not names or all(Service(server.url).job(job).term()["term"] > 1 for job in JOBS), 60)
         server.kill()
         if database:
             database.quiet()
