@@ -11,6 +11,7 @@ import urllib.request
 
 from harness import COMMAND, PROGRAM, SERVICE, Server, folder, until
 from preloaded import SHIM, built, shim
+from stepped import EACH, FIRST
 from test_security import certificate
 
 KILLED, FAILED = -9, 1  # by faults/shim.c; since it has killed openssl
@@ -125,11 +126,12 @@ def test_an_end_at_each_write():
         library, machine, ended = built(at, SHIM), Machine(at), 0
         certificate(at, "first")
         given = ("--certificate", f"{at}/certificate.pem", "--key", f"{at}/key.pem")
-        while ends_at(machine, library, ended // 2 + 1, ended % 2, given):
-            ended += 1
+        moment = FIRST
+        while ends_at(machine, library, moment // 2 + 1, moment % 2, given):
+            moment, ended = moment + EACH, ended + 1
         # openssl ends too
         signed = sum(ends_at(machine, library, nth, 0, ("--self-signed",)) for nth in range(1, 60, 10))
-        assert ended > 60 and signed > 3, (ended, signed)
+        assert EACH * ended > 60 and signed > 3, (ended, signed)
         return f"{ended} ends, and {signed} while it signs"
 
 
