@@ -24,16 +24,19 @@ def opened(page, button):
     from selenium.common.exceptions import ElementNotInteractableException, StaleElementReferenceException
     from selenium.webdriver.common.keys import Keys
 
-    def is_pressed():
+    def is_opened():
         try:
             page.execute_script("arguments[0].focus()", page.find_element("css selector", button))
             keys(page, Keys.ENTER)
         except (ElementNotInteractableException, StaleElementReferenceException):
             return False  # a question that was closed gives the focus back a moment later, and a new state replaces the button
-        return True
+        # a button that was replaced between its focus and the key has lost the key: it is pressed again
+        end = time.monotonic() + 2
+        while not is_asking(page) and time.monotonic() < end:
+            time.sleep(0.05)
+        return is_asking(page)
 
-    until(is_pressed, 5)
-    until(lambda: is_asking(page), 5)
+    until(is_opened, 5)
 
 
 def is_asking(page):
