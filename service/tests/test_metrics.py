@@ -1,4 +1,5 @@
 """Metrics by Prometheus' conventions, the alerts over them, and the unit of systemd."""
+import pathlib
 import re
 import shutil
 import subprocess
@@ -89,10 +90,12 @@ def test_metrics_say_what_was_done():
 
 def test_each_alert_fires_and_rests():
     needed("promtool")
-    told = subprocess.run(["promtool", "test", "rules", "alerts_test.yml"], cwd=DEPLOY, text=True, stdout=subprocess.PIPE, stderr=subprocess.STDOUT, check=False)
+    files = ["alerts_test.yml", "alerts_minutes_test.yml"]
+    told = subprocess.run(["promtool", "test", "rules", *files], cwd=DEPLOY, text=True, stdout=subprocess.PIPE, stderr=subprocess.STDOUT, check=False)
     assert told.returncode == 0, told.stdout
-    with open(f"{DEPLOY}/alerts.yml", encoding="utf-8") as rules, open(f"{DEPLOY}/alerts_test.yml", encoding="utf-8") as tests:
-        alerts, cases = set(re.findall(r"alert: (\w+)", rules.read())), tests.read()
+    with open(f"{DEPLOY}/alerts.yml", encoding="utf-8") as it:
+        alerts = set(re.findall(r"alert: (\w+)", it.read()))
+    cases = "".join(pathlib.Path(DEPLOY, name).read_text(encoding="utf-8") for name in files)
     # each is tried where it has to fire, and where it must not
     against = set(re.findall(r"alertname: (\w+), exp_alerts: \[\]", cases))
     fires = set(re.findall(r"alertname: (\w+)\n    exp_alerts:(?! \[\])", cases))
