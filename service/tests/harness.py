@@ -15,7 +15,7 @@ import sys
 import tempfile
 import threading
 import time
-from contextlib import contextmanager
+from contextlib import closing, contextmanager
 
 from run import Skipped
 
@@ -394,8 +394,11 @@ class Archive:
             base.executescript(f"""create table archive as select {CALL} from call where 0;
                 create trigger archived before delete on call begin insert into archive values({old}); end;""")
 
+    @contextmanager
     def base(self):
-        return sqlite3.connect(self.path, timeout=LOCKED)
+        """It is closed at the end. By itself Python closes it whenever it collects, and SQLite's files beside the log then go while others read them."""
+        with closing(sqlite3.connect(self.path, timeout=LOCKED)) as base, base:
+            yield base
 
     def log(self, job):
         with self.base() as base:
