@@ -28,45 +28,32 @@ class NextBegun:
 
 
 @dataclass(frozen=True)
-class NextFailed:
+class _Alone:
+    ended: Tuple[int, ...] = field(default=(), compare=False)
+
+
+class NextFailed(_Alone):
     """The job has failed: the engine restores it."""
 
-    ended: Tuple[int, ...] = field(default=(), compare=False)
 
-
-@dataclass(frozen=True)
-class NextCancelled:
+class NextCancelled(_Alone):
     """The job has ended for good."""
 
-    ended: Tuple[int, ...] = field(default=(), compare=False)
 
-
-@dataclass(frozen=True)
-class NextStopped:
+class NextStopped(_Alone):
     """The job is stopped with a savepoint, until it begins again."""
 
-    ended: Tuple[int, ...] = field(default=(), compare=False)
 
-
-@dataclass(frozen=True)
-class NextNotStopped:
+class NextNotStopped(_Alone):
     """A stop of the job has failed: tasks that hold go on. Store.phase() says why."""
 
-    ended: Tuple[int, ...] = field(default=(), compare=False)
 
-
-@dataclass(frozen=True)
-class NextIdle:
+class NextIdle(_Alone):
     """Nothing is due."""
 
-    ended: Tuple[int, ...] = field(default=(), compare=False)
 
-
-@dataclass(frozen=True)
-class NextEnded:
+class NextEnded(_Alone):
     """By Store.stop()."""
-
-    ended: Tuple[int, ...] = field(default=(), compare=False)
 
 
 Next = Union[NextBarrier, NextBegun, NextFailed, NextCancelled, NextStopped, NextNotStopped, NextIdle, NextEnded]
