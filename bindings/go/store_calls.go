@@ -125,15 +125,21 @@ func (s *Store) Calls(calls ...Call) ([]Outcome, error) {
 		return nil, err
 	}
 	outcomes := make([]Outcome, len(calls))
-	isTold := false
 	for place := range outcomes {
 		outcomes[place] = outcomeOf(&list.calls()[place])
-		if err := outcomes[place].Err; err != nil && !isTold {
-			tellAbout(err, C.GoString(&why[0]))
-			isTold = true
+	}
+	tellFirst(outcomes, func(it Outcome) error { return it.Err }, C.GoString(&why[0]))
+	return outcomes, nil
+}
+
+// tellFirst says what the first call of a list that was not made was about.
+func tellFirst[Of any](outcomes []Of, errOf func(Of) error, about string) {
+	for _, it := range outcomes {
+		if err := errOf(it); err != nil {
+			tellAbout(err, about)
+			return
 		}
 	}
-	return outcomes, nil
 }
 
 // tellAbout says what a refused call was about.

@@ -152,13 +152,20 @@ func (s *Store) CallsWith(calls ...CallWith) ([]OutcomeWith, error) {
 	}
 	defer list.free()
 	defer C.free(beside)
-	if err := s.said(func() C.int { return C.relkvanu_store_calls(s.store, list.at, C.size_t(list.length)) }); err != nil {
+	var why [C.RELKVANU_STORE_MESSAGE]C.char // of a refused call, which the thread that made it knows
+	err = s.said(func() C.int {
+		status := C.relkvanu_store_calls(s.store, list.at, C.size_t(list.length))
+		C.relkvanu_store_why(&why[0], C.size_t(len(why)))
+		return status
+	})
+	if err != nil {
 		return nil, err
 	}
 	outcomes := make([]OutcomeWith, len(calls))
 	for place := range outcomes {
 		outcomes[place] = outcomeWithOf(&list.calls()[place])
 	}
+	tellFirst(outcomes, func(it OutcomeWith) error { return it.Err }, C.GoString(&why[0]))
 	return outcomes, nil
 }
 

@@ -74,6 +74,7 @@ func TestStoreKitMisuse(t *testing.T) {
 	made, err := store.AckWith(1, id, relkvanu.Subtask{}, nil, nil, relkvanu.Beside{Payload: make([]byte, 4096)})
 	equal(t, fmt.Sprint(made.Reply, made.Kind, made.Ended, err), "ack pending 1 checkpoint [] <nil>")
 	_, err = store.AckWith(1, id, relkvanu.Subtask{Index: 9}, nil, nil, relkvanu.Beside{})
+	equal(t, err.Error(), "relkvanu: the call is refused: UnknownSubtask (record 1, subtask 0.9, term 1: refused UnknownSubtask)")
 	equal(t, errors.Is(err, relkvanu.UnknownSubtask), true)
 }
 

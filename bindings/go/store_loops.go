@@ -220,7 +220,7 @@ func (s *Store) Backup(path string) error {
 // could not delete: the next sweep tries them again. It runs at each restore and whenever the engine likes, also while tasks run:
 // Counts then tells how many files it left because their names were not given out.
 //
-// The error is StoreStorage if the folder lacks its marker, another opening has it, or it can't be read or synced;
+// The error is StoreStorage if the folder lacks its marker or another opening has it, StoreNotDone if it can't be read or synced now,
 // StoreBadArgument if there is no storage folder.
 func (s *Store) Sweep() (left uint64, err error) {
 	if err := s.enter(); err != nil {
