@@ -861,7 +861,7 @@ RELKVANU_NODISCARD relkvanu_answer relkvanu_advance(relkvanu *handle, uint64_t n
 
 /* relkvanu_ack of a task of this term. An accepted acknowledgement spends the names of its fresh files.
  *
- * As relkvanu_ack, and before its refusals RELKVANU_FENCED: RELKVANU_NO_NAMES, RELKVANU_OLD_TERM, and for the first fresh file whose
+ * As relkvanu_ack, and before its refusals RELKVANU_FENCED: RELKVANU_NO_NAMES, RELKVANU_OLD_TERM, and for the least fresh file whose
  * name the term does not hold RELKVANU_SPENT or RELKVANU_NEVER_RESERVED. An acknowledgement that is sent twice is RELKVANU_SPENT the
  * second time, if it has fresh files: then an accepted one has named them. So a task does not delete a file for RELKVANU_SPENT. */
 RELKVANU_NODISCARD relkvanu_answer relkvanu_ack_in(relkvanu *handle, uint64_t term, uint64_t now, uint64_t id, uint16_t vertex, uint16_t index, const uint64_t *fresh, size_t fresh_len, const uint64_t *reused, size_t reused_len);
