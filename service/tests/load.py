@@ -174,12 +174,16 @@ def main(seconds=10, where="sqlite"):
     print(f"load {os.getloadavg()[0]:.1f} after")
 
 
-def started_over(server, what):
-    """Prints how long a start takes, and how many calls it makes again."""
+def start_time(server):
+    """How long a start takes, and how many calls it makes again."""
     started = time.monotonic()
     server.start(ready=False)
     server.wait_ready(600)
-    took, made = time.monotonic() - started, server.replayed()[-1]
+    return time.monotonic() - started, server.replayed()[-1]
+
+
+def started_over(server, what):
+    took, made = start_time(server)
     print(f"start {what}: {took:.1f} s for {made} calls", flush=True)
 
 
