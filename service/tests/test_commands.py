@@ -269,7 +269,7 @@ def test_check_of_other_databases():
 
 def test_the_lines_that_give_each_command_the_address():
     """Those of the page, in a shell: a command gets the address if the program knows it as an option of this command, and the words stay."""
-    with open(f"{TOP}/docs/SERVICE-OPERATION.md", encoding="utf-8") as it:
+    with open(f"{TOP}/docs/SERVICE-COMMANDS.md", encoding="utf-8") as it:
         lines = it.read().partition("**The address.**")[2].split("```")[1]
     names = [os.path.basename(path)[len("relkvanu-"):-len(".1")] for path in glob.glob(f"{SERVICE}/deploy/man/relkvanu-*.1")]
     assert len(names) > 15, names

@@ -7,7 +7,7 @@ import threading
 from contextlib import contextmanager
 
 from harness import COMMAND, PROGRAM, TOP, Server, folder, lease_of, served, until
-from relkvanu_service import Failed, OldTerm, Service, cancel, dispose, file_numbers, restore, savepoint
+from relkvanu_service import Failed, OldTerm, Refused, Service, cancel, dispose, file_numbers, restore, savepoint
 from test_events import Copy
 
 SHAPE = [1, 2]
@@ -43,7 +43,7 @@ class Engine(threading.Thread):
         names["print"] = lambda *said, **_: self.said.append(" ".join(said))
         try:
             exec(self.code, names)
-        except (SystemExit, Failed) as ended:
+        except (SystemExit, Failed, Refused) as ended:
             self.ended = ended
 
     def end_tasks(self):
@@ -193,6 +193,50 @@ def test_the_loop_of_the_page():
         return f"{len(engine.starts)} starts, {len(sweeps)} sweeps beside them, {len(there)} files at the end"
 
 
+class Waiting(Engine):
+    """The engine of a job of one task that has stopped. Something is done when its sinks have published, before the loop waits for the begin."""
+
+    def __init__(self, server, folder, meanwhile):
+        settings = {"interval": 1 << 40}
+        os.mkdir(folder)
+        job = Service(server.url).open("orders", settings, [1])
+        job.claim(folder)
+        task, record = job.begin().session(), job.stop_job()["id"]
+        task.ack(record, "0.0", payload=b"state")
+        assert job.state()["phase"] == "stopped", job.state()
+        super().__init__(server, folder, settings)
+        replaced = ("http://127.0.0.1:7780", server.url), ('{"interval": 10_000}, [1, 2]', f"{settings}, [1]"), ("/srv/orders", folder)
+        self.code, self.meanwhile = page_code(1, *replaced), meanwhile
+
+    def publish_listed(self, states):
+        super().publish_listed(states)
+        self.meanwhile(self.job)
+
+
+def test_the_loop_if_the_job_is_cancelled_before_it_begins():
+    """The begin is refused, and the engine ends as that of a cancelled job."""
+    with folder() as at, served(names=True) as server:
+        engine = Waiting(server, f"{at}/files", lambda job: job.call(cancel()))
+        engine.start()
+        engine.join(COMMAND)
+        assert not engine.is_alive() and engine.ended is None and len(engine.sinks) == 1 and not engine.starts, (engine.ended, engine.sinks)
+        assert engine.job.state()["mode"] == "cancelled", engine.job.state()
+        return "the begin was refused"
+
+
+def test_the_loop_ends_if_a_backup_was_restored_while_it_waits():
+    with folder() as at, served(names=True) as server:
+        engine, copy = Waiting(server, f"{at}/files", lambda job: None), Copy(server, None)
+        engine.start()
+        until(lambda: engine.sinks)
+        copy.make()
+        engine.job.set(retained=2)  # which the backup lacks
+        copy.restore()
+        engine.join(COMMAND)
+        assert not engine.is_alive() and isinstance(engine.ended, SystemExit) and engine.ended.code == 78 and not engine.starts, engine.ended
+        return "status 78"
+
+
 def test_the_first_engine_of_the_page():
     """It counts once for each checkpoint, and goes on from the last complete one, also after a kill."""
     with open(f"{TOP}/docs/SERVICE-ENGINE.md", encoding="utf-8") as it:
@@ -218,6 +262,15 @@ def test_the_first_engine_of_the_page():
         states = Service(server.url).job("counts").load(ids[-1])["subtasks"]
         assert int(states["0.0"]["payload"]) == begun + len(ids), (states, begins, complete)
         return f"it began with {begun} after a kill"
+
+
+def test_the_loop_in_rust_is_that_of_the_example():
+    """Which test_clients runs."""
+    with open(f"{TOP}/docs/SERVICE-ENGINE.md", encoding="utf-8") as it:
+        [listing] = [text.partition("```")[0] for text in it.read().split("```rust\n")[1:]]
+    with open(f"{TOP}/service/client/rust/examples/engine.rs", encoding="utf-8") as it:
+        assert listing in it.read(), listing
+    return f"{len(listing.splitlines())} lines"
 
 
 def test_the_loop_ends_if_a_backup_was_restored():

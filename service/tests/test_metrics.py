@@ -117,15 +117,47 @@ def test_each_alert_has_its_row():
     return f"{len(rows)} rows"
 
 
+# The job `orders` has a discarder and a sweeper that are targets, `lone` has none.
+OWN_RULES = """
+rule_files: [own.yml]
+tests:
+- interval: 1m
+  input_series:
+  - {series: 'relkvanu_mode{job="relkvanu",installation="a",instance="x",job_name="orders"}', values: '1x90'}
+  - {series: 'relkvanu_mode{job="relkvanu",installation="a",instance="x",job_name="lone"}', values: '1x90'}
+  - {series: 'relkvanu_discard_works{job="relkvanu-discard",instance="y",job_name="orders"}', values: '0x90'}
+  - {series: 'relkvanu_sweep_timestamp_seconds{job="relkvanu-sweep",instance="z",job_name="orders"}', values: '1x90'}
+  alert_rule_test:
+  - {eval_time: 29m, alertname: RelkvanuNoBackup, exp_alerts: []}
+  - {eval_time: 29m, alertname: RelkvanuNoDiscarder, exp_alerts: []}
+  - {eval_time: 29m, alertname: RelkvanuNoSweeper, exp_alerts: []}
+  - eval_time: 31m
+    alertname: RelkvanuNoBackup
+    exp_alerts: [{exp_labels: {severity: ticket}, exp_annotations: {summary: 'No backup of the service is known.'}}]
+  - eval_time: 31m
+    alertname: RelkvanuNoDiscarder
+    exp_alerts: [{exp_labels: {severity: ticket, job_name: lone}, exp_annotations: {summary: 'No discarder of job lone is a target.'}}]
+  - eval_time: 31m
+    alertname: RelkvanuNoSweeper
+    exp_alerts: [{exp_labels: {severity: ticket, job_name: lone}, exp_annotations: {summary: 'No sweeper of job lone is a target.'}}]
+"""
+
+
 def test_the_rules_of_the_page():
+    """Each fires where something was not set up, and nowhere else."""
     needed("promtool")
     with open(f"{TOP}/docs/SERVICE-OPERATION.md", encoding="utf-8") as it:
         [rules] = re.findall(r"^```\n(groups:\n.*?)^```$", it.read(), re.DOTALL | re.MULTILINE)
     with folder() as at:
         with open(f"{at}/own.yml", "w", encoding="utf-8") as it:
             it.write(rules)
-        told = subprocess.run(["promtool", "check", "rules", f"{at}/own.yml"], text=True, stdout=subprocess.PIPE, stderr=subprocess.STDOUT, check=False)
-    assert told.returncode == 0 and f"{rules.count('alert: ')} rules found" in told.stdout, told.stdout
+        with open(f"{at}/test.yml", "w", encoding="utf-8") as it:
+            it.write(OWN_RULES)
+        checked, tried = (subprocess.run(["promtool", *words], text=True, stdout=subprocess.PIPE, stderr=subprocess.STDOUT, check=False)
+                          for words in (["check", "rules", f"{at}/own.yml"], ["test", "rules", f"{at}/test.yml"]))
+    assert checked.returncode == 0 and f"{rules.count('alert: ')} rules found" in checked.stdout, checked.stdout
+    assert tried.returncode == 0, tried.stdout
+    assert set(re.findall(r"alert: (\w+)", rules)) == set(re.findall(r"alertname: (\w+)", OWN_RULES)), rules
     return f"{rules.count('alert: ')} rules"
 
 
