@@ -149,18 +149,18 @@ dist: $(LIBRARY) $(STORE)
 	packaging/build_dist build $(VERSION)
 
 first:
-	cd crates/ckpt_job && rt try < ../../examples/first-checkpoint.script
+	cd crates/ckpt_job && rt try < ../../examples/two-checkpoints.script
 
 job:
-	cd crates/ckpt_job && rt run < ../../examples/first-checkpoint.script
+	cd crates/ckpt_job && rt run < ../../examples/two-checkpoints.script
 
 demo:
 	cd crates/ckpt_demo && rt run < ../../demo/SETTINGS
 
 programs:
-	cd crates/ckpt_job && rt run < ../../examples/first-checkpoint.script
-	cd crates/ckpt_log && rt run < ../../examples/first-checkpoint.script
-	cd crates/ckpt_chart && rt run < ../../examples/first-checkpoint.script
+	cd crates/ckpt_job && rt run < ../../examples/two-checkpoints.script
+	cd crates/ckpt_log && rt run < ../../examples/two-checkpoints.script
+	cd crates/ckpt_chart && rt run < ../../examples/two-checkpoints.script
 	(cat demo/SETTINGS; echo duration 1000) | (cd crates/ckpt_demo && rt run)
 
 check:
