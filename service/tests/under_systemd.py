@@ -138,13 +138,25 @@ def check_a_reload():
     assert not os.stat("/run/relkvanu-keys/token").st_mode & 0o077
 
 
+def main_process():
+    """The number of the service's process. There is none for a moment where it is started again."""
+    found = []
+
+    def is_there():
+        found[:] = [int(property_of("MainPID"))]
+        return found[0] > 0
+
+    until(is_there)
+    return found[0]
+
+
 def after(number):
     """How long it takes until the service is ready again after a signal, with the job that it had."""
     restarts = int(property_of("NRestarts"))
-    os.kill(int(property_of("MainPID")), number)
+    os.kill(main_process(), number)
     # a busy machine may have it late at its watchdog once more
     took = until(lambda: int(property_of("NRestarts")) > restarts and is_ready())
-    assert request("GET", "/v1/jobs/orders/records/1")[1]["missing"] == ["0.0"]
+    until(lambda: (request("GET", "/v1/jobs/orders/records/1")[1] or {}).get("missing") == ["0.0"])
     return took
 
 
@@ -476,13 +488,22 @@ def mails():
         return {line.rpartition(" on ")[0] + " on" for line in it}
 
 
+def add():
+    """The job gives out no names, so its sweeper ends at once. If systemd sees its end before it sees that the program has begun, it says that the
+    start has failed, and so do the commands, which end with it."""
+    try:
+        as_the_page_says("add")
+    except AssertionError as why:
+        assert "Job for relkvanu-sweep@orders.service failed" in str(why), why
+
+
 def check_the_discarder():
     """It deletes files of the engine's user, comes again after a kill, and does not after it found that the folder is another one."""
     unit, marker = "relkvanu-discard@orders", "/srv/orders/.relkvanu-orders"
     run("useradd", "--system", "orders")
     os.makedirs("/srv/orders")
     shutil.chown("/srv/orders", "orders")
-    as_the_page_says("add")
+    add()
     assert os.path.exists(marker)
     for number in (7, 8):
         path = state_file(number)
@@ -511,14 +532,14 @@ def check_the_sweeper():
     unit, drop_in = "relkvanu-sweep@orders", "/etc/systemd/system/relkvanu-sweep@orders.service.d"
     until(lambda: property_of("ActiveState", unit) == "failed")
     assert property_of("ExecMainStatus", unit) == "78" and property_of("NRestarts", unit) == "0", run("systemctl", "status", unit, check=False)
-    assert "fence JOB N" in journal(unit)
+    until(lambda: "fence JOB N" in journal(unit))  # a line may come there after the end of its process
     shutil.move("/etc/relkvanu/sweep-token", "/etc/relkvanu/token-orders")
     with open("/etc/relkvanu/sweep-token", "w", encoding="utf-8") as it:
         it.write("x" * 20)
     with open(f"{drop_in}/token.conf", "w", encoding="utf-8") as it:
         it.write("[Service]\nLoadCredential=token:/etc/relkvanu/token-orders\n")
     run("systemctl", "daemon-reload")
-    run("systemctl", "restart", unit)
+    run("systemctl", "restart", unit, check=False)  # as `add` says
     until(lambda: property_of("ActiveState", unit) == "failed")
     assert property_of("ExecMainStatus", unit) == "78", run("systemctl", "status", unit, check=False)
 
@@ -638,7 +659,7 @@ def check_a_bad_setting_ends_it():
     run("systemctl", "restart", "relkvanu", check=False)
     until(lambda: property_of("ActiveState") == "failed")
     assert property_of("ExecMainStatus") == "78" and property_of("NRestarts") == "0", run("systemctl", "status", "relkvanu", check=False)
-    assert "listn" in journal()
+    until(lambda: "listn" in journal())  # a line may come there after the end of its process
 
 
 def main():
