@@ -78,13 +78,14 @@ def test_a_commit_writes_no_version_of_the_member():
     with postgres() as database, folder() as at:
         server = Server(at, database.url, configured(at, "lease_seconds = 60\n")).start()
         job, beat = Service(server.url).open("a", SETTINGS, [1]), "select beat from member"
-        before = int(database.sql(beat))
+        began, before = time.monotonic(), int(database.sql(beat))
         for _ in range(300):
             job.call(TICK)
         beats = int(database.sql(beat)) - before
-        calls = int(database.sql("select count(*) from call"))
+        calls, took = int(database.sql("select count(*) from call")), time.monotonic() - began
         server.stop()
-        assert calls >= 300 and beats <= 10, (calls, beats)
+        # two each 20 s at most: a commit of calls, and an empty one
+        assert calls >= 300 and beats <= 10 + took / 10, (calls, beats, took)
         return f"{calls} calls in as many commits, and {beats} versions of the row"
 
 
@@ -96,7 +97,9 @@ def test_commits_beside_a_long_read():
         holds = subprocess.Popen(["psql", "-qX", database.url], stdin=subprocess.PIPE, stdout=subprocess.DEVNULL, text=True)
         holds.stdin.write("begin isolation level repeatable read; select 1;\n")
         holds.stdin.flush()
-        until(lambda: database.sql("select count(*) from pg_stat_activity where state = 'idle in transaction'") == "1")
+        # the service is between two statements of a transaction at times too
+        snapshot = "application_name = 'psql' and state = 'idle in transaction' and backend_xmin is not null"
+        until(lambda: database.sql(f"select count(*) from pg_stat_activity where {snapshot}") == "1")
         for _ in range(600):
             job.call(TICK)
         size = int(database.sql("select pg_relation_size('member') / 8192"))
@@ -130,5 +133,6 @@ def test_a_commit_that_lasts_keeps_its_leader():
         after = database.sql(epoch), leader.process.poll(), standby.process.poll()
         leader.kill()
         standby.kill()
-        assert told and took >= lasts and after == (before, None, None), (told, took, before, after)
+        # (PostgreSQL sleeps by the time of day)
+        assert told and took > lease and after == (before, None, None), (told, took, before, after)
         return f"a commit of {took:.1f} s with a lease of {lease} s"
