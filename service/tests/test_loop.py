@@ -194,17 +194,20 @@ def test_the_loop_of_the_page():
 
 
 class Waiting(Engine):
-    """The engine of a job of one task that has stopped. Something is done when its sinks have published, before the loop waits for the begin."""
+    """The engine of a job of one task that has stopped, with a savepoint of before. Something is done when its sinks have published, before the loop waits
+    for the begin."""
 
     def __init__(self, server, folder, meanwhile):
         settings = {"interval": 1 << 40}
         os.mkdir(folder)
         job = Service(server.url).open("orders", settings, [1])
         job.claim(folder)
-        task, record = job.begin().session(), job.stop_job()["id"]
-        task.ack(record, "0.0", payload=b"state")
+        task, earlier = job.begin().session(), job.call(savepoint())["id"]
+        task.ack(earlier, "0.0", payload=b"earlier")
+        task.ack(job.stop_job()["id"], "0.0", payload=b"state")
         assert job.state()["phase"] == "stopped", job.state()
         super().__init__(server, folder, settings)
+        self.earlier = earlier
         replaced = ("http://127.0.0.1:7780", server.url), ('{"interval": 10_000}, [1, 2]', f"{settings}, [1]"), ("/srv/orders", folder)
         self.code, self.meanwhile = page_code(1, *replaced), meanwhile
 
@@ -230,7 +233,9 @@ def test_the_loop_ends_if_a_backup_was_restored_while_it_waits():
         engine.start()
         until(lambda: engine.sinks)
         copy.make()
-        engine.job.set(retained=2)  # which the backup lacks
+        # an event that the backup lacks. Once a poll was answered the engine has its place
+        engine.job.call(dispose(engine.earlier))
+        until(lambda: 'relkvanu_http_requests_total{route="events",status="200"}' in server.get("/metrics")[2])
         copy.restore()
         engine.join(COMMAND)
         assert not engine.is_alive() and isinstance(engine.ended, SystemExit) and engine.ended.code == 78 and not engine.starts, engine.ended
