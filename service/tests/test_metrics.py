@@ -71,8 +71,8 @@ def test_metrics_say_what_was_done():
         }.items():
             assert values.get(name) == wanted, (name, values.get(name), wanted)
         job.calls([ack(1, "0.1")])
-        until(lambda: scraped(server)[1].get('relkvanu_records_total{how="completed",job_name="orders",kind="savepoint"}') == 1)
-        assert scraped(server)[1]['relkvanu_completion_seconds_count{job_name="orders",kind="savepoint"}'] == 1
+        ended = ['relkvanu_records_total{how="completed",job_name="orders",kind="savepoint"}', 'relkvanu_completion_seconds_count{job_name="orders",kind="savepoint"}']
+        until(lambda: [scraped(server)[1].get(name) for name in ended] == [1, 1])
         assert scraped(server)[1]['relkvanu_savepoints{job_name="orders"}'] == 1
         needed("promtool")
         told = subprocess.run(["promtool", "check", "metrics"], input=text, text=True, stdout=subprocess.PIPE, stderr=subprocess.STDOUT, check=False)

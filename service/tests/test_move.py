@@ -139,9 +139,9 @@ class Filled:
         for job in (self.orders, self.users):
             caught_up(job)
         until(lambda: all(count > 0 for name, count in rows_of(self.server.database).items() if name not in ("image_part", "phase")), told=lambda: rows_of(self.server.database))
+        read_and_cut(self.orders, 1)
+        read_and_cut(self.users, 0)
         assert min(entry["seq"] for entry in self.orders.log(terms=True)) > 1, "the log was not cut"
-        for job in (self.orders, self.users):
-            read_and_cut(job, 0)
         return self
 
 
@@ -756,7 +756,9 @@ def check_the_lock(database, path, url):
     words = [*database.user, f"{database.bin}/psql", "-XAtq", url, "-c", "begin; select pg_advisory_xact_lock(7203146); select pg_sleep(3600)"]
     with subprocess.Popen(words, stdout=subprocess.DEVNULL, stderr=subprocess.DEVNULL, cwd="/") as other:
         try:
-            until(lambda: query(database, url, "select count(*) from pg_locks where locktype = 'advisory'") == "1")
+            # the process of a command that has ended may have it for a moment
+            locks = "from pg_locks join pg_stat_activity using (pid) where locktype = 'advisory' and granted and application_name = 'psql'"
+            until(lambda: query(database, url, f"select count(*) {locks}") == "1")
             for more in ((), ("--back",)):
                 assert "lock timeout" in move(path, url, *more, status=75)
         finally:

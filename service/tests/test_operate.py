@@ -92,6 +92,7 @@ def restarted(args):
                 completed(job, file)
             job.set(interval=NEVER - 1, keep_on_cancel=True)
             wanted = {**DEFAULTS, "interval": NEVER - 1, "retained": 3, "tolerable": 7, "keep_on_cancel": True}
+            until(lambda: job.state()["image"] or not args)
             before = job.state()
             for _ in range(2):
                 server.kill()
