@@ -225,6 +225,11 @@ def compare_times(row, past, subtask):
     assert {title: row[title] for title in times} == wanted, (row, past)
 
 
+def wide(page):
+    """How many pixels the page takes from the left to the right."""
+    return page.execute_script("return document.documentElement.scrollWidth")
+
+
 def check_job_page(page, server, engine):
     job = engine.job
     until(lambda: engine.completed >= 10, 30)
@@ -309,8 +314,8 @@ def check_job_page(page, server, engine):
     page.refresh()
     until(lambda: len(texts(page, "#records tr")) >= 10, 20)
     time.sleep(0.5)
-    wide = page.execute_script("return document.documentElement.scrollWidth")
-    assert wide <= 400, f"{wide} pixels wide at 400"
+    # the charts come to their new width a moment after the rows are there
+    until(lambda: wide(page) <= 400, 10, told=lambda: f"{wide(page)} pixels wide at 400")
     least.append(contrast(page))
     picture(page, "service-page-narrow")
     assert min(least) >= 4.5, least

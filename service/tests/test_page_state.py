@@ -2,7 +2,7 @@
 import time
 
 import test_page
-from harness import BUSY, served, until
+from harness import BUSY, caught_up, served, until
 from relkvanu_service import Service, ack, decline, savepoint
 
 SETTINGS = {"interval": 3_600_000, "timeout": 7_200_000, "tolerable": 0, "retained": 2}
@@ -32,6 +32,7 @@ def test_the_page_agrees_with_itself():
     try:
         with served() as server:
             job = opened(server)
+            caught_up(job)  # so the first look has the last acknowledgement
             page.get(f"{server.url}/#/jobs/orders")
             until(lambda: len(test_page.texts(page, "#records tr")) == 3, 20)
             rows = test_page.records(page)
