@@ -5,7 +5,7 @@ import os
 import sqlite3
 import time
 
-from harness import Server, caught_up, configured, folder, lose_history, served, until
+from harness import Server, caught_up, configured, folder, lease_of, lose_history, served, until
 from postgres import postgres
 from relkvanu_service import Failed, Service, ack, cancel, decline, dispose, restore, savepoint, trigger
 
@@ -133,9 +133,10 @@ def test_rows_go_however_a_record_ends():
         assert rows(server) == [7, 7], "savepoints stay"
         job.call(dispose(7))
         assert rows(server) == []
-        other = service.open("other", {**SETTINGS, "timeout": 300}, [2])
+        other = service.open("other", SETTINGS, [2])
         other.calls([savepoint(), both(1, b"a")[0]])
         assert rows(server) == [1]
+        other.set(timeout=1)
         until(lambda: not rows(server))  # it expires
         return "declined, subsumed, restored, disposed of, cancelled, expired"
 
@@ -247,7 +248,7 @@ def test_the_history_says_nothing_that_nobody_told():
 
 def test_payloads_and_figures_outlive_a_take_over():
     with postgres() as database, folder() as at:
-        servers = [Server(at, database.url, configured(at, "lease_seconds = 3\n")) for _ in range(2)]
+        servers = [Server(at, database.url, configured(at, f"lease_seconds = {lease_of(3)}\n")) for _ in range(2)]
         leader, standby = servers[0].start(), servers[1].stand_by()
         job = Service(leader.url).open("orders", SETTINGS, [2])
         job.calls([trigger(), *both(1, b"a", 10), trigger(), ack(2, "0.0", [21, 20], payload=PAYLOAD, size=1, millis=2), ack(2, "0.1")])
