@@ -16,9 +16,9 @@ import time
 import uuid
 
 from harness import COMMAND, HERE, PROGRAM, SERVICE, TOP, free_port, served
+from places import s3_server
 from publishing_engine import PREFIX, SETTINGS, SUFFIX, TASKS, write
 from relkvanu_service import Failed, Service, cancel, savepoint
-from run import Skipped
 
 LOSSES = int(os.environ.get("RELKVANU_LOST_LOGS", "4"))
 EACH = int(os.environ.get("RELKVANU_EACH", "12"))  # of so many writes and requests one is an end's, on average
@@ -630,29 +630,22 @@ def test_payloads_of_a_record_that_is_carried():
         return f"records {alone}, {ordered} and {last}"
 
 
-@contextlib.contextmanager
-def s3_server():
-    """A server, its client, and the words of a command."""
-    if not shutil.which("radosgw"):
-        raise Skipped("radosgw", "there is no S3 server")
+def s3_client():
+    """A client of this process's server, and the words of a command."""
+    env = s3_server()
     import boto3
 
-    with tempfile.TemporaryDirectory(prefix="relkvanu-") as at:
-        try:
-            subprocess.run([f"{TOP}/bindings/s3/start", f"{at}/server"], check=True, stdout=subprocess.DEVNULL)
-            env = dict(line.split("=", 1) for line in pathlib.Path(f"{at}/server/env").read_text().splitlines())
-            os.environ.update(env)
-            ENVIRONMENT.update(env)
-            yield boto3.client("s3", endpoint_url=env["S3_ENDPOINT"], region_name=env["S3_REGION"]), ["--endpoint", env["S3_ENDPOINT"], "--region", env["S3_REGION"]]
-        finally:
-            subprocess.run([f"{TOP}/bindings/s3/stop", f"{at}/server"], check=False)
+    os.environ.update(env)
+    ENVIRONMENT.update(env)
+    return boto3.client("s3", endpoint_url=env["S3_ENDPOINT"], region_name=env["S3_REGION"]), ["--endpoint", env["S3_ENDPOINT"], "--region", env["S3_REGION"]]
 
 
 def test_a_job_over_a_bucket():
     """Its database is lost. Its record goes to a folder, to another bucket, and back."""
     from relkvanu.service_manifests import Manifests, service_bucket
 
-    with s3_server() as (s3, words), served(names=True) as server:
+    s3, words = s3_client()
+    with served(names=True) as server:
         bucket, at = f"b{uuid.uuid4().hex}", pathlib.Path(server.folder)
         s3.create_bucket(Bucket=bucket)
         job = Service(server.url).open("orders", SETTINGS, [TASKS])
