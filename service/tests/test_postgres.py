@@ -69,8 +69,9 @@ def test_a_dump_of_a_service_that_runs():
 
 
 def cut_writer(database):
-    """Ends the connection of the leader's writer. It is known by its last statement, which may be another one than a commit just then."""
-    ended = "select pg_terminate_backend(pid) from pg_stat_activity where application_name = 'relkvanu' and query like 'with l as (update member%'"
+    """Ends the connection of the leader's writer. It is known by its last statement, which may be another one than a commit just then. A commit renews the
+    lease seldom: then it is another statement, which begins alike."""
+    ended = "select pg_terminate_backend(pid) from pg_stat_activity where application_name = 'relkvanu' and query like 'with l as (%'"
     until(lambda: database.sql(ended))
 
 
