@@ -19,6 +19,13 @@ def test_no_memory_in_calls_of_a_job_with_names():
     return hungry(True)
 
 
+def is_taken(process, number):
+    """Whether a process has no signal of this number to take: two that wait for it are one."""
+    with open(f"/proc/{process}/status", encoding="utf-8") as it:
+        waiting = next(line.split()[1] for line in it if line.startswith("ShdPnd:"))
+    return not int(waiting, 16) >> number - 1 & 1
+
+
 def hungry(has_names):
     if not (shutil.which("cc") and shutil.which("nm")):
         raise Skipped("cc", "no C compiler is here")
@@ -42,6 +49,7 @@ def hungry(has_names):
         while len(opened) < 20 or len(opened) % 2 or no_memory() < 4 and len(opened) < 400:
             time.sleep(0.2)
             os.kill(server.process.pid, signal.SIGUSR2)
+            until(lambda: is_taken(server.process.pid, signal.SIGUSR2))
             body = {"name": f"new-{len(opened)}", "settings": {"interval": 1 << 40}, "shape": [1], "names": has_names}
             opened[body["name"]] = server.request("POST", "/v1/jobs", body)[0]
         end(writers)

@@ -71,8 +71,9 @@ def test_a_summary_that_postgresql_has_no_room_for():
             ended = max(record["id"] for record in job.state()["live"])
             job.call(ack(ended, "0.0", [1000 + ended]))
             job.call(dispose(ended))
-            until(lambda: tick(server) and f"a summary of the history was not written: ERROR:  {text}" in server.log(), 20, 0.02)
-            assert job.state()["first"] == 1 and job.state()["image"], job.state()
+            said = f"a summary of the history was not written: ERROR:  {text}"
+            until(lambda said=said: tick(server) and said in server.log() and job.state()["image"], 20, 0.02)
+            assert job.state()["first"] == 1, job.state()
             assert database.sql("select count(*) from summary") == "0" and server.process.poll() is None
             if text == "no room":
                 # a summary comes after the records that ended

@@ -200,7 +200,7 @@ def test_a_stop_that_fails_says_why_and_the_timer_goes_on():
                 assert state["mode"] == "failed" and refused(job.stop_job) == "NotRunning"
                 job.begin()
                 assert stop_of(job)[1]["failed"] == "failed"
-            job.set(interval=10)
+            job.set(interval=10, timeout=600_000)
             until(lambda: job.state()["live"])
             # the next stop takes the reason away
             job.stop_job()
