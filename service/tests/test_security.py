@@ -81,7 +81,7 @@ def test_tokens_are_read_again():
         told_again(server)
         assert [server.get("/v1/jobs", token)[0] for token in (ALL, READER, ORDERS)] == [200, 401, 200]
         until(lambda: stream.over, 5)  # its token is no more
-        assert re.search(r'relkvanu_token_until_timestamp_seconds{access="write"} 32472144000', server.get("/metrics", ALL)[2])
+        until(lambda: 'relkvanu_token_until_timestamp_seconds{access="write"} 32472144000' in server.get("/metrics", ALL)[2])
         # a bad file changes nothing
         written(f"{at}/token", "write short")
         told_again(server, "stay as they were")
@@ -111,7 +111,7 @@ def ends(at):
 
 def told_end(server):
     """The same, as a metric says it."""
-    return [float(it) for it in re.findall(r"^relkvanu_certificate_until_timestamp_seconds (\S+)$", server.get("/metrics")[2], re.M)]
+    return [float(it) for it in re.findall(r"^relkvanu_certificate_until_timestamp_seconds (\S+)$", server.get("/metrics")[2] or "", re.M)]
 
 
 class TlsServer(Server):
@@ -188,7 +188,8 @@ def test_all_files_are_read_again_or_none():
         os.replace(f"{at}/certificate.pem", f"{at}/trusted.pem")
         subprocess.run(["cp", f"{at}/trusted.pem", f"{at}/certificate.pem"], check=True)
         written(f"{at}/token", f"write {ALL}")
-        written(f"{at}/service.toml", f"tls_certificate = '{at}/certificate.pem'\ntls_key = '{at}/key.pem'\n")
+        # the connection is idle while openssl makes keys
+        written(f"{at}/service.toml", f"tls_certificate = '{at}/certificate.pem'\ntls_key = '{at}/key.pem'\n", "[limits]\nidle_seconds = 600")
         words = ["--config", f"{at}/service.toml", "--token-file", f"{at}/token"]
         server = TlsServer(at, args=words, prefix=["env", f"RELKVANU_KEYS={at}/copies"])
         server.start()

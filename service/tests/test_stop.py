@@ -65,11 +65,13 @@ def test_each_committed_call_has_its_answer():
 
 
 def is_read(server, connection):
-    """Whether the service has read all that was sent to it on a connection: nothing is left in the system's queue."""
-    ends = [f":{port:04X}" for port in (server.port, connection.getsockname()[1])]
+    """Whether the service has read all that was sent to it on a connection: nothing is left in the queues of the system, at either end."""
+    here, there = (f":{port:04X}" for port in (connection.getsockname()[1], server.port))
     with open("/proc/net/tcp", encoding="utf-8") as it:
         rows = [line.split() for line in it][1:]
-    return any([row[1][-5:], row[2][-5:]] == ends and row[4].endswith(":00000000") for row in rows)
+    # what is not sent yet, and what is not read
+    queues = {(row[1][-5:], row[2][-5:]): row[4].split(":") for row in rows}
+    return (here, there) in queues and (there, here) in queues and queues[here, there][0] == queues[there, here][1] == "00000000"
 
 
 def test_a_stop_ends_polls_and_slow_bodies():
