@@ -2,10 +2,11 @@
 //! answer what a test says.
 use relkvanu_client::{Call, Error, Service};
 use serde_json::{json, Value};
+use std::net::SocketAddr;
 use std::sync::{Arc, Mutex};
 use std::time::Duration;
 use tokio::io::{AsyncReadExt, AsyncWriteExt};
-use tokio::net::{TcpListener, TcpStream};
+use tokio::net::{TcpListener, TcpSocket, TcpStream};
 use tokio::time::Instant;
 
 /// What is soon done takes less than this on a busy machine, and what is tried again for a minute does not.
@@ -228,7 +229,10 @@ async fn a_job_begins_with_the_files_of_its_record() {
 /// Hours pass at once where all tasks sleep.
 #[tokio::test(start_paused = true)]
 async fn it_never_gives_up_if_told_so() {
-    let place = TcpListener::bind("127.0.0.1:0").await.expect("an address").local_addr().expect("an address");
+    // its port is nobody else's meanwhile, and nobody listens there
+    let held = TcpSocket::new_v4().expect("a socket");
+    held.bind(SocketAddr::from(([127, 0, 0, 1], 0))).expect("an address");
+    let place = held.local_addr().expect("an address");
     let lost = Arc::new(Mutex::new(0));
     let noticed = Arc::clone(&lost);
     let url = format!("http://{place}");
