@@ -255,15 +255,19 @@ def test_the_first_engine_of_the_page():
 
     with served(names=True) as server:
         with engine(server.url, 3) as first:
-            assert first.communicate()[0] == "begins with 0\ncomplete: 1\ncomplete: 2\ncomplete: 3\n"
+            begins, *complete = first.communicate()[0].splitlines()
+        # on a busy machine checkpoint 1 is due before the engine begins the job, which ends it
+        whole = [f"complete: {number}" for number in (1, 2, 3)]
+        assert begins == "begins with 0" and complete in (whole, whole[1:]), (begins, complete)
         with engine(server.url, 1 << 40) as killed:
-            assert killed.stdout.readline() == "begins with 3\n"
+            assert killed.stdout.readline() == f"begins with {len(complete)}\n"
             seen = int(killed.stdout.readline().removeprefix("complete: "))
             killed.kill()
+        least = len(complete) + 1
         with engine(server.url, seen + 3) as last:
             begins, *complete = last.communicate()[0].splitlines()
         begun, ids = int(begins.removeprefix("begins with ")), [int(it.removeprefix("complete: ")) for it in complete]
-        assert begun >= 4 and ids[-1] >= seen + 3 and last.returncode == 0, (begins, complete)
+        assert begun >= least and ids[-1] >= seen + 3 and last.returncode == 0, (begins, complete)
         states = Service(server.url).job("counts").load(ids[-1])["subtasks"]
         assert int(states["0.0"]["payload"]) == begun + len(ids), (states, begins, complete)
         return f"it began with {begun} after a kill"
