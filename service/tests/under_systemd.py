@@ -331,9 +331,15 @@ def check_a_restore_is_tried():
     def found():
         return request("GET", "/v1/jobs/orders")[1]["seq"], sorted(os.listdir("/srv/orders")), copies(), sorted(os.listdir("/var/tmp")), property_of("MainPID")
 
+    def has_nothing(unit):
+        """systemd deletes what a unit had there after it tells its end."""
+        until(lambda: not any(f"-{unit}.service-" in name for name in os.listdir("/var/tmp")))
+
+    has_nothing("relkvanu-backup")
     before = found()
     rows = re.findall(r"^\d+ +savepoint.* (\S+)$", as_the_page_says("try"), re.MULTILINE)
     assert rows == ["31", "none"], rows
+    has_nothing("relkvanu-try")
     assert run("systemctl", "is-active", "relkvanu-try", check=False) == "inactive" and found() == before, (found(), before)
 
 
