@@ -73,7 +73,11 @@ impl Clock {
     /// Follows the system's clock, unless that is more than a day away. Returns how many milliseconds the moments are ahead of it.
     pub fn follow(&mut self) -> i64 {
         let (now, wall) = (self.now(), wall());
-        *self = Clock { base: now, since: Moment::now(), pace: Pace::towards(now, wall) };
+        let pace = Pace::towards(now, wall);
+        // each new base would lose a part of a millisecond
+        if pace != self.pace {
+            *self = Clock { base: now, since: Moment::now(), pace };
+        }
         signed(now).saturating_sub(signed(wall))
     }
 }
@@ -175,6 +179,17 @@ mod tests {
             let now = clock.now();
             assert!(now >= last);
             last = now;
+        }
+        assert_eq!(clock.pace, Pace::Slow);
+    }
+
+    #[test]
+    fn a_pace_that_goes_on_has_its_base() {
+        let mut clock = Clock::starting_after(wall() + 10_000);
+        for _ in 0..50 {
+            let before = (clock.pace, clock.since);
+            clock.follow();
+            assert!(clock.pace != before.0 || clock.since == before.1);
         }
         assert_eq!(clock.pace, Pace::Slow);
     }
