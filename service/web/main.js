@@ -16,7 +16,7 @@ const FILES = 40;
 const at = (id) => document.getElementById(id);
 // `told` is what is shown, of the moment `last`.
 const shown = { job: null, first: 1, charts: null, wake: null, last: null, told: null, termAt: null };
-// The stream of a job: its name, how to end it, and whether it told something since the last look.
+// The stream of a job: its name, how to end it, and whether it told something since the last look, or a user wants one.
 const heard = { job: null, ended: null, news: false };
 
 function chosen() {
@@ -35,7 +35,9 @@ function list(name, items, empty) {
   at(empty).hidden = items.length > 0;
 }
 
+// Has the next look come at once, also if one is under way.
 function look() {
+  heard.news = true;
   shown.wake?.();
 }
 
@@ -142,16 +144,12 @@ function hear(job) {
   if (heard.job === job.name) return;
   heard.ended?.abort();
   const ended = new AbortController();
-  Object.assign(heard, { job: job.name, ended, news: false });
-  const told = () => {
-    heard.news = true;
-    look();
-  };
+  Object.assign(heard, { job: job.name, ended });
   const over = () => {
     if (heard.ended === ended) heard.job = null;
-    look();
+    shown.wake?.();
   };
-  stream(`/jobs/${job.name}/stream?after=${job.seq}&log=${job.log}`, told, ended.signal).then(over, over);
+  stream(`/jobs/${job.name}/stream?after=${job.seq}&log=${job.log}`, look, ended.signal).then(over, over);
 }
 
 function pause(milliseconds) {
