@@ -494,22 +494,13 @@ def mails():
         return {line.rpartition(" on ")[0] + " on" for line in it}
 
 
-def add():
-    """The job gives out no names, so its sweeper ends at once. If systemd sees its end before it sees that the program has begun, it says that the
-    start has failed, and so do the commands, which end with it."""
-    try:
-        as_the_page_says("add")
-    except AssertionError as why:
-        assert "Job for relkvanu-sweep@orders.service failed" in str(why), why
-
-
 def check_the_discarder():
     """It deletes files of the engine's user, comes again after a kill, and does not after it found that the folder is another one."""
     unit, marker = "relkvanu-discard@orders", "/srv/orders/.relkvanu-orders"
     run("useradd", "--system", "orders")
     os.makedirs("/srv/orders")
     shutil.chown("/srv/orders", "orders")
-    add()
+    as_the_page_says("add")
     assert os.path.exists(marker)
     for number in (7, 8):
         path = state_file(number)
@@ -545,7 +536,7 @@ def check_the_sweeper():
     with open(f"{drop_in}/token.conf", "w", encoding="utf-8") as it:
         it.write("[Service]\nLoadCredential=token:/etc/relkvanu/token-orders\n")
     run("systemctl", "daemon-reload")
-    run("systemctl", "restart", unit, check=False)  # as `add` says
+    run("systemctl", "restart", unit, check=False)  # it ends at once, which may count as a failed start
     until(lambda: property_of("ActiveState", unit) == "failed")
     assert property_of("ExecMainStatus", unit) == "78", run("systemctl", "status", unit, check=False)
 
