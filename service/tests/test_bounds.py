@@ -1,5 +1,6 @@
 """What the service refuses when too much comes at once, and what it does not: bodies, answers, requests that wait, connections, one key twice."""
 import http.client
+import json
 import socket
 import sqlite3
 import threading
@@ -7,8 +8,7 @@ import threading
 from harness import COMMAND, LOCKED, Server, configured, folder, served, until
 from relkvanu_service import Service
 from test_bytes import filled
-from test_failover import waiting
-from test_limits import takes_all_room
+from test_limits import has_bodies, takes_all_room
 
 SETTINGS = {"interval": 1 << 40}
 PATH = "/v1/jobs/a/calls"
@@ -94,9 +94,10 @@ def test_other_large_answers_take_all_room():
 
 
 def test_more_requests_than_may_wait():
-    """While the database takes no commit one request is with the writer, one waits, and the next is refused. Those that waited are answered."""
+    """While the database takes no commit one request is with the writer, as many wait as the queue takes, and the next is refused. Those that waited are
+    answered."""
     with folder() as at:
-        server, statuses = limited(at, queue=1), []
+        server, statuses = limited(at, queue=3), []
         other = sqlite3.connect(server.database, isolation_level=None, timeout=LOCKED)
         other.execute("begin immediate")
 
@@ -106,17 +107,22 @@ def test_more_requests_than_may_wait():
             return told[2]
 
         threads = [threading.Thread(target=ask, args=(key,)) for key in range(8)]
-        for it in threads:
+        threads[0].start()
+        # the writer has it. The look that finds that is in the queue from then on, and a question of the history may be, which asks every two seconds
+        until(lambda: commit_under_way(server) > 0)
+        for it in threads[1:]:
             it.start()
-        until(lambda: statuses.count(503) >= 6)
+        until(lambda: 503 in statuses)
         said = ask("last")
         other.execute("rollback")
         other.close()
         for it in threads:
             it.join()
         server.stop()
-        assert sorted(statuses) == [200] * 2 + [503] * 7 and said == {"error": "too many requests wait"}, (statuses, said)
-        return "7 of 9 requests were refused beside a queue of 1"
+        refused = statuses.count(503)
+        assert sorted(statuses) == [200] * (9 - refused) + [503] * refused and 5 <= refused <= 7, statuses
+        assert said == {"error": "too many requests wait"}, said
+        return f"{refused} of 9 requests were refused beside a queue of 3"
 
 
 def test_connections_leave_room_for_files():
@@ -145,7 +151,8 @@ def test_one_key_twice_at_once():
         until(lambda: commit_under_way(server) > 0)
         for it in threads[1:]:
             it.start()
-        until(lambda: waiting(server) >= 2)
+        # and the others are there
+        until(lambda: has_bodies(server, len(threads) * len(json.dumps(CALL))))
         other.execute("rollback")
         other.close()
         for it in threads:

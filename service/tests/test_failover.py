@@ -1,5 +1,6 @@
 """Clients whose first machine is gone, whose answers are lost, and whose proxy answers: they go on, and do nothing twice. Also `https`."""
 import contextlib
+import json
 import os
 import re
 import socket
@@ -11,7 +12,7 @@ import time
 import requests
 
 from between import Between
-from harness import BUSY, COMMAND, PROGRAM, Server, folder, free_port, served, slowed, until
+from harness import BUSY, COMMAND, PROGRAM, Server, configured, folder, free_port, served, slowed, until
 from postgres import postgres
 from relkvanu_service import Failed, Service, ack, cancel, dispose, restore, savepoint
 from run import Skipped
@@ -156,20 +157,17 @@ def number_of(server, metric):
     return float(re.search(rf"^{metric} (\S+)$", server.get("/metrics")[2], re.M)[1])
 
 
-def waiting(server):
-    """How many requests wait for the writer."""
-    return number_of(server, "relkvanu_queue_requests")
-
-
 def test_keys_are_looked_up_for_a_group():
     """Many requests at once, beside a commit that takes a while: those that wait share a statement that looks up their keys."""
-    clients, rounds = 64, 4
+    clients, rounds = 32, 4
+    body = len(json.dumps({"calls": [ack(1, "0.0", [1000])]}))
     with postgres() as database, folder() as at:
         with open(f"{database.data}/postgresql.conf", "a", encoding="utf-8") as it:
             it.write("log_statement = 'all'\nlog_min_messages = log\n")
         database.stop("fast")
         database.start()
-        server = Server(at, database.url).start()
+        # it takes requests while a commit lasts longer than a lease by default
+        server = Server(at, database.url, configured(at, "lease_seconds = 60\n")).start()
         job = Service(server.url).open("a", SETTINGS, [1])
         job.calls([savepoint(), ack(1, "0.0", [1])])
         # a commit lasts as long as the table `held` has a row
@@ -180,11 +178,12 @@ def test_keys_are_looked_up_for_a_group():
             database.sql("insert into held default values")
             threads = [threading.Thread(target=lambda number: job.calls([ack(1, "0.0", [1000 + number])]), args=(number,)) for number in range(clients)]
             threads[0].start()
-            until(lambda: number_of(server, "relkvanu_commit_under_way_seconds") > 0)
+            # its commit is under way, and no other one, such as that of a lease
+            until(lambda: database.sql("select count(*) from pg_stat_activity where wait_event = 'PgSleep'") == "1")
             for thread in threads[1:]:
                 thread.start()
-            # all but that of the commit that is under way
-            until(lambda: waiting(server) >= clients - 1)
+            # they are there
+            until(lambda: number_of(server, "relkvanu_http_body_bytes") >= clients * body)
             database.sql("delete from held")
             for thread in threads:
                 thread.join()
