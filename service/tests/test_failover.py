@@ -226,10 +226,12 @@ def test_https():
         assert told.returncode == 1 and "certificate verify failed" in told.stderr, told
         took = time.monotonic() - begun
         assert took > 30, took  # its patience is a minute
+        failed = []
         try:
-            raise AssertionError(Service(url, patience=1).jobs())
-        except requests.exceptions.SSLError:
-            pass
+            raise AssertionError(Service(url, patience=4).noticing(failed.append).jobs())
+        except requests.RequestException:
+            # its last try may have had too little time
+            assert any(isinstance(error, requests.exceptions.SSLError) for error in failed), failed
         # one that is renewed meanwhile ends none
         engine = subprocess.Popen([ENGINE, url, "c", "2"], env={**os.environ, "SSL_CERT_FILE": renewed}, stdout=subprocess.PIPE, text=True)
         time.sleep(1)

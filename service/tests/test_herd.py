@@ -9,7 +9,7 @@ from contextlib import contextmanager
 
 import requests
 
-from harness import HERE, folder
+from harness import HERE, folder, lease_of
 from relkvanu_service import Service
 from test_connections import many_files
 from test_security import TlsServer, certificate, told_again, written
@@ -48,14 +48,16 @@ def test_a_herd_over_TLS_is_answered():
     """More connect at once than there are places for new connections: the service accepts them one after another, and no client ends. One that
     takes longer than 10 s for its handshake and its request may be cut, as on a busy machine."""
     many_files()
-    with tls_served(f"[limits]\nnew_connections = {PLACES}") as (server, url, ca):
+    # fewer at a time on a busy machine: all that are accepted agree on TLS at once, and each takes as long as all of them
+    places = PLACES // lease_of(1)
+    with tls_served(f"[limits]\nnew_connections = {places}") as (server, url, ca):
         start = time.time() + 3
         herd, *clients = [begun("raw", url, ca, HERD, start), *(begun("client", url, ca, CLIENTS, start) for _ in range(2))]
         told, ended = counts(herd), [counts(it) for it in clients]
         took = time.time() - start
         assert ended == [{"answered": CLIENTS}] * 2, (ended, told)
         assert told["HTTP/1.1 200 OK"] > HERD / 2 and server.process.poll() is None, told
-        return f"{HERD} connections and {2 * CLIENTS} clients at once over {PLACES} places: {told} in {took:.1f} s, and each client is answered"
+        return f"{HERD} connections and {2 * CLIENTS} clients at once over {places} places: {told} in {took:.1f} s, and each client is answered"
 
 
 def test_a_cut_handshake_ends_no_client():
@@ -89,11 +91,12 @@ def test_a_certificate_that_is_renewed_ends_no_client():
         os.rename(ca, first)
         os.rename(f"{server.folder}/key.pem", f"{server.folder}/first.key")
         certificate(server.folder, "second")
-        begun_at, patience = time.monotonic(), 2
+        begun_at, patience, failed = time.monotonic(), 4, []
         try:
-            raise AssertionError(Service(url, token=TOKEN, ca=ca, patience=patience).jobs())
-        except requests.exceptions.SSLError as error:
-            assert "CERTIFICATE_VERIFY_FAILED" in str(error), error
+            raise AssertionError(Service(url, token=TOKEN, ca=ca, patience=patience).noticing(failed.append).jobs())
+        except requests.RequestException:
+            # its last try may have had too little time
+            assert any("CERTIFICATE_VERIFY_FAILED" in str(error) for error in failed), failed
         took = time.monotonic() - begun_at
         assert took >= patience / 2, f"it ended after {took:.2f} s"
         renewed = []
