@@ -28,7 +28,7 @@ class Slow(Proxy):
 
     def __init__(self, to, delay):
         self.to, self.delay, self.asked = to, delay, 0
-        self.look, self.looked = None, 0  # how often these bytes are sent
+        self.sent = {}  # how often each of these texts is sent
         super().__init__()
 
     async def connected(self, reader, writer):
@@ -45,7 +45,8 @@ class Slow(Proxy):
                     await asyncio.sleep(self.delay)
                 else:
                     self.asked += 1
-                    self.looked += self.look is not None and self.look in data
+                    for text in self.sent:
+                        self.sent[text] += text in data
                 writer.write(data)
                 await writer.drain()
         except OSError:

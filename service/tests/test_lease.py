@@ -54,7 +54,8 @@ def looked(slow, fast, seconds):
     both = stale = 0
     end = time.monotonic() + seconds
     while time.monotonic() < end:
-        if is_ready(slow) and is_ready(fast):
+        # in this order: the slow one may be ready, and the fast one take over before it is asked
+        if is_ready(fast) and is_ready(slow):
             both += 1
             seq = fast.request("POST", "/v1/jobs/j0/calls", {"calls": [{"call": "tick"}]})[2]["answers"][0]["seq"]
             told = slow.get("/v1/jobs/j0")
@@ -120,19 +121,23 @@ def test_two_processes_on_slow_lines():
         return f"{made} calls in {took:.0f} s in one epoch"
 
 
+# A statement of each look of a standby for a leader, which has two, and one of each time that it reads the log.
+LOOK, FOLLOW = b"from member order by name", b"from gone_job"
+
+
 def standby_asks(at, database, url, jobs):
-    """How many statements a standby beside these jobs asks for each time that it looks for a leader, while one of them is called. It leads
-    then, and knows its calls."""
+    """How many statements a standby beside these jobs asks for each time that it reads the log, while one of them is called. It leads then, and knows
+    its calls."""
     opened(at, url, jobs)
     leader = near(at, url).start()
     standby, line = far(at, database, 0, url)
-    line.look = b"from member order by name"
+    line.sent = {LOOK: 0, FOLLOW: 0}
     standby.stand_by()
     job = Service(leader.url).job("j1")
-    asked, looked = line.asked, line.looked
-    # each look finds a call, however long a busy machine takes for either
-    until(lambda: job.call(savepoint()) and line.looked > looked + 5)
-    asks = (line.asked - asked) / (line.looked - looked)
+    asked, looks, follows = line.asked, *line.sent.values()
+    # it reads the log once the leader has renewed its lease. How often it looks meanwhile depends on the machine
+    until(lambda: job.call(savepoint()) and line.sent[FOLLOW] > follows + 2, 10 * SECONDS)
+    asks = (line.asked - asked - 2 * (line.sent[LOOK] - looks)) / (line.sent[FOLLOW] - follows)
     state = job.state()
     leader.kill()
     standby.wait_ready()
@@ -150,5 +155,6 @@ def test_a_standby_beside_many_jobs():
             database.sql(f"create database jobs{jobs}")
             asked.append(standby_asks(at, database, f"{database.url.rsplit('/', 1)[0]}/jobs{jobs}", jobs))
         few, many = asked
-        assert many < few * 1.5 + 1, asked
+        # the first time and the last one may be counted in part
+        assert many < few + 20, asked
         return f"{few:.1f} statements each time beside 2 jobs, and {many:.1f} beside 200"
