@@ -65,7 +65,7 @@ def test_a_commit_of_an_earlier_epoch_writes_nothing():
 def test_a_commit_that_renews_the_lease_of_an_earlier_epoch_writes_nothing():
     """A commit waits for the member's row for longer than a beat, so the next one renews the lease. Meanwhile the shards are given anew."""
     with postgres() as database, folder() as at:
-        server, statuses = Server(at, database.url, configured(at, "lease_seconds = 15\n")).start(), {}
+        server, statuses = Server(at, database.url, configured(at, "lease_seconds = 21\n")).start(), {}
         Service(server.url).open("a", SETTINGS, [1])
 
         def ask(key):
@@ -73,8 +73,8 @@ def test_a_commit_that_renews_the_lease_of_an_earlier_epoch_writes_nothing():
 
         beats = database.sql("select sum(beat) from member")
         until(lambda: database.sql("select sum(beat) from member") != beats)
-        # longer than a third of the lease, and much shorter than two thirds, and than the 10 s of a statement
-        holds = "begin; select 1 from member for update; select pg_sleep(6.5); update shard set epoch = epoch + 1; commit"
+        # longer than a third of the lease, in which the first commit has to begin, and shorter than two thirds, and than the 10 s of a statement
+        holds = "begin; select 1 from member for update; select pg_sleep(8); update shard set epoch = epoch + 1; commit"
         threads = [threading.Thread(target=database.sql, args=(holds,)), *(threading.Thread(target=ask, args=(key,)) for key in ("first", "second"))]
         threads[0].start()
         until(lambda: database.sql("select count(*) from pg_stat_activity where wait_event = 'PgSleep'").strip() == "1")
