@@ -13,6 +13,7 @@ from harness import COMMAND, PROGRAM, TOP, Server, configured, folder, served, s
 from postgres import postgres
 from relkvanu_service import Gone, OtherLog, Service, ack, cancel, deleted, dispose, reserve, restore, savepoint
 from run import Skipped
+from test_images import read_and_cut
 
 SETTINGS = {"interval": 1 << 40}
 CUTTING = ["--image-calls", "40", "--keep-calls", "0"]
@@ -43,7 +44,9 @@ def test_after_a_cut():
         missed = job.events()[0] - 1  # an engine that has not heard of savepoint 2
         job.call(dispose(1))
         knew = job.state()["last_event"]  # and one that has heard of all
-        state = cut_behind(job, lambda: job.calls([deleted(file) for file in job.take(8)]))
+        cut_behind(job, lambda: job.calls([deleted(file) for file in job.take(8)] or [{"call": "tick"}]))
+        read_and_cut(job, knew, 40)  # the next image may be under way, and with it the next cut
+        state = job.state()
         assert {server.get(path)[1]["relkvanu-log"] for path in ("/readyz", "/v1/jobs/a/files", "/v1/jobs/none")} == {state["log"]}
         begun = time.monotonic()
         try:

@@ -7,6 +7,7 @@ import sqlite3
 import subprocess
 import threading
 import time
+from contextlib import closing
 
 from harness import ACK_PENDING, COMMAND, PROGRAM, TOP, Archive, PgArchive, Server, caught_up, check_log, configured, folder, lease_of, lose_history, over_copy, served, until
 from load import processor_times
@@ -34,9 +35,10 @@ def seen(job, files):
     return state, job.files(1000), job.records(), [job.record(it["id"]) for it in state["live"]], [job.file(file) for file in files]
 
 
-def read_and_cut(job, least):
-    """Waits until the history has read all calls, the log is cut so far, and no image or cut is under way, which a busy machine makes late."""
-    seen_since = [None, time.monotonic()]
+def read_and_cut(job, least, each=20):
+    """Waits until the history has read all calls, the log is cut so far, and no image or cut is under way, which a busy machine makes late. Images are
+    made after so many calls, by default as often as by `KEEPING`."""
+    seen_since, still = [None, time.monotonic()], lease_of(1) / 2
 
     def is_settled():
         it = job.state()
@@ -44,9 +46,8 @@ def read_and_cut(job, least):
         kept = it["first"], image["seq"]
         if kept != seen_since[0]:
             seen_since[:] = kept, time.monotonic()
-        # as often as an image is made, by `KEEPING`
-        is_due = it["seq"] - image["seq"] >= max(20, image["bytes"] // 100)
-        return it["first"] > least and not is_due and job.files()["upto"] == it["seq"] and time.monotonic() - seen_since[1] > 0.5
+        is_due = it["seq"] - image["seq"] >= max(each, image["bytes"] // 100)
+        return it["first"] > least and not is_due and job.files()["upto"] == it["seq"] and time.monotonic() - seen_since[1] > still
 
     until(is_settled)
 
@@ -75,6 +76,7 @@ def test_a_start_goes_from_the_last_image():
         assert events["first"] == first and events["events"][0]["seq"] >= first, (first, events["events"][:1])
         job.call(ack(42, "0.1"))
         until(lambda: job.record(42)["history"]["how"] == "completed" and job.record(42)["history"]["acks"] == 2)
+        read_and_cut(job, 150)  # by this call an image may be due
         whole = check_kept(archive.log("orders"), list(job.log()), job.state()["first"])
         check_log(job.state(), [2], whole)
         return f"{server.replayed()[-1]} of {len(whole)} calls made again, {first - 1} cut; a key from before the cut is answered"
@@ -145,12 +147,12 @@ def test_an_image_that_is_damaged_stops_the_start():
         # by the remedy that the message names
         base.execute("delete from image where seq = ?", (seq,))
         server.start()
-        caught_up(job)
+        read_and_cut(job, 30)  # and one is made in its place
         after = seen(job, [200])
         assert after[0]["image"] is not None and after[1:] == before[1:], (before, after)
         job.calls([savepoint(), ack(21, "0.0")])
-        image = job.state()["image"]["seq"]
         server.stop()
+        image = base.execute("select max(seq) from image").fetchone()[0]
         # calls after the image are made again, and compared
         place, was = base.execute("select seq, a from call where seq > ? and what = ? order by seq limit 1", (image, ACK_PENDING)).fetchone()
         base.execute("update call set a = 7 where seq = ?", (place,))
@@ -221,14 +223,16 @@ def test_a_backup_while_images_are_made():
         subprocess.run(["sqlite3", server.database, f".backup {copy}"], check=True)
         working.join()
         whole = archive.log("orders")
+        with closing(sqlite3.connect(copy)) as base:
+            [image] = base.execute("select max(seq) from image").fetchone()
         with folder() as at:
-            restored = Server(at, database=copy, args=KEEPING)
+            restored = Server(at, database=copy)  # which cuts nothing while it is read
             with over_copy(restored) as (state, log):
                 with sqlite3.connect(copy) as base:
                     all_of_it = [seq for (seq,) in base.execute("select seq from archive union all select seq from call order by seq")]
                 assert state["first"] > 100 and all_of_it == list(range(1, state["seq"] + 1)), (state, all_of_it[:3])
                 check_log(state, [2], check_kept(whole[: state["seq"]], log, state["first"]))
-                assert restored.replayed()[-1] < 60, restored.replayed()
+                assert image >= 100 and restored.replayed()[-1] == state["seq"] - image, (image, state["seq"], restored.replayed())
         return f"{state['seq']} of {len(whole)} calls in the copy, {state['first'] - 1} of them cut"
 
 
@@ -250,7 +254,7 @@ def test_a_standby_that_is_slower_than_the_cuts():
         after = {name: value for name, value in job.state().items() if name not in ("now", "log", "first", "image")}
         assert after == before, (before, after)
         worked(job, 3, 33)
-        caught_up(job)
+        read_and_cut(job, 100)
         whole = check_kept(archive.log("orders"), list(job.log()), job.state()["first"])
         check_log(job.state(), [2], whole)
         standby.stop()
