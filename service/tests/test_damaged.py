@@ -6,7 +6,7 @@ import subprocess
 from harness import CALL, COMMAND, LOCKED, PROGRAM, SERVICE, Server, configured, folder, lease_of, until
 from postgres import postgres
 from relkvanu_service import Service, ack, savepoint
-from spread import CONFIG
+from spread import CONFIG, even
 from test_clients import as_json_schema
 from test_metrics import scraped
 
@@ -295,6 +295,9 @@ def test_shards_that_move():
                 server.start(ready=False)
             for server in servers:
                 server.wait_ready()
+            # the first one may have had all of them, and be ready, before the second one came
+            even(servers)
+            for server in servers:
                 service = Service(server.url)
                 until(lambda one=service: len(one.jobs()) == len(names) - 1)
                 assert list(service.damaged()) == [bad], service.damaged()

@@ -245,7 +245,8 @@ def test_a_clock_that_is_ahead():
             return service.job(job).state()["now"] - time.time() * 1000
 
         first = ahead("ahead")
-        assert 3_590_000 < first < 3_601_000 and abs(ahead("here")) < 10_000, (first, ahead("here"))
+        # what the move took is missing: the job goes on from its last call
+        assert 3_600_000 - 10_000 * BUSY < first < 3_601_000 and abs(ahead("here")) < 10_000 * BUSY, (first, ahead("here"))
         until(lambda: ahead("ahead") < first - 150)
         assert [service.job(job).call(savepoint())["seq"] for job in ("here", "ahead")] == [2, 2]
         assert [len(service.job(job).state()["live"]) for job in ("here", "ahead")] == [2, 2]
@@ -530,10 +531,10 @@ def test_a_job_of_a_process_that_does_not_answer():
         servers = members(at, database.url, 2)
         opened(servers, 8)
         job = owned(database, servers[0])
-        # it commits right before it is suspended, so its lease is a whole one
+        # it commits right before it is suspended: two thirds of its lease are left at least
+        started, statuses = time.monotonic(), set()
         Service(servers[0].url).job(job).call(savepoint())
         servers[0].process.send_signal(signal.SIGSTOP)
-        started, statuses = time.monotonic(), set()
         while (status := servers[1].get(f"/v1/jobs/{job}")[0]) != 200:
             statuses.add(status)
             assert time.monotonic() - started < LEASE + 10 * BUSY
@@ -562,8 +563,8 @@ def test_tokens_go_with_a_request():
         for number, name in enumerate(names):
             body = {"name": name, "settings": SETTINGS, "shape": [1]}
             until(lambda: servers[number % 2].request("POST", "/v1/jobs", body, WRITE)[0] in (200, 201))
-        # the shards that came last are served too
-        until(lambda: all(server.get("/v1/jobs", READ)[0] == 200 for server in servers))
+        # the shards that came last are served too, and each process knows who has them: it looks each tenth of a second
+        until(lambda: all(server.get(path, READ)[0] == 200 for server in servers for path in ("/v1/jobs", *(f"/v1/jobs/{name}" for name in names))))
         found, calls = owners(database), {"calls": [{"call": "tick"}]}
         for name, url in found.items():
             away = next(server for server in servers if server.url != url)
