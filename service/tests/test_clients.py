@@ -10,6 +10,8 @@ from relkvanu_service import Failed, Refused, Service, ack, decline, deleted, di
 from run import Skipped
 
 ENGINE = f"{os.path.dirname(PROGRAM)}/examples/engine"
+# No checkpoint comes due while a test runs, however busy the machine: its calls name the numbers of records.
+SETTINGS = {"interval": 1 << 40}
 
 
 def as_json_schema(node):
@@ -45,8 +47,8 @@ def test_answers_fit_the_description():
 
     with served() as server:
         job = "/v1/jobs/{job}"
-        fits("POST", "/v1/jobs", "/v1/jobs", {"name": "a", "settings": {"interval": 10_000}, "shape": [2], "names": False})
-        fits("POST", "/v1/jobs", "/v1/jobs", {"name": "n", "settings": {"interval": 10_000}, "shape": [1], "names": True})
+        fits("POST", "/v1/jobs", "/v1/jobs", {"name": "a", "settings": SETTINGS, "shape": [2], "names": False})
+        fits("POST", "/v1/jobs", "/v1/jobs", {"name": "n", "settings": SETTINGS, "shape": [1], "names": True})
         calls = [
             {"call": "savepoint"}, {"call": "ack", "id": 1, "subtask": "0.0", "fresh": ["1", "2"], "bytes": [10, 20]}, {"call": "ack", "id": 1, "subtask": "0.1"},
             {"call": "tick"}, {"call": "savepoint"}, {"call": "decline", "id": 2, "subtask": "0.0"}, {"call": "decline", "id": 2, "subtask": "0.0"},
@@ -58,7 +60,7 @@ def test_answers_fit_the_description():
         assert [answer for answer in answers if "refused" in answer] == [
             {"refused": "NotTaken"}, {"refused": "InUse"}, {"refused": "UnknownCheckpoint"},
         ], answers
-        fits("POST", "/v1/jobs", "/v1/jobs", {"name": "p", "settings": {"interval": 10_000}, "shape": [2], "names": False})
+        fits("POST", "/v1/jobs", "/v1/jobs", {"name": "p", "settings": SETTINGS, "shape": [2], "names": False})
         more = [
             {"call": "savepoint"}, {"call": "ack", "id": 1, "subtask": "0.0", "fresh": ["2", "1"], "payload": "eA==", "bytes": 7, "millis": 3},
             {"call": "ack", "id": 1, "subtask": "0.1"}, {"call": "savepoint"}, {"call": "decline", "id": 2, "subtask": "0.1", "reason": "no disk"},
@@ -113,8 +115,8 @@ def test_answers_fit_the_description():
                 assert other[2]["title"] and told[2].items() < other[2].items(), (told, other)
             else:
                 assert other[1]["content-type"] == told[1]["content-type"]
-        assert fits("POST", "/v1/jobs", "/v1/jobs", {"name": "b", "settings": {"interval": 10_000}, "shape": [2]})[1]["location"] == "/v1/jobs/b"
-        assert "location" not in fits("POST", "/v1/jobs", "/v1/jobs", {"name": "b", "settings": {"interval": 10_000}, "shape": [2]})[1]
+        assert fits("POST", "/v1/jobs", "/v1/jobs", {"name": "b", "settings": SETTINGS, "shape": [2]})[1]["location"] == "/v1/jobs/b"
+        assert "location" not in fits("POST", "/v1/jobs", "/v1/jobs", {"name": "b", "settings": SETTINGS, "shape": [2]})[1]
         texts = {entry["answer"] for entry in server.get("/v1/jobs/a/log")[2]["calls"]}
         check_log(server.get("/v1/jobs/a")[2], [2], server.get("/v1/jobs/a/log")[2]["calls"])
         for path, status in ("/v1/jobs/b", 409), ("/v1/jobs/a", 409), ("/v1/jobs/a?abandon=1", 200), ("/v1/jobs/a", 404):
@@ -125,7 +127,7 @@ def test_answers_fit_the_description():
 def test_the_client_in_python():
     with served() as server:
         service = Service(server.url)
-        job = service.open("orders", {"interval": 60_000}, [1])
+        job = service.open("orders", SETTINGS, [1])
         assert job.call(savepoint()) == {"seq": 1, "savepoint": "triggered", "id": 1}
         assert job.call(ack(1, "0.0", [2**64 - 1]))["ack"] == "completed"
         try:

@@ -15,21 +15,21 @@ def now_of(job):
     return job.state()["now"] / 1000
 
 
-def seen(job):
-    """The time of a job and when it was that: by an answer that came soon enough for this, which not each does on a busy machine."""
+def seen(job, most):
+    """The time of a job and when it was that: by an answer that came within so many seconds, which not each does on a busy machine."""
     def soon():
         began = time.monotonic()
         now, ended = now_of(job), time.monotonic()
-        return ended - began < 0.05 and (now, (began + ended) / 2)
+        return ended - began < most and (now, (began + ended) / 2)
 
     return until(soon, each=0)
 
 
 def gain(job, seconds):
-    """By which part the time of a job goes faster than the clock of this machine."""
-    first, began = seen(job)
+    """By which part the time of a job goes faster than the clock of this machine. A part in eighty is not seen."""
+    first, began = seen(job, seconds / 80)
     time.sleep(seconds)
-    last, ended = seen(job)
+    last, ended = seen(job, seconds / 80)
     return (last - first) / (ended - began) - 1
 
 
@@ -86,16 +86,16 @@ def test_steps_of_the_clock():
         server = Server(at, prefix=clocks.prefix).start()
         job = Service(server.url).open("orders", SETTINGS, [1])
         job.call(savepoint())
-        gains = []
+        gains, seconds = [], lease_of(4)
         for step in (HOUR, -HOUR):
             clocks.set(day=step)
             until(lambda: abs(metric(server, "relkvanu_clock_ahead_seconds") + step) < 60)
-            gains.append(gain(job, 4))
+            gains.append(gain(job, seconds))
         assert 0.05 < gains[0] < 0.15 and -0.15 < gains[1] < -0.05, gains
         # far away it is not followed
         clocks.set(day=400 * DAY)
         until(lambda: metric(server, "relkvanu_clock_ahead_seconds") < -399 * DAY)
-        gains.append(gain(job, 4))
+        gains.append(gain(job, seconds))
         assert abs(gains[2]) < 0.04, gains
         # the record of ten minutes is still pending
         try:
