@@ -76,11 +76,18 @@ def test_a_backup_under_load():
         return f"{MEGABYTES} MB in {took:.1f} s beside {last - first} commits, of which the slowest took {max(load.times) * 1000:.0f} ms"
 
 
+def has_bytes(path):
+    try:
+        return os.path.getsize(path) > 0
+    except FileNotFoundError:
+        return False
+
+
 def suspended_backup(database, copy):
     """A backup that is suspended while it writes."""
     for _ in range(TRIES):
         process = subprocess.Popen([PROGRAM, "backup", "--database", database, "--to", copy], stderr=subprocess.DEVNULL)
-        while not (os.path.exists(f"{copy}.part") and os.path.getsize(f"{copy}.part")) and process.poll() is None:
+        while not has_bytes(f"{copy}.part") and process.poll() is None:
             pass
         process.send_signal(signal.SIGSTOP)
         if process.returncode is None:  # until it stands still, or has ended

@@ -1,5 +1,6 @@
 """Jobs that are deleted, with what was kept of them; and logs that are cut by their bytes."""
 import json
+import math
 import shutil
 import signal
 import sqlite3
@@ -205,7 +206,8 @@ def test_logs_are_cut_by_their_bytes():
 
         def kept():
             values = scraped(server)[1]
-            return [values[f'relkvanu_log_kept_calls{{job_name="{job.name}"}}'] for job in jobs]
+            # a job has none until the writer has answered a scrape within a second
+            return [values.get(f'relkvanu_log_kept_calls{{job_name="{job.name}"}}', math.inf) for job in jobs]
 
         # a tick and its answer have some 50 bytes, and count as 120
         until(lambda: sum(kept()) * 120 < 160_000, 20, told=kept)

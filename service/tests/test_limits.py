@@ -8,7 +8,7 @@ import sqlite3
 import threading
 import time
 
-from harness import COMMAND, Server, caught_up, configured, folder, served, slowed, until
+from harness import COMMAND, Server, caught_up, configured, folder, lease_of, served, slowed, until
 from relkvanu_service import Service, ack, cancel, deleted, dispose, restore, savepoint, undeleted
 from test_api import JOB
 from test_bytes import filled
@@ -166,8 +166,9 @@ def test_a_refusal_reaches_a_client_that_still_sends():
 
 def test_a_client_that_sends_on_is_left():
     """After its last answer, once it has sent four of the greatest bodies or nothing was said for so long; and at once when the service stops."""
+    idle = lease_of(2)  # in which a client sends four bodies, on a busy machine too
     with folder() as at:
-        server = Server(at, args=configured(at, f"[limits]\nbody_bytes = {MIB}\nall_bodies_bytes = {MIB}\nidle_seconds = 2\n")).start()
+        server = Server(at, args=configured(at, f"[limits]\nbody_bytes = {MIB}\nall_bodies_bytes = {MIB}\nidle_seconds = {idle}\n")).start()
         silent, loud = (begun_without_a_length(server, b" ", kind="text/plain") for _ in range(2))
         ends_after(silent)
         ends_after(loud)
@@ -186,7 +187,7 @@ def test_a_client_that_sends_on_is_left():
         assert server.stop() == 0, server.log()[-600:]
         for it in [silent, loud, *waits]:
             it.close()
-        return f"after {sent / MIB:.0f} MiB, after 2 s, and at a stop"
+        return f"after {sent / MIB:.0f} MiB, after {idle} s, and at a stop"
 
 
 def test_a_body_that_is_too_long():
@@ -212,12 +213,18 @@ def test_an_answer_that_is_larger_than_all_room_gets_all_of_it():
         path = "/v1/jobs/large/records/2"
         status, head, _ = server.get(path)
         assert status == 200 and int(head["content-length"]) > MIB, (status, head)
-        # a reader that reads nothing keeps the room
-        slow = socket.socket()
-        slow.setsockopt(socket.SOL_SOCKET, socket.SO_RCVBUF, 1 << 12)
-        slow.connect(("127.0.0.1", server.port))
-        slow.sendall(f"GET {path} HTTP/1.1\r\nHost: localhost\r\n\r\n".encode())
-        slow.recv(1, socket.MSG_PEEK)
+
+        def unread():
+            """A reader that reads nothing, and so keeps the room. The answer before it may have it for a moment after its last byte is read."""
+            it = socket.socket()
+            it.setsockopt(socket.SOL_SOCKET, socket.SO_RCVBUF, 1 << 12)
+            it.connect(("127.0.0.1", server.port))
+            it.sendall(f"GET {path} HTTP/1.1\r\nHost: localhost\r\n\r\n".encode())
+            if it.recv(12, socket.MSG_PEEK) == b"HTTP/1.1 200":
+                return it
+            return it.close()
+
+        slow = until(unread)
         refused = server.get(path)
         slow.close()
         until(lambda: server.get(path)[0] == 200)
@@ -300,8 +307,8 @@ def test_lists_of_many_jobs_come_in_pieces():
             assert server.request("POST", "/v1/jobs", {"name": f"j{number}", "settings": SETTINGS, "shape": [1]})[0] == 201
         told = [job["name"] for job in Service(server.url).jobs()]
         assert told == [f"j{number}" for number in range(jobs)], told[:5]
-        text = server.get("/metrics")[2]
-        assert len(re.findall(r"^relkvanu_mode\{", text, re.M)) == jobs
+        # the metrics wait a second for the writer, and a busy machine may take longer for all jobs
+        until(lambda: len(re.findall(r"^relkvanu_mode\{", server.get("/metrics")[2], re.M)) == jobs)
         assert len(server.get("/v1/view")[2]["jobs"]) == jobs
         return f"{jobs} jobs"
 
