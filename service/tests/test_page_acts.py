@@ -324,6 +324,32 @@ def chosen(page, name, value):
     page.execute_script("const it = document.getElementById(arguments[0]); it.value = arguments[1]; it.dispatchEvent(new Event('change'))", name, value)
 
 
+# What the page asks for records comes a second later, and `asked` counts it.
+LATE = """
+window.asked = 0;
+window.atOnce = window.fetch;
+window.fetch = async (...what) => {
+  if (what[0].includes("/records?")) {
+    window.asked += 1;
+    await new Promise((done) => setTimeout(done, 1000));
+  }
+  return window.atOnce(...what);
+};
+"""
+
+
+def check_a_choice_in_between(page):
+    """A choice that comes while the page is reading what was chosen before brings a look of its own, and not only the next one, after 15 s."""
+    page.execute_script(LATE)
+    chosen(page, "how", "declined")
+    until(lambda: page.execute_script("return window.asked") >= 1, 10)
+    chosen(page, "how", "expired")
+    until(lambda: first_of(page) == ("", 0), 10)
+    page.execute_script("window.fetch = window.atOnce")
+    chosen(page, "how", "")
+    until(lambda: first_of(page) == ("62", 25), 10)
+
+
 def check_records_page(page, job):
     # pages, back and forth
     until(lambda: first_of(page) == ("62", 25), 10)
@@ -344,6 +370,7 @@ def check_records_page(page, job):
     chosen(page, "kind", "")
     chosen(page, "how", "")
     until(lambda: first_of(page)[1] == 25, 10)
+    check_a_choice_in_between(page)
     # another limit, from the newest on
     for limit, count in (("10", 10), ("100", 62), ("25", 25)):
         chosen(page, "most", limit)
