@@ -54,10 +54,15 @@ class Words:
         with self.changed:
             assert self.changed.wait_for(lambda: words in self.said, LONGEST), (words, self.said)
 
-    def await_more(self, word, count=1):
+    def await_count(self, word, count):
+        """Until the word was said so many times since the begin."""
         with self.changed:
-            found = sum(it[0] == word for it in self.said)
-            assert self.changed.wait_for(lambda: sum(it[0] == word for it in self.said) >= found + count, LONGEST), (word, self.said)
+            assert self.changed.wait_for(lambda: sum(it[0] == word for it in self.said) >= count, LONGEST), (word, self.said)
+
+    def await_more(self, word, count=1):
+        """Until the word was said so many times from now on: for what comes again and again. What an earlier line has brought about may be said already."""
+        with self.changed:
+            self.await_count(word, sum(it[0] == word for it in self.said) + count)
 
     def start(self, term, record):
         assert record is None or isinstance(record, Record)
@@ -238,7 +243,7 @@ class Running(unittest.TestCase):
         store, engine, await_end = self.begin()
         engine.await_more("complete")
         engine.runner.restart()
-        engine.await_more("start")
+        engine.await_count("start", 2)
         engine.await_more("complete", 2)
         engine.runner.close()
         self.assertEqual(await_end(), Ended.CLOSED)
@@ -262,7 +267,7 @@ class Running(unittest.TestCase):
         store, engine, await_end = self.begin(tolerable=0)
         engine.await_more("complete")
         engine.declined = Kind.CHECKPOINT
-        engine.await_more("start")
+        engine.await_count("start", 2)
         engine.await_more("complete", 2)
         engine.runner.close()
         self.assertEqual(await_end(), Ended.CLOSED)
@@ -447,13 +452,13 @@ class Running(unittest.TestCase):
         store, engine, await_end = self.begin()
         engine.await_more("complete")
         engine.runner.restart(1)
-        engine.await_more("start")
+        engine.await_count("start", 2)
         for _ in range(10):
             engine.runner.restart(1)
         engine.await_more("complete", 10)
         self.assertEqual([it[1] for it in engine.said if it[0] == "start"], [1, 2])
         engine.runner.restart(2)
-        engine.await_more("start")
+        engine.await_count("start", 3)
         self.assertEqual([it[1] for it in engine.said if it[0] == "start"], [1, 2, 3])
         engine.runner.close()
         self.assertEqual(await_end(), Ended.CLOSED)
@@ -526,7 +531,7 @@ class Running(unittest.TestCase):
         store, engine, await_end = self.begin(Acknowledging(), tolerable=10)
         engine.await_more("complete")
         engine.declined = Kind.CHECKPOINT
-        engine.await_more("aborted")
+        engine.await_count("aborted", 1)
         engine.runner.close()
         self.assertEqual(await_end(), Ended.CLOSED)
         told = sum(it[0] in ("complete", "aborted") for it in engine.said)
@@ -567,13 +572,13 @@ class Running(unittest.TestCase):
 
     def test_commands_of_an_operator(self):
         store, engine, await_end = self.begin(interval=1 << 39)
-        engine.await_more("start") if ("start", 1, None, None) not in engine.said else None
+        engine.await_word("start", 1, None, None)
         first = store.trigger().reply.id
         engine.await_word("complete", first)
         second = store.trigger().reply.id
         engine.await_word("complete", second)
         store.go_back(first, accept_published=True)
-        engine.await_more("start") if sum(it[0] == "start" for it in engine.said) < 2 else None
+        engine.await_count("start", 2)
         third = store.trigger().reply.id
         engine.await_word("complete", third)
         engine.runner.close()
@@ -925,7 +930,7 @@ class Running(unittest.TestCase):
     def test_tasks_that_fail_and_tasks_of_an_old_term(self):
         store, engine, await_end = self.idle()
         engine.runner.restart()
-        engine.await_more("start")
+        engine.await_count("start", 2)
         old = engine.runner.spawn(lambda: engine.runner.ack(1, 1, 0, 0))
         old.join()
         store.trigger()
