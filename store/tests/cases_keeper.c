@@ -1,6 +1,8 @@
 /* The thread that writes a manifest while others call: who goes on meanwhile, who waits, and what becomes of a manifest that can't be written. */
 #include "cases.h"
 
+#include "../src/parts.h"
+
 #include <errno.h>
 #include <pthread.h>
 #include <stdatomic.h>
@@ -78,7 +80,12 @@ static void begins_behind_a_read(relkvanu_store *store, struct caller *it) {
     relkvanu *handle;
     CHECK(relkvanu_store_read(store, &handle) == RELKVANU_STORE_OK, "a read");
     start(it);
-    usleep(100000);
+    for (bool is_queued = false; !is_queued;) { /* one that came later would be alone */
+        usleep(1000);
+        pthread_mutex_lock(&store->mutex);
+        is_queued = store->queued != 0;
+        pthread_mutex_unlock(&store->mutex);
+    }
     relkvanu_store_read_end(store);
 }
 
