@@ -315,8 +315,10 @@ static void the_own_storage_discards(void) {
     put_and_complete(store, 1);
     put_and_complete(store, 101);
     fail_syncs("/storage", EIO);
-    CHECK(relkvanu_store_discard_for(store, 0, 50, NULL, NULL) == RELKVANU_STORE_TIMED_OUT, "a discarder");
-    CHECK(not_reported(store) == 2 * SUBTASKS && access(in("storage/1"), F_OK) != 0, "%" PRIu64 " are left", not_reported(store));
+    do { /* on a slow machine the time may be up before a batch */
+        CHECK(relkvanu_store_discard_for(store, 0, 50, NULL, NULL) == RELKVANU_STORE_TIMED_OUT, "a discarder");
+    } while (access(in("storage/1"), F_OK) == 0);
+    CHECK(not_reported(store) == 2 * SUBTASKS, "%" PRIu64 " are left", not_reported(store));
     fail_syncs("", 0);
     CHECK(rename(in("storage/.relkvanu-job"), in("marker")) == 0, "the marker");
     CHECK(relkvanu_store_discard_for(store, 0, 500, NULL, NULL) == RELKVANU_STORE_TIMED_OUT, "without a marker");
