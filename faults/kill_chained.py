@@ -22,22 +22,27 @@ HERE = pathlib.Path(__file__).resolve().parent
 SECONDS = 300  # that a start may take to publish something, on a busy machine
 KEYS = {"chained.py": 1, "mini.py": 4, "mini-rust": 4}  # sums of a sample
 BESIDE = {"mini.py": "target.py"}  # what a sample imports
+# One that is wrong only between two steps waits there: on a fast machine a kill would seldom hit that moment.
 WRONG = {
     "it does not align": [
         "chained.py",
         ("            self.held[source].append(item)\n",
          "            self.total += item['number']\n            self.sink.process([source, item['number'], self.total])\n"),
     ],
-    "it publishes at its cut": ["chained.py", ("        return self.prepared\n", "        self.target.publish([id])\n        return self.prepared\n")],
+    "it publishes at its cut": [
+        "chained.py",
+        ("        return self.prepared\n", "        self.target.publish([id])\n        time.sleep(0.02)\n        return self.prepared\n"),
+    ],
     "it does not publish again": [
         "chained.py",
         ("        target.publish(prepared)", "        pass"),
         ("        self.target.publish([it for it in self.prepared if it <= id])\n",
-         "        import time; time.sleep(0.05 * (id % 3))\n        self.target.publish([it for it in self.prepared if it <= id])\n"),
+         "        time.sleep(0.05 * (id % 3))\n        self.target.publish([it for it in self.prepared if it <= id])\n"),
     ],
     "it gives nothing up": [
         "target.py",
         ("            it.unlink()  #", "            os.rename(it, it.with_suffix('.published'))  #"),
+        ("            return list(self.prepared)\n", "            import time; time.sleep(0.02)\n            return list(self.prepared)\n"),
     ],
 }
 
@@ -63,7 +68,7 @@ class Job:
     """A job of the sample in a folder of its own. The texts are those of its program and of what that imports; one in Rust is built."""
 
     def __init__(self, folder, sample, samples, texts=None):
-        self.folder, self.keys = folder, KEYS[sample]
+        self.folder, self.keys, self.cycle = folder, KEYS[sample], None
         for it in ("state", "target"):
             (folder / it).mkdir(parents=True)
         for name, text in (texts or {}).items():
@@ -82,16 +87,27 @@ class Job:
     def publishing(self, *words):
         """Starts it, and waits until it has published once more."""
         before, process = self.published(), self.start(1 << 62, *words)
+        self.await_more(process, before)
+        return process
+
+    def await_more(self, process, before):
         until = time.monotonic() + SECONDS
         while self.published() == before and process.poll() is None:
             assert time.monotonic() < until, f"nothing was published in {SECONDS} s"
             time.sleep(0.005)
-        return process
+
+    def measure(self, process):
+        """Sets `cycle` to the seconds from one publication to the next."""
+        before, began = self.published(), time.monotonic()
+        self.await_more(process, before)
+        self.cycle = time.monotonic() - began
 
     def kill_one(self, dice):
-        """Starts it, waits until it has published once more, and kills its driver or its worker a moment later. What is left ends by itself."""
+        """Starts it, waits until it has published once more, and kills its driver or its worker in the two cycles that follow. What is left ends by itself."""
         process = self.publishing()
-        time.sleep(dice.random() * 0.06)
+        if self.cycle is None or dice.random() < 0.1:
+            self.measure(process)
+        time.sleep(dice.random() * max(0.06, 2 * self.cycle))
         if dice.random() < 0.5 or subprocess.run(["pkill", "-KILL", "-P", str(process.pid)], check=False).returncode:
             process.kill()
         process.wait(SECONDS)
@@ -166,7 +182,11 @@ def is_started_again(samples, texts):
     """Whether the status of mini.py sends a supervisor back to it: after a restart, and not after a cancel, when no file is left."""
     job, statuses, new = Job(samples / "ends", "mini.py", samples, texts), [], ["new"]
     for call in ("runner.restart", "store.cancel"):
-        text = f"import sys, threading, mini; it = mini.Engine(*sys.argv[1:]); threading.Timer(0.5, it.{call}).start(); it.runner.run()"
+        text = f"""import sys, threading, mini
+it = mini.Engine(*sys.argv[1:])
+publish, once = it.complete, iter([threading.Thread(target=it.{call}).start])
+it.complete = lambda id: (publish(id), next(once, int)())
+it.runner.run()"""
         words = [sys.executable, "-c", text, job.folder, str(1 << 62), *new]
         statuses.append(subprocess.run(words, cwd=job.folder, stderr=subprocess.DEVNULL, timeout=SECONDS, check=False).returncode)
         new = []
