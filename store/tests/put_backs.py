@@ -19,7 +19,7 @@ import sys
 import tempfile
 import time
 
-from engines import LONGEST, SEED, await_opening, known, recovers, slowed
+from engines import LONGEST, SEED, await_checkpoints, await_opening, known, listed, recovers, slowed
 from relkvanu import Settings
 from relkvanu.store import Store
 
@@ -192,10 +192,9 @@ def while_an_engine_runs(it):
 def a_forgotten_engine(it):
     """The marker names a later opening: the engine that runs puts and deletes nothing more, and ends."""
     folder, _ = it.job_behind()
-    marker = folder / "state/.relkvanu-job"
+    marker, there = folder / "state/.relkvanu-job", listed(folder)
     with subprocess.Popen([*it.engine, folder], stderr=subprocess.PIPE, text=True) as process:
-        await_opening(folder, process)
-        time.sleep(1)
+        await_checkpoints(folder, process, there)  # the marker is its own then
         job, _, epoch = marker.read_text().rstrip().rpartition(" ")
         later = folder / "later"
         later.write_text(f"{job} {int(epoch) + 1}\n")
