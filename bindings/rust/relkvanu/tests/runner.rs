@@ -10,8 +10,9 @@ use std::fs;
 use std::io::{BufRead, BufReader};
 use std::num::NonZeroU64;
 use std::os::unix::process::ExitStatusExt;
+use std::path::Path;
 use std::process::{Command, Stdio};
-use std::sync::{Arc, Condvar, Mutex};
+use std::sync::{mpsc, Arc, Condvar, Mutex};
 use std::thread::{self, JoinHandle};
 use std::time::{Duration, Instant};
 
@@ -537,7 +538,8 @@ fn calls_from_inside_complete_and_aborted() {
     let settings = Settings { tolerable: 10, ..QUICK };
     let (job, run) = begin(&place, settings);
     *job.engine().calls_inside.lock().unwrap() = Some(Vec::new());
-    job.engine().await_words(1, is_complete);
+    let more = job.engine().completions() + 2; // one of them may have begun before
+    job.engine().await_words(more, is_complete);
     *job.engine().declines.lock().unwrap() = Some(Kind::Checkpoint);
     job.engine().await_words(1, |it| matches!(it, Aborted(_)));
     let faults = job.engine().calls_inside.lock().unwrap().take().unwrap();
@@ -728,12 +730,16 @@ fn a_savepoint_right_after_a_way_back() {
         if !is_second || term != 1 || job.store().read(|job| job.term()).unwrap().unwrap().term != 1 {
             return;
         }
-        let asks = job.clone();
+        let (asks, (tell, told)) = (job.clone(), mpsc::channel());
         thread::spawn(move || {
+            tell.send(fs::read_link("/proc/thread-self").unwrap()).unwrap();
             let id = asks.savepoint().unwrap();
             asks.engine().note(Complete(id * 100)) // what comes after the answer
         });
-        thread::sleep(Duration::from_millis(300));
+        let state = Path::new("/proc").join(told.recv().unwrap()).join("stat");
+        while !fs::read_to_string(&state).unwrap().contains(") S ") {
+            thread::sleep(Duration::from_millis(1)); // it sleeps once the run has to take the savepoint
+        }
         job.store().go_back(1, true).unwrap();
     });
     job.store().trigger().unwrap();
