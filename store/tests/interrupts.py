@@ -15,7 +15,7 @@ from relkvanu import Settings
 from relkvanu.store import Call, NextFailed, Store, StoreError
 
 SETTINGS = Settings(interval=10**9)
-LONGEST = 600  # seconds without an end of a test: it hangs
+LONGEST = 600  # seconds from one interrupt to the next, or to the end: it hangs
 SOON, BUSY = 0.3, 10  # seconds, on an idle machine
 
 
@@ -46,6 +46,7 @@ class Alarm:
 
 def until_interrupted(alarm, seconds, work):
     """Does the work again and again until the handler raises."""
+    faulthandler.dump_traceback_later(LONGEST, exit=True)
     try:
         alarm.waits.put(seconds)
         while True:
@@ -54,10 +55,21 @@ def until_interrupted(alarm, seconds, work):
         pass
 
 
-def discards(job):
-    """A discarder in the main thread, which its function ends by and by: there is one at a time."""
+def until_soon(alarm, seconds, work):
+    """Interrupts the work, whose handler has to run soon. A busy machine may be late now and then, but not five times in a row."""
+    for _ in range(5):
+        until_interrupted(alarm, seconds, work)
+        times = slowed()
+        assert alarm.late[-1] < BUSY * times, alarm.late
+        if alarm.late[-1] < SOON * times:
+            return
+    raise AssertionError(f"the handlers ran after {alarm.late[-5:]} s")
+
+
+def discards(job, *how):
+    """A discarder in the main thread, which its function may end by and by: there is one at a time."""
     try:
-        job.discard(lambda _: True)
+        job.discard(*how)
     except StoreError as why:
         assert why.name == "NotNow", why  # the last one ends within its slice
 
@@ -77,7 +89,7 @@ def works(job):
         job.now, job.counts, job.measures, job.next_tick, job.term, job.sweep,
         lambda: job.await_tick(60_000), lambda: job.await_next(60_000), lambda: job.await_next(1),
         lambda: job.put(next(names), b"state"),
-        lambda: discards(job),
+        lambda: discards(job, lambda _: True),
     ]
 
 
@@ -152,12 +164,12 @@ def test_waits(folder):
     job = Store(f"{folder}/job.db", SETTINGS, [1], storage=f"{folder}/state", create=True)
     alarm, holds, ends = Alarm(), threading.Event(), threading.Event()
     for wait in (job.await_tick, job.await_next):
-        until_interrupted(alarm, 0.5, lambda: wait(60_000))
-    until_interrupted(alarm, 0.5, job.discard)
+        until_soon(alarm, 0.5, lambda: wait(60_000))
+    until_soon(alarm, 0.5, lambda: discards(job))
     job.decline_in(1, job.trigger().reply.id, 0, 0)
     while job.await_next(60_000) != NextFailed():
         pass
-    until_interrupted(alarm, 0.5, lambda: job.await_next(60_000))
+    until_soon(alarm, 0.5, lambda: job.await_next(60_000))
     assert job.restore().term == 2
 
     def reads():
@@ -169,11 +181,11 @@ def test_waits(folder):
     reader.start()
     holds.wait()
     for work in (lambda: look(job), lambda: job.reserve(2, 1), job.close):
-        until_interrupted(alarm, 0.3, work)
+        until_soon(alarm, 0.3, work)
     ends.set()
     reader.join()
     job.close()
-    check_late(alarm, 7)
+    print(f"{len(alarm.late)} interrupts: 7 waits, the latest handler ran after {max(alarm.late):.3f} s")
 
 
 def main(many=1000):
@@ -182,7 +194,6 @@ def main(many=1000):
     for test, words in ((test_waits, ()), (test_calls, (many * 4 // 5, choice)), (test_closes, (many // 5, choice))):
         with tempfile.TemporaryDirectory() as folder:
             test(folder, *words)
-        faulthandler.dump_traceback_later(LONGEST, exit=True)
 
 
 if __name__ == "__main__":
