@@ -334,7 +334,8 @@ func TestManyGoroutinesNeedFewThreads(t *testing.T) {
 		}()
 	}
 	group.Wait()
-	if threads := status("Threads"); threads == 0 || threads > 200 {
+	// Go starts more threads when calls into C are kept waiting for a processor.
+	if threads := status("Threads"); threads == 0 || threads > 200+8*runtime.GOMAXPROCS(0) {
 		t.Errorf("%d threads", threads)
 	}
 }
