@@ -8,9 +8,10 @@ set -uo pipefail
 
 # The least count of each part: a line 'NAME: COUNT' for each.
 FLOORS=${FLOORS:-.ci/floors}
-# The longest time of a part and of the whole gate in seconds, as the clock of `watch` counts them, and of single parts.
-MOST_OF_PART=${MOST_OF_PART:-2400}
-MOST_OF_ALL=${MOST_OF_ALL:-4800}
+# The longest time of a part and of the whole gate in seconds, as the clock of `watch` counts them, and of single parts. Two slow processors have room
+# for all of it: only what hangs takes as long.
+MOST_OF_PART=${MOST_OF_PART:-3600}
+MOST_OF_ALL=${MOST_OF_ALL:-14400}
 declare -A MOST_OF=()
 # What a line has that speaks of a failure: of rt, rattle, rustc, gcc, Python, Go, Java and of the scripts here.
 BAD_WORDS='FAIL|failed|[Ee]rror|not ok|NOT |panicked'
