@@ -11,7 +11,7 @@ FLOORS=${FLOORS:-.ci/floors}
 # The longest time of a part and of the whole gate in seconds, as the clock of `watch` counts them, and of single parts. Two slow processors have room
 # for all of it: only what hangs takes as long.
 MOST_OF_PART=${MOST_OF_PART:-3600}
-MOST_OF_ALL=${MOST_OF_ALL:-14400}
+MOST_OF_ALL=${MOST_OF_ALL:-10200}
 declare -A MOST_OF=()
 # What a line has that speaks of a failure: of rt, rattle, rustc, gcc, Python, Go, Java and of the scripts here.
 BAD_WORDS='FAIL|failed|[Ee]rror|not ok|NOT |panicked'
