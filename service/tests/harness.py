@@ -17,7 +17,7 @@ import threading
 import time
 from contextlib import closing, contextmanager
 
-from run import Skipped
+from run import Skipped, processors
 
 HERE = os.path.dirname(os.path.realpath(__file__))
 SERVICE = os.path.dirname(HERE)
@@ -44,7 +44,7 @@ def slowed():
     with open("/proc/loadavg", encoding="ascii") as it:
         load, _, _, tasks, _ = it.read().split()
     wanted = max(float(load), int(tasks.partition("/")[0]))
-    return max(1.0, 2 * wanted / len(os.sched_getaffinity(0)))
+    return max(1.0, 2 * wanted / processors())
 
 
 def lease_of(seconds):
