@@ -361,6 +361,8 @@ static int name_job(struct recovery *r) {
     int status = sync_file(r);
     status = status == RELKVANU_STORE_OK ? clean(r, false) : status;
     status = status == RELKVANU_STORE_OK ? rks_drop_tail(old) : status;
+    /* no file beside the new one comes back where a loss of power keeps its new name: nobody would look for it */
+    status = status == RELKVANU_STORE_OK ? rks_sync_folder_of(old, old->path) : status;
     if (status == RELKVANU_STORE_OK && rename(r->path, old->path) != 0) {
         status = rks_file_fault(old, old->path, errno);
     }

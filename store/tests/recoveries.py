@@ -20,7 +20,7 @@ import time
 
 sys.path.insert(0, str(pathlib.Path(__file__).resolve().parent.parent.parent / "faults"))
 from engines import NEW, recovers as runs_to
-from power import Journal, Loss, read_tree, write_tree
+from power import Journal, Kind, Loss, read_tree, write_tree
 from relkvanu import Settings
 from relkvanu.manifest import files_in
 from relkvanu.store import Store
@@ -348,6 +348,26 @@ def after_a_whole_one(it):
         assert job.report.is_recovered and job.report.choice.id == record_of(told.stdout), job.report
 
 
+def with_its_name_alone(it):
+    """Power is lost once the new job's file has its name, and before that is synced. The name may be there then without what was done before it: still
+    nothing of the command is left beside the job."""
+    base, complete = base_of(it)
+    for command, check in ((recovery, goes_on), (imports, is_imported), (claim, is_claimed)):
+        folder, journal = it.work / "named", it.work / "journal"
+        shutil.copytree(base, folder)
+        on_disk = read_tree(folder)
+        told = it.runs(*command(folder), LD_PRELOAD=it.shim, STORE_IN=str(folder), STORE_JOURNAL=str(journal))
+        assert told.returncode == 0, told.stdout
+        records = Journal.read(journal, folder, on_disk)
+        named = next(at for at, record in enumerate(records.records) if record.kind is Kind.RENAMES and ".relkvanu-new" in f"{record.path} {record.bytes}")
+        for lost in records.losses([(named + 1, Loss.LATER)] * 8, it.chance):
+            shutil.rmtree(folder)
+            write_tree(lost.tree, folder)
+            check(it, folder, complete)
+        shutil.rmtree(folder)
+        journal.unlink()
+
+
 def a_changed_file(it, folder):
     """One bit is another: who reads the file finds it, and says which one."""
     is_right(it, folder / "state")
@@ -386,8 +406,9 @@ def what_it_says(it):
     assert told.returncode == 1 and "there is a job" in told.stdout, told.stdout
 
 
-TESTS = (what_it_says, after_a_whole_one, at_each_end, at_each_loss, exports_at_each_end, exports_at_each_loss, imports_at_each_end, imports_at_each_loss,
-         claims_at_each_end, claims_at_each_loss, claims_in_place_at_each_end, claims_in_place_at_each_loss, the_old_job_of_a_claim, lost_logs, lost_engines)
+TESTS = (what_it_says, after_a_whole_one, with_its_name_alone, at_each_end, at_each_loss, exports_at_each_end, exports_at_each_loss, imports_at_each_end,
+         imports_at_each_loss, claims_at_each_end, claims_at_each_loss, claims_in_place_at_each_end, claims_in_place_at_each_loss, the_old_job_of_a_claim,
+         lost_logs, lost_engines)
 
 
 def main(command, shim, *engines):
