@@ -343,7 +343,7 @@ def check_a_choice_in_between(page):
     page.execute_script(LATE)
     chosen(page, "how", "declined")
     until(lambda: page.execute_script("return window.asked") >= 1, 10)
-    chosen(page, "how", "expired")
+    chosen(page, "how", "restored")  # as none did
     until(lambda: first_of(page) == ("", 0), 10)
     page.execute_script("window.fetch = window.atOnce")
     chosen(page, "how", "")
