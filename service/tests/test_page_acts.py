@@ -324,10 +324,12 @@ def chosen(page, name, value):
     page.execute_script("const it = document.getElementById(arguments[0]); it.value = arguments[1]; it.dispatchEvent(new Event('change'))", name, value)
 
 
-# What the page asks for records comes a second later, and `asked` counts it.
+# What the page asks for records comes a second later, and `asked` counts it. The look that comes after 15 s by itself never comes.
 LATE = """
 window.asked = 0;
 window.atOnce = window.fetch;
+window.timer = window.setTimeout;
+window.setTimeout = (what, time) => (time >= 15000 ? 0 : window.timer(what, time));
 window.fetch = async (...what) => {
   if (what[0].includes("/records?")) {
     window.asked += 1;
@@ -339,13 +341,13 @@ window.fetch = async (...what) => {
 
 
 def check_a_choice_in_between(page):
-    """A choice that comes while the page is reading what was chosen before brings a look of its own, and not only the next one, after 15 s."""
+    """A choice that comes while the page is reading what was chosen before brings a look of its own. (What the stream tells would bring one too.)"""
     page.execute_script(LATE)
     chosen(page, "how", "declined")
     until(lambda: page.execute_script("return window.asked") >= 1, 10)
     chosen(page, "how", "restored")  # as none did
     until(lambda: first_of(page) == ("", 0), 10)
-    page.execute_script("window.fetch = window.atOnce")
+    page.execute_script("window.fetch = window.atOnce; window.setTimeout = window.timer")
     chosen(page, "how", "")
     until(lambda: first_of(page) == ("62", 25), 10)
 
@@ -370,7 +372,6 @@ def check_records_page(page, job):
     chosen(page, "kind", "")
     chosen(page, "how", "")
     until(lambda: first_of(page)[1] == 25, 10)
-    check_a_choice_in_between(page)
     # another limit, from the newest on
     for limit, count in (("10", 10), ("100", 62), ("25", 25)):
         chosen(page, "most", limit)
@@ -403,6 +404,9 @@ def check_records_page(page, job):
     until(lambda: "no record 999" in "".join(test_page.texts(page, "#record")), 10)
     least = test_page.contrast(page)
     assert least >= 4.5 and nameless(page) == [], (least, nameless(page))
+    caught_up(job)
+    time.sleep(3)  # the stream has told of that: each second at most
+    check_a_choice_in_between(page)
     return f"62 records in 3 pages, {times}"
 
 
