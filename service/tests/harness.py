@@ -17,7 +17,9 @@ import threading
 import time
 from contextlib import closing, contextmanager
 
-from run import Skipped, processors
+from run import Skipped
+
+from busy import slowed  # (run.py says where it is)
 
 HERE = os.path.dirname(os.path.realpath(__file__))
 SERVICE = os.path.dirname(HERE)
@@ -36,15 +38,6 @@ LOG_ORACLE = os.environ.get("RELKVANU_LOG_ORACLE", f"{TOP}/crates/ckpt_log/out/c
 # another run on this machine too: the process has a lock on the port's file for as long as it lives.
 PORTS = range(20000, 32000)
 _held = []
-
-
-def slowed():
-    """How many times as long things may take as on an idle machine: twice as many as there are processes for each processor, in the last minute
-    or now. So a limit that tells two things apart by their time does so where the machine is idle."""
-    with open("/proc/loadavg", encoding="ascii") as it:
-        load, _, _, tasks, _ = it.read().split()
-    wanted = max(float(load), int(tasks.partition("/")[0]))
-    return max(1.0, 2 * wanted / processors())
 
 
 def lease_of(seconds):

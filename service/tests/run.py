@@ -2,7 +2,6 @@
 own. Many tests wait for what has to come within seconds, which a machine that does much else may miss. So tests that failed are tried once
 more, alone, if they are few: SECOND_TRIES at most. A line says which these were. The last line has the counts."""
 import atexit
-import contextlib
 import faulthandler
 import importlib
 import os
@@ -17,22 +16,14 @@ import traceback
 from concurrent.futures import ThreadPoolExecutor
 
 HERE = os.path.dirname(os.path.realpath(__file__))
+sys.path.append(f"{HERE}/../../store/tests")
+from busy import processors  # noqa: E402  (from there)
+
 COUNTS = "counts of the module: "
 # seconds of a test: one that takes longer hangs, and its process ends and says where
 LONGEST = int(os.environ.get("RELKVANU_LONGEST", "3600"))
 # so many failed tests may be tried once more
 SECOND_TRIES = 2
-
-
-def processors():
-    """How many there are, or for how many a control group gives time, if these are less: as in .ci/gate.bash."""
-    count = len(os.sched_getaffinity(0))
-    with contextlib.suppress(OSError), open("/sys/fs/cgroup/cpu.max", encoding="ascii") as it:
-        quota, period = it.read().split()
-        return count if quota == "max" else min(count, -(-int(quota) // int(period)))
-    return count
-
-
 # So many modules run at a time: most of their time they wait, and two of them keep less than a processor busy. The gate has other parts beside them.
 LANES = 5 if processors() >= 4 else 2
 # The longest first, as they were measured. Of the two that boot systemd one waits for the other, so they begin at different times.

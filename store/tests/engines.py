@@ -3,7 +3,6 @@
 coordinator names as in use is there. After each second one, and in the end, the engine recovers and runs to a checkpoint: then the folder has what
 the coordinator knows, and nothing else. TASKS is their number in the environment, MARKER that of a folder which the store does not know. A process that is
 killed may not have made the job yet, so each gets the word `new`."""
-import contextlib
 import os
 import pathlib
 import random
@@ -22,24 +21,6 @@ MARKER = os.environ.get("MARKER", ".relkvanu-job")
 SEED = os.environ.get("SEED", str(time.time()))
 NEW = "new"  # makes the job, if there is none
 LONGEST = 600  # seconds of a process, on a busy machine
-
-
-def processors():
-    """How many there are, or for how many a control group gives time, if these are less: as in .ci/gate.bash."""
-    count = len(os.sched_getaffinity(0))
-    with contextlib.suppress(OSError), open("/sys/fs/cgroup/cpu.max", encoding="ascii") as it:
-        quota, period = it.read().split()
-        return count if quota == "max" else min(count, -(-int(quota) // int(period)))
-    return count
-
-
-def slowed():
-    """How many times as long things may take as on an idle machine: twice as many as there are processes for each processor, in the last minute
-    or now."""
-    with open("/proc/loadavg", encoding="ascii") as it:
-        load, _, _, tasks, _ = it.read().split()
-    wanted = max(float(load), int(tasks.partition("/")[0]))
-    return max(1.0, 2 * wanted / processors())
 
 
 def known(folder):

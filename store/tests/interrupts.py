@@ -10,7 +10,7 @@ import tempfile
 import threading
 import time
 
-from engines import slowed
+from busy import slowed
 from relkvanu import Settings
 from relkvanu.store import Call, NextFailed, Store, StoreError
 

@@ -19,7 +19,8 @@ import sys
 import tempfile
 import time
 
-from engines import LONGEST, SEED, await_checkpoints, await_opening, known, listed, recovers, slowed
+from busy import slowed
+from engines import LONGEST, SEED, await_checkpoints, await_opening, known, listed, recovers
 from relkvanu import Settings
 from relkvanu.store import Store
 
