@@ -9,6 +9,7 @@ ghost use Rattle.ckpt_cuts.specs.Laws.{DoneIsConsistent};
 
 /// If each accepted acknowledgement of a completed record comes from a subtask that has cut the
 /// record, and channels keep their order, the record is a consistent cut of the job.
+#[tactic(auto, using(crate::proofs::Consistency::consistent))]
 pub fn consistent()
     ensures { (o : Opening) (calls : List Call) (w : Network) → CanOpen o → AreCalls calls → DoneIsConsistent o calls w }
 {}

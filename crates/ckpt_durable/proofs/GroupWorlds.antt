@@ -1,120 +1,165 @@
 -- What always holds of a coordinator that commits in groups, its device and its callers.
 use Rattle.std.proofs.Common.{◌≡◌, ℕ, zero, suc, ◌+◌, ◌<◌, ◌≤◌, true, List, [], ◌∷◌, ◌++◌, take, refl, sym, ap, ◌∙◌, subst, append_assoc, append-nil, take-append-drop, arith}
-use Rattle.std.specs.Prelude.{drop}
+use Rattle.std.specs.Prelude.{drop, ⊤}
 use Rattle.ckpt_ids.specs.declared.reply.Answer.{Answer}
-use Rattle.ckpt_model.specs.State.{IsUnused}
+use Rattle.ckpt_model.specs.State.{IsUnused, State}
 use Rattle.ckpt_terms.specs.declared.call.FencedAnswer.TheVariants as answer
 use Rattle.ckpt_terms.specs.declared.call.FencedCall.{FencedCall}
 use Rattle.ckpt_terms.specs.declared.call.FencedCall.TheVariants.{Make, Reserve}
 use Rattle.ckpt_terms.specs.declared.machine.Machine.{Machine}
 use Rattle.ckpt_terms.specs.declared.machine.Machine.TheVariants as machine
 use Rattle.ckpt_terms.specs.Fencing.{Fenced, fenced_step, fenced_replay, has_ended}
-use Rattle.ckpt_terms.specs.Machines.{core_in}
+use Rattle.ckpt_terms.specs.TermsImages.{AreFencedAlike, machine_settled}
 use Rattle.ckpt_terms.proofs.Classes.{deletions_are_safe}
 use Rattle.ckpt_logged.specs.Events.{AreEvents, Event, Fence, IsWell, Named, Plain, calls_named, event_step, events_replay, named_as}
 use Rattle.ckpt_logged.proofs.Asked.{events-split, replay-append, replay-push, replay_named, replay_well}
 use Rattle.ckpt_durable.specs.Crashes.{IsWithin}
-use Rattle.ckpt_durable.specs.Groups.{AreTurns, BeginsTermsOnce, GivesNamesOnce, IsDurable, KeepsAll, ReadsAreSafe, Stand, Turn, Made, Looked, Committed, Imaged, Crashed}
-use Rattle.ckpt_durable.specs.Groups.{UsesNoneAgain, World, goes_on, happens, started, synced, world}
+use Rattle.ckpt_durable.specs.Groups.{AreTurns, BeginsTermsOnce, GivesNamesOnce, HaveNoImage, IsDurable, IsDurableAs, IsExact, KeepsAll, ReadsAreSafe, Receipt, StandAs}
+use Rattle.ckpt_durable.specs.Groups.{Turn, Made, Looked, Committed, Imaged, Crashed, UsesNoneAgain, World, goes_on, happens, started, synced, world}
+use Rattle.ckpt_durable.proofs.Alike.{AreMachinesAlike, alike_named, image_alike, same_core, same_deletable, step_alike}
 use Rattle.ckpt_durable.proofs.Lists.{within_both, within_itself, within_take, within_then}
 use Rattle.ckpt_durable.proofs.NamesOnce.{gives, names_rise}
 use Rattle.ckpt_durable.proofs.TermsOnce.{has_term, tells, term_in, terms_rise}
-use Rattle.ckpt_durable.proofs.Standing.{stand_at, stand_then, stand_two}
+use Rattle.ckpt_durable.proofs.Standing.{Stand, Two, stand_at, stand_then, stand_two}
+
+-- A view of coordinators in which those that are seen alike stay so.
+record IsSeen (seen : Machine → Machine) : Type 0 where
+  steps : (k n : Machine) (event : Event) → seen k ≡ seen n → seen (event_step k event) ≡ seen (event_step n event)
+
+replay_seen : (seen : Machine → Machine) → IsSeen seen → (k n : Machine) (events : List Event) → seen k ≡ seen n → seen (events_replay k events) ≡ seen (events_replay n events)
+replay_seen seen i k n [] e = e
+replay_seen seen i k n (event ∷ events) e = replay_seen seen i (event_step k event) (event_step n event) events (i.steps k n event e)
+
+-- a turn that it shows: an image is seen as what it is made of
+abbrev Shows : (Machine → Machine) → Turn → Type 0
+Shows seen (Imaged n) = (k : Machine) → seen (machine_settled k) ≡ seen k
+Shows seen turn = ⊤
+
+abbrev ShowsAll : (Machine → Machine) → List Turn → Type 0
+ShowsAll seen [] = ⊤
+ShowsAll seen (turn ∷ turns) = Shows seen turn × ShowsAll seen turns
 
 -- what is durable, and that what waits is of places of the loose part
-record Holds (m : Machine) (w : World) : Type 0 where
-  begin : w.life.begin ≡ events_replay m w.cut
-  now : w.life.now ≡ events_replay w.life.begin (w.life.kept ++ w.life.loose)
-  told : Stand m (synced w) w.told
-  waiting : Stand (events_replay w.life.begin w.life.kept) w.life.loose w.life.waiting
+record Holds (seen : Machine → Machine) (m : Machine) (w : World) : Type 0 where
+  begin : seen w.life.begin ≡ seen (events_replay m w.cut)
+  now : seen w.life.now ≡ seen (events_replay m (synced w ++ w.life.loose))
+  told : StandAs seen m (synced w) w.told
+  waiting : StandAs seen (events_replay m (synced w)) w.life.loose w.life.waiting
   made : IsWithin (synced w ++ w.life.loose) w.made
 
--- the state behind what is synced
-behind_synced : (m : Machine) (w : World) → Holds m w → events_replay m (synced w) ≡ events_replay w.life.begin w.life.kept
-behind_synced m w h = replay-append m w.cut w.life.kept ∙ ap (λ (k : Machine). events_replay k w.life.kept) (sym h.begin)
-
--- and behind all
-now_here : (m : Machine) (w : World) → Holds m w → w.life.now ≡ events_replay (events_replay w.life.begin w.life.kept) w.life.loose
-now_here m w h = h.now ∙ replay-append w.life.begin w.life.kept w.life.loose
+-- what is recovered with these entries behind the synced ones
+found : (seen : Machine → Machine) (m : Machine) (w : World) (more : List Event) → IsSeen seen → Holds seen m w
+    → seen (events_replay w.life.begin (w.life.kept ++ more)) ≡ seen (events_replay m (synced w ++ more))
+found seen m w more i h =
+    replay_seen seen i w.life.begin (events_replay m w.cut) (w.life.kept ++ more) h.begin
+    ∙ ap seen (sym (replay-append m w.cut (w.life.kept ++ more)) ∙ ap (events_replay m) (sym (append_assoc w.cut w.life.kept more)))
 
 -- one more, read or asked, in the state of now
-waits : (m : Machine) (w : World) (entry : List Event) → Holds m w
-    → Stand (events_replay w.life.begin w.life.kept) (w.life.loose ++ entry) (w.life.waiting ++ record { state = w.life.now; entry = entry } ∷ [])
-waits m w entry h =
-    stand_then (events_replay w.life.begin w.life.kept) w.life.loose entry w.life.waiting (record { state = w.life.now; entry = entry } ∷ []) h.waiting
-    ([], [], sym (append-nil entry), now_here m w h, tt)
+waits : (seen : Machine → Machine) (m : Machine) (w : World) (entry : List Event) → Holds seen m w
+    → StandAs seen (events_replay m (synced w)) (w.life.loose ++ entry) (w.life.waiting ++ record { state = w.life.now; entry = entry } ∷ [])
+waits seen m w entry h =
+    stand_then seen (events_replay m (synced w)) w.life.loose entry w.life.waiting (record { state = w.life.now; entry = entry } ∷ []) h.waiting
+    ([], [], sym (append-nil entry), h.now ∙ ap seen (replay-append m (synced w) w.life.loose), tt)
 
-step_holds : (m : Machine) (w : World) (turn : Turn) → Holds m w → Holds m (happens w turn)
-step_holds m w (Made event) h = record {
-  begin = h.begin;
-  now = ap (λ (k : Machine). event_step k event) h.now ∙ sym (replay-push w.life.begin (w.life.kept ++ w.life.loose) event)
-      ∙ ap (events_replay w.life.begin) (append_assoc w.life.kept w.life.loose (event ∷ []));
-  told = h.told;
-  waiting = waits m w (event ∷ []) h;
-  made = subst (λ (xs : List Event). IsWithin xs (w.made ++ event ∷ [])) (append_assoc (synced w) w.life.loose (event ∷ []))
-      (within_both (synced w ++ w.life.loose) w.made (event ∷ []) (event ∷ []) h.made (within_itself (event ∷ [])));
-}
-step_holds m w Looked h = record {
+step_holds : (seen : Machine → Machine) (m : Machine) (w : World) (turn : Turn) → IsSeen seen → Shows seen turn → Holds seen m w → Holds seen m (happens w turn)
+step_holds seen m w (Made event) i shows h =
+    let longer : (synced w ++ w.life.loose) ++ event ∷ [] ≡ synced w ++ (w.life.loose ++ event ∷ []) = append_assoc (synced w) w.life.loose (event ∷ []) in
+    record {
+      begin = h.begin;
+      now = i.steps w.life.now (events_replay m (synced w ++ w.life.loose)) event h.now
+          ∙ ap seen (sym (replay-push m (synced w ++ w.life.loose) event) ∙ ap (events_replay m) longer);
+      told = h.told;
+      waiting = waits seen m w (event ∷ []) h;
+      made = subst (λ (xs : List Event). IsWithin xs (w.made ++ event ∷ [])) longer
+          (within_both (synced w ++ w.life.loose) w.made (event ∷ []) (event ∷ []) h.made (within_itself (event ∷ [])));
+    }
+step_holds seen m w Looked i shows h = record {
   begin = h.begin;
   now = h.now;
   told = h.told;
-  waiting = subst (λ (xs : List Event). Stand (events_replay w.life.begin w.life.kept) xs (w.life.waiting ++ record { state = w.life.now; entry = [] } ∷ []))
-      (append-nil w.life.loose) (waits m w [] h);
+  waiting = subst (λ (xs : List Event). StandAs seen (events_replay m (synced w)) xs (w.life.waiting ++ record { state = w.life.now; entry = [] } ∷ []))
+      (append-nil w.life.loose) (waits seen m w [] h);
   made = h.made;
 }
-step_holds m w Committed h =
+step_holds seen m w Committed i shows h =
     let all : synced w ++ w.life.loose ≡ w.cut ++ (w.life.kept ++ w.life.loose) = append_assoc w.cut w.life.kept w.life.loose in
+    let whole : synced w ++ w.life.loose ≡ (w.cut ++ (w.life.kept ++ w.life.loose)) ++ [] = all ∙ sym (append-nil (w.cut ++ (w.life.kept ++ w.life.loose))) in
     record {
       begin = h.begin;
-      now = h.now ∙ ap (events_replay w.life.begin) (sym (append-nil (w.life.kept ++ w.life.loose)));
-      told = subst (λ (xs : List Event). Stand m xs (w.told ++ w.life.waiting)) all
-          (stand_then m (synced w) w.life.loose w.told w.life.waiting h.told
-          (subst (λ (k : Machine). Stand k w.life.loose w.life.waiting) (sym (behind_synced m w h)) h.waiting));
+      now = h.now ∙ ap (λ (xs : List Event). seen (events_replay m xs)) whole;
+      told = subst (λ (xs : List Event). StandAs seen m xs (w.told ++ w.life.waiting)) all
+          (stand_then seen m (synced w) w.life.loose w.told w.life.waiting h.told h.waiting);
       waiting = tt;
-      made = subst (λ (xs : List Event). IsWithin xs w.made) (all ∙ sym (append-nil (w.cut ++ (w.life.kept ++ w.life.loose)))) h.made;
+      made = subst (λ (xs : List Event). IsWithin xs w.made) whole h.made;
     }
-step_holds m w (Imaged n) h =
+step_holds seen m w (Imaged n) i shows h =
     let first : List Event = take n w.life.kept in
     let rest : List Event = drop n w.life.kept in
-    let whole : first ++ rest ≡ w.life.kept = take-append-drop n w.life.kept in
-    let same : synced w ≡ (w.cut ++ first) ++ rest = ap (λ (xs : List Event). w.cut ++ xs) (sym whole) ∙ sym (append_assoc w.cut first rest) in
-    let moved : events_replay w.life.begin w.life.kept ≡ events_replay (events_replay w.life.begin first) rest =
-    ap (events_replay w.life.begin) (sym whole) ∙ replay-append w.life.begin first rest in
+    let same : synced w ≡ (w.cut ++ first) ++ rest =
+    ap (λ (xs : List Event). w.cut ++ xs) (sym (take-append-drop n w.life.kept)) ∙ sym (append_assoc w.cut first rest) in
     record {
-      begin = ap (λ (k : Machine). events_replay k first) h.begin ∙ sym (replay-append m w.cut first);
-      now = now_here m w h ∙ ap (λ (k : Machine). events_replay k w.life.loose) moved
-          ∙ sym (replay-append (events_replay w.life.begin first) rest w.life.loose);
-      told = subst (λ (xs : List Event). Stand m xs w.told) same h.told;
-      waiting = subst (λ (k : Machine). Stand k w.life.loose w.life.waiting) moved h.waiting;
+      begin = shows (events_replay w.life.begin first) ∙ replay_seen seen i w.life.begin (events_replay m w.cut) first h.begin
+          ∙ ap seen (sym (replay-append m w.cut first));
+      now = h.now ∙ ap (λ (xs : List Event). seen (events_replay m (xs ++ w.life.loose))) same;
+      told = subst (λ (xs : List Event). StandAs seen m xs w.told) same h.told;
+      waiting = subst (λ (xs : List Event). StandAs seen (events_replay m xs) w.life.loose w.life.waiting) same h.waiting;
       made = subst (λ (xs : List Event). IsWithin (xs ++ w.life.loose) w.made) same h.made;
     }
-step_holds m w (Crashed n) h = record {
+step_holds seen m w (Crashed n) i shows h = record {
   begin = h.begin;
-  now = refl;
+  now = found seen m w (take n w.life.loose) i h;
   told = h.told;
   waiting = tt;
   made = within_then (synced w ++ take n w.life.loose) (synced w ++ w.life.loose) w.made
       (within_both (synced w) (synced w) (take n w.life.loose) w.life.loose (within_itself (synced w)) (within_take n w.life.loose)) h.made;
 }
 
-on_holds : (m : Machine) (w : World) (turns : List Turn) → Holds m w → Holds m (goes_on w turns)
-on_holds m w [] h = h
-on_holds m w (turn ∷ turns) h = on_holds m (happens w turn) turns (step_holds m w turn h)
+on_holds : (seen : Machine → Machine) (m : Machine) (w : World) (turns : List Turn) → IsSeen seen → ShowsAll seen turns → Holds seen m w → Holds seen m (goes_on w turns)
+on_holds seen m w [] i shows h = h
+on_holds seen m w (turn ∷ turns) i shows h = on_holds seen m (happens w turn) turns i shows.1 (step_holds seen m w turn i shows.0 h)
 
-started_holds : (m : Machine) → Holds m (started m)
-started_holds m = record { begin = refl; now = refl; told = tt; waiting = tt; made = tt }
+its_world : (seen : Machine → Machine) (m : Machine) (turns : List Turn) → IsSeen seen → ShowsAll seen turns → Holds seen m (world m turns)
+its_world seen m turns i shows = on_holds seen m (started m) turns i shows (record { begin = refl; now = refl; told = tt; waiting = tt; made = tt })
 
--- the replay of everything, with what images stand for
-whole_now : (m : Machine) (w : World) → Holds m w → w.life.now ≡ events_replay m (synced w ++ w.life.loose)
-whole_now m w h = now_here m w h ∙ ap (λ (k : Machine). events_replay k w.life.loose) (sym (behind_synced m w h)) ∙ sym (replay-append m (synced w) w.life.loose)
+durable_as : (seen : Machine → Machine) (m : Machine) (w : World) → IsSeen seen → Holds seen m w → IsDurableAs seen m w
+durable_as seen m w i h = record { begin = h.begin; recovers = h.now ∙ sym (found seen m w w.life.loose i h); now = h.now; told = h.told; made = h.made }
 
-its_world : (m : Machine) (turns : List Turn) → Holds m (world m turns)
-its_world m turns = on_holds m (started m) turns (started_holds m)
+-- all but the order of the fetched files, with images
+
+in_order : IsSeen machine_settled
+in_order = record { steps = step_alike }
+
+shows_turn : (turn : Turn) → Shows machine_settled turn
+shows_turn (Made event) = tt
+shows_turn Looked = tt
+shows_turn Committed = tt
+shows_turn (Imaged n) = image_alike
+shows_turn (Crashed n) = tt
+
+shows_all : (turns : List Turn) → ShowsAll machine_settled turns
+shows_all [] = tt
+shows_all (turn ∷ turns) = (shows_turn turn, shows_all turns)
+
+settled_world : (m : Machine) (turns : List Turn) → Holds machine_settled m (world m turns)
+settled_world m turns = its_world machine_settled m turns in_order (shows_all turns)
 
 pub groups_durable : (m : Machine) (turns : List Turn) → IsDurable m (world m turns)
-groups_durable m turns =
-    let h : Holds m (world m turns) = its_world m turns in
-    record { begin = h.begin; recovers = h.now; now = whole_now m (world m turns) h; told = h.told; made = h.made }
+groups_durable m turns = durable_as machine_settled m (world m turns) in_order (settled_world m turns)
+
+-- that order too, without
+
+shows_itself : (turns : List Turn) → HaveNoImage turns → ShowsAll (λ k. k) turns
+shows_itself [] none = tt
+shows_itself (Made event ∷ turns) none = (tt, shows_itself turns none)
+shows_itself (Looked ∷ turns) none = (tt, shows_itself turns none)
+shows_itself (Committed ∷ turns) none = (tt, shows_itself turns none)
+shows_itself (Imaged n ∷ turns) none = absurd none
+shows_itself (Crashed n ∷ turns) none = (tt, shows_itself turns none)
+
+pub groups_exact : (m : Machine) (turns : List Turn) → IsExact m turns
+groups_exact m turns none =
+    let i : IsSeen (λ (k : Machine). k) = record { steps = λ k n event e. ap (λ (j : Machine). event_step j event) e } in
+    durable_as (λ (k : Machine). k) m (world m turns) i (its_world (λ (k : Machine). k) m turns i (shows_itself turns none))
 
 pub groups_keep_all : (w : World) (later : List Turn) → KeepsAll w later
 groups_keep_all w [] = ([], sym (append-nil (synced w)))
@@ -169,17 +214,33 @@ groups_use_none_again m turns later i t l before after n f is at gone =
     let last = on_events w later l first.0 first.1 in
     let each : AreEvents before × AreEvents rest = events-split before rest (subst AreEvents whole (events_join (synced v) v.life.loose last.0 last.1)) in
     let named = replay_named n rest each.1 in
-    let now : v.life.now ≡ machine.Fenced (fenced_replay n (calls_named rest)) =
-    whole_now m v (on_holds m w later (its_world m turns)) ∙ ap (events_replay m) whole ∙ replay-append m before rest
-    ∙ ap (λ (k : Machine). events_replay k rest) at ∙ named.1 in
-    subst (λ (k : Machine). IsUnused (core_in k) f) (sym now)
-    (deletions_are_safe n (calls_named rest) (subst IsWell at (replay_well m before each.0 i)) named.0 f gone)
+    let now : AreMachinesAlike v.life.now (machine.Fenced (fenced_replay n (calls_named rest))) =
+    (on_holds machine_settled m w later in_order (shows_all later) (settled_world m turns)).now
+    ∙ ap machine_settled (ap (events_replay m) whole ∙ replay-append m before rest ∙ ap (λ (k : Machine). events_replay k rest) at ∙ named.1) in
+    let unused : IsUnused (fenced_replay n (calls_named rest)).core f =
+    deletions_are_safe n (calls_named rest) (subst IsWell at (replay_well m before each.0 i)) named.0 f gone in
+    subst (λ (k : State). IsUnused k f) (sym (same_core v.life.now (machine.Fenced (fenced_replay n (calls_named rest))) now)) unused
+
+-- what is seen as a coordinator with names has names
+named_like : (n : Fenced) (k : Machine) → AreMachinesAlike (machine.Fenced n) k → (its : Fenced) × (k ≡ machine.Fenced its) × AreFencedAlike n its
+named_like n (machine.Plain k) e = absurd cc
+named_like n (machine.Fenced k) e = (k, refl, alike_named n k e)
 
 pub group_reads_are_safe : (m : Machine) (turns later : List Turn) → IsWell m → AreTurns turns → AreTurns later → ReadsAreSafe m turns later
 group_reads_are_safe m turns later i t l xs ys r n f told at gone =
     let w : World = world m turns in
-    let here = stand_at m (synced w) xs ys r (subst (Stand m (synced w)) told (its_world m turns).told) in
-    groups_use_none_again m turns later i t l here.0 (r.entry ++ here.1) n f here.2 (sym here.3 ∙ at) gone
+    let here = stand_at machine_settled m (synced w) xs ys r (subst (Stand m (synced w)) told (settled_world m turns).told) in
+    let its = named_like n (events_replay m here.0) (ap machine_settled (sym at) ∙ here.3) in
+    groups_use_none_again m turns later i t l here.0 (r.entry ++ here.1) its.0 f here.2 its.1 (sym (same_deletable n its.0 f its.2) ∙ gone)
+
+-- of two receipts that were told, the later one's state is as the replay of what was asked since the earlier one
+since_told : (m : Machine) (turns : List Turn) (xs ys zs : List Receipt) (r late : Receipt) → (world m turns).told ≡ xs ++ (r ∷ (ys ++ late ∷ zs))
+    → (between : List Event) × AreMachinesAlike late.state (events_replay (events_replay r.state r.entry) between)
+since_told m turns xs ys zs r late told =
+    let w : World = world m turns in
+    let two : Two machine_settled r late = stand_two machine_settled m (synced w) xs ys zs r late (subst (Stand m (synced w)) told (settled_world m turns).told) in
+    let behind : AreMachinesAlike (events_replay two.0 r.entry) (events_replay r.state r.entry) = replay_seen machine_settled in_order two.0 r.state r.entry (sym two.2) in
+    (two.1, two.3 ∙ replay_seen machine_settled in_order (events_replay two.0 r.entry) (events_replay r.state r.entry) two.1 behind)
 
 -- where there are names, no event takes them away, and the next one rises
 
@@ -204,13 +265,12 @@ next_of (machine.Fenced m) = m.next_name
 
 pub groups_give_names_once : (m : Machine) (turns : List Turn) → GivesNamesOnce m turns
 groups_give_names_once m turns xs ys zs r late first count next more told a b =
-    let w : World = world m turns in
-    let two = stand_two m (synced w) xs ys zs r late (subst (Stand m (synced w)) told (its_world m turns).told) in
+    let two = since_told m turns xs ys zs r late told in
     let k : Fenced = (fenced_step a.names (Reserve a.term count)).0 in
     let behind : events_replay r.state r.entry ≡ machine.Fenced k =
     ap (λ (n : Machine). events_replay n r.entry) a.state ∙ ap (events_replay (machine.Fenced a.names)) a.entry in
-    let since : machine.Fenced b.names ≡ machine.Fenced (fenced_replay k (calls_named two.0)) =
-    sym b.state ∙ two.1 ∙ ap (λ (n : Machine). events_replay n two.0) behind ∙ names_stay k two.0 in
+    let since : AreMachinesAlike (machine.Fenced b.names) (machine.Fenced (fenced_replay k (calls_named two.0))) =
+    ap machine_settled (sym b.state) ∙ two.1 ∙ ap machine_settled (ap (λ (n : Machine). events_replay n two.0) behind ∙ names_stay k two.0) in
     let here : b.names.next_name ≡ (fenced_replay k (calls_named two.0)).next_name = ap next_of since in
     let up : k.next_name ≤ (fenced_replay k (calls_named two.0)).next_name = names_go_up k (calls_named two.0) in
     let given = gives a.names a.term count first a.told in
@@ -232,12 +292,12 @@ abbrev term_of : Machine → ℕ
 term_of (machine.Plain m) = 0
 term_of (machine.Fenced m) = m.term
 
-abbrev first_or : FencedCall → List FencedCall → FencedCall
+abbrev pub first_or : FencedCall → List FencedCall → FencedCall
 first_or call [] = call
 first_or call (x ∷ xs) = x
 
 -- where there are names, an event is the step of its call
-steps_as : (n : Fenced) (event : Event) (call : FencedCall) → named_as event ≡ call ∷ [] → event_step (machine.Fenced n) event ≡ machine.Fenced (fenced_step n call).0
+pub steps_as : (n : Fenced) (event : Event) (call : FencedCall) → named_as event ≡ call ∷ [] → event_step (machine.Fenced n) event ≡ machine.Fenced (fenced_step n call).0
 steps_as n (Plain its) call is = ap (λ (c : FencedCall). machine.Fenced (fenced_step n c).0) (ap (first_or call) is)
 steps_as n (Named its) call is = ap (λ (c : FencedCall). machine.Fenced (fenced_step n c).0) (ap (first_or call) is)
 steps_as n (Fence first) call is = absurd cc
@@ -251,13 +311,12 @@ term_told n call term its told =
 
 pub groups_begin_terms_once : (m : Machine) (turns : List Turn) → BeginsTermsOnce m turns
 groups_begin_terms_once m turns xs ys zs r late call after term next its more told a b =
-    let w : World = world m turns in
-    let two = stand_two m (synced w) xs ys zs r late (subst (Stand m (synced w)) told (its_world m turns).told) in
+    let two = since_told m turns xs ys zs r late told in
     let k : Fenced = (fenced_step a.names call).0 in
     let behind : events_replay r.state r.entry ≡ machine.Fenced k =
     ap (λ (n : Machine). events_replay n r.entry) a.state ∙ ap (events_replay (machine.Fenced a.names)) a.entry ∙ steps_as a.names a.event call a.asked in
-    let since : machine.Fenced b.names ≡ machine.Fenced (fenced_replay k (calls_named two.0)) =
-    sym b.state ∙ two.1 ∙ ap (λ (n : Machine). events_replay n two.0) behind ∙ names_stay k two.0 in
+    let since : AreMachinesAlike (machine.Fenced b.names) (machine.Fenced (fenced_replay k (calls_named two.0))) =
+    ap machine_settled (sym b.state) ∙ two.1 ∙ ap machine_settled (ap (λ (n : Machine). events_replay n two.0) behind ∙ names_stay k two.0) in
     let here : b.names.term ≡ (fenced_replay k (calls_named two.0)).term = ap term_of since in
     let up : k.term ≤ (fenced_replay k (calls_named two.0)).term = terms_go_up k (calls_named two.0) in
     let first = term_told a.names call term its a.told in

@@ -1,4 +1,5 @@
 -- The lemmas that the proofs use.
+pub mod Alike
 pub mod GroupWorlds
 pub mod Lists
 pub mod NamesOnce

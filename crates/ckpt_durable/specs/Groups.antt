@@ -10,15 +10,17 @@ use Rattle.ckpt_terms.specs.declared.machine.Machine.{Machine}
 use Rattle.ckpt_terms.specs.declared.machine.Machine.TheVariants as machine
 use Rattle.ckpt_terms.specs.Fencing.{Fenced, fenced_step, has_ended, may_be_deleted}
 use Rattle.ckpt_terms.specs.Machines.{core_in}
+use Rattle.ckpt_terms.specs.TermsImages.{machine_settled}
 use Rattle.ckpt_logged.specs.Events.{Event, IsEvent, Named, event_step, events_replay, named_as}
 use Rattle.ckpt_durable.specs.Crashes.{IsWithin}
 
 -- Made: something is asked, and appended to the device. Its answer waits.
 -- Looked: something is read, or refused. Nothing is appended. Its answer waits too.
 -- Committed: a sync succeeds; then each answer that waits may be told.
--- Imaged n: the log on the device begins behind its first n synced entries, with an image of the state there.
+-- Imaged n: the log on the device begins behind its first n synced entries, with an image of the state there: it has the fetched files in
+-- ascending order.
 -- Crashed n: all that was synced is found, and n of the entries behind it, as many as there are at most. Recovery replays them.
--- An append, a sync or an image that fails is no turn: after it the next turn is a crash, or it is tried again.
+-- An append or a sync that fails is no turn: after it the next turn is a crash. An image that fails is none either, and may be tried again.
 pub data Turn : Type 0 where
   Made : Event → Turn
   Looked : Turn
@@ -51,7 +53,7 @@ lives l (Made event) = record {
 }
 lives l Looked = record { begin = l.begin; kept = l.kept; loose = l.loose; now = l.now; waiting = l.waiting ++ record { state = l.now; entry = [] } ∷ [] }
 lives l Committed = record { begin = l.begin; kept = l.kept ++ l.loose; loose = []; now = l.now; waiting = [] }
-lives l (Imaged n) = record { begin = events_replay l.begin (take n l.kept); kept = drop n l.kept; loose = l.loose; now = l.now; waiting = l.waiting }
+lives l (Imaged n) = record { begin = machine_settled (events_replay l.begin (take n l.kept)); kept = drop n l.kept; loose = l.loose; now = l.now; waiting = l.waiting }
 lives l (Crashed n) = record { begin = l.begin; kept = l.kept; loose = take n l.loose; now = events_replay l.begin (l.kept ++ take n l.loose); waiting = [] }
 
 -- with the entries that images stand for, what callers were told and what was asked, since the first start and through all crashes
@@ -83,23 +85,37 @@ world m turns = goes_on (started m) turns
 abbrev pub synced : World → List Event
 synced w = w.cut ++ w.life.kept
 
--- Each receipt is of a place of this list, in order: its state is the replay of what stands before that place, and its entry stands there.
-abbrev pub Stand : Machine → List Event → List Receipt → Type 0
-Stand m events [] = ⊤
-Stand m events (r ∷ rs) =
+-- Each receipt is of a place of this list, in order: its state is the replay of what stands before that place, as far as `seen` shows it, and its
+-- entry stands there.
+abbrev pub StandAs : (Machine → Machine) → Machine → List Event → List Receipt → Type 0
+StandAs seen m events [] = ⊤
+StandAs seen m events (r ∷ rs) =
     (before : List Event) × (after : List Event)
     × (events ≡ before ++ (r.entry ++ after))
-    × (r.state ≡ events_replay m before)
-    × Stand (events_replay r.state r.entry) after rs
+    × (seen r.state ≡ seen (events_replay m before))
+    × StandAs seen (events_replay (events_replay m before) r.entry) after rs
 
 -- At each moment, so after each crash: the log on the device begins with the state of what images stand for. The coordinator is its replay. Each
 -- receipt that was told is of a place of what was synced, in order. There is no entry that was not asked for.
-pub record IsDurable (m : Machine) (w : World) : Type 0 where
-  pub begin : w.life.begin ≡ events_replay m w.cut
-  pub recovers : w.life.now ≡ events_replay w.life.begin (w.life.kept ++ w.life.loose)
-  pub now : w.life.now ≡ events_replay m (synced w ++ w.life.loose)
-  pub told : Stand m (synced w) w.told
+pub record IsDurableAs (seen : Machine → Machine) (m : Machine) (w : World) : Type 0 where
+  pub begin : seen w.life.begin ≡ seen (events_replay m w.cut)
+  pub recovers : seen w.life.now ≡ seen (events_replay w.life.begin (w.life.kept ++ w.life.loose))
+  pub now : seen w.life.now ≡ seen (events_replay m (synced w ++ w.life.loose))
+  pub told : StandAs seen m (synced w) w.told
   pub made : IsWithin (synced w ++ w.life.loose) w.made
+
+-- all but the order of the fetched files, which no answer shows
+abbrev pub IsDurable : Machine → World → Type 0
+IsDurable = IsDurableAs machine_settled
+
+-- Without images that order is the same too.
+abbrev pub HaveNoImage : List Turn → Type 0
+HaveNoImage [] = ⊤
+HaveNoImage (Imaged n ∷ turns) = ⊥
+HaveNoImage (turn ∷ turns) = HaveNoImage turns
+
+abbrev pub IsExact : Machine → List Turn → Type 0
+IsExact m turns = HaveNoImage turns → IsDurableAs (λ k. k) m (world m turns)
 
 -- What was synced stays, as the first part, whatever happens.
 abbrev pub KeepsAll : World → List Turn → Type 0

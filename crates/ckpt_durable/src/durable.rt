@@ -1,6 +1,6 @@
 //! A coordinator with names whose answers are told only once their calls outlive a crash.
 
-ghost use Rattle.std.specs.Prelude.{◌≡◌, ◌<◌, ◌≤◌, ◌⊎◌, true, false, ◌++◌, ◌∷◌, [], Some, None, IfOk, IfErr, IfSome, OnOk, length};
+ghost use Rattle.std.specs.Prelude.{◌≡◌, ◌<◌, ◌⊎◌, true, false, ◌++◌, ◌∷◌, [], Some, None, IfOk, IfErr, IfSome, OnOk, length};
 ghost use Rattle.ckpt_memory.specs.Refusals.{one_more};
 ghost use Rattle.ckpt_terms.specs.Fencing.{fenced_replay};
 ghost use Rattle.ckpt_terms.specs.FencedLaws.{IsFencedCall};
@@ -55,7 +55,8 @@ impl Held {
 }
 
 /// A coordinator and its journal. Callers get no answer before its call is synced. A fault of the
-/// journal ends the value: only its journal is left, from which the next one is recovered.
+/// journal ends the value, and nothing is tried again: only its journal is left, from which the next
+/// one is recovered.
 pub struct Durable<J: Journal> {
     terms: Terms,
     journal: J,
@@ -132,7 +133,7 @@ impl<J: Journal> Durable<J> {
         ensures made { IfOk result (λ r. IfSome r.1 (λ n. (r.0.life ≡ lives self.begin self.life (Made call.now)) × (n ≡ length self.life.waiting))) }
         ensures unchanged { IfOk result (λ r. r.1 ≡ None → r.0 ≡ self) }
         ensures unsynced { IfOk result (λ r. IfSome r.1 (λ n. r.0.is_synced ≡ false)) }
-        ensures counted { IfOk result (λ r. self.faults ≤ r.0.faults) }
+        ensures steady { IfOk result (λ r. r.0.faults ≡ self.faults) }
         ensures fault { IfErr result (λ j. self.faults < J.faults j) }
         ensures kept { IfErr result (λ j. J.kept j ≡ self.life.kept) }
         ensures shape { IfOk result (λ r. IfSome r.1 (λ n. IsFencedCall call.now)) }
@@ -151,7 +152,7 @@ impl<J: Journal> Durable<J> {
         ensures made { IfOk result (λ r. IfSome r.1 (λ n. (r.0.life ≡ lives self.begin self.life (Made call.now)) × (n ≡ length self.life.waiting))) }
         ensures unchanged { IfOk result (λ r. r.1 ≡ None → r.0 ≡ self) }
         ensures unsynced { IfOk result (λ r. IfSome r.1 (λ n. r.0.is_synced ≡ false)) }
-        ensures counted { IfOk result (λ r. self.faults ≤ r.0.faults) }
+        ensures steady { IfOk result (λ r. r.0.faults ≡ self.faults) }
         ensures fault { IfErr result (λ j. self.faults < J.faults j) }
         ensures kept { IfErr result (λ j. J.kept j ≡ self.life.kept) }
         ensures shape { IfOk result (λ r. IfSome r.1 (λ n. IsFencedCall call.now)) }
@@ -213,7 +214,7 @@ impl<J: Journal> Durable<J> {
         ensures committed { IfOk result (λ r. r.0.life ≡ lives self.begin self.life Committed) }
         ensures answers { IfOk result (λ r. r.1.items ≡ self.life.waiting) }
         ensures synced { IfOk result (λ r. r.0.is_synced ≡ true) }
-        ensures counted { IfOk result (λ r. self.faults ≤ r.0.faults) }
+        ensures steady { IfOk result (λ r. r.0.faults ≡ self.faults) }
         ensures fault { IfErr result (λ j. self.faults < J.faults j) }
         ensures kept { IfErr result (λ j. J.kept j ≡ self.life.kept) }
         ensures loose { IfErr result (λ j. J.loose j ≡ self.life.loose) }

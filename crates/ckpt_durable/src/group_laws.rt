@@ -2,14 +2,16 @@
 //! a function that does nothing.
 
 ghost use Rattle.std.specs.Prelude.{List};
-ghost use Rattle.ckpt_durable.specs.Groups.{AreTurns, BeginsTermsOnce, GivesNamesOnce, IsDurable, KeepsAll, ReadsAreSafe, Turn, UsesNoneAgain, World, world};
+ghost use Rattle.ckpt_durable.specs.Groups.{AreTurns, BeginsTermsOnce, GivesNamesOnce, IsDurable, IsExact, KeepsAll, ReadsAreSafe, Turn, UsesNoneAgain, World, world};
 ghost use Rattle.ckpt_logged.specs.Events.{IsWell};
 ghost use Rattle.ckpt_terms.specs.declared.machine.Machine.{Machine};
 
 /// After any number of crashes, and of images that cut the log, the state is the replay of what is on
-/// the device. What callers were told stands in its synced part, in order.
+/// the device. What callers were told stands in its synced part, in order. An image has the fetched
+/// files in ascending order: but for their order, and without images in that too.
 pub fn groups_durable()
-    ensures { (m : Machine) (turns : List Turn) → IsDurable m (world m turns) }
+    ensures durable { (m : Machine) (turns : List Turn) → IsDurable m (world m turns) }
+    ensures exact { (m : Machine) (turns : List Turn) → IsExact m turns }
 {}
 
 /// What was synced stays, on the device or in an image.

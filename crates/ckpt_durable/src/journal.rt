@@ -29,6 +29,7 @@ pub trait Journal {
         ensures appended { OnOk result (loose self.new ≡ loose self.old ++ call.now ∷ []) }
         ensures failed { OnErr result ((loose self.new ≡ loose self.old) ⊎ (loose self.new ≡ loose self.old ++ call.now ∷ [])) }
         ensures fault { OnErr result (faults self.old < faults self.new) }
+        ensures steady { OnOk result (faults self.new ≡ faults self.old) }
         ensures counted { faults self.old ≤ faults self.new };
 
     /// Syncs what was appended, and what was found when the journal was opened. After a fault, which is
@@ -39,5 +40,6 @@ pub trait Journal {
         ensures kept_still { OnErr result (kept self.new ≡ kept self.old) }
         ensures loose_still { OnErr result (loose self.new ≡ loose self.old) }
         ensures fault { OnErr result (faults self.old < faults self.new) }
+        ensures steady { OnOk result (faults self.new ≡ faults self.old) }
         ensures counted { faults self.old ≤ faults self.new };
 }

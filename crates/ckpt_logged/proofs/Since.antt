@@ -93,7 +93,7 @@ comes m (Ack now id subtask fresh reused) y s h =
 comes m call y s h = moved_comes m call y refl ((step_is m call).records s) h
 
 -- no call adds one to a record that was not triggered yet
-adds_none : (m : State) (call : Call) (number : ℕ) → IsSound m → m.next ≤ number → accepted_by number m call ≡ []
+pub adds_none : (m : State) (call : Call) (number : ℕ) → IsSound m → m.next ≤ number → accepted_by number m call ≡ []
 adds_none m (Ack now id subtask fresh reused) number s above =
     ⊎_elim
     (λ (i : IsPassedOver m (step m (Ack now id subtask fresh reused))). passed_adds_none m now id number subtask fresh reused i)
@@ -138,7 +138,7 @@ had_along m (call ∷ calls) had s c a r h =
     ∙ sym (put_all-append (had r.id) (accepted_by r.id m call) (along (accepted_by r.id) (step m call).0 calls))
 
 -- of a number that was not given yet there is no record
-none_yet : (m : State) (id : ℕ) → IsSound m → m.next ≤ id → record_of m id ≡ None
+pub none_yet : (m : State) (id : ℕ) → IsSound m → m.next ≤ id → record_of m id ≡ None
 none_yet m id s above = find-none (λ (r : Record). eqb r.id id) m.records (list_any-none (λ (r : Record). eqb r.id id) m.records (λ r h.
     let other : r.id ≡ id → ⊥ = λ e. absurd (omega (arith, s.records.below_next r h, above, e)) in ne_eqb r.id id other))
 

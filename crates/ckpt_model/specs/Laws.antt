@@ -153,7 +153,8 @@ NoneLeaks o calls =
     let m : State = replay (opened o) calls in
     (f : ℕ) → times f (along registered_by (opened o) calls) ≡ times f (along deleted_by (opened o) calls) + times f (m.waiting ++ m.taken) + one_if (is_present (uses m.records) f)
 
--- no live record uses a file that was handed out, neither then nor later, if no deleted file is reported as new again
+-- no live record uses a file that was handed out, neither then nor later, if no deleted file is reported as new again (it follows
+-- from `Handed` of all these calls, and says for readers what deletion risks)
 abbrev pub UsedNoMore : Opening → List Call → List Call → Type 0
 UsedNoMore o before calls =
     let m : State = replay (opened o) (before ++ calls) in

@@ -55,7 +55,7 @@ pub record IsSound (m : State) : Type 0 where
   pub config : IsWithinLimits m.opening.config
   pub shape : IsShape m.shape
   pub latest : m.latest < MOMENTS_END
-  -- numbers are given from the first on
+  -- numbers are given from the first on; no law uses `first`: 0 is no number in the code
   pub first : 1 ≤ m.opening.first
   pub next_from : m.opening.first ≤ m.next
   pub next_to : m.next ≤ NUMBERS_END
@@ -68,7 +68,8 @@ pub record IsSound (m : State) : Type 0 where
   pub unused : (f : ℕ) → in_outbox m f ≡ true → is_present (uses m.records) f ≡ false
   pub apart : AreDistinct (m.waiting ++ m.taken)
 
--- a call that can be made: if a restore has a shape, it is a valid shape; and a configuration is within its limits
+-- A call that can be made: if a restore has a shape, it is a valid shape; and a configuration is within its limits. That the files
+-- of an `Ack` ascend is in their type, `Files`, and so no premise here.
 abbrev pub IsCall : Call → Type 0
 IsCall (Restore now target shape) = IfSome shape IsShape
 IsCall (Configure now config) = IsWithinLimits config

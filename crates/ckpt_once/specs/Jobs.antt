@@ -16,7 +16,8 @@ pub record Job : Type 0 where
   pub inputs : SubtaskId → ℕ
   pub channels : List Channel
 
--- each channel leads from a task of the job to an input of one
+-- Each channel leads from a task of the job to an input of one. With two channels into one input few histories exist
+-- (`GivesInOrder`), so an engine has an input for each channel.
 abbrev pub IsJob : Job → Type 0
 IsJob job = (c : Channel) → IsIn c job.channels → IsIn c.sender job.tasks × IsIn c.receiver job.tasks × (c.input < job.inputs c.receiver)
 
@@ -89,7 +90,7 @@ network job from h = record {
 }
 
 -- A turn of a task of the job. Elements come by channels only; barriers and ends may also come from elsewhere, as the
--- coordinator's orders to a source do.
+-- coordinator's orders to a source do. A task that has ended may take turns, which count: the laws hold of these histories too.
 abbrev pub IsTurnOf : Job → SubtaskId → Turn → Type 0
 IsTurnOf job t (Offered i (Element x)) = IsIn t job.tasks × IsFed job t i
 IsTurnOf job t Drawn = IsIn t job.tasks × IsIn t job.sources

@@ -17,8 +17,8 @@ use Rattle.ckpt_once.specs.Newest.{NoneGoesBack}
 use Rattle.ckpt_once.specs.Jobs.{Attempt, History, IsHistory, IsJob, IsPrefix, IsQuiet, IsRun, Job, Run, States, network, restored, starts, states_after, states_in}
 use Rattle.ckpt_once.specs.Sinks.{AreLast, Sink, published_before, published_in, written}
 
--- After some calls this record was live and done. Left to the engine: its tasks are those of the job, and each had
--- cut the record when it acknowledged it.
+-- After some calls this record was live and done. Left to the engine: its tasks are those of the job (an
+-- equation of lists: a job lists them as the shape does), and each had cut the record when it acknowledged it.
 pub record WasDone (n : ℕ) (o : Opening) (job : Job) (from : States) (h : History) : Type 0 where
   pub calls : List Call
   pub are_calls : AreCalls calls

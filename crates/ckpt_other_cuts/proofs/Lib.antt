@@ -2,9 +2,12 @@
 pub mod Ending
 pub mod KeyRuns
 pub mod Losing
-pub mod Overtaking
 pub mod Redistributing
 pub mod Reshaping
+pub mod Resumed
+pub mod Resuming
+pub mod Snapping
 pub mod Stopping
 pub mod WorkedRestarting
+pub mod WorkedResuming
 pub mod WorkedShaping

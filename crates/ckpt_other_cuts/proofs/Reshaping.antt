@@ -11,7 +11,7 @@ use Rattle.ckpt_model.specs.Laws.{CanOpen}
 use Rattle.ckpt_model.specs.State.{Opening}
 use Rattle.ckpt_once.specs.Jobs.{HaveCut, History, IsJob, IsQuiet, IsRun, Job, Run, States, before_cuts, of, run_of, starts, states_after}
 use Rattle.ckpt_once.specs.Programs.{emitted, on_output, state}
-use Rattle.ckpt_once.specs.Sinks.{Sink, published, published_in, sealed, written}
+use Rattle.ckpt_once.specs.Sinks.{Sink, published_in, sealed, written}
 use Rattle.ckpt_once.proofs.Joining.{is_quiet-join, put-join, runs_join, states-join}
 use Rattle.ckpt_once.proofs.Running.{acts_of, put_before_is, record_is_of_run, without_barriers}
 use Rattle.ckpt_once.proofs.Sealing.{published_up_to, sealed_up_to}

@@ -1,16 +1,11 @@
--- Worked examples: a task that does not hold, one that has ended, one that takes its snapshot at once, and a restore of two
--- subtasks to three. The expected values were written by hand.
+-- Worked examples: a task that does not hold, one that has ended, and a restore of two subtasks to three. The expected values were written by hand.
 use Rattle.std.specs.Prelude.{◌≡◌, ◌==◌, ◌+◌, ◌/◌, ◌%◌, ℕ, if◌then◌else◌, List, [], ◌∷◌, true, false, refl}
-use Rattle.ckpt_ids.specs.declared.subtask.SubtaskId.{SubtaskId}
 use Rattle.ckpt_align.specs.Alignment.{opened}
 use Rattle.ckpt_align.specs.Histories.{Element, Barrier, End, Action, Reads, Ends, before_cut, elements, has_cut, taken}
-use Rattle.ckpt_align.specs.Laws.{Channel}
 use Rattle.ckpt_align.specs.Steps.{step, settled, barrier}
 use Rattle.ckpt_other_cuts.specs.Loose.{let_through}
 use Rattle.ckpt_other_cuts.specs.Rescaled.{Entry, KeyStates, Split, Vertex, after, emitted_for, its_own, loaded, redistributed}
 use Rattle.ckpt_other_cuts.specs.Stops.{EndsWithout, has_stop}
-use Rattle.ckpt_other_cuts.specs.Unaligned.{Deed, Net, before_snap, channel_part, puts, taken_before}
-use Rattle.ckpt_other_cuts.specs.Unaligned as deed
 
 -- Input 0 has delivered the barrier of record 7, and input 1 has not. The task takes element 13 of input 0 all the same.
 -- So its snapshot has 13, which comes again after a restart.
@@ -43,31 +38,6 @@ not_without = refl
 
 pub other_record : has_stop 7 (Element 11 ∷ Barrier 6 ∷ Element 12 ∷ []) ≡ false
 other_record = refl
-
--- The receiver takes its snapshot while 12 and the barrier are on the way: 12 is the channel's part of the record.
-abbrev subtask : ℕ → SubtaskId
-subtask vertex = record { vertex = vertex; index = 0 }
-
-abbrev line : Channel
-line = record { sender = subtask 0; output = 0; receiver = subtask 1; input = 0 }
-
-abbrev sender : List Deed
-sender = deed.Sends 0 11 ∷ deed.Sends 0 12 ∷ deed.Snaps 7 ∷ deed.Sends 0 13 ∷ []
-
-abbrev receiver : List Deed
-receiver = deed.Takes 0 (Element 11) ∷ deed.Snaps 7 ∷ deed.Takes 0 (Element 12) ∷ deed.Takes 0 (Barrier 7) ∷ []
-
-abbrev net : Net
-net = record { deeds = λ s. if s.vertex == 0 then sender else receiver; channels = line ∷ [] }
-
-pub sent_part : elements (puts 0 (before_snap 7 sender)) ≡ 11 ∷ 12 ∷ []
-sent_part = refl
-
-pub taken_part : taken_before 7 net line ≡ Element 11 ∷ []
-taken_part = refl
-
-pub on_the_way : channel_part 7 net line ≡ 12 ∷ []
-on_the_way = refl
 
 -- Two subtasks have the even and the odd keys. Three go on, by the remainder of the key.
 abbrev split : ℕ → Split

@@ -16,11 +16,13 @@ pub fn redistributes()
 {}
 
 /// Two rescalings with nothing done between them give each key what the second alone gives it.
+#[tactic(auto, using(crate::proofs::Redistributing::twice_is_once))]
 pub fn twice_is_once()
     ensures { (old new newer : Split) (parts : ℕ → List Entry) (k : ℕ) → TwiceIsOnce old new newer parts k }
 {}
 
 /// Each key goes on from the state that the record has for it.
+#[tactic(auto, using(crate::proofs::Redistributing::restores_keys))]
 pub fn restores_keys()
     ensures { (it : Rescaling) (k : ℕ) → RestoresKeys it k }
 {}
@@ -32,11 +34,13 @@ pub fn rescaling_invisible()
 {}
 
 /// The job of the keys is a shape of itself: its subtasks have one key each.
+#[tactic(auto, using(crate::proofs::KeyRuns::finest_is_shape))]
 pub fn finest_is_shape()
     ensures { (keys : Job) → IsShapeOf keys keys finest }
 {}
 
 /// The worked job, in which one subtask has two keys, is a shape of its job of the keys.
+#[tactic(auto, using(crate::proofs::WorkedShaping::worked_is_shape))]
 pub fn worked_is_shape()
     ensures { IsShapeOf keys job spread }
 {}
@@ -60,6 +64,7 @@ pub fn worked_restores()
 /// After any number of failures and restores in other shapes, each to a done record of the
 /// coordinator, the states of all keys, and what was published of each key's outputs, are those of
 /// one run of the job of the keys, without a failure.
+#[tactic(auto, using(crate::proofs::Reshaping::reshaping_invisible))]
 pub fn reshaping_invisible()
     ensures { (o : Opening) (keys : Job) (restarts : List Restart) (stage : Stage) → CanOpen o → ReshapingInvisible o keys restarts stage }
 {}

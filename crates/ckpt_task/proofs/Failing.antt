@@ -80,13 +80,13 @@ tells_left (Declined n ∷ left) now word has = inr (tells_left left now word ha
 
 -- ONE TASK
 
-record Counted (p : Program) (s inputs : ℕ) (l k : Looped) : Type 0 where
+pub record Counted (p : Program) (s inputs : ℕ) (l k : Looped) : Type 0 where
   pub looped : HasLooped p (at_as s (opened inputs)) k
   pub turns : (turn : Turn) → IsIn turn (turns_of k) → IsIn turn (turns_of l)
   pub counts : CountsAs l k
 
 -- a loop that goes on
-abbrev going : Around → Around → Looped
+abbrev pub going : Around → Around → Looped
 going x y = record { first = x; last = y; has_ended = false }
 
 -- without an end its deeds are those of its last run, and so are its turns
@@ -97,7 +97,7 @@ turns_on : (l : Looped) → l.has_ended ≡ false → turns_of l ≡ came_in l.l
 turns_on l on = ap (λ b. if b then Ended ∷ came_in l.last.deeds else came_in l.last.deeds) on
 
 -- the turn that was stopped counts as not begun
-skips : (p : Program) (s inputs : ℕ) (l : Looped) (failed : HasFailed p (at_as s (opened inputs)) l) (next : Option Next) → l.last.deeds ≡ as_came next ++ failed.stopped.whole.deeds
+pub skips : (p : Program) (s inputs : ℕ) (l : Looped) (failed : HasFailed p (at_as s (opened inputs)) l) (next : Option Next) → l.last.deeds ≡ as_came next ++ failed.stopped.whole.deeds
     → ((n : ℕ) → IsIn (Acknowledges n) (told_in l.last.deeds) → under n failed.stopped.whole.saved ≡ under n l.last.saved) → Counted p s inputs l (going l.first failed.stopped.whole)
 skips p s inputs l failed next e restores =
     let whole : Around = failed.stopped.whole in
@@ -121,7 +121,7 @@ skips p s inputs l failed next e restores =
     }
 
 -- or as finished
-finishes : (p : Program) (s inputs : ℕ) (l : Looped) (failed : HasFailed p (at_as s (opened inputs)) l) (begun : WasBegun p (λ turn. failed.waits (turn ∷ failed.stopped.run.turns)) failed.stopped.whole l.last)
+pub finishes : (p : Program) (s inputs : ℕ) (l : Looped) (failed : HasFailed p (at_as s (opened inputs)) l) (begun : WasBegun p (λ turn. failed.waits (turn ∷ failed.stopped.run.turns)) failed.stopped.whole l.last)
     → IsUnfinished l.last.deeds begun.all → Counted p s inputs l (going l.first (around l.last.task begun.all l.last.saved l.last.refused))
 finishes p s inputs l failed begun rest =
     let z : Around = around l.last.task begun.all l.last.saved l.last.refused in
@@ -166,7 +166,7 @@ same_by n s (Some m) given waiting k l (inr declined) not = by_saved declined.sa
 same_by n s None (Some m) waiting k l is not = sym (ap (λ (z : Kept). under n z.saved) is)
 same_by n s None None waiting k l is not = sym (ap (λ (z : Kept). under n z.saved) is)
 
-begun_restores : (p : Program) (s inputs : ℕ) (l : Looped) (failed : HasFailed p (at_as s (opened inputs)) l) (begun : WasBegun p (λ turn. failed.waits (turn ∷ failed.stopped.run.turns)) failed.stopped.whole l.last)
+pub begun_restores : (p : Program) (s inputs : ℕ) (l : Looped) (failed : HasFailed p (at_as s (opened inputs)) l) (begun : WasBegun p (λ turn. failed.waits (turn ∷ failed.stopped.run.turns)) failed.stopped.whole l.last)
     → l.last.deeds ≡ Came begun.next ∷ failed.stopped.whole.deeds → (n : ℕ) → IsIn (Acknowledges n) (told_in l.last.deeds) → under n failed.stopped.whole.saved ≡ under n l.last.saved
 begun_restores p s inputs l failed begun same n has =
     let a : Alignment = opened inputs in

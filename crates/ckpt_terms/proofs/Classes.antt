@@ -1,13 +1,12 @@
 -- Each number is in one class, garbage stays so, and what may be deleted is used no more.
-use Rattle.std.proofs.Common.{◌≡◌, ℕ, ◌+◌, ◌<◌, ◌≤◌, Bool, true, false, not, ◌&&◌, ltb, leb, eqb, List, ◌++◌, inl, inr, ⊎_elim, arith}
-use Rattle.std.specs.List.{list_any}
+use Rattle.std.proofs.Common.{◌≡◌, ℕ, ◌+◌, ◌<◌, ◌≤◌, Bool, true, false, not, ◌&&◌, ltb, leb, List, ◌++◌, inl, inr, ⊎_elim, arith}
 use Rattle.std.proofs.lemmas.Bool.{cases_Bool, both_ways, not-true, and_parts, and_from, or_cases, or_parts, not_from_false, ltb-true, ltb-false, leb-true, leb-false}
 use Rattle.ckpt_ids.specs.Counting.{one_if, times}
 use Rattle.ckpt_ids.specs.Ordered.{IsIn}
 use Rattle.ckpt_ids.specs.Records.{uses, is_present}
 use Rattle.ckpt_ids.proofs.CountLemmas.{one_if-true, one_if-false, times-append}
 use Rattle.ckpt_ids.proofs.AscendingLemmas.{numbers_in_order}
-use Rattle.ckpt_ids.proofs.OrderedLemmas.{IsIn-append_right, IsIn-from_test, not_in-from_test, AreDistinct-from_order}
+use Rattle.ckpt_ids.proofs.OrderedLemmas.{IsIn-from_test, not_in-from_test, AreDistinct-from_order}
 use Rattle.ckpt_model.specs.State.{is_known, in_outbox}
 use Rattle.ckpt_model.proofs.Records.Lists.{outbox_of}
 use Rattle.ckpt_model.proofs.Histories.Balance.{unused-from_absent}
@@ -56,9 +55,9 @@ deletable_parts : (m : Fenced) (f : ℕ) → IsFenced m → may_be_deleted m f �
 deletable_parts m f i h =
     ⊎_elim
     (λ (k : is_garbage m f ≡ true). let g = garbage_parts m f k in (g.0, (or_parts (is_present (uses m.core.records) f) (in_outbox m.core f) g.1).0))
-    (λ (k : list_any (λ g. eqb f g) m.core.taken ≡ true). let out : IsIn f (m.core.waiting ++ m.core.taken) = IsIn-append_right f m.core.waiting m.core.taken (IsIn-from_test f m.core.taken k) in
+    (λ (k : in_outbox m.core f ≡ true). let out : IsIn f (m.core.waiting ++ m.core.taken) = IsIn-from_test f (m.core.waiting ++ m.core.taken) k in
     (known_closed m f i (known-from_outbox m.core f out), (outbox_of i.core).unused f out))
-    (or_cases (is_garbage m f) (list_any (λ g. eqb f g) m.core.taken) h)
+    (or_cases (is_garbage m f) (in_outbox m.core f) h)
 
 pub deletions_are_safe : (m : Fenced) (calls : List FencedCall) → IsFenced m → AreFencedCalls calls → DeletionsAreSafe m calls
 deletions_are_safe m calls i b f h =

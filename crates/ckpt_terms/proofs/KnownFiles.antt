@@ -1,5 +1,5 @@
 -- The files that a coordinator knows, as one list, and the test whether one of them has a number or a greater one.
-use Rattle.std.proofs.Common.{◌≡◌, ℕ, ◌<◌, Bool, true, false, ◌||◌, leb, ltb, List, [], ◌∷◌, ◌++◌, map, refl, sym, ap, ◌∙◌, inl, inr, ⊎_elim}
+use Rattle.std.proofs.Common.{◌≡◌, ℕ, ◌<◌, Bool, true, false, ◌||◌, eqb, leb, ltb, List, [], ◌∷◌, ◌++◌, map, refl, sym, ap, ◌∙◌, inl, inr, ⊎_elim}
 use Rattle.std.specs.List.{list_any, flat_map}
 use Rattle.std.proofs.lemmas.Bool.{cases_Bool, or_cases, leb-false}
 use Rattle.std.proofs.lemmas.List.Folds.{list_any-append}
@@ -58,6 +58,13 @@ settled_from m first =
     ∙ ap (λ (b : Bool). list_any (leb first) (flat_map files_by m.records) || (list_any (leb first) m.waiting || b))
     (any_same (leb first) (ascending m.taken) m.taken (λ f h. IsIn-from_in_order ltb f m.taken h) (λ f h. IsIn-in_order ltb f m.taken h))
     ∙ sym (in_parts m first)
+
+pub settled_outbox : (m : State) (f : ℕ) → in_outbox (settled m) f ≡ in_outbox m f
+settled_outbox m f =
+    list_any-append (λ g. eqb f g) m.waiting (ascending m.taken)
+    ∙ ap (λ (b : Bool). list_any (λ g. eqb f g) m.waiting || b)
+    (any_same (λ g. eqb f g) (ascending m.taken) m.taken (λ x h. IsIn-from_in_order ltb x m.taken h) (λ x h. IsIn-in_order ltb x m.taken h))
+    ∙ sym (list_any-append (λ g. eqb f g) m.waiting m.taken)
 
 held_file : (f : ℕ) (r : Record) → Holds f r → IsIn f (files_by r)
 held_file f r (inl h) = IsIn-append_left f (flat_map (λ a. a.files) r.acks) r.pins (IsIn-flat_map (λ (a : Acked). a.files) h.0 f r.acks h.1 h.2)

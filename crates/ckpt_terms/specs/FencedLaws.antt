@@ -30,7 +30,7 @@ abbrev pub AreFencedCalls : List FencedCall → Type 0
 AreFencedCalls [] = ⊤
 AreFencedCalls (call ∷ calls) = IsFencedCall call × AreFencedCalls calls
 
--- what always holds
+-- What always holds. No law uses `term_from` and `names_from`: 0 is no term and no name in the code.
 pub record IsFenced (m : Fenced) : Type 0 where
   pub core : IsSound m.core
   pub term_from : 1 ≤ m.term

@@ -6,7 +6,7 @@ use Rattle.ckpt_ids.specs.declared.call.Call.TheVariants.{Ack, Decline, Restore,
 use Rattle.ckpt_ids.specs.declared.call.Target.TheVariants as target
 use Rattle.ckpt_ids.specs.declared.reply.Answer.{Answer}
 use Rattle.ckpt_ids.specs.declared.reply.Answer.TheVariants.{Done, Refused}
-use Rattle.ckpt_model.specs.State.{State, Opening, opened, is_known}
+use Rattle.ckpt_model.specs.State.{State, Opening, opened, in_outbox, is_known}
 use Rattle.ckpt_model.specs.Refusals.{is_cancelled}
 use Rattle.ckpt_model.specs.Steps.{Stepped, step}
 use Rattle.ckpt_terms.specs.declared.call.TheConstants.{LAST_TERM, MOST_NAMES, NAMES_END}
@@ -152,6 +152,6 @@ core_calls m (call ∷ calls) = passed call (fenced_step m call).1 ++ core_calls
 abbrev pub is_garbage : Fenced → ℕ → Bool
 is_garbage m f = nat_lt f m.next_name && not (is_unspent m f) && not (is_known m.core f)
 
--- a file that may be deleted: garbage, or fetched by a take
+-- a file that may be deleted: garbage, or of the outbox, whether it waits or was fetched by a take
 abbrev pub may_be_deleted : Fenced → ℕ → Bool
-may_be_deleted m f = is_garbage m f || list_any (λ g. f == g) m.core.taken
+may_be_deleted m f = is_garbage m f || in_outbox m.core f

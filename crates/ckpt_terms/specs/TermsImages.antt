@@ -4,6 +4,8 @@ use Rattle.ckpt_model.specs.Images.{CanHold, settled, state_in}
 use Rattle.ckpt_terms.specs.declared.call.FencedCall.{FencedCall}
 use Rattle.ckpt_terms.specs.declared.call.FencedAnswer.{FencedAnswer}
 use Rattle.ckpt_terms.specs.declared.image.TermsImage.{TermsImage}
+use Rattle.ckpt_terms.specs.declared.machine.Machine.{Machine}
+use Rattle.ckpt_terms.specs.declared.machine.Machine.TheVariants as machine
 use Rattle.ckpt_terms.specs.Fencing.{Fenced, FencedStepped, fenced_step, fenced_replay}
 use Rattle.ckpt_terms.specs.FencedLaws.{IsFenced}
 use Rattle.ckpt_terms.specs.Spans.{AreRanges, names_of}
@@ -20,6 +22,11 @@ fenced_settled m = record { core = settled m.core; term = m.term; next_name = m.
 -- the two differ in that order alone
 abbrev pub AreFencedAlike : Fenced → Fenced → Type 0
 AreFencedAlike m n = fenced_settled m ≡ fenced_settled n
+
+-- the same of a coordinator with names or without
+abbrev pub machine_settled : Machine → Machine
+machine_settled (machine.Plain m) = machine.Plain (settled m)
+machine_settled (machine.Fenced m) = machine.Fenced (fenced_settled m)
 
 -- both answer these calls in the same way, and are alike after them
 pub record FencedGoesOnAs (m n : Fenced) (calls : List FencedCall) : Type 0 where

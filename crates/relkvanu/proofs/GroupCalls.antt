@@ -11,7 +11,7 @@ use Rattle.ckpt_terms.specs.declared.machine.Machine.{Machine}
 use Rattle.relkvanu.proofs.AsEvents.{asked_is}
 use Rattle.relkvanu.specs.Asking.{bad_line}
 use Rattle.relkvanu.specs.Fenced.{IsHandled, machine_in}
-use Rattle.relkvanu.specs.GroupPrograms.{AsksByLine, Does, Has, Looks, LooksAtCall, Program, Syncs}
+use Rattle.relkvanu.specs.GroupPrograms.{Asks, AsksByLine, Does, Has, IsLeftBy, Looks, LooksAtCall, Program, Syncs}
 use Rattle.relkvanu.specs.Groups.{IsRoom, all_told, asked_event, group_with, held_with, one_more, receipt_of, tells, why_full}
 use Rattle.relkvanu.specs.Lines.{asked_step, said_step}
 use Rattle.relkvanu.specs.Making.{to_make}
@@ -39,9 +39,9 @@ made_is (Err what) places = λ code. absurd cc
 -- a receipt with which a line is to be appended is that of a call that was made
 was_made : (g : Group) (a : Answer) → (receipt_of g a).code ≡ 0 → (receipt_of g a).what ≡ 62 → a.code ≡ 0
 was_made g a =
-    cond_both (eqb a.code 0) (done 62 g.waiting 0) (if tells a then done 63 g.waiting 0 else a) (λ (x : Answer). x.code ≡ 0 → x.what ≡ 62 → a.code ≡ 0)
+    cond_both (eqb a.code 0) (done 62 g.given 0) (if tells a then done 63 g.given 0 else a) (λ (x : Answer). x.code ≡ 0 → x.what ≡ 62 → a.code ≡ 0)
     (λ is _ _. eqb-true a.code 0 is)
-    (λ _. cond_both (tells a) (done 63 g.waiting 0) a (λ (x : Answer). x.code ≡ 0 → x.what ≡ 62 → a.code ≡ 0) (λ _ _ what. absurd (true≢false (sym (ap (λ (n : ℕ). n == 62) what)))) (λ _ code _. code))
+    (λ _. cond_both (tells a) (done 63 g.given 0) a (λ (x : Answer). x.code ≡ 0 → x.what ≡ 62 → a.code ≡ 0) (λ _ _ what. absurd (true≢false (sym (ap (λ (n : ℕ). n == 62) what)))) (λ _ code _. code))
 
 -- any other receipt is that of a call that was refused
 record WasRefused (a : Answer) : Type 0 where
@@ -51,9 +51,9 @@ record WasRefused (a : Answer) : Type 0 where
 
 was_refused : (g : Group) (a : Answer) → (receipt_of g a).code ≡ 0 → (receipt_of g a).what ≢ 62 → WasRefused a
 was_refused g a =
-    cond_both (eqb a.code 0) (done 62 g.waiting 0) (if tells a then done 63 g.waiting 0 else a) (λ (x : Answer). x.code ≡ 0 → x.what ≢ 62 → WasRefused a)
+    cond_both (eqb a.code 0) (done 62 g.given 0) (if tells a then done 63 g.given 0 else a) (λ (x : Answer). x.code ≡ 0 → x.what ≢ 62 → WasRefused a)
     (λ _ _ other. absurd (other refl))
-    (λ unmade. cond_both (tells a) (done 63 g.waiting 0) a (λ (x : Answer). x.code ≡ 0 → x.what ≢ 62 → WasRefused a)
+    (λ unmade. cond_both (tells a) (done 63 g.given 0) a (λ (x : Answer). x.code ≡ 0 → x.what ≢ 62 → WasRefused a)
     (λ is_told _ _. record {
       unmade = λ is. true≢false (sym (eq-eqb a.code 0 is) ∙ unmade);
       tells = is_told;
@@ -68,9 +68,9 @@ record WasTold (a : Answer) : Type 0 where
 
 was_told : (g : Group) (a : Answer) → (receipt_of g a).code ≢ 0 → WasTold a
 was_told g a =
-    cond_both (eqb a.code 0) (done 62 g.waiting 0) (if tells a then done 63 g.waiting 0 else a) (λ (x : Answer). x.code ≢ 0 → WasTold a)
+    cond_both (eqb a.code 0) (done 62 g.given 0) (if tells a then done 63 g.given 0 else a) (λ (x : Answer). x.code ≢ 0 → WasTold a)
     (λ _ unmade. absurd (unmade refl))
-    (λ is_not. cond_both (tells a) (done 63 g.waiting 0) a (λ (x : Answer). x.code ≢ 0 → WasTold a)
+    (λ is_not. cond_both (tells a) (done 63 g.given 0) a (λ (x : Answer). x.code ≢ 0 → WasTold a)
     (λ _ unmade. absurd (unmade refl))
     (λ no_tale unmade. record { unmade = unmade; no_tale = no_tale }))
 
@@ -193,6 +193,35 @@ one_look p handle g h xs ys a has room group held =
       answers = ap (λ (k : Group). set p.held k.waiting a) has.counts ∙ ap (λ (zs : List Answer). set zs g.waiting a) has.answers ∙ sym held;
     } in
     (q, (there_is_room p handle g xs has room, refl), after)
+
+-- or that of a call that was made without a group
+pub one_made : (p : Program) (old handle : Handle) (g h : Group) (xs ys : List Answer) (event : Event) (a : Answer) → Has p old g xs → IsLeftBy event p handle → IsRoom g (length xs)
+    → h ≡ one_more g → ys ≡ set xs g.waiting a → Does p (Asks event a) handle h ys
+one_made p old handle g h xs ys event a has left room group held =
+    let q : Program = record { life = lives p.life (Made event); group = one_more p.group; held = set p.held p.group.waiting a } in
+    let after : Has q handle h ys = record {
+      state = left.0;
+      names = left.1;
+      counts = ap one_more has.counts ∙ sym group;
+      answers = ap (λ (k : Group). set p.held k.waiting a) has.counts ∙ ap (λ (zs : List Answer). set zs g.waiting a) has.answers ∙ sym held;
+    } in
+    (q, (there_is_room p old g xs has room, refl), after)
+
+-- A call that left the handle as it was counts as a look.
+pub idles : (p : Program) (old new : Handle) (g h : Group) (xs ys : List Answer) (a its result : Answer) → Has p old g xs → IsRoom g (length xs) → new.value ≡ old.value → new.names ≡ old.names
+    → h ≡ group_with g a → ys ≡ held_with g xs a → result ≡ receipt_of g a → its ≡ a → result.code ≡ 0 → Does p (Looks its) new h ys
+idles p old new g h xs ys a its result has room value names group held told same code =
+    let is_told : tells a ≡ true = was_held g a (ap (λ (x : Answer). x.code) (sym told) ∙ code) in
+    let still : Has p new g xs = record { state = value ∙ has.state; names = names ∙ has.names; counts = has.counts; answers = has.answers } in
+    one_look p new g h xs ys its still room (group ∙ ap (λ (b : Bool). if b then one_more g else g) is_told)
+    (held ∙ ap (λ (b : Bool). if b then set xs g.waiting a else xs) is_told ∙ ap (set xs g.waiting) (sym same))
+  where
+    was_held : (g : Group) (a : Answer) → (receipt_of g a).code ≡ 0 → tells a ≡ true
+    was_held g a =
+        cond_both (eqb a.code 0) (done 62 g.given 0) (if tells a then done 63 g.given 0 else a) (λ (x : Answer). x.code ≡ 0 → tells a ≡ true)
+        (λ is _. tells_made a (eqb-true a.code 0 is))
+        (λ unmade. cond_both (tells a) (done 63 g.given 0) a (λ (x : Answer). x.code ≡ 0 → tells a ≡ true) (λ is_told _. is_told)
+        (λ _ is. absurd (true≢false (sym (eq-eqb a.code 0 is) ∙ unmade))))
 
 -- what waits is synced
 pub one_sync : (p : Program) (handle : Handle) (g : Group) (xs : List Answer) → Has p handle g xs → g.has_failed ≡ false → Does p Syncs handle (all_told g) xs

@@ -1,14 +1,15 @@
 -- What a program does with a handle and a group is a list of turns, and it tells what is synced.
-use Rattle.std.proofs.Common.{◌≡◌, ℕ, zero, suc, ◌+◌, ◌<◌, true, false, ltb, List, [], ◌∷◌, ◌++◌, map, set, take, length, refl, sym, ap, ◌∙◌, subst, append_assoc, append-nil, length-append, arith}
+use Rattle.std.proofs.Common.{◌≡◌, ℕ, zero, suc, ◌+◌, ◌-◌, ◌<◌, ◌≤◌, true, false, leb, ltb, List, [], ◌∷◌, ◌++◌, map, set, take, length, refl, sym, ap, ◌∙◌, subst, append_assoc, append-nil, length-append, arith}
 use Rattle.std.specs.Prelude.{Some, slice_get}
-use Rattle.std.proofs.lemmas.Bool.{lt-ltb}
+use Rattle.std.proofs.lemmas.Bool.{and_parts, leb-true, ltb-true}
 use Rattle.std.proofs.lemmas.List.{take_more_set}
 use Rattle.ckpt_durable.specs.Groups.{AreTurns, Life, Receipt, Made, Looked, Committed, Imaged, Crashed, Turn, World, goes_on, happens, lives, started, world}
 use Rattle.ckpt_terms.specs.declared.machine.Machine.{Machine}
 use Rattle.relkvanu.specs.declared.answer.Answer.{Answer}
 use Rattle.relkvanu.specs.declared.group.Group.{Group}
-use Rattle.relkvanu.specs.Groups.{IsRoom, all_told, fresh, one_more, told_by}
-use Rattle.relkvanu.specs.GroupPrograms.{AreAsked, Held, Notes, Operation, Asks, Looks, Syncs, Images, Ends, Performed, Performs, Program, TellsWhatIsSynced, noted, nothing, program, receipts}
+use Rattle.relkvanu.specs.Groups.{IsRoom, all_told, bad_receipt, fresh, is_told, one_more, told_by}
+use Rattle.relkvanu.specs.GroupPrograms.{AreAsked, Held, Notes, Operation, Asks, Looks, Syncs, Images, Ends, Performed, Performs, Program, TellsItsOwn, TellsWhatIsSynced, noted, nothing, one_noted, program, receipts}
+use Rattle.relkvanu.specs.Told.{bad_argument}
 
 abbrev answers : List Held → List Answer
 answers held = map (λ h. h.0) held
@@ -30,12 +31,17 @@ record Fits (p : Program) (b : Notes) (w : World) : Type 0 where
   split : b.synced ≡ others ++ ready
   there : take p.group.told p.held ≡ answers ready
   number : length ready ≡ p.group.told
+  -- and the last that were given, if none waits
+  earlier : List Held
+  given : b.given ≡ earlier ++ (ready ++ b.waiting)
+  next : b.first + length b.given ≡ p.group.given
+  apart : 0 < p.group.told → b.waiting ≡ []
 
 -- one answer more is held
 one_held : (p q : Program) (b : Notes) (w v : World) (a : Answer) (r : Receipt) → Fits p b w → IsRoom p.group (length p.held)
     → v.life ≡ q.life → v.told ≡ w.told → v.life.waiting ≡ w.life.waiting ++ r ∷ []
     → q.group ≡ one_more p.group → q.held ≡ set p.held p.group.waiting a
-    → Fits q (record { waiting = b.waiting ++ (a, r) ∷ []; synced = b.synced }) v
+    → Fits q (one_noted b (a, r)) v
 one_held p q b w v a r f room life told waiting group held = record {
   life = life;
   told = told ∙ f.told;
@@ -49,7 +55,22 @@ one_held p q b w v a r f room life told waiting group held = record {
   split = sym (append-nil b.synced);
   there = ap (λ (g : Group). take g.told q.held) group;
   number = ap (λ (g : Group). g.told) (sym group);
+  earlier = f.earlier ++ f.ready;
+  given = ap (λ (hs : List Held). hs ++ (a, r) ∷ []) f.given ∙ append_assoc f.earlier (f.ready ++ b.waiting) ((a, r) ∷ [])
+      ∙ ap (λ (hs : List Held). f.earlier ++ hs) (append_assoc f.ready b.waiting ((a, r) ∷ [])) ∙ sym (append_assoc f.earlier f.ready (b.waiting ++ (a, r) ∷ []));
+  next = one_next b p q a r f.next group;
+  apart = λ some. absurd (none_told p q group some);
 }
+  where
+    one_next : (b : Notes) (p q : Program) (a : Answer) (r : Receipt) → b.first + length b.given ≡ p.group.given → q.group ≡ one_more p.group
+        → b.first + length (b.given ++ (a, r) ∷ []) ≡ q.group.given
+    one_next b p q a r next group =
+        let longer : length (b.given ++ (a, r) ∷ []) ≡ length b.given + 1 = length-append b.given ((a, r) ∷ []) in
+        let is : q.group.given ≡ p.group.given + 1 = ap (λ (g : Group). g.given) group in
+        omega arith
+
+    none_told : (p q : Program) → q.group ≡ one_more p.group → 0 < q.group.told → ⊥
+    none_told p q group some = let none : q.group.told ≡ 0 = ap (λ (g : Group). g.told) group in absurd (omega arith)
 
 -- the turn of an operation
 abbrev turn_of : Operation → Turn
@@ -57,7 +78,7 @@ turn_of (Asks event a) = Made event
 turn_of (Looks a) = Looked
 turn_of Syncs = Committed
 turn_of (Images n) = Imaged n
-turn_of (Ends n) = Crashed n
+turn_of (Ends n first) = Crashed n
 
 -- the life after a turn of the world is the life after a turn
 lives_on : (w : World) (turn : Turn) → (happens w turn).life ≡ lives w.life turn
@@ -96,6 +117,10 @@ fits_on p q b w Syncs h f =
       split = refl;
       there = ap (λ (g : Group). take g.told q.held) group ∙ ap (take p.group.waiting) held ∙ f.held;
       number = f.count ∙ ap (λ (g : Group). g.told) (sym group);
+      earlier = f.earlier ++ f.ready;
+      given = f.given ∙ sym (append_assoc f.earlier f.ready b.waiting) ∙ ap (λ (hs : List Held). (f.earlier ++ f.ready) ++ hs) (sym (append-nil b.waiting));
+      next = f.next ∙ ap (λ (g : Group). g.given) (sym group);
+      apart = λ _. refl;
     }
 fits_on p q b w (Images n) h f =
     let group : q.group ≡ p.group = ap (λ (k : Program). k.group) h in
@@ -111,11 +136,15 @@ fits_on p q b w (Images n) h f =
       split = f.split;
       there = ap (λ (g : Group). take g.told q.held) group ∙ ap (take p.group.told) held ∙ f.there;
       number = f.number ∙ ap (λ (g : Group). g.told) (sym group);
+      earlier = f.earlier;
+      given = f.given;
+      next = f.next ∙ ap (λ (g : Group). g.given) (sym group);
+      apart = λ some. f.apart (subst (λ (g : Group). 0 < g.told) group some);
     }
-fits_on p q b w (Ends n) h f =
-    let group : q.group ≡ fresh = ap (λ (k : Program). k.group) h.1 in
+fits_on p q b w (Ends n first) h f =
+    let group : q.group ≡ fresh first = ap (λ (k : Program). k.group) h.1 in
     record {
-      life = goes_with p q w (Ends n) f.life (ap (λ (k : Program). k.life) h.1);
+      life = goes_with p q w (Ends n first) f.life (ap (λ (k : Program). k.life) h.1);
       told = f.told;
       waiting = refl;
       held = ap (λ (g : Group). take g.waiting q.held) group;
@@ -125,7 +154,14 @@ fits_on p q b w (Ends n) h f =
       split = sym (append-nil b.synced);
       there = ap (λ (g : Group). take g.told q.held) group;
       number = ap (λ (g : Group). g.told) (sym group);
+      earlier = [];
+      given = refl;
+      next = first_next first q group;
+      apart = λ _. refl;
     }
+  where
+    first_next : (first : ℕ) (q : Program) → q.group ≡ fresh first → first + 0 ≡ q.group.given
+    first_next first q group = let is : q.group.given ≡ first = ap (λ (g : Group). g.given) group in omega arith
 
 reaches : (p q : Program) (b c : Notes) (w : World) (operations : List Operation) → Performed p b operations q c → Fits p b w
     → Fits q c (goes_on w (map turn_of operations))
@@ -139,7 +175,7 @@ are_turns (Asks event a ∷ operations) asked = (asked.0, are_turns operations a
 are_turns (Looks a ∷ operations) asked = are_turns operations asked
 are_turns (Syncs ∷ operations) asked = are_turns operations asked
 are_turns (Images n ∷ operations) asked = are_turns operations asked
-are_turns (Ends n ∷ operations) asked = are_turns operations asked
+are_turns (Ends n first ∷ operations) asked = are_turns operations asked
 
 begins : (m : Machine) (held : List Answer) → Fits (program m held) nothing (started m)
 begins m held = record {
@@ -153,40 +189,66 @@ begins m held = record {
   split = refl;
   there = refl;
   number = refl;
+  earlier = [];
+  given = refl;
+  next = refl;
+  apart = λ _. refl;
 }
 
 -- the answer at a place of the buffer that was noted
 abbrev IsThere : List Answer → List Held → ℕ → Type 0
-IsThere held ready i = (before : List Held) × (h : Held) × (after : List Held) × (ready ≡ before ++ h ∷ after) × (slice_get held i ≡ Some h.0)
+IsThere held ready i = (before : List Held) × (h : Held) × (after : List Held) × (ready ≡ before ++ h ∷ after) × (slice_get held i ≡ Some h.0) × (length before ≡ i)
 
 is_there : (held : List Answer) (ready : List Held) (i : ℕ) → take (length ready) held ≡ answers ready → i < length ready → IsThere held ready i
 is_there held [] i same less = absurd (omega arith)
 is_there [] (h ∷ ready) i same less = absurd cc
-is_there (a ∷ held) (h ∷ ready) zero same less = ([], h, ready, refl, ap (λ (xs : List Answer). slice_get xs 0) same)
+is_there (a ∷ held) (h ∷ ready) zero same less = ([], h, ready, refl, ap (λ (xs : List Answer). slice_get xs 0) same, refl)
 is_there (a ∷ held) (h ∷ ready) (suc i) same less =
     let rest : IsThere held ready i = is_there held ready i (ap tail_of same) (omega arith) in
-    (h ∷ rest.0, rest.1, rest.2, ap (λ (xs : List Held). h ∷ xs) rest.3, rest.4)
+    (h ∷ rest.0, rest.1, rest.2, ap (λ (xs : List Held). h ∷ xs) rest.3, rest.4, ap suc rest.5)
   where
     tail_of : List Answer → List Answer
     tail_of [] = []
     tail_of (x ∷ xs) = xs
 
-told_here : (g : Group) (held : List Answer) (i : ℕ) (a : Answer) → g.has_failed ≡ false → ltb i g.told ≡ true → slice_get held i ≡ Some a → told_by g held i ≡ a
-told_here g held i a sound less at = rw (sound, less, at) refl
+-- the place of an answer that may be told
+abbrev place_of : Group → ℕ → ℕ
+place_of g receipt = g.told - (g.given - receipt)
+
+told_here : (g : Group) (held : List Answer) (receipt : ℕ) (a : Answer) → g.has_failed ≡ false → is_told g receipt ≡ true → slice_get held (place_of g receipt) ≡ Some a → told_by g held receipt ≡ a
+told_here g held receipt a sound told at = rw (sound, told, at) refl
+
+untold_here : (g : Group) (held : List Answer) (receipt : ℕ) → g.has_failed ≡ false → is_told g receipt ≡ false → told_by g held receipt ≡ bad_argument bad_receipt
+untold_here g held receipt sound untold = rw (sound, untold) refl
+
+tells_its_own : (p : Program) (b : Notes) (w : World) (receipt : ℕ) → Fits p b w → p.group.has_failed ≡ false → is_told p.group receipt ≡ true → TellsItsOwn p b receipt
+tells_its_own p b w receipt f sound told =
+    let g : Group = p.group in
+    let parts = and_parts (ltb receipt g.given) (leb (g.given - receipt) g.told) told in
+    let less : receipt < g.given = ltb-true receipt g.given parts.0 in
+    let last : g.given - receipt ≤ g.told = leb-true (g.given - receipt) g.told parts.1 in
+    let some : 0 < g.told = omega arith in
+    let number : length f.ready ≡ g.told = f.number in
+    let within : place_of g receipt < length f.ready = omega arith in
+    let here : IsThere p.held f.ready (place_of g receipt) = is_there p.held f.ready (place_of g receipt) (ap (λ (n : ℕ). take n p.held) number ∙ f.there) within in
+    let h : Held = here.1 in
+    let given : b.given ≡ f.earlier ++ f.ready =
+    f.given ∙ ap (λ (hs : List Held). f.earlier ++ hs) (ap (λ (hs : List Held). f.ready ++ hs) (f.apart some) ∙ append-nil f.ready) in
+    let all : length b.given ≡ length f.earlier + length f.ready = ap length given ∙ length-append f.earlier f.ready in
+    let next : b.first + length b.given ≡ g.given = f.next in
+    let place : length here.0 ≡ place_of g receipt = here.5 in
+    let before : length (f.earlier ++ here.0) ≡ length f.earlier + length here.0 = length-append f.earlier here.0 in
+    let is : b.first + length (f.earlier ++ here.0) ≡ receipt = omega arith in (
+      h,
+      (f.others ++ here.0, here.2, f.split ∙ ap (λ (hs : List Held). f.others ++ hs) here.3 ∙ sym (append_assoc f.others here.0 (h ∷ here.2))),
+      (f.earlier ++ here.0, here.2, given ∙ ap (λ (hs : List Held). f.earlier ++ hs) here.3 ∙ sym (append_assoc f.earlier here.0 (h ∷ here.2)), is),
+      told_here g p.held receipt h.0 sound told here.4,
+    )
 
 pub tells_what_is_synced : (m : Machine) (held : List Answer) (operations : List Operation) (p : Program) (b : Notes) → TellsWhatIsSynced m held operations p b
 tells_what_is_synced m held operations p b done =
-    let turns : List Turn = map turn_of operations in
-    let f : Fits p b (world m turns) = reaches (program m held) p nothing b (started m) operations done (begins m held) in (
-      (turns, f.life, f.told, are_turns operations),
-      λ receipt sound less.
-          let here : IsThere p.held f.ready receipt =
-          is_there p.held f.ready receipt (ap (λ (n : ℕ). take n p.held) f.number ∙ f.there) (subst (λ (n : ℕ). receipt < n) (sym f.number) less) in
-          let is : ltb receipt p.group.told ≡ true = lt-ltb receipt p.group.told less in (
-            f.others ++ here.0,
-            here.1,
-            here.2,
-            f.split ∙ ap (λ (xs : List Held). f.others ++ xs) here.3 ∙ sym (append_assoc f.others here.0 (here.1 ∷ here.2)),
-            told_here p.group p.held receipt here.1.0 sound is here.4,
-          ),
+    let f : Fits p b (world m (map turn_of operations)) = reaches (program m held) p nothing b (started m) operations done (begins m held) in (
+      (map turn_of operations, f.life, f.told, are_turns operations),
+      λ receipt sound told. tells_its_own p b (world m (map turn_of operations)) receipt f sound told,
+      λ receipt sound untold. untold_here p.group p.held receipt sound untold,
     )

@@ -9,5 +9,6 @@ pub mod InputBytes
 pub mod Openings
 pub mod Saves
 pub mod SayingLemmas
+pub mod Takes
 pub mod Unmade
 pub mod Words

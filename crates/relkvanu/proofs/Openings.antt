@@ -1,4 +1,4 @@
--- Each line of an opening is no longer than the three together, and an opening without a fault can be opened.
+-- Each line of an opening is no longer than the three together, and an opening without a fault can be opened, and is sound.
 use Rattle.std.proofs.Common.{◌≡◌, ℕ, ◌+◌, ◌≤◌, Bool, true, false, eqb, ltb, List, ◌++◌, length, ap, ◌∙◌, subst, arith}
 use Rattle.std.specs.Prelude.{◌||◌, if◌then◌else◌, Option, Some, None}
 use Rattle.std.proofs.lemmas.List.{length-append}
@@ -8,10 +8,15 @@ use Rattle.ckpt_model.specs.Laws.{CanOpen}
 use Rattle.ckpt_model.specs.Opening.{open_fault}
 use Rattle.ckpt_model.specs.Soundness.{IsSound}
 use Rattle.ckpt_model.specs.State.{Opening, opened}
+use Rattle.ckpt_model.proofs.Soundness.Histories.{opening_is_sound}
 use Rattle.ckpt_model.proofs.Soundness.Opening.{in_bounds}
 use Rattle.ckpt_terms.specs.declared.call.TheConstants.{NAMES_END}
+use Rattle.ckpt_terms.specs.declared.machine.Machine.TheVariants as machine
+use Rattle.ckpt_terms.specs.Fencing.{fenced}
 use Rattle.ckpt_terms.specs.TermsOpening.{terms_fault}
+use Rattle.ckpt_terms.proofs.Fences.{opening_fenced}
 use Rattle.ckpt_lines.specs.CallTexts.{config_text, job_text, start_text}
+use Rattle.ckpt_logged.specs.Events.{IsWell}
 use Rattle.relkvanu.specs.Writing.{newline, opening_text}
 
 three : (a b c : List ℕ) → length (a ++ newline ++ b ++ newline ++ c ++ newline) ≡ length a + 1 + length b + 1 + length c + 1
@@ -48,3 +53,11 @@ can_open_named o first_name sound none = can_open o sound (opens_core ((eqb firs
     opens_core : (b : Bool) (fault : Option OpenFault) → (if b then Some BadFirst else fault) ≡ None → fault ≡ None
     opens_core true fault none = absurd cc
     opens_core false fault none = none
+
+-- and the coordinator begins sound
+
+pub opened_well : (o : Opening) → CanOpen o → IsWell (machine.Plain (opened o))
+opened_well o can = opening_is_sound o can
+
+pub fenced_well : (o : Opening) (first_name : ℕ) → CanOpen o → 1 ≤ first_name → first_name ≤ NAMES_END → IsWell (machine.Fenced (fenced o first_name))
+fenced_well o first_name can from to = opening_fenced o first_name (record { core = can; first_from = from; first_to = to })

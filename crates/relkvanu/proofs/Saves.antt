@@ -5,7 +5,7 @@ use Rattle.core.specs.Str.{IsUtf8}
 use Rattle.ckpt_model.specs.Images.{CanHold, settled, state_in}
 use Rattle.ckpt_model.specs.State.{State}
 use Rattle.ckpt_image.specs.Images.{image_read}
-use Rattle.ckpt_names_image.specs.Named.{Fenced, Named, Plain, named_in, saved_read}
+use Rattle.ckpt_names_image.specs.Named.{Fenced, Named, Plain, Saved, named_in, saved_read}
 use Rattle.ckpt_names_image.proofs.RoundTrips.{plain_text_back}
 use Rattle.ckpt_terms.specs.declared.image.TermsImage.{TermsImage}
 use Rattle.ckpt_terms.specs.declared.machine.Machine.TheVariants as machine
@@ -14,8 +14,15 @@ use Rattle.ckpt_terms.specs.Fencing as fencing
 use Rattle.ckpt_terms.specs.Machines.{issued_by}
 use Rattle.ckpt_terms.specs.Spans.{ranges_of}
 use Rattle.ckpt_terms.specs.TermsImages.{CanOpenFenced, fenced_in, fenced_settled}
+use Rattle.ckpt_logged.specs.Events.{IsWell}
 use Rattle.relkvanu.specs.declared.answer.Answer.{Answer}
 use Rattle.relkvanu.specs.Images.{CanBeOpened, OpensAgain, Tells, fenced_from, image_by, image_with, opened_with}
+
+-- the coordinator of a text that describes one is sound
+pub told_well : (bytes : List ℕ) (s : Saved) → Tells bytes s → IsWell (opened_with s)
+unfolding CanBeOpened opened_with
+told_well bytes (Plain m) tells = tells.2.sound
+told_well bytes (Fenced i) tells = tells.2.1.fenced
 
 -- ---- without names
 

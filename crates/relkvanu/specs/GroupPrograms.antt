@@ -1,7 +1,7 @@
 -- What a program does with a handle, a group, and a log of its own, by the contracts of the functions that it calls.
-use Rattle.std.specs.Prelude.{◌≡◌, ◌<◌, ℕ, false, List, [], ◌∷◌, ◌++◌, length, map, set, Some, Result, Ok, ⊤}
+use Rattle.std.specs.Prelude.{◌≡◌, ℕ, ◌+◌, true, false, List, [], ◌∷◌, ◌++◌, length, map, set, Some, Result, Ok, ⊤}
 use Rattle.ckpt_durable.specs.Groups.{AreTurns, Life, Receipt, Made, Looked, Committed, Imaged, Crashed, Turn, lives, started, world}
-use Rattle.ckpt_logged.specs.Events.{Event, IsEvent}
+use Rattle.ckpt_logged.specs.Events.{Event, IsEvent, event_step}
 use Rattle.ckpt_terms.specs.Machines.{core_in, names_in}
 use Rattle.ckpt_terms.specs.declared.machine.Machine.{Machine}
 use Rattle.relkvanu.specs.declared.answer.Answer.{Answer}
@@ -9,22 +9,23 @@ use Rattle.relkvanu.specs.declared.asked.Asked.{Asked}
 use Rattle.relkvanu.specs.declared.group.Group.{Group}
 use Rattle.relkvanu.specs.declared.handle.Handle.{Handle}
 use Rattle.relkvanu.specs.Asking.{said}
-use Rattle.relkvanu.specs.Groups.{IsRoom, all_told, asked_event, fresh, one_more, told_by}
+use Rattle.relkvanu.specs.Groups.{IsRoom, all_told, asked_event, bad_receipt, fresh, is_told, one_more, told_by}
 use Rattle.relkvanu.specs.Lines.{asked_step, said_step}
+use Rattle.relkvanu.specs.Told.{bad_argument}
 
 -- Asks: something was made, its entry is appended, and its answer was held: relkvanu_group_make has said so, or relkvanu_group_hold got the
 -- answer of another function.
--- Looks: the same of something that was read or refused, for which nothing is appended.
+-- Looks: the same of something that was read or refused, or that left the coordinator as it was, for which nothing is appended.
 -- Syncs: a sync of all entries has succeeded, and relkvanu_group_synced was called.
 -- Images n: the log begins behind its first n synced entries, with an image of the state there.
--- Ends n: the process has ended, or the group has failed, and another one begins: the handle is opened with the image, and makes what is found.
--- That is all that was synced, and n of the entries behind it, as many as there are at most.
+-- Ends n first: the process has ended, or the group has failed, and another one begins, whose receipts count from `first` on: the handle is opened
+-- with the image, and makes what is found. That is all that was synced, and n of the entries behind it, as many as there are at most.
 pub data Operation : Type 0 where
   Asks : Event → Answer → Operation
   Looks : Answer → Operation
   Syncs : Operation
   Images : ℕ → Operation
-  Ends : ℕ → Operation
+  Ends : ℕ → ℕ → Operation
 
 -- the coordinator and its log, a group, and the buffer of answers
 pub record Program : Type 0 where
@@ -38,7 +39,7 @@ Performs p (Asks event a) q =
 Performs p (Looks a) q = IsRoom p.group (length p.held) × (q ≡ record { life = lives p.life Looked; group = one_more p.group; held = set p.held p.group.waiting a })
 Performs p Syncs q = (p.group.has_failed ≡ false) × (q ≡ record { life = lives p.life Committed; group = all_told p.group; held = p.held })
 Performs p (Images n) q = q ≡ record { life = lives p.life (Imaged n); group = p.group; held = p.held }
-Performs p (Ends n) q = (held : List Answer) × (q ≡ record { life = lives p.life (Crashed n); group = fresh; held = held })
+Performs p (Ends n first) q = (held : List Answer) × (q ≡ record { life = lives p.life (Crashed n); group = fresh first; held = held })
 
 -- the program has this handle open, this group and this buffer of answers
 pub record Has (p : Program) (handle : Handle) (group : Group) (held : List Answer) : Type 0 where
@@ -50,6 +51,10 @@ pub record Has (p : Program) (handle : Handle) (group : Group) (held : List Answ
 -- the program performs this operation, and has these afterwards
 abbrev pub Does : Program → Operation → Handle → Group → List Answer → Type 0
 Does p operation handle group held = (q : Program) × Performs p operation q × Has q handle group held
+
+-- the handle has the coordinator that this event leaves
+abbrev pub IsLeftBy : Event → Program → Handle → Type 0
+IsLeftBy event p handle = (handle.value ≡ Some (core_in (event_step p.life.now event))) × (handle.names ≡ names_in (event_step p.life.now event))
 
 -- It asks for what this line says, which is a call that can be made. What is held is the answer of this call, in the state of before.
 abbrev pub AsksByLine : Program → Result Asked Answer → ℕ → List ℕ → Handle → Group → List Answer → Type 0
@@ -65,17 +70,22 @@ LooksAtCall p made places = Does p (Looks (said_step p.life.now places made).1)
 abbrev pub Held : Type 0
 Held = Answer × Receipt
 
--- those behind the last sync, and those that a sync has covered
+-- those behind the last sync, those that a sync has covered, and all that this group has held, with its first receipt: each has the next one
 pub record Notes : Type 0 where
   pub waiting : List Held
   pub synced : List Held
+  pub given : List Held
+  pub first : ℕ
+
+abbrev pub one_noted : Notes → Held → Notes
+one_noted b h = record { waiting = b.waiting ++ h ∷ []; synced = b.synced; given = b.given ++ h ∷ []; first = b.first }
 
 abbrev pub noted : Life → Notes → Operation → Notes
-noted l b (Asks event a) = record { waiting = b.waiting ++ (a, record { state = l.now; entry = event ∷ [] }) ∷ []; synced = b.synced }
-noted l b (Looks a) = record { waiting = b.waiting ++ (a, record { state = l.now; entry = [] }) ∷ []; synced = b.synced }
-noted l b Syncs = record { waiting = []; synced = b.synced ++ b.waiting }
+noted l b (Asks event a) = one_noted b (a, record { state = l.now; entry = event ∷ [] })
+noted l b (Looks a) = one_noted b (a, record { state = l.now; entry = [] })
+noted l b Syncs = record { waiting = []; synced = b.synced ++ b.waiting; given = b.given; first = b.first }
 noted l b (Images n) = b
-noted l b (Ends n) = record { waiting = []; synced = b.synced }
+noted l b (Ends n first) = record { waiting = []; synced = b.synced; given = []; first = first }
 
 abbrev pub Performed : Program → Notes → List Operation → Program → Notes → Type 0
 Performed p b [] q c = (p ≡ q) × (b ≡ c)
@@ -83,10 +93,10 @@ Performed p b (operation ∷ operations) q c = (next : Program) × Performs p op
 
 -- a program that begins with this coordinator
 abbrev pub program : Machine → List Answer → Program
-program m held = record { life = (started m).life; group = fresh; held = held }
+program m held = record { life = (started m).life; group = fresh 0; held = held }
 
 abbrev pub nothing : Notes
-nothing = record { waiting = []; synced = [] }
+nothing = record { waiting = []; synced = []; given = []; first = 0 }
 
 abbrev pub receipts : List Held → List Receipt
 receipts held = map (λ h. h.1) held
@@ -98,13 +108,21 @@ AreAsked (Asks event a ∷ operations) = IsEvent event × AreAsked operations
 AreAsked (Looks a ∷ operations) = AreAsked operations
 AreAsked (Syncs ∷ operations) = AreAsked operations
 AreAsked (Images n ∷ operations) = AreAsked operations
-AreAsked (Ends n ∷ operations) = AreAsked operations
+AreAsked (Ends n first ∷ operations) = AreAsked operations
+
+-- A receipt tells the answer that was held with it, which a sync has covered.
+abbrev pub TellsItsOwn : Program → Notes → ℕ → Type 0
+TellsItsOwn p b receipt =
+    (h : Held)
+    × ((before : List Held) × (after : List Held) × (b.synced ≡ before ++ h ∷ after))
+    × ((before : List Held) × (after : List Held) × (b.given ≡ before ++ h ∷ after) × (b.first + length before ≡ receipt))
+    × (told_by p.group p.held receipt ≡ h.0)
 
 -- So the program is a list of turns, of which all laws of groups hold. What callers were told there are the receipts that a sync has covered.
--- And what relkvanu_group_answer tells is an answer that was held with one of these receipts.
+-- And by a receipt relkvanu_group_answer tells the answer that was held with it, or nothing.
 abbrev pub TellsWhatIsSynced : Machine → List Answer → List Operation → Program → Notes → Type 0
 TellsWhatIsSynced m held operations p b =
     Performed (program m held) nothing operations p b
     → ((turns : List Turn) × ((world m turns).life ≡ p.life) × ((world m turns).told ≡ receipts b.synced) × (AreAsked operations → AreTurns turns))
-    × ((receipt : ℕ) → p.group.has_failed ≡ false → receipt < p.group.told
-    → (before : List Held) × (h : Held) × (after : List Held) × (b.synced ≡ before ++ h ∷ after) × (told_by p.group p.held receipt ≡ h.0))
+    × ((receipt : ℕ) → p.group.has_failed ≡ false → is_told p.group receipt ≡ true → TellsItsOwn p b receipt)
+    × ((receipt : ℕ) → p.group.has_failed ≡ false → is_told p.group receipt ≡ false → told_by p.group p.held receipt ≡ bad_argument bad_receipt)

@@ -15,8 +15,10 @@ pub mod Naming
 pub mod Opening
 pub mod Past
 pub mod Reads
+pub mod Recording
 pub mod Recovery
 pub mod Requested
 pub mod Saying
 pub mod Told
+pub mod WorkedGroup
 pub mod Writing

@@ -15,19 +15,19 @@ use ckpt_align::{Answer, Input, MOST_INPUTS, Refusal};
 use ckpt_ids::CheckpointId;
 
 // what a step is
-const STEP_PROCESS: u32 = 1;
+pub(crate) const STEP_PROCESS: u32 = 1;
 
-const STEP_HOLD: u32 = 2;
+pub(crate) const STEP_HOLD: u32 = 2;
 
-const STEP_NOTHING: u32 = 3;
+pub(crate) const STEP_NOTHING: u32 = 3;
 
-const STEP_WAIT: u32 = 4;
+pub(crate) const STEP_WAIT: u32 = 4;
 
-const STEP_LATE: u32 = 5;
+pub(crate) const STEP_LATE: u32 = 5;
 
-const STEP_CUT: u32 = 6;
+pub(crate) const STEP_CUT: u32 = 6;
 
-const STEP_ABANDON: u32 = 7;
+pub(crate) const STEP_ABANDON: u32 = 7;
 
 const STEP_UNKNOWN_INPUT: u32 = 8;
 
@@ -35,14 +35,14 @@ const STEP_HELD_INPUT: u32 = 9;
 
 const STEP_ENDED_INPUT: u32 = 10;
 
-const STEP_BAD_INPUTS: u32 = 11;
+pub(crate) const STEP_BAD_INPUTS: u32 = 11;
 
 // the bytes of inputs
 const OPEN: u8 = 0;
 
-const HELD: u8 = 1;
+pub(crate) const HELD: u8 = 1;
 
-const ENDED: u8 = 2;
+pub(crate) const ENDED: u8 = 2;
 
 /// The alignment of a task, beside the bytes of its inputs.
 #[repr(C)]
@@ -133,7 +133,7 @@ pub extern "C" fn relkvanu_align_give_up(aligner: &mut Aligner, inputs: &mut [u8
     told_of(give_up(aligner, inputs, id))
 }
 
-fn step_of(what: u32, id: u64) -> Step
+pub(crate) fn step_of(what: u32, id: u64) -> Step
     ensures { result ≡ record { what = what; id = id } }
 {
     Step { what, id }
@@ -153,7 +153,7 @@ fn told_of(answer: Answer) -> Step
     }
 }
 
-fn refused(why: Refusal) -> Step
+pub(crate) fn refused(why: Refusal) -> Step
     ensures { result ≡ told (Err why) }
 {
     match why {
@@ -164,7 +164,7 @@ fn refused(why: Refusal) -> Step
 }
 
 /// How an input is.
-fn input_of(byte: u8) -> Input
+pub(crate) fn input_of(byte: u8) -> Input
     ensures { result ≡ input_of byte }
 {
     match byte {
@@ -175,7 +175,7 @@ fn input_of(byte: u8) -> Input
 }
 
 /// How an input is, or `None` if the task has no such input.
-fn input_at(inputs: &[u8], input: u32) -> Option<Input>
+pub(crate) fn input_at(inputs: &[u8], input: u32) -> Option<Input>
     ensures { result ≡ slice_get (map input_of inputs.now) input }
 {
     let byte = inputs.get(input as usize)?;
@@ -197,7 +197,7 @@ fn open_input(inputs: &[u8], input: u32) -> Result<(), Refusal>
 }
 
 /// All inputs are open.
-fn open_each(inputs: &mut [u8])
+pub(crate) fn open_each(inputs: &mut [u8])
     ensures { map input_of inputs.new ≡ replicate (length inputs.old) Input.Open }
 {
     for input in inputs.iter_mut() {
@@ -206,7 +206,7 @@ fn open_each(inputs: &mut [u8])
 }
 
 /// Releases the inputs that are held.
-fn release(inputs: &mut [u8])
+pub(crate) fn release(inputs: &mut [u8])
     ensures { map input_of inputs.new ≡ map released (map input_of inputs.old) }
 {
     for input in inputs.iter_mut() {
@@ -214,7 +214,7 @@ fn release(inputs: &mut [u8])
     }
 }
 
-fn released_of(byte: u8) -> u8
+pub(crate) fn released_of(byte: u8) -> u8
     ensures { input_of result ≡ released (input_of byte) }
 {
     if byte == HELD { OPEN } else { byte }
@@ -228,7 +228,7 @@ fn is_aligning(inputs: &[u8]) -> bool
 }
 
 /// Whether an input is open.
-fn has_open(inputs: &[u8]) -> bool
+pub(crate) fn has_open(inputs: &[u8]) -> bool
     ensures { result ≡ list_any is_open (map input_of inputs.now) }
 {
     inputs.contains(&OPEN)

@@ -1,7 +1,7 @@
 //! Opens a coordinator with names, gives names to one that has none, and makes the calls of tasks
 //! with their term.
 
-ghost use Rattle.std.specs.Prelude.{◌≡◌, ◌≢◌, true, Some, None, IfOk, IfErr, OnOk};
+ghost use Rattle.std.specs.Prelude.{◌≡◌, ◌≢◌, ◌≤◌, true, Some, None, IfOk, IfErr, OnOk};
 ghost use Rattle.ckpt_ids.specs.declared.call.Call.TheVariants as call;
 ghost use Rattle.ckpt_ids.specs.Ascending.{ascending};
 ghost use Rattle.ckpt_model.specs.Laws.{CanOpen};
@@ -9,6 +9,8 @@ ghost use Rattle.ckpt_model.specs.State.{State};
 ghost use Rattle.ckpt_terms.specs.declared.call.FencedCall.TheVariants as fencing;
 ghost use Rattle.ckpt_terms.specs.declared.machine.Machine.TheVariants as machine;
 ghost use Rattle.ckpt_logged.specs.Chronicles.{begun};
+ghost use Rattle.ckpt_logged.specs.Events.{IsWell};
+ghost use Rattle.ckpt_terms.specs.declared.call.TheConstants.{NAMES_END};
 ghost use Rattle.ckpt_terms.specs.Fencing.{fenced};
 ghost use Rattle.ckpt_terms.specs.Machines.{names_in};
 ghost use Rattle.relkvanu.specs.Calls.{HasNoNumbers, StaysAsItWas, StaysClosed, ack_of, subtask_at};
@@ -41,6 +43,7 @@ use std::alloc::Global;
 /// The first of these that applies is a bad argument: the handle is open, or the settings, the
 /// shape, the first name, the moment or the first number are outside their limits.
 #[unsafe(no_mangle)]
+#[tactic(auto, using(crate::proofs::Openings::fenced_well))]
 pub extern "C" fn relkvanu_open_fenced(
     alloc: Global,
     handle: &mut Handle,
@@ -60,6 +63,7 @@ pub extern "C" fn relkvanu_open_fenced(
     ensures unchanged { StaysAsItWas handle.old.value handle.new.value result }
     ensures names { result.code ≢ 0 → handle.new.names ≡ handle.old.names }
     ensures past { Begins (opening_of settings.now shape.now now first) (machine.Fenced (fenced (opening_of settings.now shape.now now first) first_name)) handle.old.past handle.new.past result }
+    ensures sound { result.code ≡ 0 → IsWell (machine.Fenced (fenced (opening_of settings.now shape.now now first) first_name)) }
 {
     if let Some(machine) = handle.take(alloc) {
         handle.put(alloc, machine);
@@ -99,6 +103,8 @@ fn named_of(
     ensures value { IfOk result (λ made. IsNamedOpening (opening_of settings.now shape.now now first) first_name made.value.now) }
     ensures begun { IfOk result (λ made. made.value ≡ begun (machine.Fenced (fenced (opening_of settings.now shape.now now first) first_name))) }
     ensures can { OnOk result (CanOpen (opening_of settings.now shape.now now first)) }
+    ensures name_from { OnOk result (1 ≤ first_name) }
+    ensures name_to { OnOk result (first_name ≤ NAMES_END) }
     ensures fault { IfErr result (IsWhyNotNamed (opening_of settings.now shape.now now first) first_name) }
     ensures memory { IfErr result (OpeningWantsMemory (opening_of settings.now shape.now now first)) }
     ensures numbers { IfErr result HasNoNumbers }

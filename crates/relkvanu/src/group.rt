@@ -2,9 +2,11 @@
 //!
 //! A group has no handle. It is memory of the caller, a [`Group`] and a place for each answer.
 
-ghost use Rattle.std.specs.Prelude.{◌≡◌, ◌≢◌, ℕ, true, false, List, length, set, take, None, Some, IfSome};
-ghost use Rattle.ckpt_logged.specs.Events.{event_step};
+ghost use Rattle.std.specs.Prelude.{◌≡◌, ◌≢◌, ℕ, true, false, List, [], length, set, take, None, Some, IfSome};
+ghost use Rattle.ckpt_ids.specs.declared.call.Call.TheVariants.{Take};
+ghost use Rattle.ckpt_logged.specs.Events.{Event, Plain, event_step};
 ghost use Rattle.ckpt_model.specs.State.{State};
+ghost use Rattle.ckpt_terms.specs.Machines.{core_in};
 ghost use Rattle.ckpt_terms.specs.declared.machine.Machine.{Machine};
 ghost use Rattle.relkvanu.specs.declared.asked.Asked.{Asked};
 ghost use Rattle.relkvanu.specs.Buffers.{StandsInFront};
@@ -12,12 +14,13 @@ ghost use Rattle.relkvanu.specs.Calls.{StaysClosed};
 ghost use Rattle.relkvanu.specs.Fenced.{IsHandled};
 ghost use Rattle.relkvanu.specs.declared.answer.Answer.{Answer};
 ghost use Rattle.relkvanu.specs.declared.handle.Handle.{Handle};
-ghost use Rattle.relkvanu.specs.GroupPrograms.{AsksByLine, Does, Has, Looks, LooksAtCall, Notes, Operation, Program, Syncs, TellsWhatIsSynced};
+ghost use Rattle.relkvanu.specs.GroupPrograms.{AreAsked, Asks, AsksByLine, Does, Has, IsLeftBy, Looks, LooksAtCall, Notes, Operation, Performed, Program, Syncs, TellsWhatIsSynced, nothing, program};
 ghost use Rattle.relkvanu.specs.Groups.{IsRoom, all_lost, all_told, asked_event, group_with, held_answer, held_with, one_more, receipt_of, told_by, why_full};
 ghost use Rattle.relkvanu.specs.Lines.{asked_step, said_step};
 ghost use Rattle.relkvanu.specs.Making.{BringsMade, HandleReports, making};
 ghost use Rattle.relkvanu.specs.Past.{GrowsBy, said_line};
 ghost use Rattle.relkvanu.specs.Told.{bad_argument, done};
+ghost use Rattle.relkvanu.specs.WorkedGroup.{begin, buffer, last, notes, operations};
 ghost use Rattle.relkvanu.specs.Writing.{SaysBack, call_line_text, given};
 
 use crate::answer::{Answer, DONE, FENCED, REFUSED};
@@ -40,7 +43,10 @@ const BAD_GROUP: u32 = 9;
 /// answer.
 const BAD_RECEIPT: u32 = 10;
 
-/// How many answers of a caller's buffer wait, or may be told. All zero: none.
+/// Receipts are below this one.
+const RECEIPTS_END: u64 = 1 << 62;
+
+/// How many answers of a caller's buffer wait, or may be told. All zero, but for `given`: none.
 #[repr(C)]
 #[derive(Clone, Copy, Debug, PartialEq, Eq)]
 pub struct Group {
@@ -50,6 +56,8 @@ pub struct Group {
     pub told: u64,
     /// An append or a sync has failed: no answer is held or told any more.
     pub has_failed: bool,
+    /// The next receipt: each answer that is held gets one, and none comes again.
+    pub given: u64,
 }
 
 /// Makes a call and writes its line as `relkvanu_make` does, and holds its answer back.
@@ -59,7 +67,8 @@ pub struct Group {
 /// the names refuse is held back too, and has no line. Any other answer tells nothing of the state but
 /// how many places a buffer needs: it is returned at once, and nothing has changed. A bad argument is
 /// returned, before anything else, if the group has failed, and if `held` has no place left. The first
-/// answer that is held after a sync ends those of before: they may be told no more.
+/// answer that is held after a sync ends those of before: they may be told no more. A call that left
+/// the handle as it was, such as a take of no file, needs no line.
 #[unsafe(no_mangle)]
 pub extern "C" fn relkvanu_group_make(
     alloc: Global,
@@ -87,6 +96,7 @@ pub extern "C" fn relkvanu_group_make(
     ensures kept { result.code ≢ 0 → (group.new ≡ group.old) × (held.new ≡ held.old) × (files.new ≡ files.old) × (line.new ≡ line.old) × (made.new ≡ made.old) }
     ensures asks { (p : Program) → Has p handle.old group.old held.old → result.code ≡ 0 → result.what ≡ 62 → AsksByLine p (making call.entry.now first.now second.now line.old) (length files.old) (take made.new.written line.new) handle.new group.new held.new }
     ensures looks { (p : Program) → Has p handle.old group.old held.old → result.code ≡ 0 → result.what ≢ 62 → LooksAtCall p (making call.entry.now first.now second.now line.old) (length files.old) handle.new group.new held.new }
+    ensures idle { (p : Program) → Has p handle.old group.old held.old → result.code ≡ 0 → handle.new.value ≡ handle.old.value → handle.new.names ≡ handle.old.names → Does p (Looks (held_answer group.old held.new result)) handle.new group.new held.new }
     ensures stays { (p : Program) → Has p handle.old group.old held.old → result.code ≢ 0 → Has p handle.new group.new held.new }
 {
     if let Some(why) = refused(group, held.len()) {
@@ -96,8 +106,9 @@ pub extern "C" fn relkvanu_group_make(
     hold(group, held, answer)
 }
 
-/// Holds back the answer of any other function of the same handle, such as that of a read. The answer
-/// has the receipt by which it is told after a sync.
+/// Holds back the answer of any other function of the same handle, such as that of a read, or of a
+/// call that was made without a group and whose line the program appends in its place. The answer has
+/// the receipt by which it is told after a sync.
 ///
 /// A bad argument if the group has failed, or if `held` has no place left. Then nothing has changed.
 #[unsafe(no_mangle)]
@@ -109,8 +120,9 @@ pub extern "C" fn relkvanu_group_hold(
     ensures full { (IsRoom group.old (length held.old) → ⊥) → (result ≡ why_full group.old) × (group.new ≡ group.old) × (held.new ≡ held.old) }
     ensures group { IsRoom group.old (length held.old) → group.new ≡ one_more group.old }
     ensures held { IsRoom group.old (length held.old) → held.new ≡ set held.old group.old.waiting answer.now }
-    ensures told { IsRoom group.old (length held.old) → result ≡ done 63 group.old.waiting 0 }
+    ensures told { IsRoom group.old (length held.old) → result ≡ done 63 group.old.given 0 }
     ensures looks { (p : Program) (h : Handle) → Has p h group.old held.old → result.code ≡ 0 → Does p (Looks answer.now) h group.new held.new }
+    ensures asks { (p : Program) (old h : Handle) (event : Event) → Has p old group.old held.old → IsLeftBy event p h → result.code ≡ 0 → Does p (Asks event answer.now) h group.new held.new }
 {
     if let Some(why) = refused(group, held.len()) {
         return why;
@@ -135,6 +147,7 @@ pub extern "C" fn relkvanu_group_synced(group: &mut Group) -> Answer
         waiting: 0,
         told,
         has_failed: false,
+        given: group.given,
     };
     Answer::done(SYNCED, told, 0)
 }
@@ -142,17 +155,18 @@ pub extern "C" fn relkvanu_group_synced(group: &mut Group) -> Answer
 /// An append or a sync has failed: from now on nothing is held, and nothing is told.
 #[unsafe(no_mangle)]
 pub extern "C" fn relkvanu_group_failed(group: &mut Group)
-    ensures { group.new ≡ all_lost }
+    ensures { group.new ≡ all_lost group.old }
 {
     *group = Group {
         waiting: 0,
         told: 0,
         has_failed: true,
+        given: group.given,
     };
 }
 
 /// The answer that was held back with this receipt, if the sync behind it was the last one, and
-/// nothing was held since.
+/// nothing was held since. No other answer of the group has the receipt, however late it is asked.
 ///
 /// A bad argument if the group has failed, and for any other receipt.
 #[unsafe(no_mangle)]
@@ -162,10 +176,11 @@ pub extern "C" fn relkvanu_group_answer(group: &Group, held: &[Answer], receipt:
     if group.has_failed {
         return Answer::bad_argument(BAD_GROUP);
     }
-    if receipt >= group.told {
+    if receipt >= group.given || group.given - receipt > group.told {
         return Answer::bad_argument(BAD_RECEIPT);
     }
-    match held.get(receipt as usize) {
+    let place = group.told - (group.given - receipt);
+    match held.get(place as usize) {
         Some(answer) => *answer,
         None => Answer::bad_argument(BAD_RECEIPT),
     }
@@ -178,7 +193,7 @@ fn refused(group: &Group, places: usize) -> Option<Answer>
 {
     if group.has_failed {
         Some(Answer::bad_argument(BAD_GROUP))
-    } else if group.waiting >= places as u64 {
+    } else if group.waiting >= places as u64 || group.given >= RECEIPTS_END {
         Some(Answer::bad_argument(BAD_RECEIPT))
     } else {
         None
@@ -209,14 +224,16 @@ fn push(group: &mut Group, held: &mut [Answer], answer: Answer) -> u64
     requires { IsRoom group.old (length held.old) }
     ensures group { group.new ≡ one_more group.old }
     ensures held { held.new ≡ set held.old group.old.waiting answer }
-    ensures receipt { result ≡ group.old.waiting }
+    ensures receipt { result ≡ group.old.given }
 {
-    let receipt = group.waiting;
-    held[receipt as usize] = answer;
+    let place = group.waiting;
+    let receipt = group.given;
+    held[place as usize] = answer;
     *group = Group {
-        waiting: receipt + 1,
+        waiting: place + 1,
         told: 0,
         has_failed: false,
+        given: receipt + 1,
     };
     receipt
 }
@@ -231,8 +248,19 @@ pub fn unmade_is_none()
     ensures { (k : Machine) (places : ℕ) (asked : Asked) → (asked_step k places asked).1.code ≢ 0 → (asked_step k places asked).0 ≡ k }
 {}
 
+/// A take of no file leaves the coordinator as it was.
+pub fn idle_take()
+    ensures { (k : Machine) (most : ℕ) → (core_in k).waiting ≡ [] → event_step k (Plain (Take most)) ≡ k }
+{}
+
 /// A program that appends the entry of each call that was made, and says that it has synced only what
 /// is synced, tells what is synced: all laws of groups hold of it.
 pub fn tells_what_is_synced()
     ensures { (m : Machine) (held : List Answer) (operations : List Operation) (p : Program) (b : Notes) → TellsWhatIsSynced m held operations p b }
+{}
+
+/// The worked example, in which a group fails and another one makes its call again, meets the premises.
+pub fn worked_group()
+    ensures performed { Performed (program begin buffer) nothing operations last notes }
+    ensures are_asked { AreAsked operations }
 {}

@@ -70,6 +70,7 @@ pub extern "C" fn relkvanu_save(alloc: Global, handle: &mut Handle, image: &mut 
 /// bytes that are not an image, and for an image of a state that is not sound, of an opening that
 /// no coordinator can have, or of names that are no ranges in ascending order.
 #[unsafe(no_mangle)]
+#[tactic(auto, using(crate::proofs::Saves::told_well))]
 pub extern "C" fn relkvanu_open_saved(
     alloc: Global,
     handle: &mut Handle,
@@ -86,6 +87,7 @@ pub extern "C" fn relkvanu_open_saved(
     ensures names { result.code ≢ 0 → handle.new.names ≡ handle.old.names }
     ensures begun { (s : Saved) → result.code ≡ 0 → Tells image.now s → handle.new.past ≡ Some (begun (opened_with s)) }
     ensures past { result.code ≢ 0 → handle.new.past ≡ handle.old.past }
+    ensures sound { (s : Saved) → Tells image.now s → IsWell (opened_with s) }
 {
     if let Some(machine) = handle.take(alloc) {
         handle.put(alloc, machine);

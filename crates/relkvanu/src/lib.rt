@@ -3,7 +3,8 @@
 //! A C program holds a [`Handle`](handle::Handle): one pointer, null if the handle is closed.
 //! `relkvanu_open` gives it a coordinator, the calls go through it, and `relkvanu_close` drops the
 //! coordinator. Each call returns an [`Answer`](answer::Answer) by value, and no memory leaves the
-//! handle. [`reads`] return the same, take no memory and change nothing. [`aligning`] needs no handle.
+//! handle. [`reads`] return the same, take no memory and change nothing. [`aligning`] and
+//! [`recording`] need no handle.
 #![tactic(auto)]
 
 mod aligning;
@@ -23,6 +24,7 @@ mod opening;
 mod plain_calls;
 mod raw_box;
 mod reads;
+mod recording;
 mod recovery;
 mod requests;
 mod saying;

@@ -9,6 +9,7 @@ ghost use Rattle.ckpt_model.specs.State.{opened};
 ghost use Rattle.ckpt_terms.specs.declared.machine.Machine.TheVariants as machine;
 ghost use Rattle.ckpt_terms.specs.Machines.{core_in, names_in};
 ghost use Rattle.ckpt_logged.specs.Chronicles.{begun};
+ghost use Rattle.ckpt_logged.specs.Events.{IsWell};
 ghost use Rattle.relkvanu.specs.Past.{Begins};
 ghost use Rattle.relkvanu.specs.Requested.{IsRefused};
 ghost use Rattle.relkvanu.specs.Told.{bad_argument, bad_config, bad_shape, no_memory};
@@ -64,6 +65,7 @@ pub struct Settings {
 /// The secret keys the maps of files, so that no choice of numbers makes calls slow. It changes no
 /// answer.
 #[unsafe(no_mangle)]
+#[tactic(auto, using(crate::proofs::Openings::opened_well))]
 pub extern "C" fn relkvanu_open(
     alloc: Global,
     handle: &mut Handle,
@@ -83,6 +85,7 @@ pub extern "C" fn relkvanu_open(
     ensures names { handle.new.names ≡ handle.old.names }
     ensures plain { handle.old.value ≡ None → handle.new.names ≡ None }
     ensures past { Begins (opening_of settings.now shape.now now first) (machine.Plain (opened (opening_of settings.now shape.now now first))) handle.old.past handle.new.past result }
+    ensures sound { result.code ≡ 0 → IsWell (machine.Plain (opened (opening_of settings.now shape.now now first))) }
 {
     if let Some(machine) = handle.take(alloc) {
         handle.put(alloc, machine);

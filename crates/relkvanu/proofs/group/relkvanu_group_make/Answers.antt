@@ -1,7 +1,8 @@
 -- Answers the goals of `relkvanu_group_make`.
 use Rattle.std.proofs.Common.{length, take, sym, ap, ◌∙◌}
 use Rattle.relkvanu.proofs.GivenEvents.{given_is_event}
-use Rattle.relkvanu.proofs.GroupCalls.{asks, full_is_told, looks, made_is, stays}
+use Rattle.relkvanu.proofs.GroupCalls.{asks, full_is_told, idles, looks, made_is, stays}
+use Rattle.relkvanu.specs.Groups.{held_answer}
 use Rattle.relkvanu.specs.Making.{making}
 use Rattle.relkvanu.specs.Writing.{given}
 use Rattle.relkvanu.specs.declared.answer.Answer.{Answer}
@@ -12,6 +13,9 @@ returns-in-Some-clause-asks c p has code = absurd (full_is_told c.args.group.now
 
 pub returns-in-Some-clause-looks : goal.returns-in-Some-clause-looks
 returns-in-Some-clause-looks c p has code = absurd (full_is_told c.args.group.now (ap (λ (a : Answer). a.code) (sym c.in-Some.ensures.some.0) ∙ code))
+
+pub returns-in-Some-clause-idle : goal.returns-in-Some-clause-idle
+returns-in-Some-clause-idle c p has code value names = absurd (full_is_told c.args.group.now (ap (λ (a : Answer). a.code) (sym c.in-Some.ensures.some.0) ∙ code))
 
 pub returns-in-Some-clause-stays : goal.returns-in-Some-clause-stays
 returns-in-Some-clause-stays c p has code = has
@@ -49,6 +53,12 @@ returns-clause-looks c p has =
       well = given_is_event c.args.call.now c.args.first.now c.args.second.now;
       is = made_is (given c.args.call.now c.args.first.now c.args.second.now) (length c.args.line.now);
     })
+
+pub returns-clause-idle : goal.returns-clause-idle
+returns-clause-idle c p has code value names =
+    idles p c.args.handle.now c.relkvanu_make-answer.new.handle c.args.group.now c.hold.new.group c.args.held.now c.hold.new.held c.relkvanu_make-answer.result
+    (held_answer c.args.group.now c.hold.new.held c.hold.result) c.hold.result has (c.refused.ensures.none c.in_default.is) value names c.hold.ensures.group c.hold.ensures.held
+    c.hold.ensures.told c.hold.ensures.answer code
 
 pub returns-clause-stays : goal.returns-clause-stays
 returns-clause-stays c p has =

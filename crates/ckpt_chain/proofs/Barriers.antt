@@ -1,0 +1,205 @@
+-- A record that a task has cut, or whose barrier it sent, is one whose barrier it took.
+use Rattle.std.proofs.Common.{◌≡◌, ℕ, Bool, true, false, List, [], ◌∷◌, refl, sym, ap, ◌∙◌, subst, inl, inr, ◌⊎◌, ⊎_elim, cond, arith}
+use Rattle.std.specs.Prelude.{◌&&◌, ◌==◌, nat_lt, slice_get, Option, Some, None, Ok}
+use Rattle.std.specs.List.{list_any}
+use Rattle.std.proofs.lemmas.Bool.{cond_both}
+use Rattle.std.proofs.lemmas.Grind.{common_steps}
+use Rattle.ckpt_ids.specs.Ordered.{IsIn}
+use Rattle.ckpt_ids.proofs.OrderedLemmas.{IsIn-append_cases, IsIn-append_left, IsIn-append_right}
+use Rattle.ckpt_align.specs.Alignment.{Alignment, all_released, held_for, is_aligning, is_late, is_open, with_input}
+use Rattle.ckpt_align.specs.declared.event.Answer.TheVariants as answer
+use Rattle.ckpt_align.specs.declared.event.Event.TheVariants as event
+use Rattle.ckpt_align.specs.declared.input.Input.{Input}
+use Rattle.ckpt_align.specs.declared.input.Input.TheVariants.{Open, Held, Ended}
+use Rattle.ckpt_align.specs.Histories.{Item, Element, Barrier, End, Action, Reads, GivesUp, Sends, Ends, after, answer_to, barriers, cut_as, cut_by, has_cut, is_number, is_taken, sent, sent_by, taken, taken_by}
+use Rattle.ckpt_align.specs.Steps.{Stepped, barrier, element, give_up, if_open, settled, step}
+use Rattle.ckpt_align.proofs.Carrying.{is_number-Some}
+
+-- ONE STEP
+
+-- The latest record is what it was, or that of a barrier which was taken.
+abbrev Latest : Alignment → ℕ → Stepped → Type 0
+Latest a n s = (s.0.latest ≡ a.latest) ⊎ ((s.0.latest ≡ n) × (is_taken s.1 ≡ true))
+
+-- A cut is of the latest record.
+abbrev Cuts : Stepped → Type 0
+Cuts s = (n : ℕ) → cut_as s.1 ≡ Some n → s.0.latest ≡ n
+
+none_cut : (n : ℕ) (X : Type 0) → None ≡ Some n → X
+none_cut n X e = absurd cc
+
+same_number : (m n : ℕ) → Some m ≡ Some n → m ≡ n
+same_number m n e = cc
+
+settled_latest : (a b : Alignment) (n : ℕ) → b.latest ≡ n → Latest a n (settled b)
+unfolding settled
+settled_latest a b n e =
+    cond_both (is_aligning b) (cond (list_any is_open b.inputs) (b, Ok answer.Wait) (all_released b, Ok (answer.Cut b.latest))) (b, Ok answer.Nothing) (Latest a n)
+    (λ _. cond_both (list_any is_open b.inputs) (b, Ok answer.Wait) (all_released b, Ok (answer.Cut b.latest)) (Latest a n) (λ _. inr (e, refl)) (λ _. inr (e, refl)))
+    (λ _. inr (e, refl))
+
+settled_cuts : (b : Alignment) → Cuts (settled b)
+unfolding settled
+settled_cuts b =
+    cond_both (is_aligning b) (cond (list_any is_open b.inputs) (b, Ok answer.Wait) (all_released b, Ok (answer.Cut b.latest))) (b, Ok answer.Nothing) Cuts
+    (λ _. cond_both (list_any is_open b.inputs) (b, Ok answer.Wait) (all_released b, Ok (answer.Cut b.latest)) Cuts (λ _ n e. none_cut n (b.latest ≡ n) e) (λ _ n e. same_number b.latest n e))
+    (λ _ n e. none_cut n (b.latest ≡ n) e)
+
+-- an end leaves the latest record
+settled_stays : (b : Alignment) → (settled b).0.latest ≡ b.latest
+unfolding settled
+settled_stays b =
+    cond_both (is_aligning b) (cond (list_any is_open b.inputs) (b, Ok answer.Wait) (all_released b, Ok (answer.Cut b.latest))) (b, Ok answer.Nothing) (λ (s : Stepped). s.0.latest ≡ b.latest)
+    (λ _. cond_both (list_any is_open b.inputs) (b, Ok answer.Wait) (all_released b, Ok (answer.Cut b.latest)) (λ (s : Stepped). s.0.latest ≡ b.latest) (λ _. refl) (λ _. refl))
+    (λ _. refl)
+
+barrier_latest : (a : Alignment) (i n : ℕ) → Latest a n (barrier a i n)
+unfolding barrier
+barrier_latest a i n =
+    cond_both (is_late a n) (a, Ok answer.Late) (cond (is_aligning a && nat_lt a.latest n) (held_for (all_released a) i n, Ok (answer.Abandon a.latest)) (settled (held_for a i n))) (Latest a n)
+    (λ _. inl refl)
+    (λ _. cond_both (is_aligning a && nat_lt a.latest n) (held_for (all_released a) i n, Ok (answer.Abandon a.latest)) (settled (held_for a i n)) (Latest a n)
+    (λ _. inr (refl, refl)) (λ _. settled_latest a (held_for a i n) n refl))
+
+barrier_cuts : (a : Alignment) (i n : ℕ) → Cuts (barrier a i n)
+unfolding barrier
+barrier_cuts a i n =
+    cond_both (is_late a n) (a, Ok answer.Late) (cond (is_aligning a && nat_lt a.latest n) (held_for (all_released a) i n, Ok (answer.Abandon a.latest)) (settled (held_for a i n))) Cuts
+    (λ _ m e. none_cut m (a.latest ≡ m) e)
+    (λ _. cond_both (is_aligning a && nat_lt a.latest n) (held_for (all_released a) i n, Ok (answer.Abandon a.latest)) (settled (held_for a i n)) Cuts
+    (λ _ m e. none_cut m (n ≡ m) e) (λ _. settled_cuts (held_for a i n)))
+
+open_latest : (a : Alignment) (n : ℕ) (o : Option Input) (s : Stepped) → Latest a n s → Latest a n (if_open a o s)
+open_latest a n None s k = inl refl
+open_latest a n (Some Open) s k = k
+open_latest a n (Some Held) s k = inl refl
+open_latest a n (Some Ended) s k = inl refl
+
+open_cuts : (a : Alignment) (o : Option Input) (s : Stepped) → Cuts s → Cuts (if_open a o s)
+open_cuts a None s k n e = none_cut n (a.latest ≡ n) e
+open_cuts a (Some Open) s k n e = k n e
+open_cuts a (Some Held) s k n e = none_cut n (a.latest ≡ n) e
+open_cuts a (Some Ended) s k n e = none_cut n (a.latest ≡ n) e
+
+open_stays : (a : Alignment) (o : Option Input) (s : Stepped) → s.0.latest ≡ a.latest → (if_open a o s).0.latest ≡ a.latest
+open_stays a None s k = refl
+open_stays a (Some Open) s k = k
+open_stays a (Some Held) s k = refl
+open_stays a (Some Ended) s k = refl
+
+give_up_stays : (a : Alignment) (n : ℕ) → (give_up a n).0.latest ≡ a.latest
+unfolding give_up
+give_up_stays a n =
+    cond_both (is_aligning a && (n == a.latest)) (all_released a, Ok (answer.Abandon n)) (a, Ok answer.Nothing) (λ (s : Stepped). s.0.latest ≡ a.latest) (λ _. refl) (λ _. refl)
+
+give_up_cuts : (a : Alignment) (n : ℕ) → Cuts (give_up a n)
+unfolding give_up
+give_up_cuts a n =
+    cond_both (is_aligning a && (n == a.latest)) (all_released a, Ok (answer.Abandon n)) (a, Ok answer.Nothing) Cuts (λ _ m e. none_cut m (a.latest ≡ m) e) (λ _ m e. none_cut m (a.latest ≡ m) e)
+
+element_of : (a : Alignment) (o : Option Input) → ((element a o).0.latest ≡ a.latest) × Cuts (element a o)
+element_of a None = (refl, λ n e. none_cut n (a.latest ≡ n) e)
+element_of a (Some Open) = (refl, λ n e. none_cut n (a.latest ≡ n) e)
+element_of a (Some Held) = (refl, λ n e. none_cut n (a.latest ≡ n) e)
+element_of a (Some Ended) = (refl, λ n e. none_cut n (a.latest ≡ n) e)
+
+-- AN ACTION
+
+-- the barrier of this record is among what was taken
+abbrev IsAmong : ℕ → (ℕ → List Item) → Type 0
+IsAmong n items = (i : ℕ) × IsIn (Barrier n) (items i)
+
+taken_one : (i : ℕ) (is : Bool) (item : Item) → is ≡ true → IsIn item (cond ((i == i) && is) (item ∷ []) [])
+taken_one i is item e = grind (arith, common_steps)
+
+barrier_came : (a : Alignment) (i n : ℕ) (s : Stepped) → s ≡ step a (event.Barrier i n) → Latest a n s
+    → (s.0.latest ≡ a.latest) ⊎ IsAmong s.0.latest (λ j. taken_by j a (Reads i (Barrier n)))
+barrier_came a i n s is (inl e) = inl e
+barrier_came a i n s is (inr k) =
+    inr (
+      i,
+      subst (λ (m : ℕ). IsIn (Barrier m) (taken_by i a (Reads i (Barrier n)))) (sym k.0)
+          (taken_one i (is_taken (answer_to a i (Barrier n))) (Barrier n) (ap (λ (t : Stepped). is_taken t.1) (sym is) ∙ k.1)),
+    )
+
+came_by : (a : Alignment) (action : Action) → ((after a action).latest ≡ a.latest) ⊎ IsAmong (after a action).latest (λ j. taken_by j a action)
+unfolding step
+came_by a (Reads i (Element x)) = inl (element_of a (slice_get a.inputs i)).0
+came_by a (Reads i (Barrier n)) = barrier_came a i n (step a (event.Barrier i n)) refl (open_latest a n (slice_get a.inputs i) (barrier a i n) (barrier_latest a i n))
+came_by a (Reads i End) = inl (open_stays a (slice_get a.inputs i) (settled (with_input a i Ended)) (settled_stays (with_input a i Ended)))
+came_by a (GivesUp id) = inl (give_up_stays a id)
+came_by a (Sends output x) = inl refl
+came_by a Ends = inl refl
+
+cut_is_latest : (a : Alignment) (action : Action) (n : ℕ) → cut_by a action ≡ Some n → (after a action).latest ≡ n
+unfolding step
+cut_is_latest a (Reads i (Element x)) n e = (element_of a (slice_get a.inputs i)).1 n e
+cut_is_latest a (Reads i (Barrier m)) n e = open_cuts a (slice_get a.inputs i) (barrier a i m) (barrier_cuts a i m) n e
+cut_is_latest a (Reads i End) n e = open_cuts a (slice_get a.inputs i) (settled (with_input a i Ended)) (settled_cuts (with_input a i Ended)) n e
+cut_is_latest a (GivesUp id) n e = give_up_cuts a id n e
+cut_is_latest a (Sends output x) n e = none_cut n (a.latest ≡ n) e
+cut_is_latest a Ends n e = none_cut n (a.latest ≡ n) e
+
+-- LISTS OF ACTIONS
+
+-- the latest record at the beginning, or one whose barrier was taken
+abbrev Came : ℕ → Alignment → List Action → Type 0
+Came n a actions = (a.latest ≡ n) ⊎ IsAmong n (λ j. taken j a actions)
+
+came_later : (n : ℕ) (a : Alignment) (action : Action) (actions : List Action) → Came n (after a action) actions → Came n a (action ∷ actions)
+came_later n a action actions (inr k) = inr (k.0, IsIn-append_right (Barrier n) (taken_by k.0 a action) (taken k.0 (after a action) actions) k.1)
+came_later n a action actions (inl e) =
+    ⊎_elim
+    (λ (k : (after a action).latest ≡ a.latest). inl (sym k ∙ e))
+    (λ (k : IsAmong (after a action).latest (λ j. taken_by j a action)).
+    inr (
+      k.0,
+      IsIn-append_left (Barrier n) (taken_by k.0 a action) (taken k.0 (after a action) actions)
+          (subst (λ (m : ℕ). IsIn (Barrier m) (taken_by k.0 a action)) e k.1),
+    ))
+    (came_by a action)
+
+cut_came : (n : ℕ) (a : Alignment) (action : Action) (actions : List Action) → cut_by a action ≡ Some n → Came n a (action ∷ actions)
+cut_came n a action actions e = came_later n a action actions (inl (cut_is_latest a action n e))
+
+cut_first : (n : ℕ) (a : Alignment) (action : Action) (actions : List Action) (b : Bool) → b ≡ is_number n (cut_by a action) → cond b true (has_cut n (after a action) actions) ≡ true
+    → (has_cut n (after a action) actions ≡ true → Came n (after a action) actions) → Came n a (action ∷ actions)
+cut_first n a action actions true is e later = cut_came n a action actions (is_number-Some n (cut_by a action) (sym is))
+cut_first n a action actions false is e later = came_later n a action actions (later e)
+
+pub came-from_cut : (n : ℕ) (a : Alignment) (actions : List Action) → has_cut n a actions ≡ true → Came n a actions
+came-from_cut n a [] e = absurd cc
+came-from_cut n a (Reads i item ∷ actions) e = cut_first n a (Reads i item) actions (is_number n (cut_by a (Reads i item))) refl e (λ k. came-from_cut n (after a (Reads i item)) actions k)
+came-from_cut n a (GivesUp id ∷ actions) e = cut_first n a (GivesUp id) actions (is_number n (cut_by a (GivesUp id))) refl e (λ k. came-from_cut n (after a (GivesUp id)) actions k)
+came-from_cut n a (Sends output x ∷ actions) e = cut_first n a (Sends output x) actions (is_number n (cut_by a (Sends output x))) refl e (λ k. came-from_cut n (after a (Sends output x)) actions k)
+came-from_cut n a (Ends ∷ actions) e = absurd cc
+
+-- a barrier that an action puts on an output is of its cut
+
+among_barriers : (n : ℕ) (o : Option ℕ) → IsIn (Barrier n) (barriers o) → o ≡ Some n
+among_barriers n None h = absurd h
+among_barriers n (Some m) (inl e) = let same : n ≡ m = cc in ap Some (sym same)
+among_barriers n (Some m) (inr none) = absurd none
+
+no_element : (n x : ℕ) (b : Bool) → IsIn (Barrier n) (cond b (Element x ∷ []) []) → ⊥
+no_element n x true (inl e) = cc
+no_element n x true (inr none) = none
+no_element n x false none = none
+
+sent_cut : (n c : ℕ) (a : Alignment) (action : Action) → IsIn (Barrier n) (sent_by c a action) → cut_by a action ≡ Some n
+sent_cut n c a (Reads i item) h = among_barriers n (cut_by a (Reads i item)) h
+sent_cut n c a (GivesUp id) h = among_barriers n (cut_by a (GivesUp id)) h
+sent_cut n c a (Sends output x) h = absurd (no_element n x (output == c) h)
+sent_cut n c a Ends (inl e) = absurd (no_end e)
+  where
+    no_end : Barrier n ≡ End → ⊥
+    no_end k = cc
+sent_cut n c a Ends (inr none) = absurd none
+
+pub came-from_sent : (n c : ℕ) (a : Alignment) (actions : List Action) → IsIn (Barrier n) (sent c a actions) → Came n a actions
+came-from_sent n c a [] h = absurd h
+came-from_sent n c a (action ∷ actions) h =
+    ⊎_elim
+    (λ (k : IsIn (Barrier n) (sent_by c a action)). cut_came n a action actions (sent_cut n c a action k))
+    (λ (k : IsIn (Barrier n) (sent c (after a action) actions)). came_later n a action actions (came-from_sent n c (after a action) actions k))
+    (IsIn-append_cases (Barrier n) (sent_by c a action) (sent c (after a action) actions) h)

@@ -1,0 +1,191 @@
+-- What restarts read from files are the snapshots, so failures are invisible.
+use Rattle.std.proofs.Common.{◌≡◌, ℕ, Bool, true, false, List, [], ◌∷◌, ◌++◌, if◌then◌else◌, refl, sym, ap, ◌∙◌, subst, inl, inr, ⊎_elim}
+use Rattle.std.specs.Prelude.{◌==◌, map, Some, unwrap_or}
+use Rattle.ckpt_ids.specs.declared.ack.Acked.{Acked}
+use Rattle.ckpt_ids.specs.declared.subtask.SubtaskId.{SubtaskId}
+use Rattle.ckpt_ids.specs.Ordered.{IsIn}
+use Rattle.ckpt_ids.specs.Records.{IsFull, Record}
+use Rattle.ckpt_ids.specs.Shapes.{same_subtask}
+use Rattle.ckpt_ids.proofs.OrderLemmas.{same_subtask-Decides}
+use Rattle.ckpt_ids.proofs.OrderedLemmas.{IsIn-append_cases, IsIn-append_left, IsIn-append_right}
+use Rattle.ckpt_align.specs.Laws.{HasCut, Task}
+use Rattle.ckpt_model.specs.State.{record_of}
+use Rattle.ckpt_model.specs.Histories.{replay}
+use Rattle.ckpt_model.specs.Laws.{accepted_by, along}
+use Rattle.ckpt_model.specs.Soundness.{IsSound}
+use Rattle.ckpt_model.proofs.Histories.Choice.{chosen_is_done}
+use Rattle.ckpt_terms.specs.declared.machine.Machine.{Machine}
+use Rattle.ckpt_terms.specs.Machines.{core_in}
+use Rattle.ckpt_terms.specs.TermsImages.{machine_settled}
+use Rattle.ckpt_logged.specs.Events.{AreEvents, Event, IsWell, calls_in, events_replay}
+use Rattle.ckpt_logged.specs.Promises.{acks_in}
+use Rattle.ckpt_logged.proofs.Asked.{events-split, replay_well}
+use Rattle.ckpt_durable.specs.Groups.{Receipt, synced}
+use Rattle.ckpt_durable.proofs.Standing.{Stand, stand_at}
+use Rattle.ckpt_once.specs.Jobs.{History, IsJob, Job, States, network, restored, snapshots}
+use Rattle.ckpt_once.proofs.Newer.{found_in}
+use Rattle.ckpt_chain.specs.Since.{AcknowledgesCuts, acknowledgements_of}
+use Rattle.ckpt_chain.specs.Storages.{AreAllowed, AreStored, IsThere, Site, begun, site}
+use Rattle.ckpt_chain.specs.Stored.{AreReadBack, NothingIsLost, Place, SavesSnapshots, StoredAttempt, WasReadBack, attempts_in, files_of, now_at, read_from}
+use Rattle.ckpt_chain.specs.Told.{AreToldRestarts}
+use Rattle.ckpt_chain.proofs.Calls.{along_two}
+use Rattle.ckpt_chain.proofs.Cutting.{ack_of_record, core_sound}
+use Rattle.ckpt_chain.proofs.Like.{moved, restores_like, same_record}
+use Rattle.ckpt_chain.proofs.SameStates.{AreSame, same_history, same_snapshot, same_task}
+use Rattle.ckpt_chain.proofs.Seamless.{are_attempts, seamless}
+use Rattle.ckpt_chain.proofs.Storing.{Lasts, allowed-split, durable_at, ever_stays, events_at, files_stay_at, lasts, through-append}
+use Rattle.ckpt_chain.proofs.Telling.{are_last, are_restarts, restored_to, restored_with, same_id}
+
+-- LISTS
+
+map_same : {X Y : Type 0} (f g : X → Y) (xs : List X) → ((x : X) → IsIn x xs → f x ≡ g x) → map f xs ≡ map g xs
+map_same f g [] same = refl
+map_same {X} {Y} f g (x ∷ xs) same =
+    ap (λ (y : Y). y ∷ map f xs) (same x (inl refl)) ∙ ap (λ (ys : List Y). g x ∷ ys) (map_same f g xs (λ y has. same y (inr has)))
+
+-- a subtask that acknowledged has an acknowledgement with these files
+record Acknowledged (t : SubtaskId) (acks : List Acked) : Type 0 where
+  one : Acked
+  is_in : IsIn one acks
+  by_it : one.subtask ≡ t
+  its_files : files_of t acks ≡ one.files
+
+acknowledged_by : (b : Bool) (t : SubtaskId) (a : Acked) (acks : List Acked) → (b ≡ true → a.subtask ≡ t) → (b ≡ false → Acknowledged t acks) → same_subtask a.subtask t ≡ b → Acknowledged t (a ∷ acks)
+acknowledged_by true t a acks here later e = record { one = a; is_in = inl refl; by_it = here refl; its_files = ap (λ (k : Bool). if k then a.files else files_of t acks) e }
+acknowledged_by false t a acks here later e =
+    let rest : Acknowledged t acks = later refl in
+    record { one = rest.one; is_in = inr rest.is_in; by_it = rest.by_it; its_files = ap (λ (k : Bool). if k then a.files else files_of t acks) e ∙ rest.its_files }
+
+acknowledged : (t : SubtaskId) (acks : List Acked) → IsIn t (map (λ a. a.subtask) acks) → Acknowledged t acks
+acknowledged t [] has = absurd has
+acknowledged t (a ∷ acks) has =
+    acknowledged_by (same_subtask a.subtask t) t a acks
+    (λ e. same e)
+    (λ e. ⊎_elim (λ (k : t ≡ a.subtask). absurd (other e (sym k))) (λ (k : IsIn t (map (λ (x : Acked). x.subtask) acks)). acknowledged t acks k) has)
+    refl
+  where
+    same : same_subtask a.subtask t ≡ true → a.subtask ≡ t
+    same e = (same_subtask-Decides a.subtask t).0 e
+
+    other : same_subtask a.subtask t ≡ false → a.subtask ≡ t → ⊥
+    other e k = let yes : same_subtask a.subtask t ≡ true = (same_subtask-Decides a.subtask t).1 k in cc
+
+some_same : {X : Type 0} (x y : X) → Some x ≡ Some y → x ≡ y
+some_same x y e = ap (λ o. unwrap_or o x) e
+
+-- THE RECORD OF A RESTART
+
+-- it is done, and each task of the job acknowledged it
+record IsWhole (p : Place) (job : Job) (k : StoredAttempt) : Type 0 where
+  full : (t : SubtaskId) → IsIn t job.tasks → IsIn t (map (λ a. a.subtask) k.found.acks)
+  accepted : (a : Acked) → IsIn a k.found.acks → IsIn a (acknowledgements_of k.attempt.record_id p.begin (synced (now_at p).world))
+
+-- acknowledgements stay
+stay_accepted : (n : ℕ) (m : Machine) (before after : List Event) (a : Acked) → IsIn a (acknowledgements_of n m before) → IsIn a (acknowledgements_of n m (before ++ after))
+stay_accepted n m before after a has =
+    let had : List Acked = acks_in (record_of (core_in m) n) in
+    let first : List Acked = along (accepted_by n) (core_in m) (calls_in m before) in
+    let more : List Acked = along (accepted_by n) (replay (core_in m) (calls_in m before)) (calls_in (events_replay m before) after) in
+    subst (λ (xs : List Acked). IsIn a (had ++ xs)) (sym (along_two (accepted_by n) m before after))
+    (⊎_elim
+    (λ (k : IsIn a had). IsIn-append_left a had (first ++ more) k)
+    (λ (k : IsIn a first). IsIn-append_right a had (first ++ more) (IsIn-append_left a first more k))
+    (IsIn-append_cases a had first has))
+
+is_whole : (p : Place) (job : Job) (from : States) (k : StoredAttempt) → IsWell p.begin → AreEvents (synced (now_at p).world) → Stand p.begin (synced (now_at p).world) (now_at p).world.told
+    → WasReadBack p job from k → IsWhole p job k
+is_whole p job from k i are stand was =
+    let m : Machine = p.begin in
+    let n : ℕ = k.attempt.record_id in
+    let events : List Event = synced (now_at p).world in
+    let restart = was.restart in
+    let r : Receipt = restart.receipt in
+    let at = stand_at machine_settled m events restart.before restart.later r (subst (Stand m events) restart.place stand) in
+    let here : Machine = events_replay m at.0 in
+    let split : AreEvents at.0 × AreEvents (r.entry ++ at.1) = events-split at.0 (r.entry ++ at.1) (subst AreEvents at.2 are) in
+    let sound : IsSound (core_in here) = core_sound here (replay_well m at.0 split.0 i) in
+    let its = chosen_is_done (core_in here) n sound (restored_to (moved r here) n (restores_like r here n at.3 restart.restores)) in
+    let found : record_of (core_in here) n ≡ Some k.found = sym (same_record r.state here n at.3) ∙ was.is_found in
+    let same : its.0 ≡ k.found = some_same its.0 k.found (sym its.2 ∙ found) in
+    let live : IsIn k.found (core_in here).records = subst (λ (x : Record). IsIn x (core_in here).records) same its.1 in
+    let done : k.found.done ≡ true = subst (λ (x : Record). x.done ≡ true) same its.3 in
+    let number : k.found.id ≡ n = same_id k.found.id n (found_in (λ (one : Record). one.id == n) (core_in here).records k.found found).1 in
+    let full : IsFull k.found = (sound.records.each k.found live).full done in
+    let all : map (λ (a : Acked). a.subtask) k.found.acks ≡ job.tasks = full ∙ restart.is_of_job k.found was.is_found in
+    record {
+      full = λ t has. subst (λ (ts : List SubtaskId). IsIn t ts) (sym all) has;
+      accepted = λ a has.
+          subst (λ (es : List Event). IsIn a (acknowledgements_of n m es)) (sym at.2)
+          (stay_accepted n m at.0 (r.entry ++ at.1) a
+          (subst (λ (j : ℕ). IsIn a (acknowledgements_of j m at.0)) number (ack_of_record m at.0 k.found a i split.0 live has)));
+    }
+
+-- WHAT IS READ
+
+-- the files of an acknowledgement have what was written
+reads_written : (p : Place) (job : Job) (from : States) (k : StoredAttempt) (a : Acked) → IsWell p.begin → AreStored p.begin p.storage → AreAllowed (begun p.begin p.storage) p.acts
+    → WasReadBack p job from k → IsIn a k.found.acks → map (site p.begin p.storage k.by_then).there a.files ≡ map (now_at p).ever a.files
+reads_written p job from k a i stored are was has =
+    let x : Site = begun p.begin p.storage in
+    let what : Site = site p.begin p.storage k.by_then in
+    let split = allowed-split x k.by_then was.later (subst (AreAllowed x) was.is_then are) in
+    let whole : site p.begin p.storage p.acts ≡ site p.begin p.storage (k.by_then ++ was.later) = ap (site p.begin p.storage) was.is_then in
+    map_same what.there (now_at p).ever a.files (λ f of.
+    let is : IsThere what f = files_stay_at p.begin p.storage k.by_then i stored split.0 k.found a f was.is_live has of in
+    is.is_there
+    ∙ sym (ap (λ (y : Site). y.ever f) (whole ∙ through-append x k.by_then was.later) ∙ ever_stays what was.later f is.content split.1 is.was_written))
+
+-- ATTEMPTS
+
+cuts_saved : (p : Place) (job : Job) (from its : States) (h : History) (n : ℕ) → AreSame job from its → SavesSnapshots p job from h n
+    → AcknowledgesCuts n p.begin (synced (now_at p).world) (network job its h)
+cuts_saved p job from its h n same saves a has =
+    let is = saves a has in
+    subst (λ (t : Task). HasCut n t) (same_task job from its h a.subtask (same a.subtask is.0)) is.1
+
+record AreTold (p : Place) (job : Job) (ks : List StoredAttempt) : Type 0 where
+  restarts : AreToldRestarts p.begin (now_at p).world job (attempts_in ks)
+  reads : AreSame job (read_from p job ks) (restored job (attempts_in ks))
+
+are_told : (p : Place) (job : Job) (ks : List StoredAttempt) → IsJob job → IsWell p.begin → AreStored p.begin p.storage → AreAllowed (begun p.begin p.storage) p.acts
+    → AreEvents (synced (now_at p).world) → Stand p.begin (synced (now_at p).world) (now_at p).world.told → AreReadBack p job ks → AreTold p job ks
+are_told p job [] is i stored allowed are stand told = record { restarts = tt; reads = λ t has. refl }
+are_told p job (k ∷ ks) is i stored allowed are stand told =
+    let before : AreTold p job ks = are_told p job ks is i stored allowed are stand told.0 in
+    let from : States = read_from p job ks in
+    let its : States = restored job (attempts_in ks) in
+    let h : History = k.attempt.history in
+    let n : ℕ = k.attempt.record_id in
+    let was : WasReadBack p job from k = told.2 in
+    let whole : IsWhole p job k = is_whole p job from k i are stand was in
+    record {
+      restarts = (
+        before.restarts,
+        same_history job from its h is before.reads told.1,
+        restored_with (SavesSnapshots p job from h n) (AcknowledgesCuts n p.begin (synced (now_at p).world) (network job its h)) n k.attempt.earlier (now_at p).world job
+            (λ saves. cuts_saved p job from its h n before.reads saves) was.restart,
+      );
+      reads = λ t has.
+          let one : Acknowledged t k.found.acks = acknowledged t k.found.acks (whole.full t has) in
+          let saved : p.reader one.one.subtask (map (now_at p).ever one.one.files) ≡ snapshots n job from h one.one.subtask =
+          (was.restart.acknowledged one.one (whole.accepted one.one one.is_in)).2 in
+          ap (λ (files : List ℕ). p.reader t (map (site p.begin p.storage k.by_then).there files)) one.its_files
+          ∙ ap (p.reader t) (reads_written p job from k one.one i stored allowed was one.is_in)
+          ∙ subst (λ (s : SubtaskId). p.reader s (map (now_at p).ever one.one.files) ≡ snapshots n job from h s) one.by_it saved
+          ∙ same_snapshot n job from its h t before.reads told.1 has;
+    }
+
+pub nothing_is_lost : (p : Place) (job : Job) (ks : List StoredAttempt) (h : History) → IsWell p.begin → NothingIsLost p job ks h
+nothing_is_lost p job ks h i is stored allowed never told later =
+    let m : Machine = p.begin in
+    let x : Site = now_at p in
+    let l : Lasts m x = lasts m p.storage p.acts stored allowed in
+    let are : AreEvents (synced x.world) = (events-split (synced x.world) x.world.life.loose (events_at m x l)).0 in
+    let stand : Stand m (synced x.world) x.world.told = (durable_at m x l).told in
+    let its : AreTold p job ks = are_told p job ks is i stored allowed are stand told in
+    record {
+      reads_snapshots = its.reads;
+      seamless = seamless job (attempts_in ks) h is (are_attempts m job (attempts_in ks) i (are_restarts m x.world job (attempts_in ks) i are stand its.restarts))
+          (are_last m x.world job (attempts_in ks) i are never stand its.restarts)
+          (same_history job (read_from p job ks) (restored job (attempts_in ks)) h is its.reads later);
+    }

@@ -1,0 +1,226 @@
+-- What a program was told stands in the synced log: so a restart is to a done record, and to none older than one that it was told of.
+use Rattle.std.proofs.Common.{◌≡◌, ℕ, ◌≤◌, true, List, [], ◌∷◌, ◌++◌, sym, ap, ◌∙◌, subst, append_assoc, arith, ⊎_elim}
+use Rattle.std.proofs.lemmas.Grind.{common_steps}
+use Rattle.std.specs.Prelude.{◌==◌, Option, Some, unwrap_or}
+use Rattle.ckpt_ids.specs.declared.ack.Acked.{Acked}
+use Rattle.ckpt_ids.specs.declared.call.Call.{Call}
+use Rattle.ckpt_ids.specs.declared.call.Call.TheVariants.{Restore}
+use Rattle.ckpt_ids.specs.declared.call.Target.TheVariants as target
+use Rattle.ckpt_ids.specs.declared.reply.Answer.{Answer}
+use Rattle.ckpt_ids.specs.declared.reply.Answer.TheVariants.{Done}
+use Rattle.ckpt_ids.specs.declared.reply.Choice.{Choice}
+use Rattle.ckpt_ids.specs.declared.reply.Choice.TheVariants as choice
+use Rattle.ckpt_ids.specs.declared.reply.Reply.TheVariants as reply
+use Rattle.ckpt_ids.specs.Ordered.{IsIn}
+use Rattle.ckpt_ids.specs.Records.{Record}
+use Rattle.ckpt_ids.proofs.OrderedLemmas.{IsIn-append_cases, IsIn-append_left, IsIn-append_right}
+use Rattle.ckpt_ids.specs.declared.subtask.SubtaskId.{SubtaskId}
+use Rattle.ckpt_ids.specs.Shapes.{subtasks}
+use Rattle.ckpt_align.specs.Laws.{HasCut, Network}
+use Rattle.ckpt_model.specs.State.{State, choice_of, record_of}
+use Rattle.ckpt_model.specs.Steps.{step}
+use Rattle.ckpt_model.specs.Histories.{replay}
+use Rattle.ckpt_model.specs.Interleavings.{is_completing}
+use Rattle.ckpt_model.specs.Keeping.{is_accepted}
+use Rattle.ckpt_model.specs.Laws.{accepted_by, ack_of, along, id_of_choice}
+use Rattle.ckpt_model.specs.Soundness.{IsSound}
+use Rattle.ckpt_model.proofs.Histories.Choice.{chosen_is_done}
+use Rattle.ckpt_model.proofs.Keeping.Restored.{restores}
+use Rattle.ckpt_terms.specs.declared.machine.Machine.{Machine}
+use Rattle.ckpt_terms.specs.Machines.{core_in}
+use Rattle.ckpt_terms.specs.TermsImages.{machine_settled}
+use Rattle.ckpt_logged.specs.Events.{AreEvents, Event, IsWell, calls_in, event_step, events_replay}
+use Rattle.ckpt_logged.specs.Promises.{acks_in}
+use Rattle.ckpt_logged.proofs.Asked.{events-split, reaches, replay_well}
+use Rattle.ckpt_durable.specs.Groups.{AreTurns, Receipt, Turn, World, started, synced, world}
+use Rattle.ckpt_durable.proofs.GroupWorlds.{groups_durable}
+use Rattle.ckpt_durable.proofs.Standing.{Stand, stand_at}
+use Rattle.ckpt_once.specs.Jobs.{Attempt, Job, States, network, restored}
+use Rattle.ckpt_once.specs.Newest.{NoneGoesBack}
+use Rattle.ckpt_once.specs.Sinks.{AreLast}
+use Rattle.ckpt_once.proofs.Newer.{choice_is_no_older, found_in}
+use Rattle.ckpt_chain.specs.Since.{AcknowledgesCuts, AreRestarts, WasDone, acknowledgements_of}
+use Rattle.ckpt_chain.specs.Told.{AreToldRestarts, Completes, NeverGoesBack, Restores, WasRestored, WasToldOf}
+use Rattle.ckpt_chain.proofs.Calls.{along-append, answered_call, answered_step, are_made, calls-append, never-split, within_are}
+use Rattle.ckpt_chain.proofs.Cutting.{core_sound, each-from_done}
+use Rattle.ckpt_chain.proofs.Like.{completes_like, moved, restores_like, same_record}
+
+-- THE LOG
+
+pub its_events : (m : Machine) (turns : List Turn) → AreTurns turns → AreEvents (synced (world m turns))
+its_events m turns are =
+    let w : World = world m turns in
+    (events-split (synced w) w.life.loose (within_are (synced w ++ w.life.loose) w.made (groups_durable m turns).made (are_made (started m) turns are tt))).0
+
+-- of each acknowledgement of a record
+abbrev Acknowledged : (SubtaskId → Type 0) → ℕ → Machine → List Event → Type 0
+Acknowledged P id m events = (a : Acked) → IsIn a (acknowledgements_of id m events) → P a.subtask
+
+-- a beginning of the log has no others
+fewer : (P : SubtaskId → Type 0) (id : ℕ) (m : Machine) (before after : List Event) → Acknowledged P id m (before ++ after) → Acknowledged P id m before
+fewer P id m before after acks a has =
+    let had : List Acked = acks_in (record_of (core_in m) id) in
+    let n : State = core_in m in
+    let later : List Call = calls_in (events_replay m before) after in
+    let all : along (accepted_by id) n (calls_in m (before ++ after)) ≡ along (accepted_by id) n (calls_in m before) ++ along (accepted_by id) (replay n (calls_in m before)) later =
+    ap (along (accepted_by id) n) (calls-append m before after) ∙ along-append (accepted_by id) n (calls_in m before) later in
+    acks a
+    (subst (λ (xs : List Acked). IsIn a (had ++ xs)) (sym all)
+    (⊎_elim
+    (λ (k : IsIn a had). IsIn-append_left a had (along (accepted_by id) n (calls_in m before) ++ along (accepted_by id) (replay n (calls_in m before)) later) k)
+    (λ (k : IsIn a (along (accepted_by id) n (calls_in m before))).
+    IsIn-append_right a had (along (accepted_by id) n (calls_in m before) ++ along (accepted_by id) (replay n (calls_in m before)) later)
+    (IsIn-append_left a (along (accepted_by id) n (calls_in m before)) (along (accepted_by id) (replay n (calls_in m before)) later) k))
+    (IsIn-append_cases a had (along (accepted_by id) n (calls_in m before)) has)))
+
+-- A RESTART THAT WAS TOLD
+
+abbrev choice_told : Answer → Choice
+choice_told (Done (reply.Restored chosen released)) = chosen
+choice_told its = choice.Fresh
+
+-- it was to the choice
+pub restored_to : (r : Receipt) (n : ℕ) → Restores r n → id_of_choice (choice_of (core_in r.state)) ≡ Some n
+restored_to r n was =
+    let m : State = core_in r.state in
+    let told = (answered_call r.state was.event (Restore was.now target.Latest was.shape) (Done (reply.Restored was.chosen was.released)) was.asked was.told).1 in
+    let gives = (restores m was.now was.shape).latest (ap is_accepted told) in
+    let same : choice_of m ≡ was.chosen = sym (ap choice_told gives.1.1) ∙ ap choice_told told in
+    ap id_of_choice same ∙ was.is_this
+
+pub same_id : (m n : ℕ) → (m == n) ≡ true → m ≡ n
+same_id m n e = grind (arith, common_steps)
+
+-- the done record to which it was
+record Found (P : SubtaskId → Type 0) (n : ℕ) (m : Machine) (job : Job) : Type 0 where
+  events : List Event
+  are_events : AreEvents events
+  done_record : Record
+  is_live : IsIn done_record (core_in (events_replay m events)).records
+  is_done : done_record.done ≡ true
+  is_this : done_record.id ≡ n
+  is_of_job : subtasks done_record.shape ≡ job.tasks
+  acknowledged : Acknowledged P done_record.id m events
+
+found : (P : SubtaskId → Type 0) (m : Machine) (events : List Event) (w : World) (n : ℕ) (earlier : List ℕ) (job : Job) → IsWell m → AreEvents events → Stand m events w.told
+    → WasRestored (Acknowledged P n m events) n earlier w job → Found P n m job
+found P m events w n earlier job i are stand was =
+    let r : Receipt = was.receipt in
+    let at = stand_at machine_settled m events was.before was.later r (subst (Stand m events) was.place stand) in
+    let here : Machine = events_replay m at.0 in
+    let split : AreEvents at.0 × AreEvents (r.entry ++ at.1) = events-split at.0 (r.entry ++ at.1) (subst AreEvents at.2 are) in
+    let its = chosen_is_done (core_in here) n (core_sound here (replay_well m at.0 split.0 i)) (restored_to (moved r here) n (restores_like r here n at.3 was.restores)) in
+    let number : its.0.id ≡ n = same_id its.0.id n (found_in (λ (one : Record). one.id == n) (core_in here).records its.0 its.2).1 in
+    let acks : Acknowledged P n m at.0 = fewer P n m at.0 (r.entry ++ at.1) (subst (λ (xs : List Event). Acknowledged P n m xs) at.2 was.acknowledged) in
+    record {
+      events = at.0;
+      are_events = split.0;
+      done_record = its.0;
+      is_live = its.1;
+      is_done = its.3;
+      is_this = number;
+      is_of_job = was.is_of_job its.0 (same_record r.state here n at.3 ∙ its.2);
+      acknowledged = subst (λ (k : ℕ). Acknowledged P k m at.0) (sym number) acks;
+    }
+
+-- so it holds of each task of the job
+pub each_task : (P : SubtaskId → Type 0) (m : Machine) (events : List Event) (w : World) (n : ℕ) (earlier : List ℕ) (job : Job) → IsWell m → AreEvents events → Stand m events w.told
+    → WasRestored (Acknowledged P n m events) n earlier w job → (t : SubtaskId) → IsIn t job.tasks → P t
+each_task P m events w n earlier job i are stand was t has =
+    let it = found P m events w n earlier job i are stand was in
+    each-from_done P m it.events it.done_record t i it.are_events it.is_live it.is_done it.acknowledged (subst (λ (ts : List SubtaskId). IsIn t ts) (sym it.is_of_job) has)
+
+was_done : (m : Machine) (events : List Event) (w : World) (n : ℕ) (earlier : List ℕ) (job : Job) (from : States) (attempt : Attempt) → IsWell m → AreEvents events → Stand m events w.told
+    → WasRestored (AcknowledgesCuts n m events (network job from attempt.history)) n earlier w job → WasDone n m job from attempt.history
+was_done m events w n earlier job from attempt i are stand was =
+    let net : Network = network job from attempt.history in
+    let it = found (λ (t : SubtaskId). HasCut n (net.task t)) m events w n earlier job i are stand was in
+    record {
+      events = it.events;
+      are_events = it.are_events;
+      done_record = it.done_record;
+      is_live = it.is_live;
+      is_done = it.is_done;
+      is_this = it.is_this;
+      is_of_job = it.is_of_job;
+      acknowledged = λ a has. subst (λ (k : ℕ). HasCut k (net.task a.subtask)) (sym it.is_this) (it.acknowledged a has);
+    }
+
+-- the premise on acknowledgements may be another one
+pub restored_with : (P Q : Type 0) (n : ℕ) (earlier : List ℕ) (w : World) (job : Job) → (P → Q) → WasRestored P n earlier w job → WasRestored Q n earlier w job
+restored_with P Q n earlier w job so was = record {
+  before = was.before;
+  receipt = was.receipt;
+  later = was.later;
+  place = was.place;
+  restores = was.restores;
+  earlier_too = was.earlier_too;
+  is_of_job = was.is_of_job;
+  acknowledged = so was.acknowledged;
+}
+
+-- A RECORD THAT WAS TOLD TO BE COMPLETED, AND A RESTART THAT WAS TOLD LATER
+
+newest_is : (newest n : ℕ) (chosen : Choice) → chosen ≡ choice.Checkpoint newest → id_of_choice chosen ≡ Some n → newest ≡ n
+newest_is newest n chosen e is = ap (λ (o : Option ℕ). unwrap_or o newest) (sym (ap id_of_choice e) ∙ is)
+
+no_older : (m : Machine) (events : List Event) (us vs ys : List Receipt) (x r : Receipt) (k n : ℕ) → IsWell m → AreEvents events → NeverGoesBack m events
+    → Stand m events (us ++ (x ∷ (vs ++ r ∷ ys))) → Completes x k → Restores r n → k ≤ n
+no_older m events us vs ys x r k n i are never stand completes restores =
+    let at = stand_at machine_settled m events us (vs ++ r ∷ ys) x stand in
+    let here : Machine = events_replay m at.0 in
+    let begin : Machine = events_replay here x.entry in
+    let next = stand_at machine_settled begin at.1 vs ys r at.4 in
+    let last : Machine = events_replay begin next.0 in
+    let completed : Completes (moved x here) k = completes_like x here k at.3 completes in
+    let event : Event = completed.event in
+    let first : AreEvents at.0 × AreEvents (x.entry ++ at.1) = events-split at.0 (x.entry ++ at.1) (subst AreEvents at.2 are) in
+    let second : AreEvents x.entry × AreEvents at.1 = events-split x.entry at.1 first.1 in
+    let third : AreEvents next.0 × AreEvents (r.entry ++ next.1) = events-split next.0 (r.entry ++ next.1) (subst AreEvents next.2 second.1) in
+    let one : AreEvents (event ∷ []) = subst AreEvents completed.entry second.0 in
+    let sound : IsSound (core_in here) = core_sound here (replay_well m at.0 first.0 i) in
+    let call : Call = ack_of completed.now k completed.part in
+    let told : Answer = Done (reply.AckCompleted completed.dropped completed.released) in
+    let its = answered_call here event call told completed.asked completed.told in
+    let after : core_in (event_step here event) ≡ (step (core_in here) call).0 = answered_step here event call told one.0 completed.asked completed.told in
+    let entered : begin ≡ event_step here event = ap (events_replay here) completed.entry in
+    let start : core_in begin ≡ (step (core_in here) call).0 = ap core_in entered ∙ after in
+    let never_here : NeverGoesBack here (x.entry ++ at.1) =
+    (never-split m at.0 (x.entry ++ at.1) first.0 (subst (NeverGoesBack m) at.2 never)).1 in
+    let never_since : NeverGoesBack begin at.1 =
+    (never-split here x.entry at.1 second.0 never_here).1 in
+    let never_between : NeverGoesBack begin next.0 = (never-split begin next.0 (r.entry ++ next.1) third.0 (subst (NeverGoesBack begin) next.2 never_since)).0 in
+    let calls : List Call = calls_in begin next.0 in
+    let between = reaches begin next.0 third.0 in
+    let newest = choice_is_no_older (core_in here) completed.now k completed.part calls sound (tt, between.0) (ap is_completing its.1)
+    (λ (its_record : Record) found. completed.checkpoint its_record (ap (λ (j : State). record_of j k) after ∙ found))
+    (subst (λ (j : State). NoneGoesBack j calls) start never_between) in
+    let moves : replay (core_in begin) calls ≡ replay (step (core_in here) call).0 calls = ap (λ (j : State). replay j calls) start in
+    let now : core_in last ≡ replay (step (core_in here) call).0 calls = between.1 ∙ moves in
+    let same : newest.0 ≡ n = newest_is newest.0 n (choice_of (core_in last)) (ap choice_of now ∙ newest.1) (restored_to (moved r last) n (restores_like r last n next.3 restores)) in
+    subst (λ (j : ℕ). k ≤ j) same newest.2
+
+pub none_later : (Premise : Type 0) (m : Machine) (events : List Event) (w : World) (n : ℕ) (earlier : List ℕ) (job : Job) → IsWell m → AreEvents events → NeverGoesBack m events → Stand m events w.told
+    → WasRestored Premise n earlier w job → (k : ℕ) → IsIn k earlier → k ≤ n
+none_later Premise m events w n earlier job i are never stand was k has =
+    let of : WasToldOf k was.before = was.earlier_too k has in
+    let place : w.told ≡ of.before ++ (of.receipt ∷ (of.later ++ was.receipt ∷ was.later)) =
+    was.place ∙ ap (λ (xs : List Receipt). xs ++ was.receipt ∷ was.later) of.place ∙ append_assoc of.before (of.receipt ∷ of.later) (was.receipt ∷ was.later) in
+    no_older m events of.before of.later was.later of.receipt was.receipt k n i are never (subst (Stand m events) place stand) of.completes was.restores
+
+-- ATTEMPTS
+
+pub are_restarts : (m : Machine) (w : World) (job : Job) (attempts : List Attempt) → IsWell m → AreEvents (synced w) → Stand m (synced w) w.told → AreToldRestarts m w job attempts → AreRestarts m job attempts
+are_restarts m w job [] i are stand told = tt
+are_restarts m w job (attempt ∷ attempts) i are stand told = (
+  are_restarts m w job attempts i are stand told.0,
+  told.1,
+  was_done m (synced w) w attempt.record_id attempt.earlier job (restored job attempts) attempt i are stand told.2,
+)
+
+pub are_last : (m : Machine) (w : World) (job : Job) (attempts : List Attempt) → IsWell m → AreEvents (synced w) → NeverGoesBack m (synced w) → Stand m (synced w) w.told → AreToldRestarts m w job attempts → AreLast attempts
+are_last m w job [] i are never stand told = tt
+are_last m w job (attempt ∷ attempts) i are never stand told = (
+  are_last m w job attempts i are never stand told.0,
+  none_later (AcknowledgesCuts attempt.record_id m (synced w) (network job (restored job attempts) attempt.history)) m (synced w) w attempt.record_id attempt.earlier job i are never stand told.2,
+)

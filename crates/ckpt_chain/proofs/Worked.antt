@@ -1,0 +1,244 @@
+-- The worked example meets the premises of the laws.
+use Rattle.std.proofs.Common.{◌≡◌, ℕ, Bool, false, true, List, [], ◌∷◌, refl, sym, ap, ◌∙◌, subst, inl, inr}
+use Rattle.std.specs.Prelude.{Option, Some, None}
+use Rattle.ckpt_ids.specs.declared.ack.Acked.{Acked}
+use Rattle.ckpt_ids.specs.declared.call.Call.TheVariants.{Ack, Tick}
+use Rattle.ckpt_ids.specs.declared.subtask.SubtaskId.{SubtaskId}
+use Rattle.ckpt_ids.specs.declared.reply.Choice.TheVariants as choice
+use Rattle.ckpt_ids.specs.Ordered.{IsIn}
+use Rattle.ckpt_ids.specs.Records.{Record}
+use Rattle.ckpt_ids.specs.Shapes.{subtasks}
+use Rattle.ckpt_model.specs.State.{is_checkpoint, record_of}
+use Rattle.ckpt_model.specs.Laws.{Part, ack_of}
+use Rattle.ckpt_model.specs.Steps.{step_computes}
+use Rattle.ckpt_model.proofs.Soundness.Histories.{opening_is_sound}
+use Rattle.ckpt_terms.specs.declared.call.FencedCall.{FencedCall}
+use Rattle.ckpt_terms.specs.declared.call.FencedCall.TheVariants.{Make}
+use Rattle.ckpt_terms.specs.Fencing.{fenced, fenced_step}
+use Rattle.ckpt_terms.specs.Machines.{core_in}
+use Rattle.ckpt_logged.specs.Events.{Event, Fence, IsWell, named_as}
+use Rattle.ckpt_align.specs.Laws.{Channel}
+use Rattle.ckpt_align.specs.Steps.{barrier, settled, step}
+use Rattle.ckpt_ledger.specs.Restarts.{AreTold, attempts}
+use Rattle.ckpt_durable.specs.Groups.{AreTurns, synced}
+use Rattle.ckpt_durable.proofs.GroupWorlds.{groups_durable}
+use Rattle.ckpt_once.specs.Jobs.{IsJob, restored}
+use Rattle.ckpt_once.specs.Choices.{HasNoChoice, IsPlanned}
+use Rattle.ckpt_once.specs.Programs.{Draws, Takes}
+use Rattle.ckpt_once.specs.Sinks.{AreLast}
+use Rattle.ckpt_once.specs.WorkedExamples.{adder, is_job, job, plan, source}
+use Rattle.ckpt_task.specs.Deeds.{Acknowledges, told_in}
+use Rattle.ckpt_task.specs.Loops.{AreLooping, attempts_of}
+use Rattle.ckpt_task.specs.WorkedLoops.{again, failed, opening}
+use Rattle.ckpt_task.proofs.WorkedLooping as loops
+use Rattle.ckpt_chain.specs.Looped.{AcceptsTold, AreToldLoops}
+use Rattle.ckpt_chain.specs.Since.{AreRestarts, acknowledgements_of}
+use Rattle.ckpt_chain.proofs.Looped as looped
+use Rattle.ckpt_chain.proofs.Telling as telling
+use Rattle.ckpt_chain.specs.Told.{AreToldRestarts, Completes, NeverGoesBack, Restores, WasRestored, WasToldOf, asks_way_back, call_of}
+use Rattle.ckpt_chain.specs.TermLoops.{AreTermLoops, HasToldOf, TellsInTerm}
+use Rattle.ckpt_chain.specs.WorkedExamples.{adder_acks, at, attempt, begin, calls_late, is_synced, is_told, log, now, reserves, restores, sink, source_acks, ticks, told, turns}
+
+pub is_well : IsWell begin
+is_well = opening_is_sound opening loops.can_open
+
+pub are_turns : AreTurns turns
+are_turns = (tt, (tt, (tt, (tt, (tt, (tt, (tt, (tt, tt))))))))
+
+-- no call of the log goes back
+never_in_log : NeverGoesBack begin log
+unfolding fenced_step step_computes
+never_in_log = (refl, (refl, (refl, (refl, tt))))
+
+pub never_goes_back : NeverGoesBack begin (synced now)
+never_goes_back = subst (NeverGoesBack begin) (sym is_synced) never_in_log
+
+-- All that was asked: no way back.
+pub nobody_asks : (event : Event) → IsIn event now.made → asks_way_back (call_of event) ≡ false
+nobody_asks event has = among event has
+  where
+    among : (k : Event) → IsIn k (Fence 5 ∷ ticks ∷ reserves ∷ source_acks ∷ adder_acks ∷ adder_acks ∷ restores ∷ calls_late ∷ []) → asks_way_back (call_of k) ≡ false
+    among k (inl e) = ap (λ (x : Event). asks_way_back (call_of x)) e
+    among k (inr (inl e)) = ap (λ (x : Event). asks_way_back (call_of x)) e
+    among k (inr (inr (inl e))) = ap (λ (x : Event). asks_way_back (call_of x)) e
+    among k (inr (inr (inr (inl e)))) = ap (λ (x : Event). asks_way_back (call_of x)) e
+    among k (inr (inr (inr (inr (inl e))))) = ap (λ (x : Event). asks_way_back (call_of x)) e
+    among k (inr (inr (inr (inr (inr (inl e)))))) = ap (λ (x : Event). asks_way_back (call_of x)) e
+    among k (inr (inr (inr (inr (inr (inr (inl e))))))) = ap (λ (x : Event). asks_way_back (call_of x)) e
+    among k (inr (inr (inr (inr (inr (inr (inr (inl e)))))))) = ap (λ (x : Event). asks_way_back (call_of x)) e
+    among k (inr (inr (inr (inr (inr (inr (inr (inr none)))))))) = absurd none
+
+-- what was told
+
+abbrev checkpoint_in : Option Record → Bool
+checkpoint_in None = true
+checkpoint_in (Some one) = is_checkpoint one
+
+completes : Completes (at 4) 1
+unfolding fenced_step step_computes
+completes = record {
+  event = adder_acks;
+  entry = refl;
+  now = 1000;
+  part = record { subtask = adder; fresh = 5 ∷ []; reused = [] };
+  asked = refl;
+  dropped = 0;
+  released = 0;
+  told = refl;
+  checkpoint = λ one found. sym (ap checkpoint_in found);
+}
+
+restores_to_one : Restores (at 5) 1
+unfolding fenced_step step_computes
+restores_to_one = record {
+  event = restores;
+  entry = refl;
+  now = 2000;
+  shape = None;
+  asked = refl;
+  chosen = choice.Checkpoint 1;
+  released = 0;
+  told = refl;
+  is_this = refl;
+}
+
+told_of_one : WasToldOf 1 (at 0 ∷ at 1 ∷ at 2 ∷ at 3 ∷ at 4 ∷ [])
+told_of_one = record { before = at 0 ∷ at 1 ∷ at 2 ∷ at 3 ∷ []; receipt = at 4; later = []; place = refl; completes = completes }
+
+told_of : (k : ℕ) → IsIn k (1 ∷ []) → WasToldOf k (at 0 ∷ at 1 ∷ at 2 ∷ at 3 ∷ at 4 ∷ [])
+told_of k (inl e) = subst (λ (j : ℕ). WasToldOf j (at 0 ∷ at 1 ∷ at 2 ∷ at 3 ∷ at 4 ∷ [])) (sym e) told_of_one
+told_of k (inr none) = absurd none
+
+-- the record is one of the job
+abbrev subtasks_in : Option Record → List SubtaskId
+subtasks_in None = job.tasks
+subtasks_in (Some one) = subtasks one.shape
+
+of_job : (one : Record) → record_of (core_in (at 5).state) 1 ≡ Some one → subtasks one.shape ≡ job.tasks
+unfolding fenced_step step_computes
+of_job one found = sym (ap subtasks_in found)
+
+-- its acknowledgements
+
+abbrev pub acked : SubtaskId → List ℕ → Acked
+acked t files = record { subtask = t; files = files }
+
+pub accepted_are : acknowledgements_of 1 begin log ≡ acked source [] ∷ acked adder (5 ∷ []) ∷ []
+unfolding fenced_step step_computes
+accepted_are = refl
+
+abbrev Tells : Acked → Type 0
+Tells a = IsIn a.subtask job.tasks × IsIn (Acknowledges 1) (told_in (failed.looped a.subtask).last.deeds)
+
+have_told : (a : Acked) → IsIn a (acked source [] ∷ acked adder (5 ∷ []) ∷ []) → Tells a
+have_told a (inl e) = subst (λ (k : Acked). Tells k) (sym e) (inl refl, inl refl)
+have_told a (inr (inl e)) = subst (λ (k : Acked). Tells k) (sym e) (inr (inl refl), inl refl)
+have_told a (inr (inr none)) = absurd none
+
+accepts_told : AcceptsTold 1 begin (synced now) job failed
+accepts_told a has =
+    have_told a (subst (λ (ones : List Acked). IsIn a ones) (ap (acknowledgements_of 1 begin) is_synced ∙ accepted_are) has)
+
+pub was_restored : (Premise : Type 0) → Premise → WasRestored Premise 1 (1 ∷ []) now job
+was_restored Premise acknowledged = record {
+  before = at 0 ∷ at 1 ∷ at 2 ∷ at 3 ∷ at 4 ∷ [];
+  receipt = at 5;
+  later = at 6 ∷ [];
+  place = is_told;
+  restores = restores_to_one;
+  earlier_too = told_of;
+  is_of_job = of_job;
+  acknowledged = acknowledged;
+}
+
+pub are_told : AreToldLoops begin now job (attempt ∷ [])
+are_told = (tt, loops.failed_looping, was_restored (AcceptsTold 1 begin (synced now) job failed) accepts_told)
+
+-- in terms
+
+abbrev subtask_of : List FencedCall → SubtaskId
+subtask_of (Make term (Ack moment id subtask fresh reused) ∷ calls) = subtask
+subtask_of calls = source
+
+tells_source : HasToldOf 1 job failed source
+tells_source = (inl refl, inl refl)
+
+tells_adder : HasToldOf 1 job failed adder
+tells_adder = (inr (inl refl), inl refl)
+
+-- the events behind the trigger
+each_tells : (late : Event) (moment : ℕ) (p : Part) → IsIn late (reserves ∷ source_acks ∷ adder_acks ∷ restores ∷ calls_late ∷ []) → named_as late ≡ Make 1 (ack_of moment 1 p) ∷ [] → HasToldOf 1 job failed p.subtask
+each_tells late moment p (inl e) is = absurd (no_ack (sym (ap named_as e) ∙ is))
+  where
+    no_ack : named_as reserves ≡ Make 1 (ack_of moment 1 p) ∷ [] → ⊥
+    no_ack k = cc
+each_tells late moment p (inr (inl e)) is = subst (HasToldOf 1 job failed) (ap subtask_of (sym (ap named_as e) ∙ is)) tells_source
+each_tells late moment p (inr (inr (inl e))) is = subst (HasToldOf 1 job failed) (ap subtask_of (sym (ap named_as e) ∙ is)) tells_adder
+each_tells late moment p (inr (inr (inr (inl e)))) is = absurd (no_ack (sym (ap named_as e) ∙ is))
+  where
+    no_ack : named_as restores ≡ Make 1 (ack_of moment 1 p) ∷ [] → ⊥
+    no_ack k = cc
+each_tells late moment p (inr (inr (inr (inr (inl e))))) is = subst (HasToldOf 1 job failed) (ap subtask_of (sym (ap named_as e) ∙ is)) tells_adder
+each_tells late moment p (inr (inr (inr (inr (inr none))))) is = absurd none
+
+tells_in_term : TellsInTerm 1 begin (synced now) job failed
+unfolding fenced_step step_computes
+tells_in_term = record {
+  before = Fence 5 ∷ [];
+  event = ticks;
+  after = reserves ∷ source_acks ∷ adder_acks ∷ restores ∷ calls_late ∷ [];
+  is_log = is_synced;
+  names = fenced opening 5;
+  state = refl;
+  trigger = Make 0 (Tick 1000);
+  asked = refl;
+  triggered = refl;
+  in_term = each_tells;
+}
+
+pub in_terms : AreTermLoops begin now job (attempt ∷ [])
+in_terms = (tt, loops.failed_looping, was_restored (TellsInTerm 1 begin (synced now) job failed) tells_in_term)
+
+pub is_looping : AreLooping job (restored job (attempts_of (attempt ∷ []))) again
+is_looping = loops.again_looping
+
+pub its_job : IsJob job
+its_job = is_job
+
+-- without loops, with a ledger
+
+pub are_restarts : AreToldRestarts begin now job (attempts (told ∷ []))
+are_restarts = looped.are_told begin now job (attempt ∷ []) is_job are_told
+
+pub since : AreRestarts begin job (attempts (told ∷ []))
+since = telling.are_restarts begin now job (attempts (told ∷ [])) is_well (telling.its_events begin turns are_turns) (groups_durable begin turns).told are_restarts
+
+pub are_last : AreLast (attempts (told ∷ []))
+are_last = telling.are_last begin now job (attempts (told ∷ [])) is_well (telling.its_events begin turns are_turns) never_goes_back (groups_durable begin turns).told are_restarts
+
+pub is_task : IsIn sink.task job.tasks
+is_task = inr (inl refl)
+
+pub ledger_told : AreTold job sink (told ∷ [])
+unfolding step barrier settled
+ledger_told = (tt, (refl, (refl, tt)), refl, refl)
+
+-- no task chooses
+
+abbrev Planned : ℕ → SubtaskId → ℕ → Type 0
+Planned x t i = IsPlanned job t (plan t) (Takes i x)
+
+takes_from : (t : SubtaskId) (i x : ℕ) (c : Channel) → IsIn c job.channels → c.receiver ≡ t → c.input ≡ i → Planned x t i
+takes_from t i x c (inl e) to on =
+    let the_task : adder ≡ t = sym (ap (λ (d : Channel). d.receiver) e) ∙ to in
+    let the_input : 0 ≡ i = sym (ap (λ (d : Channel). d.input) e) ∙ on in
+    subst (λ (s : SubtaskId). Planned x s i) the_task (subst (Planned x adder) the_input (inl refl, refl, (x, refl)))
+takes_from t i x c (inr none) to on = absurd none
+
+draws_only : (t : SubtaskId) → IsIn t job.sources → IsPlanned job t (plan t) Draws
+draws_only t (inl e) = subst (λ (s : SubtaskId). IsPlanned job s (plan s) Draws) (sym e) refl
+draws_only t (inr none) = absurd none
+
+pub no_choice : HasNoChoice job plan
+no_choice t (Takes i x) is = takes_from t i x is.1.0 is.1.1 is.1.2 is.1.3
+no_choice t Draws is = draws_only t is.1

@@ -1,0 +1,222 @@
+-- The worked example with files meets the premises of `nothing_is_lost`.
+use Rattle.std.proofs.Common.{◌≡◌, ℕ, Bool, true, List, [], ◌∷◌, refl, sym, ap, ◌∙◌, subst, inl, inr}
+use Rattle.std.specs.Prelude.{map, Option, Some, None}
+use Rattle.ckpt_ids.specs.declared.ack.Acked.{Acked}
+use Rattle.ckpt_ids.specs.declared.reply.Choice.TheVariants as choice
+use Rattle.ckpt_ids.specs.declared.subtask.SubtaskId.{SubtaskId}
+use Rattle.ckpt_ids.specs.Ordered.{IsIn}
+use Rattle.ckpt_ids.specs.Records.{Record}
+use Rattle.ckpt_ids.specs.Shapes.{subtasks}
+use Rattle.ckpt_align.specs.Laws.{HasCut}
+use Rattle.ckpt_align.specs.Steps.{barrier, settled, step}
+use Rattle.ckpt_model.specs.State.{is_checkpoint, record_of}
+use Rattle.ckpt_model.specs.Steps.{step_computes}
+use Rattle.ckpt_terms.specs.declared.machine.Machine.{Machine}
+use Rattle.ckpt_terms.specs.declared.machine.Machine.TheVariants as machine
+use Rattle.ckpt_terms.specs.Fencing.{Fenced, fenced, fenced_step}
+use Rattle.ckpt_terms.specs.Machines.{core_in}
+use Rattle.ckpt_durable.specs.Groups.{synced}
+use Rattle.ckpt_once.specs.Jobs.{IsHistory, network, restored, snapshots, starts}
+use Rattle.ckpt_once.specs.WorkedExamples.{adder, is_job, job, source}
+use Rattle.ckpt_task.specs.Loops.{IsHistoryOfLoops, history_of}
+use Rattle.ckpt_task.specs.WorkedLoops.{again, failed, opening}
+use Rattle.ckpt_task.proofs.LoopLaws.{loops_make_history}
+use Rattle.ckpt_task.proofs.WorkedLooping as loops
+use Rattle.ckpt_chain.specs.Since.{acknowledgements_of}
+use Rattle.ckpt_chain.specs.Storages.{AreAllowed, AreStored, IsWritten, MayBeRemoved, Storage, begun, put}
+use Rattle.ckpt_chain.specs.Stored.{AreReadBack, SavesSnapshots, attempts_in, now_at, read_from}
+use Rattle.ckpt_chain.specs.Told.{Completes, NeverGoesBack, Restores, WasToldOf}
+use Rattle.ckpt_chain.specs.WorkedExamples.{begin, restores}
+use Rattle.ckpt_chain.specs.WorkedStorage.{acked, adder_saves, after, at, attempt, before, found, is_found, is_synced, is_told, log, nothing, place, reads}
+use Rattle.ckpt_chain.proofs.SameStates.{AreSame, same_history}
+
+pub are_stored : AreStored begin nothing
+are_stored f used = absurd cc
+
+-- what is done
+
+abbrev names_in : Machine → Fenced
+names_in (machine.Plain m) = fenced opening 5
+names_in (machine.Fenced m) = m
+
+garbage : MayBeRemoved 7 (now_at place).world.told
+unfolding fenced_step step_computes
+garbage = record {
+  receipt = at 6;
+  is_told = inr (inr (inr (inr (inr (inr (inl refl))))));
+  names = names_in (at 6).state;
+  state = refl;
+  may_be = refl;
+}
+
+written : (s : Storage) (file content f : ℕ) → s file ≡ Some content → IsIn f (file ∷ []) → IsWritten (s f)
+written s file content f e (inl same) = subst (λ (k : ℕ). IsWritten (s k)) (sym same) (content, e)
+written s file content f e (inr none) = absurd none
+
+-- files that are written one after the other
+abbrev with_5 : Storage
+with_5 = put 5 (Some 1) nothing
+
+abbrev with_6 : Storage
+with_6 = put 6 (Some 100) with_5
+
+pub are_allowed : AreAllowed (begun begin nothing) place.acts
+unfolding fenced_step step_computes
+are_allowed = (
+  ((tt, tt), λ f h. absurd h),
+  (
+    ((tt, tt), λ f h. absurd h),
+    (
+      (tt, tt),
+      (
+        ((tt, tt), λ f h. absurd h),
+        (
+          (tt, tt),
+          (
+            tt,
+            (
+              ((tt, tt), λ f h. written with_5 5 1 f refl h),
+              (
+                (tt, tt),
+                (
+                  (tt, tt),
+                  (
+                    tt,
+                    (
+                      ((tt, tt), λ f h. written with_6 6 100 f refl h),
+                      (
+                        (tt, tt),
+                        (
+                          ((tt, tt), λ f h. written with_6 6 100 f refl h),
+                          (
+                            (tt, tt),
+                            ((tt, tt), (tt, (((tt, tt), λ f h. absurd h), ((tt, tt), (((tt, tt), λ f h. absurd h), ((tt, tt), (garbage, tt))))))),
+                          ),
+                        ),
+                      ),
+                    ),
+                  ),
+                ),
+              ),
+            ),
+          ),
+        ),
+      ),
+    ),
+  ),
+)
+
+never_in_log : NeverGoesBack begin log
+unfolding fenced_step step_computes
+never_in_log = (refl, (refl, (refl, (refl, tt))))
+
+pub never_goes_back : NeverGoesBack begin (synced (now_at place).world)
+never_goes_back = subst (NeverGoesBack begin) (sym is_synced) never_in_log
+
+-- what was told
+
+abbrev checkpoint_in : Option Record → Bool
+checkpoint_in None = true
+checkpoint_in (Some one) = is_checkpoint one
+
+completes : Completes (at 4) 1
+unfolding fenced_step step_computes
+completes = record {
+  event = adder_saves;
+  entry = refl;
+  now = 1000;
+  part = record { subtask = adder; fresh = 6 ∷ []; reused = [] };
+  asked = refl;
+  dropped = 0;
+  released = 0;
+  told = refl;
+  checkpoint = λ one is. sym (ap checkpoint_in is);
+}
+
+restores_to_one : Restores (at 5) 1
+unfolding fenced_step step_computes
+restores_to_one = record { event = restores; entry = refl; now = 2000; shape = None; asked = refl; chosen = choice.Checkpoint 1; released = 0; told = refl; is_this = refl }
+
+told_of_one : WasToldOf 1 (at 0 ∷ at 1 ∷ at 2 ∷ at 3 ∷ at 4 ∷ [])
+told_of_one = record { before = at 0 ∷ at 1 ∷ at 2 ∷ at 3 ∷ []; receipt = at 4; later = []; place = refl; completes = completes }
+
+told_of : (k : ℕ) → IsIn k (1 ∷ []) → WasToldOf k (at 0 ∷ at 1 ∷ at 2 ∷ at 3 ∷ at 4 ∷ [])
+told_of k (inl e) = subst (λ (j : ℕ). WasToldOf j (at 0 ∷ at 1 ∷ at 2 ∷ at 3 ∷ at 4 ∷ [])) (sym e) told_of_one
+told_of k (inr none) = absurd none
+
+abbrev subtasks_in : Option Record → List SubtaskId
+subtasks_in None = job.tasks
+subtasks_in (Some one) = subtasks one.shape
+
+of_job : (one : Record) → record_of (core_in (at 5).state) 1 ≡ Some one → subtasks one.shape ≡ job.tasks
+of_job one is = sym (ap subtasks_in (sym is_found ∙ is))
+
+-- what was saved
+
+failed_history : IsHistoryOfLoops job (starts job) failed
+failed_history = loops_make_history job (starts job) failed is_job loops.failed_looping
+
+accepted_are : acknowledgements_of 1 begin log ≡ acked source 5 ∷ acked adder 6 ∷ []
+unfolding fenced_step step_computes
+accepted_are = refl
+
+abbrev Saves : Acked → Type 0
+Saves a =
+    IsIn a.subtask job.tasks
+    × HasCut 1 ((network job (starts job) (history_of failed)).task a.subtask)
+    × (reads a.subtask (map (now_at place).ever a.files) ≡ snapshots 1 job (starts job) (history_of failed) a.subtask)
+
+source_saved : Saves (acked source 5)
+unfolding step barrier settled
+source_saved = (inl refl, failed_history.cuts source 1 (inl refl) (inl refl), refl)
+
+adder_saved : Saves (acked adder 6)
+unfolding step barrier settled
+adder_saved = (inr (inl refl), failed_history.cuts adder 1 (inr (inl refl)) (inl refl), refl)
+
+each_saved : (a : Acked) → IsIn a (acked source 5 ∷ acked adder 6 ∷ []) → Saves a
+each_saved a (inl e) = subst (λ (k : Acked). Saves k) (sym e) source_saved
+each_saved a (inr (inl e)) = subst (λ (k : Acked). Saves k) (sym e) adder_saved
+each_saved a (inr (inr none)) = absurd none
+
+saves : SavesSnapshots place job (starts job) (history_of failed) 1
+saves a has = each_saved a (subst (λ (ones : List Acked). IsIn a ones) (ap (acknowledgements_of 1 begin) is_synced ∙ accepted_are) has)
+
+is_live : IsIn found (core_in (now_at (record place { acts = before })).world.life.now).records
+unfolding fenced_step step_computes
+is_live = inl refl
+
+pub are_read_back : AreReadBack place job (attempt ∷ [])
+are_read_back = (
+  tt,
+  failed_history.is_history,
+  record {
+    later = after;
+    is_then = refl;
+    restart = record {
+      before = at 0 ∷ at 1 ∷ at 2 ∷ at 3 ∷ at 4 ∷ [];
+      receipt = at 5;
+      later = at 6 ∷ [];
+      place = is_told;
+      restores = restores_to_one;
+      earlier_too = told_of;
+      is_of_job = of_job;
+      acknowledged = saves;
+    };
+    is_found = is_found;
+    is_live = is_live;
+  },
+)
+
+-- the next attempt
+
+read_is : AreSame job (restored job (attempts_in (attempt ∷ []))) (read_from place job (attempt ∷ []))
+unfolding step barrier settled
+read_is t (inl e) = subst (λ (s : SubtaskId). restored job (attempts_in (attempt ∷ [])) s ≡ read_from place job (attempt ∷ []) s) (sym e) refl
+read_is t (inr (inl e)) = subst (λ (s : SubtaskId). restored job (attempts_in (attempt ∷ [])) s ≡ read_from place job (attempt ∷ []) s) (sym e) refl
+read_is t (inr (inr none)) = absurd none
+
+pub goes_on : IsHistory job (read_from place job (attempt ∷ [])) (history_of again)
+goes_on =
+    same_history job (restored job (attempts_in (attempt ∷ []))) (read_from place job (attempt ∷ [])) (history_of again) is_job read_is
+    (loops_make_history job (restored job (attempts_in (attempt ∷ []))) again is_job loops.again_looping).is_history

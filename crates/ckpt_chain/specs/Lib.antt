@@ -1,0 +1,20 @@
+-- The definitions that contracts cite.
+pub mod Chosen
+pub mod Durably
+pub mod Looped
+pub mod Named
+pub mod Since
+pub mod SinkFaults
+pub mod Storages
+pub mod Stored
+pub mod TermLoops
+pub mod Terms
+pub mod Told
+pub mod Triggered
+pub mod Unaligned
+pub mod WorkedEngine
+pub mod WorkedExamples
+pub mod WorkedProgress
+pub mod WorkedSink
+pub mod WorkedStorage
+pub mod WorkedTriggers

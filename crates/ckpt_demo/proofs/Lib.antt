@@ -1,2 +1,0 @@
--- The lemmas that the proofs use.
-pub mod Crossings

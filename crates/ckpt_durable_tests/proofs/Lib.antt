@@ -1,1 +1,0 @@
--- No lemmas: the loop of `copy_onto` has its invariant and its answers.

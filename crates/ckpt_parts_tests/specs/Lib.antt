@@ -1,3 +1,0 @@
--- The definitions that contracts cite.
-pub mod Adders
-pub mod Rows

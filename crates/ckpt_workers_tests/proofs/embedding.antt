@@ -1,2 +1,0 @@
--- What the proofs of `embedding` share.
-mod Sends

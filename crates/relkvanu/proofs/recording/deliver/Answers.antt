@@ -1,0 +1,15 @@
+-- Answers the goals of `deliver`.
+use Rattle.std.proofs.Common.{◌∙◌, List, ap, map}
+use Rattle.std.specs.Prelude.{slice_set}
+use Rattle.ckpt_align.specs.declared.input.Input.{Input}
+use Rattle.ckpt_align.specs.declared.input.Input.TheVariants.{Held}
+use Rattle.ckpt_unaligned.specs.declared.answer.Phase.{Phase}
+use Rattle.relkvanu.specs.Aligning.{input_of}
+use Rattle.relkvanu.specs.Recording.{phase_of}
+use Rattle.relkvanu.proofs.InputBytes.{set_in}
+use Rattle.relkvanu.proofs.recording.deliver.Goals as goal
+
+pub returns : goal.returns
+returns c =
+    ap (λ (inputs : List Input). record { inputs = inputs; latest = c.args.id; phase = phase_of c.begun-recorder.result }) (set_in c.args.inputs.now c.args.input 1)
+    ∙ ap (λ (p : Phase). record { inputs = slice_set (map input_of c.args.inputs.now) c.args.input Held; latest = c.args.id; phase = p }) c.begun-recorder.ensures
