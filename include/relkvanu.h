@@ -110,11 +110,13 @@ typedef struct {
     uint64_t taken;   /* files that were fetched, and are not yet reported */
 } relkvanu_made;
 
-/* How many answers a caller's buffer holds back, beside these answers. Plain memory of the caller. {0}: none */
+/* How many answers a caller's buffer holds back, beside these answers. Plain memory of the caller. {0}: none. Behind a group that has failed the next
+ * one is {.given = failed.given}: then no receipt of the failed one comes again. */
 typedef struct {
     uint64_t waiting; /* answers that wait for a sync, from the first place on */
     uint64_t told;    /* answers that may be told, from the first place on */
     bool has_failed;  /* no answer is held back or told any more */
+    uint64_t given;   /* the next receipt, at most 2^62: receipts count up for ever */
 } relkvanu_group;
 
 /* The alignment of a task, beside the bytes of its inputs. Plain memory of the caller, which relkvanu_align_open fills. */
@@ -122,9 +124,15 @@ typedef struct {
     uint64_t latest; /* the greatest record that an alignment began for; 0 before the first */
 } relkvanu_aligner;
 
-/* What an engine does next, of the functions relkvanu_align_... */
+/* The recorder of a task, beside the bytes of its inputs. Plain memory of the caller, which relkvanu_unaligned_open fills. */
 typedef struct {
-    uint32_t what; /* one of RELKVANU_STEP_PROCESS to RELKVANU_STEP_BAD_INPUTS */
+    uint64_t latest; /* the greatest record that was begun; 0 before the first */
+    uint32_t phase;  /* what is done for it: 0 nothing, 1 it is aligned, otherwise it is recorded */
+} relkvanu_recorder;
+
+/* What an engine does next, of the functions relkvanu_align_... and relkvanu_unaligned_... */
+typedef struct {
+    uint32_t what; /* one of RELKVANU_STEP_PROCESS to RELKVANU_STEP_COMPLETE */
     uint64_t id;   /* the record of a cut or of an abandon, otherwise 0 */
 } relkvanu_step;
 
@@ -257,7 +265,7 @@ typedef struct {
 #define RELKVANU_BAD_IMAGE 7u    /* the bytes are not an image, or the state is not sound, or no coordinator could be opened so */
 #define RELKVANU_BAD_NAME 8u     /* the first name is 0 or above 2^62 */
 #define RELKVANU_BAD_GROUP 9u    /* the group has failed: open the handle again, from the log */
-#define RELKVANU_BAD_RECEIPT 10u /* no answer may be told by the receipt, or there is no place for another answer */
+#define RELKVANU_BAD_RECEIPT 10u /* no answer may be told by the receipt, or there is no place or receipt for another answer */
 
 /* what, if code is RELKVANU_BAD_LINE: the first fault from the left */
 #define RELKVANU_FAULT_TOO_LONG 1u /* a line has at most 131072 bytes */
@@ -292,13 +300,17 @@ typedef struct {
 #define RELKVANU_STEP_HOLD 2u          /* leave the element, and all behind it, on its input, until the next cut or abandon */
 #define RELKVANU_STEP_NOTHING 3u       /* nothing is to be done: no record is being aligned */
 #define RELKVANU_STEP_WAIT 4u          /* go on: an open input has not delivered the barrier yet */
-#define RELKVANU_STEP_LATE 5u          /* drop the barrier and go on: the record was cut or given up before */
+#define RELKVANU_STEP_LATE 5u          /* drop the barrier and go on: the record was cut or given up, or is below one that was begun */
 #define RELKVANU_STEP_CUT 6u           /* take the snapshot for record id now, and then send its barrier on each output, before anything else */
 #define RELKVANU_STEP_ABANDON 7u       /* decline record id: it can no longer be cut */
 #define RELKVANU_STEP_UNKNOWN_INPUT 8u /* nothing has changed: the task has no input with this number */
 #define RELKVANU_STEP_HELD_INPUT 9u    /* nothing has changed: the barrier or the end has to wait until the input is released */
 #define RELKVANU_STEP_ENDED_INPUT 10u  /* nothing has changed: the input has ended */
 #define RELKVANU_STEP_BAD_INPUTS 11u   /* nothing has changed: a task has 1 to RELKVANU_MOST_INPUTS inputs */
+/* Of relkvanu_unaligned_... alone. */
+#define RELKVANU_STEP_RECORD 12u   /* add the element to the record, and process it before what comes behind it */
+#define RELKVANU_STEP_SNAP 13u     /* as RELKVANU_STEP_CUT of record id, but do not acknowledge yet: what comes before its barrier is recorded */
+#define RELKVANU_STEP_COMPLETE 14u /* acknowledge record id, with its snapshot and with what was recorded */
 
 #define RELKVANU_MOST_INPUTS 4096 /* the most inputs of a task */
 
@@ -479,7 +491,10 @@ enum relkvanu_step_kind {
     relkvanu_step_kind_unknown_input = RELKVANU_STEP_UNKNOWN_INPUT,
     relkvanu_step_kind_held_input = RELKVANU_STEP_HELD_INPUT,
     relkvanu_step_kind_ended_input = RELKVANU_STEP_ENDED_INPUT,
-    relkvanu_step_kind_bad_inputs = RELKVANU_STEP_BAD_INPUTS
+    relkvanu_step_kind_bad_inputs = RELKVANU_STEP_BAD_INPUTS,
+    relkvanu_step_kind_record = RELKVANU_STEP_RECORD,
+    relkvanu_step_kind_snap = RELKVANU_STEP_SNAP,
+    relkvanu_step_kind_complete = RELKVANU_STEP_COMPLETE
 };
 
 /* Opens a coordinator in a closed handle, from the moment now on. Its first record has the number first, 1 to 2^62 - 1.
@@ -600,7 +615,7 @@ relkvanu_answer relkvanu_moment(relkvanu *handle);
 /* RELKVANU_DUE: the moment from which neither the interval nor the pause holds a checkpoint back. No
  * tick before it triggers one. A tick at it or later triggers one, with three exceptions: as many are pending as may
  * be, the job is not running, or so many checkpoints expire in the tick that the job fails over. A call that
- * triggers, completes or restores may move this moment, so read it again after a call. */
+ * triggers, completes, restores or configures may move this moment, so read it again after a call. */
 relkvanu_answer relkvanu_due(relkvanu *handle);
 
 /* RELKVANU_EXPIRES: the moment from which a pending record is expired. A tick at that moment drops the record.
@@ -703,7 +718,7 @@ RELKVANU_NODISCARD relkvanu_answer relkvanu_make(relkvanu *handle, const relkvan
  * memory. */
 RELKVANU_NODISCARD relkvanu_answer relkvanu_opening_lines(const relkvanu_settings *settings, const uint64_t *shape, size_t shape_len, uint64_t now, uint8_t *lines, size_t lines_len);
 
-/* Groups, for programs with a log of their own: an answer is told only when what was made is synced. docs/C-LOG.md has a worked example.
+/* Groups, for programs with a log of their own: an answer is told only when what was made is synced. examples/c/log.c is a worked example.
  *
  * An answer that is told before its line is synced may be lost in a crash, and what it told is then told to somebody else: a record's number,
  * names of files, files to be deleted. A group keeps the order:
@@ -717,12 +732,12 @@ RELKVANU_NODISCARD relkvanu_answer relkvanu_opening_lines(const relkvanu_setting
  * functions takes memory, but relkvanu_group_make does what relkvanu_make does.
  *
  * Conditions for the caller: while a group is in use, no other function changes the handle, unless its answer is held back by
- * relkvanu_group_hold, and its line is appended in its place. Nobody is told what comes from elsewhere. relkvanu_group_synced is called only
- * when all lines so far are synced. */
+ * relkvanu_group_hold, and its line is appended in its place. A call that left the handle as it was needs no line: a take of no file. Nobody is told
+ * what comes from elsewhere. relkvanu_group_synced is called only when all lines so far are synced. */
 
 /* Makes a call and writes its line as relkvanu_make does, and holds its answer back.
  *
- * The first of these that applies: RELKVANU_BAD_ARGUMENT with RELKVANU_BAD_GROUP, or with RELKVANU_BAD_RECEIPT if waiting is held_len;
+ * The first of these that applies: RELKVANU_BAD_ARGUMENT with RELKVANU_BAD_GROUP, or with RELKVANU_BAD_RECEIPT if waiting is held_len or given is 2^62;
  * RELKVANU_APPEND if relkvanu_make would return RELKVANU_DONE; RELKVANU_HELD_BACK if it would return RELKVANU_REFUSED or RELKVANU_FENCED; what
  * it would return. Only RELKVANU_APPEND changes the handle, files, line and made. Only it and RELKVANU_HELD_BACK change the group and held. The
  * first of them behind a sync ends what was told of that sync. */
@@ -730,7 +745,7 @@ RELKVANU_NODISCARD relkvanu_answer relkvanu_group_make(relkvanu *handle, relkvan
 
 /* Holds back the answer of any other function: of a read, or of a call whose line the program writes itself.
  *
- * RELKVANU_HELD_BACK; RELKVANU_BAD_ARGUMENT with RELKVANU_BAD_GROUP, or with RELKVANU_BAD_RECEIPT if waiting is held_len. */
+ * RELKVANU_HELD_BACK; RELKVANU_BAD_ARGUMENT with RELKVANU_BAD_GROUP, or with RELKVANU_BAD_RECEIPT if waiting is held_len or given is 2^62. */
 RELKVANU_NODISCARD relkvanu_answer relkvanu_group_hold(relkvanu_group *group, relkvanu_answer *held, size_t held_len, const relkvanu_answer *answer);
 
 /* All lines so far are synced: what was held back may be told, until another answer is held back. What might be told before may be told no
@@ -742,13 +757,14 @@ RELKVANU_NODISCARD relkvanu_answer relkvanu_group_synced(relkvanu_group *group);
 /* An append or a sync has failed: from now on the group holds nothing back, and tells nothing. */
 void relkvanu_group_failed(relkvanu_group *group);
 
-/* Returns the answer that was held back with this receipt, if it may be told.
+/* Returns the answer that was held back with this receipt, if it may be told. A receipt is given once, so however late it is asked, no other answer is
+ * told by it.
  *
  * RELKVANU_BAD_ARGUMENT with RELKVANU_BAD_GROUP, or with RELKVANU_BAD_RECEIPT if it waits for a sync, was told of a sync before, or was never
  * held back. Such an answer may be one that was held back too, of another function. */
 RELKVANU_NODISCARD relkvanu_answer relkvanu_group_answer(const relkvanu_group *group, const relkvanu_answer *held, size_t held_len, uint64_t receipt);
 
-/* Images: save a coordinator, and open it again. docs/IMAGE.md has the format. */
+/* Images: save a coordinator, and open it again. docs/LOGS.md has the format. */
 
 /* Writes the image of the coordinator, all of its state, as JSON without a zero at its end. A handle that is opened with the
  * image answers every list of calls as this one would. The image of a handle with names has its term and its names.
@@ -919,6 +935,32 @@ RELKVANU_NODISCARD relkvanu_step relkvanu_align_end(relkvanu_aligner *aligner, u
  *
  * RELKVANU_STEP_ABANDON if this record is being aligned, and all held inputs are released; otherwise RELKVANU_STEP_NOTHING. */
 RELKVANU_NODISCARD relkvanu_step relkvanu_align_give_up(relkvanu_aligner *aligner, uint8_t *inputs, size_t inputs_len, uint64_t id);
+
+/* Unaligned barriers: a task may take its snapshot before each barrier has come, and records what comes before the others. A recorder is memory of
+ * the caller as an alignment is, and each such memory is a recorder. It is an aligner until a record overtakes, with one difference: after
+ * RELKVANU_STEP_ABANDON the barrier is left on its input, and the engine asks again. While a record is recorded no element is held; the
+ * next barrier or the end on an input that has delivered waits (RELKVANU_STEP_HELD_INPUT) until the record is whole or given up. */
+
+/* As relkvanu_align_open. */
+RELKVANU_NODISCARD relkvanu_step relkvanu_unaligned_open(relkvanu_recorder *recorder, uint8_t *inputs, size_t inputs_len);
+
+/* As relkvanu_align_element; and RELKVANU_STEP_RECORD. */
+RELKVANU_NODISCARD relkvanu_step relkvanu_unaligned_element(const relkvanu_recorder *recorder, const uint8_t *inputs, size_t inputs_len, uint32_t input);
+
+/* As relkvanu_align_barrier; and RELKVANU_STEP_COMPLETE if it was the last of a record that has overtaken. */
+RELKVANU_NODISCARD relkvanu_step relkvanu_unaligned_barrier(relkvanu_recorder *recorder, uint8_t *inputs, size_t inputs_len, uint32_t input, uint64_t id);
+
+/* As relkvanu_align_end; and RELKVANU_STEP_COMPLETE. */
+RELKVANU_NODISCARD relkvanu_step relkvanu_unaligned_end(relkvanu_recorder *recorder, uint8_t *inputs, size_t inputs_len, uint32_t input);
+
+/* As relkvanu_align_give_up: what was recorded for an abandoned record is given up. */
+RELKVANU_NODISCARD relkvanu_step relkvanu_unaligned_give_up(relkvanu_recorder *recorder, uint8_t *inputs, size_t inputs_len, uint64_t id);
+
+/* Record id overtakes: its barrier was seen on an input, wherever it stands there, or has waited for long enough.
+ *
+ * RELKVANU_STEP_SNAP; RELKVANU_STEP_LATE if it is whole or was given up; RELKVANU_STEP_NOTHING while an earlier record is open (ask again once
+ * that has ended), if it has overtaken before, or if each input has ended. */
+RELKVANU_NODISCARD relkvanu_step relkvanu_unaligned_overtake(relkvanu_recorder *recorder, const uint8_t *inputs, size_t inputs_len, uint64_t id);
 
 /* clang-format on */
 

@@ -88,7 +88,7 @@ enum class error : int {
     bad_image = RELKVANU_BAD_ARGUMENT << 8 | RELKVANU_BAD_IMAGE, /* The bytes are not an image, or the state is not sound, or no coordinator could be opened so. */
     bad_name = RELKVANU_BAD_ARGUMENT << 8 | RELKVANU_BAD_NAME, /* The first name is 0 or above 2^62. */
     bad_group = RELKVANU_BAD_ARGUMENT << 8 | RELKVANU_BAD_GROUP, /* The group has failed: open the handle again, from the log. */
-    bad_receipt = RELKVANU_BAD_ARGUMENT << 8 | RELKVANU_BAD_RECEIPT, /* No answer may be told by the receipt, or there is no place for another answer. */
+    bad_receipt = RELKVANU_BAD_ARGUMENT << 8 | RELKVANU_BAD_RECEIPT, /* No answer may be told by the receipt, or there is no place or receipt for another answer. */
     too_short = RELKVANU_TOO_SHORT << 8, /* The buffer needs more places. */
     line_too_long = RELKVANU_BAD_LINE << 8 | RELKVANU_FAULT_TOO_LONG, /* A line has at most 131072 bytes. */
     line_word = RELKVANU_BAD_LINE << 8 | RELKVANU_FAULT_WORD, /* A word that does not belong there. */
@@ -450,11 +450,28 @@ enum class step : std::uint32_t {
     held_input = RELKVANU_STEP_HELD_INPUT,
     ended_input = RELKVANU_STEP_ENDED_INPUT,
     bad_inputs = RELKVANU_STEP_BAD_INPUTS,
-    unknown = 0, /* The library is of another version. */
+    record = RELKVANU_STEP_RECORD, /* Of a recorder. */
+    unknown = 0,                   /* The library is of another version. */
 };
 
+inline step step_of(std::uint32_t what) noexcept {
+    switch (what) {
+    case RELKVANU_STEP_PROCESS:
+    case RELKVANU_STEP_HOLD:
+    case RELKVANU_STEP_NOTHING:
+    case RELKVANU_STEP_WAIT:
+    case RELKVANU_STEP_LATE:
+    case RELKVANU_STEP_UNKNOWN_INPUT:
+    case RELKVANU_STEP_HELD_INPUT:
+    case RELKVANU_STEP_ENDED_INPUT:
+    case RELKVANU_STEP_BAD_INPUTS:
+    case RELKVANU_STEP_RECORD: return static_cast<step>(what);
+    default: return step::unknown;
+    }
+}
+
 /* The cut of a record at a task: take the snapshot for it now, and then send its barrier on each output, before anything else. Only an aligner
- * gives one out, at the cut, and none can be copied. A task that acknowledges by ack_cut and ack_cut_in alone acknowledges no record that it
+ * or a recorder gives one out, and none can be copied. A task that acknowledges by ack_cut and ack_cut_in alone acknowledges no record that it
  * has not cut. */
 class cut {
 public:
@@ -467,6 +484,7 @@ public:
 
 private:
     friend class aligner;
+    friend class recorder;
     explicit cut(std::uint64_t id) noexcept : id_(id) {}
 
     std::uint64_t id_;
@@ -491,7 +509,7 @@ public:
         aligner made(inputs);
         relkvanu_step told = relkvanu_align_open(&made.aligner_, made.inputs_.data(), inputs);
         if (told.what != RELKVANU_STEP_NOTHING) {
-            return plain(told.what);
+            return step_of(told.what);
         }
         return std::variant<aligner, step>(std::move(made));
     }
@@ -503,7 +521,7 @@ public:
 
     /* An element is next on this input, from 0: process or hold. */
     [[nodiscard]] step element(std::uint32_t input) const noexcept {
-        return plain(relkvanu_align_element(&aligner_, inputs_.data(), inputs_.size(), input).what);
+        return step_of(relkvanu_align_element(&aligner_, inputs_.data(), inputs_.size(), input).what);
     }
 
     /* The barrier of this record is next on this input: wait, late, a cut, or the abandon of an earlier record, whose place it takes. */
@@ -527,26 +545,87 @@ private:
 
     explicit aligner(std::size_t inputs) : inputs_(inputs) {}
 
-    static step plain(std::uint32_t what) noexcept {
-        switch (what) {
-        case RELKVANU_STEP_PROCESS:
-        case RELKVANU_STEP_HOLD:
-        case RELKVANU_STEP_NOTHING:
-        case RELKVANU_STEP_WAIT:
-        case RELKVANU_STEP_LATE:
-        case RELKVANU_STEP_UNKNOWN_INPUT:
-        case RELKVANU_STEP_HELD_INPUT:
-        case RELKVANU_STEP_ENDED_INPUT:
-        case RELKVANU_STEP_BAD_INPUTS: return static_cast<step>(what);
-        default: return step::unknown;
-        }
-    }
-
     static step_answer answer(relkvanu_step told) noexcept {
         if (told.what == RELKVANU_STEP_CUT) {
             return cut(told.id);
         }
-        return told.what == RELKVANU_STEP_ABANDON ? step_answer(abandon{told.id}) : step_answer(plain(told.what));
+        return told.what == RELKVANU_STEP_ABANDON ? step_answer(abandon{told.id}) : step_answer(step_of(told.what));
+    }
+};
+
+/* As at a cut of this record, but acknowledge nothing yet: what comes before its barrier is still to be recorded. */
+struct snap {
+    std::uint64_t id;
+};
+
+/* The last barrier of a record that has overtaken has come: acknowledge it by this cut, with its snapshot and with what was recorded. */
+struct complete {
+    cut of;
+};
+
+using recorder_answer = std::variant<step, cut, abandon, snap, complete>;
+
+/* An aligner whose records may overtake. After an abandon the barrier is left on its input: ask again. */
+class recorder {
+public:
+    /* As aligner::open. */
+    [[nodiscard]] static std::variant<recorder, step> open(std::size_t inputs) {
+        if (inputs > RELKVANU_MOST_INPUTS) {
+            return step::bad_inputs;
+        }
+        recorder made(inputs);
+        relkvanu_step told = relkvanu_unaligned_open(&made.recorder_, made.inputs_.data(), inputs);
+        if (told.what != RELKVANU_STEP_NOTHING) {
+            return step_of(told.what);
+        }
+        return std::variant<recorder, step>(std::move(made));
+    }
+
+    recorder(recorder &&) noexcept = default;
+    recorder &operator=(recorder &&) noexcept = default;
+    recorder(const recorder &) = delete;
+    recorder &operator=(const recorder &) = delete;
+
+    /* As aligner::element; or record: the task adds the element to the record, and processes it before what comes behind it. */
+    [[nodiscard]] step element(std::uint32_t input) const noexcept {
+        return step_of(relkvanu_unaligned_element(&recorder_, inputs_.data(), inputs_.size(), input).what);
+    }
+
+    /* As aligner::barrier; or complete. */
+    [[nodiscard]] recorder_answer barrier(std::uint32_t input, std::uint64_t id) noexcept {
+        return answer(relkvanu_unaligned_barrier(&recorder_, inputs_.data(), inputs_.size(), input, id));
+    }
+
+    /* As aligner::end; or complete. */
+    [[nodiscard]] recorder_answer end(std::uint32_t input) noexcept {
+        return answer(relkvanu_unaligned_end(&recorder_, inputs_.data(), inputs_.size(), input));
+    }
+
+    /* As aligner::give_up: what was recorded for an abandoned record is given up. */
+    [[nodiscard]] recorder_answer give_up(std::uint64_t id) noexcept {
+        return answer(relkvanu_unaligned_give_up(&recorder_, inputs_.data(), inputs_.size(), id));
+    }
+
+    /* This record's barrier was seen on an input, wherever it stands there, or has waited for long enough: a snap; late; or nothing, while an
+     * earlier record is open, if it has overtaken before, or if each input has ended. */
+    [[nodiscard]] recorder_answer overtake(std::uint64_t id) noexcept {
+        return answer(relkvanu_unaligned_overtake(&recorder_, inputs_.data(), inputs_.size(), id));
+    }
+
+private:
+    relkvanu_recorder recorder_{};
+    std::vector<std::uint8_t> inputs_;
+
+    explicit recorder(std::size_t inputs) : inputs_(inputs) {}
+
+    static recorder_answer answer(relkvanu_step told) noexcept {
+        switch (told.what) {
+        case RELKVANU_STEP_CUT: return cut(told.id);
+        case RELKVANU_STEP_ABANDON: return abandon{told.id};
+        case RELKVANU_STEP_SNAP: return snap{told.id};
+        case RELKVANU_STEP_COMPLETE: return complete{cut(told.id)};
+        default: return step_of(told.what);
+        }
     }
 };
 
@@ -773,7 +852,7 @@ public:
         return written([&](std::uint8_t *json, std::size_t len) { return relkvanu_show(&handle_, id, json, len); });
     }
 
-    /* The image of the coordinator, as JSON (docs/IMAGE.md). */
+    /* The image of the coordinator, as JSON (docs/LOGS.md). */
     [[nodiscard]] text_answer save() {
         return written([&](std::uint8_t *image, std::size_t len) { return relkvanu_save(&handle_, image, len); });
     }

@@ -27,6 +27,8 @@
  *   is sent. With any other status each answer is RELKVANU_STORE_NOT_MADE.
  * - A status from RELKVANU_STORE_FAILED to RELKVANU_STORE_OUT_OF_MEMORY closes the store: each later call returns RELKVANU_STORE_CLOSED. Calls that
  *   returned it may or may not be in the log. Close the store and open it again, or end the process, and do what a recovery does.
+ * - RELKVANU_STORE_STORAGE of a call closes it too: a manifest was refused, since the marker names another job or a later opening. What the call has completed
+ *   is complete for nobody, so no sink publishes it. End the process.
  * - A thread that calls has 256 KiB of stack or more: one that commits also makes the calls of those that wait.
  * - A list or buffer that is passed stays as it is until the function returns, or until the completion of a submit.
  * - A thread that reads (relkvanu_store_read) makes no call before relkvanu_store_read_end, except a submit: it would wait for itself. Such a call is
@@ -55,7 +57,7 @@ typedef struct relkvanu_store relkvanu_store;
 #define RELKVANU_STORE_IN_USE 3       /* open: another process, or this one, has the job open. The message names it */
 #define RELKVANU_STORE_ABSENT 4       /* open: there is no job, and the flags do not allow one to be made */
 #define RELKVANU_STORE_PRESENT 5      /* open: there is a job, and RELKVANU_STORE_CREATE_ONLY forbids it; put: there is a file of this number, or a part of one; backup: there is a file of this name */
-#define RELKVANU_STORE_NOT_A_STORE 6  /* open: another kind of file, one of a later version, or a job without names, which an earlier version made */
+#define RELKVANU_STORE_NOT_A_STORE 6  /* open: another kind of file, or one of another version */
 #define RELKVANU_STORE_DIFFERS 7      /* open: a call of the log gets another answer, or is refused. The message says which */
 #define RELKVANU_STORE_DAMAGED 8      /* open: an image, a call, a page or the -wal is damaged, or the log lacks calls that were answered. The message says which */
 #define RELKVANU_STORE_STORAGE 9      /* the storage is gone, or another's; open: also a new job's has files, or PATH is an older copy or a backup */
@@ -69,8 +71,8 @@ typedef struct relkvanu_store relkvanu_store;
 #define RELKVANU_STORE_NOT_DONE 22    /* sweep: part of it was not done, and errno and relkvanu_store_why say why: the same again later */
 #define RELKVANU_STORE_JOB_STOPPED 23 /* await: the job is stopped (relkvanu_store_stop_job), so no tick is due until it begins again */
 #define RELKVANU_STORE_NOT_STOPPED 24 /* await: a stop of the job has failed, and relkvanu_store_phase says why: tasks that hold go on */
-#define RELKVANU_STORE_FILE_LOST 25   /* load: a file of the record is not in the storage */
-/* What failed at an opening, or in a commit, which closes the store: these five do, and no other. */
+#define RELKVANU_STORE_FILE_LOST 25   /* load, and a restore to a record by its number: a file of the record is not in the storage. Nothing has changed */
+/* What failed at an opening, or in a commit, which closes the store: these five do, and RELKVANU_STORE_STORAGE of a call. */
 #define RELKVANU_STORE_FAILED 16        /* a read, write or sync */
 #define RELKVANU_STORE_FULL 17          /* the disk is full */
 #define RELKVANU_STORE_READ_ONLY 18     /* the file, its folder or the file system is read-only */
@@ -151,21 +153,21 @@ typedef struct {
  * the last call that was answered, for this one file: after a kill an opening has each answered call, or is RELKVANU_STORE_DAMAGED.
  * *store is NULL unless the status is RELKVANU_STORE_OK. The lock is kept until relkvanu_store_close or the end of the process.
  *
- * A new job gives out names from 1 on, or from above each number of a file that it adopts in options.storage. A file of a job without names, which an
- * earlier version of the library made, is refused: RELKVANU_STORE_NOT_A_STORE.
+ * A new job gives out names from 1 on, or from above each number of a file that it adopts in options.storage.
  *
  * With options.storage a new job puts its marker, the file .relkvanu-job (.relkvanu-job.new while it is written), into the folder, and a recovery
  * looks for it. So it refuses a folder of another job and one that is not mounted. A symbolic link in the place of the marker is refused too, and
  * not followed. The marker names the last opening, so a copy of
  * PATH from before that opening is refused too: it does not know the files of later calls. (If the disk was full at that opening, the marker
- * names an earlier one.) NEVER PUT BACK A COPY OR SNAPSHOT THAT WAS TAKEN SINCE THE
+ * names an earlier one.) A manifest of a later call than PATH has proves the same of a copy from the last opening: RELKVANU_STORE_STORAGE, and nothing is written. Without such
+ * a manifest: NEVER PUT BACK A COPY OR SNAPSHOT THAT WAS TAKEN SINCE THE
  * LAST OPENING (of the file, its disk or its machine): it can't be told from the file itself, and its sweep deletes the files of all calls
  * that it lacks.
  *
  * With options.storage NULL none of this is there: no marker (a folder that is not mounted is not noticed), no refusal of an older copy, no
  * refusal to begin a new job over old files (RELKVANU_STORE_CREATE after PATH was lost begins at epoch 1 and gives out names from 1 on), and no sync
- * of the folder in relkvanu_store_discard. The engine does each of them itself (docs/DURABLE-STORAGE.md, A storage
- * for state files, which has all but the refusal of an older copy: never put one back). A new job over a storage of the engine's own that has files
+ * of the folder in relkvanu_store_discard. The engine does each of them itself (docs/DURABLE.md,
+ * Storages, which has all but the refusal of an older copy: never put one back). A new job over a storage of the engine's own that has files
  * gives out names above all of these after relkvanu_store_advance, before its tasks start: the next sweep deletes them. */
 int relkvanu_store_open(relkvanu_store **store, const char *path, const relkvanu_store_options *options, relkvanu_store_report *report);
 
@@ -223,8 +225,12 @@ typedef struct {
  * stand. RELKVANU_CALL_SHOW and RELKVANU_CALL_COUNT are reads: see relkvanu_store_read. RELKVANU_CALL_FENCE is RELKVANU_STORE_BAD_ARGUMENT: each job
  * has names.
  *
+ * A RELKVANU_CALL_RESTORE with the number of a savepoint drops all checkpoints. So the store first looks that the files of the savepoint are in
+ * options.storage, before any call of its list is made: RELKVANU_STORE_FILE_LOST, RELKVANU_STORE_NOT_DONE and RELKVANU_STORE_DAMAGED as relkvanu_store_load. Without
+ * options.storage the engine looks before it makes the call.
+ *
  * An acknowledgement and a decline have the term of their task in call.term: RELKVANU_FENCED otherwise, and nothing has changed. A
- * reservation that was answered is durable, and its names are not given out again, whatever happens. */
+ * reservation that was answered is durable, and its names are not given out again, unless an older copy of PATH is put back: then those that no file has may be. */
 int relkvanu_store_calls(relkvanu_store *store, relkvanu_store_call *calls, size_t calls_len);
 
 /* One acknowledgement of a task of this term, with flat arguments. */
@@ -341,20 +347,24 @@ typedef struct {
     uint64_t id;
     uint32_t kind; /* RELKVANU_STORE_CHECKPOINT or RELKVANU_STORE_SAVEPOINT; 0: the job begins fresh */
     uint64_t term; /* that runs; 0: the job has no names. For whoever starts tasks: the answer to its own restore has the term of these */
-    uint64_t lost; /* if the status is RELKVANU_STORE_FILE_LOST: the first file that is not there */
+    uint64_t lost; /* if the status is RELKVANU_STORE_FILE_LOST: the first file that is not there, or has another length than its manifest says */
     size_t shape_len;
     uint64_t shape[RELKVANU_STORE_MOST_VERTICES]; /* that the record has */
 } relkvanu_store_loaded;
 
-/* A complete record: the one with this number, or the choice (id 0), which a restart begins from. Looks that all its files are in options.storage, and then calls `each`
+/* A complete record: the one with this number, or the choice (id 0), which a restart begins from. Looks that all its files are in options.storage, with the lengths that manifests say if the job has manifests, and then calls `each`
  * for each subtask, in their order. What a part points to stays until `each` returns, which makes no call. Without options.storage the engine looks for the files.
  * After a restore, with the number of its answer, it has all that the tasks begin with: call it before the sweep.
  *
- * RELKVANU_STORE_FILE_LOST: a file is not there, and relkvanu_store_why says which. `each` was not called: end the process, and sweep nothing. RELKVANU_STORE_ABSENT: no
+ * RELKVANU_STORE_FILE_LOST: a file is not there, or has another length than its manifest says, and relkvanu_store_why says which. `each` was not called: end the process, and sweep nothing. RELKVANU_STORE_ABSENT: no
  * complete record has this number, or it has ended meanwhile. With id 0 in a job that begins fresh: RELKVANU_STORE_OK, and the number is 0.
  * RELKVANU_STORE_DAMAGED: what the record has beside its files is damaged. RELKVANU_STORE_NOT_DONE: the folder can't be read, and errno says why;
  * RELKVANU_STORE_NO_MEMORY, or as relkvanu_store_read. */
 int relkvanu_store_load(relkvanu_store *store, uint64_t id, relkvanu_store_loaded *loaded, relkvanu_store_each_part each, void *with);
+
+/* Whether this record was carried from another job, by an import or a claim. Then `job`, which has two places, gets the identity of that job, as in
+ * relkvanu_store_report; there the record had the same number. So what a sink's state lists in it was prepared in the target of that job, and not in this one's. */
+bool relkvanu_store_origin(const relkvanu_store *store, uint64_t id, uint64_t *job);
 
 /* What became of a record. */
 #define RELKVANU_STORE_COMPLETED 1u
@@ -380,7 +390,7 @@ typedef struct {
 int relkvanu_store_history(relkvanu_store *store, relkvanu_store_past *past, size_t *len);
 
 /* What an operator wants of a job that runs. Any thread may call these at any time, also while another one waits for a tick: so an engine passes
- * a command on to them from the handler of a request, and its loop over relkvanu_store_await_tick does the rest (docs/DURABLE-COMMANDS.md has
+ * a command on to them from the handler of a request, and its loop over relkvanu_store_await_tick does the rest (docs/DURABLE.md has
  * one). Each is one commit: after a crash at any moment all of it was done, or nothing. In call is the answer, and in call->term the term that begins. Nobody acts on it unless the status is RELKVANU_STORE_OK and its code is RELKVANU_DONE.
  *
  * THE TIMER HANDS OVER: who waits in relkvanu_store_await_tick gets the same answer there, once, with the status RELKVANU_STORE_OK, and acts on it:
@@ -453,6 +463,8 @@ int relkvanu_store_phase(relkvanu_store *store, relkvanu_store_job_phase *phase)
  * a restore. A job that is stopped stays so; a failed job runs again. Makes a copy of the coordinator: all callers wait for two images of it.
  *
  * RELKVANU_RESTORED_SAVEPOINT or RELKVANU_RESTORED_CHECKPOINT. RELKVANU_STORE_BAD_ARGUMENT: flags is not RELKVANU_STORE_ACCEPT_PUBLISHED.
+ * RELKVANU_STORE_FILE_LOST, RELKVANU_STORE_NOT_DONE, RELKVANU_STORE_DAMAGED: the checkpoint can't be loaded, as relkvanu_store_load says. Without options.storage the
+ * engine looks for its files first.
  * RELKVANU_REFUSED with RELKVANU_NO_SUCH_RECORD: no done checkpoint has this number; RELKVANU_BAD_ARGUMENT with RELKVANU_BAD_SHAPE: the job has
  * another shape than the checkpoint had; RELKVANU_REFUSED with RELKVANU_NOT_RUNNING (cancelled), RELKVANU_TOO_MANY_SAVEPOINTS, RELKVANU_FILE_GONE or
  * RELKVANU_IDS_USED_UP. None of these changes anything. */
@@ -498,7 +510,7 @@ typedef bool (*relkvanu_store_delete_some)(void *with, const uint64_t *files, si
 int relkvanu_store_discard_for(relkvanu_store *store, size_t batch, uint64_t longest, relkvanu_store_delete_some delete_files, void *with);
 
 /* State files in the folder options.storage, by their numbers: file 7 has the name 7, and 7.part while it is not whole. A task in another process,
- * which has no store, makes them in the same way (docs/DURABLE-STORAGE.md, Tasks in other processes). An engine may name
+ * which has no store, makes them in the same way (docs/DURABLE.md, Tasks in other processes). An engine may name
  * its files otherwise, and then makes and deletes them itself. Several threads may put, delete and commit at once. Without a folder:
  * RELKVANU_STORE_BAD_ARGUMENT, and no file counts as gone. */
 
@@ -575,15 +587,18 @@ void relkvanu_store_stop(relkvanu_store *store);
  * the storage, so another store over this folder puts and deletes nothing more, and the file that was the job before is refused. It gives
  * out each name up to the greatest that options.storage has a file of, and is refused (RELKVANU_STORE_STORAGE) if that is 2^24 or more above
  * the names of the backup; without options.storage the engine reserves so many before its restore. Then the engine restores a record whose
- * files are all there, and sweeps. Read docs/DURABLE-BACKUP.md, A backup, first: its steps prepare the file over a folder of its own, so that nothing has
- * changed if no record is whole, and their limit is 2^32. */
+ * files are all there, and sweeps. Read docs/DURABLE-OPERATION.md, Back up, first. relkvanu_store_put_back prepares the file over a folder of its own, so that
+ * nothing has changed if no record is whole, and its limit is 2^36. */
 int relkvanu_store_backup(relkvanu_store *store, const char *path, char *message, size_t message_len);
 
 /* Manifests. With RELKVANU_STORE_MANIFESTS the folder of the storage gets a file record-ID.manifest once a record is complete: after the commit, and before
  * anybody is told of it. It has what a job needs to go on from that record without PATH: settings, shape, and the files of each subtask with their
  * lengths. The log stays the truth. A manifest is never ahead of it, and those that should be there are written again at an opening. If the folder is
  * full, the calls go on: failed_manifests counts it. Manifests of records that ended are deleted, also by relkvanu_store_sweep, which deletes all of them if
- * this opening has not the flag. docs/DURABLE-RECOVERY.md has their format.
+ * this opening has not the flag. docs/manifest.schema.json has their format.
+ *
+ * A manifest says the length that a file had when its first record was complete. Later manifests and later openings keep it, so that a file which is shorter now is
+ * lost, and no opening makes it right.
  *
  * With RELKVANU_STORE_CHECKSUMS too they have a CRC-32 of each file. Who writes a manifest reads the files that no manifest has a checksum of yet, so who completes
  * a record waits until its new files are read. The other files keep the checksum that they had, also across openings. A file that can't be read gets none. */
@@ -668,7 +683,7 @@ typedef struct {
  * Killed at any moment it has done nothing, that alone, or all: make the same call again. Then open the job with options.storage as ever: it is one that was
  * recovered, with its steps. Sinks are told of the choice under the number that they know.
  *
- * RELKVANU_STORE_PRESENT: there is a job at path, or PATH-wal without it; RELKVANU_STORE_ABSENT: no record with a manifest has all its files;
+ * RELKVANU_STORE_PRESENT: there is a job at path, or PATH-wal without it; RELKVANU_STORE_ABSENT: no record with a manifest has all its files, or it was claimed;
  * RELKVANU_STORE_DAMAGED: a manifest is damaged, or one that is damaged or of another version of the library has a greater number than the record: message
  * names it. Such a one may be of a later record, and says neither which terms nor which names were given out since. With the number of a record the
  * recovery goes on, above the number of that manifest, unless it is 2^20 or more above all others. RELKVANU_STORE_STORAGE: the folder or its marker is not
@@ -696,8 +711,8 @@ typedef struct {
  * made beside `to`, as to.part, and gets its name once all is on the disk. So killed at any moment it has done nothing, or all.
  *
  * RELKVANU_STORE_PRESENT: there is something at `to`, and it is no empty folder; RELKVANU_STORE_ABSENT: no record with a manifest has all its files;
- * RELKVANU_STORE_DAMAGED: a file is not as long as its manifest says, or a copy has another checksum; RELKVANU_STORE_IN_USE: another call makes this folder; otherwise as
- * relkvanu_store_recover. */
+ * RELKVANU_STORE_DAMAGED: as there, or a file is not as long as its manifest says, or a copy has another checksum; RELKVANU_STORE_IN_USE: another call makes this
+ * folder; otherwise as relkvanu_store_recover. */
 int relkvanu_store_export(const char *folder, uint64_t record, const char *to, relkvanu_store_carried *carried);
 
 /* Makes another job, at path over a folder that is made, of a record in `from`: an exported folder, or the storage folder of a job, which may run. It
@@ -711,6 +726,9 @@ int relkvanu_store_import(const char *from, uint64_t record, const char *path, c
  * for those that another record there has, and last of all the manifest. An exported folder that is empty then is removed. Other records of `from` stay
  * there, without a job. If relkvanu_store_import has made the job already, the same record leaves `from` in the same way, and its old job is fenced first too.
  *
+ * Before there is the other job `from` gets a mark, record-ID.manifest.claimed, which names its folder. From then on another claim of the record is refused, and
+ * without a number no claim, recovery, export or import takes an earlier record for the latest: RELKVANU_STORE_ABSENT. With the number of an earlier one each does.
+ *
  * Killed at any moment it has done nothing, a part that the same call finishes, or all. If the old job was fenced and nothing else is done, the same call goes
  * on too. Statuses as those of relkvanu_store_import: RELKVANU_STORE_PRESENT and RELKVANU_STORE_ABSENT come before anything is fenced. */
 int relkvanu_store_claim(const char *from, uint64_t record, const char *path, const char *folder, relkvanu_store_recovered *recovered);
@@ -722,7 +740,7 @@ int relkvanu_store_claim(const char *from, uint64_t record, const char *path, co
  * has done nothing, or all, or there is no file at path: make the same call again before an engine starts. What was set aside may then be in two folders.
  * Until an engine opens the job, the files that were set aside go back in its place, and last of all the marker.
  *
- * READ docs/DURABLE-BACKUP.md, A backup, first: sinks are told of numbers of records once more.
+ * READ docs/DURABLE-OPERATION.md, Back up, first: sinks are told of numbers of records once more.
  *
  * RELKVANU_STORE_ABSENT: no record of the backup has all its files, or it is of a job that was cancelled; RELKVANU_STORE_STORAGE: it is no backup of the
  * folder's job, or the folder has a file whose number is 2^36 or more above the names of the backup; RELKVANU_STORE_IN_USE: a process has the job.

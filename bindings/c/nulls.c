@@ -1,6 +1,6 @@
 /* The functions of the library whose lists may be null with length 0, and relkvanu_close, which may be given NULL. Each passes a list that
  * is empty as one element, which nobody reads or writes, because the proved functions take no null pointer. bindings/build_archive gives those
- * the names proved_relkvanu_.., which no shared library shows. Not proved: bindings/c/empty.c tests it. Made from include/relkvanu.h by
+ * the names proved_relkvanu_.., which no shared library shows. Not proved: bindings/c/tests/empty.c tests it. Made from include/relkvanu.h by
  * bindings/generate: change the header, and run that. */
 /* clang-format off */
 #include "../../include/relkvanu.h"
@@ -198,4 +198,40 @@ PROVED(relkvanu_align_give_up);
 
 relkvanu_step relkvanu_align_give_up(relkvanu_aligner *aligner, uint8_t *inputs, size_t inputs_len, uint64_t id) {
     return proved_relkvanu_align_give_up(aligner, LIST(inputs), id);
+}
+
+PROVED(relkvanu_unaligned_open);
+
+relkvanu_step relkvanu_unaligned_open(relkvanu_recorder *recorder, uint8_t *inputs, size_t inputs_len) {
+    return proved_relkvanu_unaligned_open(recorder, LIST(inputs));
+}
+
+PROVED(relkvanu_unaligned_element);
+
+relkvanu_step relkvanu_unaligned_element(const relkvanu_recorder *recorder, const uint8_t *inputs, size_t inputs_len, uint32_t input) {
+    return proved_relkvanu_unaligned_element(recorder, LIST(inputs), input);
+}
+
+PROVED(relkvanu_unaligned_barrier);
+
+relkvanu_step relkvanu_unaligned_barrier(relkvanu_recorder *recorder, uint8_t *inputs, size_t inputs_len, uint32_t input, uint64_t id) {
+    return proved_relkvanu_unaligned_barrier(recorder, LIST(inputs), input, id);
+}
+
+PROVED(relkvanu_unaligned_end);
+
+relkvanu_step relkvanu_unaligned_end(relkvanu_recorder *recorder, uint8_t *inputs, size_t inputs_len, uint32_t input) {
+    return proved_relkvanu_unaligned_end(recorder, LIST(inputs), input);
+}
+
+PROVED(relkvanu_unaligned_give_up);
+
+relkvanu_step relkvanu_unaligned_give_up(relkvanu_recorder *recorder, uint8_t *inputs, size_t inputs_len, uint64_t id) {
+    return proved_relkvanu_unaligned_give_up(recorder, LIST(inputs), id);
+}
+
+PROVED(relkvanu_unaligned_overtake);
+
+relkvanu_step relkvanu_unaligned_overtake(relkvanu_recorder *recorder, const uint8_t *inputs, size_t inputs_len, uint64_t id) {
+    return proved_relkvanu_unaligned_overtake(recorder, LIST(inputs), id);
 }

@@ -1,5 +1,5 @@
 /* The text of an answer, for librelkvanu.a and librelkvanu.so.0. It stands beside the proved library, and was not proved:
- * bindings/c/texts.c tests it. */
+ * bindings/c/tests/texts.c tests it. */
 #include "../../include/relkvanu.h"
 
 #include <string.h>

@@ -1,4 +1,5 @@
-/* aligner ROWS: the alignment of the C++ header, by the steps of examples/alignment.rows; and acknowledgements that take a cut. */
+/* aligner ROWS UNALIGNED: the alignment and the recorder of the C++ header, by the steps of examples/alignment.rows and examples/unaligned.rows; and
+ * acknowledgements that take a cut. */
 #include "../../include/relkvanu.hpp"
 
 #include <cstdio>
@@ -8,8 +9,11 @@
 #include <type_traits>
 
 using ckpt::aligner;
+using ckpt::recorder;
 
 static_assert(!std::is_copy_constructible_v<aligner> && std::is_nothrow_move_constructible_v<aligner>);
+static_assert(!std::is_copy_constructible_v<recorder> && std::is_nothrow_move_constructible_v<recorder> &&
+              !std::is_copy_constructible_v<ckpt::complete>);
 static_assert(!std::is_copy_constructible_v<ckpt::cut> && !std::is_constructible_v<ckpt::cut, std::uint64_t>);
 static_assert(noexcept(std::declval<aligner &>().barrier(0, 1)) &&noexcept(std::declval<const aligner &>().element(0)));
 
@@ -33,46 +37,52 @@ static const char *name(ckpt::step step) {
     case ckpt::step::held_input: return "held_input";
     case ckpt::step::ended_input: return "ended_input";
     case ckpt::step::bad_inputs: return "bad_inputs";
+    case ckpt::step::record: return "record";
     default: return "unknown";
     }
 }
 
-static std::string told(const ckpt::step_answer &answer) {
-    if (const ckpt::cut *cut = std::get_if<ckpt::cut>(&answer)) {
-        return "cut " + std::to_string(cut->id());
-    }
-    if (const ckpt::abandon *abandon = std::get_if<ckpt::abandon>(&answer)) {
-        return "abandon " + std::to_string(abandon->id);
-    }
-    return std::string(name(std::get<ckpt::step>(answer))) + " 0";
-}
+/* What an answer is in a row. */
+struct telling {
+    std::string operator()(ckpt::step step) const { return std::string(name(step)) + " 0"; }
+    std::string operator()(const ckpt::cut &cut) const { return "cut " + std::to_string(cut.id()); }
+    std::string operator()(const ckpt::abandon &abandon) const { return "abandon " + std::to_string(abandon.id); }
+    std::string operator()(const ckpt::snap &snap) const { return "snap " + std::to_string(snap.id); }
+    std::string operator()(const ckpt::complete &complete) const { return "complete " + std::to_string(complete.of.id()); }
+};
 
-static std::string opened(std::optional<aligner> &task, std::size_t inputs) {
-    std::variant<aligner, ckpt::step> opened = aligner::open(inputs);
+template <class Task> static std::string opened(std::optional<Task> &task, std::size_t inputs) {
+    std::variant<Task, ckpt::step> opened = Task::open(inputs);
     if (const ckpt::step *why = std::get_if<ckpt::step>(&opened)) {
-        return told(*why);
+        return telling()(*why);
     }
-    task.emplace(std::get<aligner>(std::move(opened)));
-    return told(ckpt::step::nothing);
+    task.emplace(std::get<Task>(std::move(opened)));
+    return telling()(ckpt::step::nothing);
 }
 
-static std::string made(std::optional<aligner> &task, const std::string &event, std::uint64_t first, std::uint64_t second) {
+template <class Task>
+static std::string made(std::optional<Task> &task, const std::string &event, std::uint64_t first, std::uint64_t second) {
     if (event == "open") {
         return opened(task, first);
     }
     std::uint32_t input = static_cast<std::uint32_t>(first);
     if (event == "element") {
-        return told(task->element(input));
+        return telling()(task->element(input));
     }
     if (event == "barrier") {
-        return told(task->barrier(input, second));
+        return std::visit(telling(), task->barrier(input, second));
     }
-    return told(event == "end" ? task->end(input) : task->give_up(first));
+    if constexpr (std::is_same_v<Task, recorder>) {
+        if (event == "overtake") {
+            return std::visit(telling(), task->overtake(first));
+        }
+    }
+    return std::visit(telling(), event == "end" ? task->end(input) : task->give_up(first));
 }
 
-static int rows(const char *path) {
+template <class Task> static int rows(const char *path) {
     std::ifstream file(path);
-    std::optional<aligner> task;
+    std::optional<Task> task;
     int count = 0;
     for (std::string row; std::getline(file, row);) {
         std::size_t middle = row.find(" = ");
@@ -113,7 +123,7 @@ static void acknowledges() {
 }
 
 int main(int argc, char **argv) {
-    CHECK(argc == 2 && rows(argv[1]) > 80);
+    CHECK(argc == 3 && rows<aligner>(argv[1]) > 80 && rows<recorder>(argv[2]) > 60);
     acknowledges();
     return 0;
 }

@@ -1,5 +1,5 @@
 /* The texts of answers: those of replies are what docs/SCRIPT.md says, each number has one, and none is cut. */
-#include "../../include/relkvanu.h"
+#include "../../../include/relkvanu.h"
 
 #include <inttypes.h>
 #include <stdio.h>

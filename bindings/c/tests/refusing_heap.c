@@ -1,7 +1,7 @@
 /* A heap that refuses requests: see refusing_heap.h. */
 #include "refusing_heap.h"
 
-#include "../../include/relkvanu_alloc.h"
+#include "../../../include/relkvanu_alloc.h"
 
 #include <stdbool.h>
 #include <stdio.h>

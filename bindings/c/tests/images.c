@@ -2,7 +2,7 @@
  * again at random places. Both have to answer each call in the same way, and their images have to be the same bytes. Then
  * images are cut and changed at each byte, damaged in each way, and saved and opened with each request for memory refused.
  * Prints how much it tried. */
-#include "../../include/relkvanu.h"
+#include "../../../include/relkvanu.h"
 #include "image_rows.h"
 #include "refusing_heap.h"
 
@@ -249,7 +249,9 @@ static const struct damage kinds_of_damage[] = {
     /* a base that is no done savepoint, and records that are pending in a job that has ended */
     {"\"base\":null", "\"base\":3"},
     {"\"base\":null", "\"base\":4"},
+    {"\"base\":null", "\"base\":9"},
     {"\"mode\":\"running\"", "\"mode\":\"cancelled\""},
+    {"\"mode\":\"running\"", "\"mode\":\"failed\""},
     /* files that wait or were fetched, and are in use or there twice */
     {"\"waiting\":[2,3,4]", "\"waiting\":[2,3,5]"},
     {"\"waiting\":[2,3,4]", "\"waiting\":[2,3,3]"},
@@ -258,22 +260,165 @@ static const struct damage kinds_of_damage[] = {
     {"\"taken\":[1]", "\"taken\":[1,1]"},
 };
 
-/* Each kind of damage is told as such, and never as want of memory: there is room for all. */
+/* States that no list of calls reaches, and that are taken: docs/LOGS.md names them. */
+static const struct damage unreached[] = {
+    {"\"start\":0", "\"start\":4611686018427387903"},
+    {"\"latest\":8000", "\"latest\":0"},
+    {"\"completed\":6000", "\"completed\":8001"},
+    {"\"next\":6", "\"next\":4611686018427387904"},
+};
+
+/* An image with another part is sound, or is told to be damaged, and never to want memory: there is room for all. */
+static void opens_as(const char *image, const struct damage *damage, bool is_sound) {
+    static char text[IMAGE];
+    relkvanu other = {NULL};
+    const char *at = strstr(image, damage->part);
+    CHECK(at != NULL && strstr(at + 1, damage->part) == NULL);
+    int len = snprintf(text, sizeof text, "%.*s%s%s", (int)(at - image), image, damage->other, at + strlen(damage->part));
+    relkvanu_answer answer = relkvanu_open_saved(&other, (const uint8_t *)text, (size_t)len, 1, 2);
+    bool is_damaged = answer.code == RELKVANU_BAD_ARGUMENT && answer.what == RELKVANU_BAD_IMAGE && other.state == NULL;
+    if (is_sound ? answer.code != RELKVANU_DONE : !is_damaged) {
+        fprintf(stderr, "images: code %" PRIu32 " for %s\n", answer.code, damage->other);
+        exit(1);
+    }
+    relkvanu_close(&other);
+}
+
+/* The image of the job of docs/LOGS.md, as it is written. */
+static const char written[] =
+    "{\"base\":null,\"clock\":{\"completed\":2020,\"due\":4000,\"latest\":3010},\"failures\":0,\"mode\":\"running\",\"next"
+    "\":4,\"opening\":{\"config\":{\"at_once\":1,\"interval\":1000,\"keep_on_cancel\":false,\"pause\":0,\"retained\":1,\""
+    "timeout\":600000,\"tolerable\":0},\"first\":1,\"shape\":[2],\"start\":0},\"outbox\":{\"taken\":[12],\"waiting\":[21"
+    "]},\"records\":[{\"acks\":[{\"files\":[11,13],\"index\":0,\"vertex\":0},{\"files\":[22],\"index\":1,\"vertex\":0}],\""
+    "id\":2,\"kind\":\"checkpoint\",\"pins\":[],\"shape\":[2],\"started\":2000,\"state\":\"done\"},{\"acks\":[{\"files\":[11"
+    ",14],\"index\":0,\"vertex\":0}],\"id\":3,\"kind\":\"checkpoint\",\"pins\":[11,13,22],\"shape\":[2],\"started\":3000,"
+    "\"state\":\"pending\"}],\"shape\":[2],\"version\":1}";
+
+/* Parts of it, and values that no text has in their place: numbers past their limits, and values of another kind. */
+static const struct damage no_values[] = {
+    {"\"version\":1", "\"version\":0"},
+    {"\"version\":1", "\"version\":2"},
+    {"\"at_once\":1", "\"at_once\":0"},
+    {"\"at_once\":1", "\"at_once\":65"},
+    {"\"interval\":1000", "\"interval\":9"},
+    {"\"interval\":1000", "\"interval\":1099511627777"},
+    {"\"pause\":0", "\"pause\":1099511627777"},
+    {"\"retained\":1", "\"retained\":0"},
+    {"\"retained\":1", "\"retained\":1001"},
+    {"\"timeout\":600000", "\"timeout\":0"},
+    {"\"timeout\":600000", "\"timeout\":1099511627777"},
+    {"\"tolerable\":0", "\"tolerable\":1001"},
+    {"\"failures\":0", "\"failures\":4294967296"},
+    {"\"next\":4", "\"next\":18446744073709551616"},
+    {"\"index\":1", "\"index\":65536"},
+    {"\"index\":1,\"vertex\":0", "\"index\":0,\"vertex\":65536"},
+    {"\"shape\":[2],\"start\":0", "\"shape\":[4096,1],\"start\":0"},
+    {"\"shape\":[2],\"start\":0", "\"shape\":[1,0],\"start\":0"},
+    {"\"shape\":[2],\"start\":0", "\"shape\":[],\"start\":0"},
+    {"\"shape\":[2],\"start\":0", "\"shape\":2,\"start\":0"},
+    {"\"base\":null", "\"base\":\"1\""},
+    {"\"completed\":2020", "\"completed\":-1"},
+    {"\"due\":4000", "\"due\":4000.0"},
+    {"\"latest\":3010", "\"latest\":null"},
+    {"\"mode\":\"running\"", "\"mode\":\"Running\""},
+    {"\"id\":2,\"kind\":\"checkpoint\"", "\"id\":2,\"kind\":\"checkpoints\""},
+    {"\"state\":\"done\"", "\"state\":true"},
+    {"\"keep_on_cancel\":false", "\"keep_on_cancel\":\"false\""},
+    {"\"taken\":[12]", "\"taken\":12"},
+    {"\"waiting\":[21]", "\"waiting\":[-21]"},
+    {"\"outbox\":{", "\"outbox\":[],\"other\":{"},
+    {"\"acks\":[{\"files\":[11,14],\"index\":0,\"vertex\":0}]", "\"acks\":[null]"},
+    {"\"index\":1", "\"index\":0"},
+};
+
+/* The same, with numbers at their limits. */
+static const struct damage limits[] = {
+    {"\"at_once\":1", "\"at_once\":64"},
+    {"\"interval\":1000", "\"interval\":10"},
+    {"\"interval\":1000", "\"interval\":1099511627776"},
+    {"\"pause\":0", "\"pause\":1099511627776"},
+    {"\"retained\":1", "\"retained\":1000"},
+    {"\"timeout\":600000", "\"timeout\":1099511627776"},
+    {"\"tolerable\":0", "\"tolerable\":1000"},
+    {"\"shape\":[2],\"start\":0", "\"shape\":[4096],\"start\":0"},
+};
+
+static void is_saved_as(relkvanu *job, const char *text) {
+    static uint8_t image[IMAGE];
+    CHECK(saved(job, image) == strlen(text) && memcmp(image, text, strlen(text)) == 0);
+}
+
+/* The text of a job, from its calls and from itself. */
+static void writes(void) {
+    static const char *const lines[] = {"tick 1000", "ack 1040 1 0.1 +21", "ack 1050 1 0.0 +11 +12", "tick 2000", "ack 2010 2 0.0 +13 =11",
+        "ack 2020 2 0.1 +22", "take 1", "tick 3000", "ack 3010 3 0.0 +14 =11"};
+    static const relkvanu_settings settings = {1000, 0, 1, 600000, 0, 1, false};
+    relkvanu job = {NULL}, other = {NULL};
+    uint64_t taken[1];
+    CHECK(relkvanu_open(&job, &settings, (uint64_t[]){2}, 1, 0, 1, 1, 2).code == RELKVANU_DONE);
+    for (size_t at = 0; at < sizeof lines / sizeof lines[0]; at++) {
+        CHECK(relkvanu_line(&job, (const uint8_t *)lines[at], strlen(lines[at]), taken, 1).code == RELKVANU_DONE);
+    }
+    is_saved_as(&job, written);
+    CHECK(relkvanu_open_saved(&other, (const uint8_t *)written, strlen(written), 1, 2).code == RELKVANU_DONE);
+    is_saved_as(&other, written);
+    relkvanu_close(&other);
+    relkvanu_close(&job);
+}
+
+static void is_no_image(const char *text) {
+    relkvanu other = {NULL};
+    relkvanu_answer answer = relkvanu_open_saved(&other, (const uint8_t *)text, strlen(text), 1, 2);
+    CHECK(answer.code == RELKVANU_BAD_ARGUMENT && answer.what == RELKVANU_BAD_IMAGE && other.state == NULL);
+}
+
+/* Each member has to be there. They come in any order, beside others, and the last value of a key counts. */
+static void reads_members(void) {
+    static const char *const others[] = {"null", "1", "\"\"", "[]", "{}", "", " ", "{}{}", "nul"};
+    static const char opened_so[] =
+        " { \"version\" : 1, \"shape\" : [ 1 ], \"records\" : [ ], \"remark\" : \"no member of an image\", \"outbox\" : { \"waiting\" : [ "
+        "], "
+        "\"taken\" : [ ] }, \"opening\" : { \"start\" : 0, \"shape\" : [ 1 ], \"first\" : 1, \"config\" : { \"tolerable\" : 0, \"timeout\" "
+        ": 1, "
+        "\"retained\" : 1, \"pause\" : 0, \"keep_on_cancel\" : false, \"interval\" : 10, \"at_once\" : 1 } }, \"next\" : 9, \"next\" : 1, "
+        "\"mode\" : "
+        "\"running\", \"failures\" : 0, \"clock\" : { \"latest\" : 0, \"due\" : 10, \"completed\" : null }, \"base\" : null } ";
+    static char text[IMAGE];
+    relkvanu job = {NULL};
+    size_t members = 0;
+    for (const char *at = strstr(written, "\":"); at != NULL; at = strstr(at + 1, "\":"), members++) {
+        snprintf(text, sizeof text, "%.*s_%s", (int)(at - written), written, at);
+        is_no_image(text);
+    }
+    CHECK(members == 49);
+    for (size_t at = 0; at < sizeof others / sizeof others[0]; at++) {
+        is_no_image(others[at]);
+    }
+    CHECK(relkvanu_open_saved(&job, (const uint8_t *)opened_so, strlen(opened_so), 1, 2).code == RELKVANU_DONE);
+    CHECK(relkvanu_due(&job).a == 10 && relkvanu_tick(&job, 10).b == 1);
+    relkvanu_close(&job);
+}
+
 static void damaged(void) {
-    static char image[IMAGE], text[IMAGE];
-    relkvanu job = busy(), other = {NULL};
+    static char image[IMAGE], row[ROW_TEXT];
+    relkvanu job = busy();
     image[saved(&job, (uint8_t *)image)] = 0;
     size_t kinds = sizeof kinds_of_damage / sizeof kinds_of_damage[0];
     for (size_t kind = 0; kind < kinds; kind++) {
-        const struct damage *damage = &kinds_of_damage[kind];
-        const char *at = strstr(image, damage->part);
-        CHECK(at != NULL && strstr(at + 1, damage->part) == NULL);
-        int len = snprintf(text, sizeof text, "%.*s%s%s", (int)(at - image), image, damage->other, at + strlen(damage->part));
-        relkvanu_answer answer = relkvanu_open_saved(&other, (const uint8_t *)text, (size_t)len, 1, 2);
-        if (answer.code != RELKVANU_BAD_ARGUMENT || answer.what != RELKVANU_BAD_IMAGE || other.state != NULL) {
-            fprintf(stderr, "images: code %" PRIu32 " for %s\n", answer.code, damage->other);
-            exit(1);
-        }
+        opens_as(image, &kinds_of_damage[kind], false);
+    }
+    for (size_t kind = 0; kind < sizeof unreached / sizeof unreached[0]; kind++) {
+        opens_as(image, &unreached[kind], true);
+    }
+    (void)image_text(&image_rows[0], false, row);
+    opens_as(row, &(struct damage){"\"mode\":\"running\"", "\"mode\":\"failed\""}, true);
+    (void)image_text(&(struct image_row){"", "Cs", 1, 1, 0, 1, 2000, 1, 4, true}, false, row);
+    opens_as(row, &(struct damage){"\"base\":null", "\"base\":1"}, true);
+    for (size_t at = 0; at < sizeof no_values / sizeof no_values[0]; at++) {
+        opens_as(written, &no_values[at], false);
+    }
+    for (size_t at = 0; at < sizeof limits / sizeof limits[0]; at++) {
+        opens_as(written, &limits[at], true);
     }
     CHECK(wrong_image_rows(false) == 0);
     printf("images: %zu kinds of damage, and %d images that are sound or nearly so\n", kinds, IMAGE_ROWS);
@@ -336,6 +481,8 @@ int main(int count, char **words) {
     /* the lists must make calls, otherwise nothing was compared */
     CHECK(tried == scripts * CALLS && refused < tried * 3 / 4);
     cut_and_changed();
+    writes();
+    reads_members();
     damaged();
     without_memory();
     return 0;

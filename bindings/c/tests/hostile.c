@@ -5,7 +5,7 @@
  * as much under words that are 0, be it at the opening or at the openings from images, so the first comparison can fail. The
  * cost is the processor time, the best of twelve runs, since other programs may run beside it. */
 #define _GNU_SOURCE
-#include "../../include/relkvanu.h"
+#include "../../../include/relkvanu.h"
 
 #include <inttypes.h>
 #include <stdio.h>

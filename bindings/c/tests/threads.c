@@ -2,7 +2,7 @@
  * mutex. Each takes checkpoints with new and reused files, drops them, takes files and reports them. So memory is allocated,
  * grown and freed in all threads at once. For ThreadSanitizer: the library has no lock, and needs none between two handles. */
 #define _GNU_SOURCE
-#include "../../include/relkvanu.h"
+#include "../../../include/relkvanu.h"
 
 #include <inttypes.h>
 #include <pthread.h>

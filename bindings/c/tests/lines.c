@@ -1,62 +1,62 @@
-/* lines: lines of scripts and of logs with names through the C interface: what is read, what is refused, and what a line does. Expected values come from
- * docs/SCRIPT.md and the tables of docs/LOGS.md, by hand. It also runs under AddressSanitizer. */
+/* lines: lines of scripts and of logs with names through the C interface: what is read, what is refused, and what a line does; lines that are cut or
+ * changed at each byte, and lines that are too long. Expected values come from docs/SCRIPT.md and the tables of docs/LOGS.md, by hand. It also runs
+ * under AddressSanitizer, which sees nothing of what the library itself reads: for that some lines end where a page does. */
+#define _GNU_SOURCE
 #include "logs.h"
 
-/* A line with a fault changes nothing, and every function tells the fault. */
-static void faults(void) {
-    static const struct {
-        const char *text;
-        uint32_t fault;
-    } lines[] = {
-        {"fence", RELKVANU_FAULT_MISSING},
-        {"reserve 2 1000 5", RELKVANU_FAULT_EXTRA},
-        {"forfeit 1 +7", RELKVANU_FAULT_NUMBER},
-        {"in 3", RELKVANU_FAULT_MISSING},
-        {"in tick 5", RELKVANU_FAULT_NUMBER},
-        {"in 3 in 3 tick 5", RELKVANU_FAULT_WORD},
-        {"in 3 reserve 3 1", RELKVANU_FAULT_WORD},
-        {"reserved 5", RELKVANU_FAULT_WORD},
-        /* and what follows from the same rules */
-        {"fence x", RELKVANU_FAULT_NUMBER},
-        {"fence 18446744073709551616", RELKVANU_FAULT_NUMBER},
-        {"fence 1 2", RELKVANU_FAULT_EXTRA},
-        {"fences 1", RELKVANU_FAULT_WORD},
-        {"Fence 1", RELKVANU_FAULT_WORD},
-        {"reserve", RELKVANU_FAULT_MISSING},
-        {"reserve 1", RELKVANU_FAULT_MISSING},
-        {"reserve 1 -1", RELKVANU_FAULT_NUMBER},
-        {"forfeit", RELKVANU_FAULT_MISSING},
-        {"forfeit x", RELKVANU_FAULT_NUMBER},
-        {"forfeit 1 7 x", RELKVANU_FAULT_NUMBER},
-        {"in", RELKVANU_FAULT_MISSING},
-        {"in 3 ", RELKVANU_FAULT_MISSING},
-        {"in 3 fence 1", RELKVANU_FAULT_WORD},
-        {"in 3 forfeit 1", RELKVANU_FAULT_WORD},
-        {"in 3 tick", RELKVANU_FAULT_MISSING},
-        {"in 3 tick x", RELKVANU_FAULT_NUMBER},
-        {"in 3 tick 5 6", RELKVANU_FAULT_EXTRA},
-        {"in 3 ack 5 1 0.0 7", RELKVANU_FAULT_WORD},
-        {"Tick 3", RELKVANU_FAULT_WORD},
-        {"tick", RELKVANU_FAULT_MISSING},
-        {"tick x", RELKVANU_FAULT_NUMBER},
-        {"tick 18446744073709551616", RELKVANU_FAULT_NUMBER},
-        {"tick 3 4", RELKVANU_FAULT_EXTRA},
-        {"ack 3 4 1", RELKVANU_FAULT_NUMBER},
-        {"ack 3 4 1.65536", RELKVANU_FAULT_NUMBER},
-        {"ack 3 4 65536.0", RELKVANU_FAULT_NUMBER},
-        {"ack 3 4 1.2 7", RELKVANU_FAULT_WORD},
-        {"restore 3 late", RELKVANU_FAULT_NUMBER},
-        {"in 18446744073709551616 tick 5", RELKVANU_FAULT_NUMBER},
-    };
-    relkvanu job = named(5);
-    struct seen before = look(&job);
-    for (size_t at = 0; at < sizeof lines / sizeof *lines; at++) {
-        struct told it = tell(lines[at].text, PLACES, PLACES);
-        expect(line(&job, lines[at].text), RELKVANU_BAD_LINE, lines[at].fault, 0, 0, __LINE__);
-        expect(says(lines[at].text), RELKVANU_BAD_LINE, lines[at].fault, 0, 0, __LINE__);
-        expect(it.answer, RELKVANU_BAD_LINE, lines[at].fault, 0, 0, __LINE__);
+#include <sys/mman.h>
+#include <unistd.h>
+
+enum { LONGEST = 131072, ROOM = 1 << 18, FILES = 32768 };
+
+/* The end of a room, before a page that can't be touched. */
+static char *guarded(void) {
+    size_t page = (size_t)sysconf(_SC_PAGESIZE);
+    char *room = mmap(NULL, ROOM + page, PROT_READ | PROT_WRITE, MAP_PRIVATE | MAP_ANONYMOUS, -1, 0);
+    CHECK(room != MAP_FAILED && mprotect(room + ROOM, page, PROT_NONE) == 0);
+    return room + ROOM;
+}
+
+/* The answer to these bytes, after which nothing may be read. One that made no call has changed nothing. */
+static relkvanu_answer line_at_end(relkvanu *job, const char *text, size_t len) {
+    static char *end;
+    end = end != NULL ? end : guarded();
+    memcpy(end - len, text, len);
+    struct seen before = look(job);
+    relkvanu_answer told = relkvanu_line(job, (const uint8_t *)end - len, len, NULL, 0);
+    struct seen after = look(job);
+    CHECK((told.code == RELKVANU_DONE && told.what != RELKVANU_SKIPPED) || same(&before, &after));
+    return told;
+}
+
+/* Lines with this fault change nothing, and every function tells the fault. */
+static void have_fault(relkvanu *job, uint32_t fault, const char *const *texts) {
+    for (; *texts != NULL; texts++) {
+        struct told it = tell(*texts, PLACES, PLACES);
+        expect(line(job, *texts), RELKVANU_BAD_LINE, fault, 0, 0, __LINE__);
+        expect(says(*texts), RELKVANU_BAD_LINE, fault, 0, 0, __LINE__);
+        expect(it.answer, RELKVANU_BAD_LINE, fault, 0, 0, __LINE__);
         CHECK(same_call(&it.call, &OLD) && it.first[0] == OLD.number && it.second[0] == OLD.number);
     }
+}
+
+static void faults(void) {
+    relkvanu job = named(5);
+    struct seen before = look(&job);
+    have_fault(&job, RELKVANU_FAULT_MISSING,
+        (const char *const[]){"fence", "in 3", "reserve", "reserve 1", "forfeit", "in", "in 3 ", "in 3 tick", "tick", "job", "decline 5 1",
+            "ack 5 1", "restore 5", "all 1 2 3", "config 1000 0 1 500 2 3", NULL});
+    have_fault(&job, RELKVANU_FAULT_EXTRA,
+        (const char *const[]){"reserve 2 1000 5", "fence 1 2", "in 3 tick 5 6", "tick 3 4", "tick 5 # soon", "decline 1 2 0.0 4",
+            "config 1000 0 1 500 2 3 keep 4", NULL});
+    have_fault(&job, RELKVANU_FAULT_NUMBER,
+        (const char *const[]){"forfeit 1 +7", "in tick 5", "fence x", "fence 18446744073709551616", "reserve 1 -1", "forfeit x",
+            "forfeit 1 7 x", "in 3 tick x", "tick x", "tick 18446744073709551616", "ack 3 4 1", "ack 3 4 1.65536", "ack 3 4 65536.0",
+            "restore 3 late", "in 18446744073709551616 tick 5", "tick x 7", "ack 5 1 0.0 +", "restore 5 latest 2 x", "ack 1 1 .0",
+            "ack 1 1 0.", "ack 1 1 0.0.0", "ack 1 1 0.0 +-1", "take +5", "tick 1\xff", "tick 8\r ", "tick 8\r\r", NULL});
+    have_fault(&job, RELKVANU_FAULT_WORD,
+        (const char *const[]){"in 3 in 3 tick 5", "in 3 reserve 3 1", "reserved 5", "fences 1", "Fence 1", "in 3 fence 1", "in 3 forfeit 1",
+            "in 3 ack 5 1 0.0 7", "Tick 3", "ack 3 4 1.2 7", "tick\t5", "config 1000 0 1 600000 0 1 maybe", "\xff", "ticks 5", NULL});
     struct seen after = look(&job);
     CHECK(same(&before, &after));
     relkvanu_close(&job);
@@ -180,7 +180,20 @@ static void short_takes(void) {
     relkvanu_close(&job);
 }
 
-/* Two readers read each prefix of each line in the same way, and a prefix with a fault changes nothing. */
+static void change_each_byte(relkvanu *job, const char *text) {
+    static const char others[] = {'\0', '\t', '\r', ' ', '+', '-', '.', '9', 'x', '\x7f', '\xff'};
+    size_t len = strlen(text);
+    for (size_t place = 0; place < len; place++) {
+        for (size_t other = 0; other < sizeof others; other++) {
+            char line[64];
+            memcpy(line, text, len);
+            line[place] = others[other];
+            (void)line_at_end(job, line, len).what;
+        }
+    }
+}
+
+/* Two readers read each prefix of each line in the same way, and a prefix with a fault changes nothing. Nor does a changed line that can't be read. */
 static void cut_lines(void) {
     static const char *const texts[] = {"fence 70", "reserve 1 30", "forfeit 1 7 80", "in 1 ack 1000 1 0.0 +5 =6", "in 12 restore 9 4 1 1",
         "in 0 take 3", "config 1000 0 1 10000 0 1 keep", "job 2 1", "start 0", "tick 1", "savepoint 2", "ack 5 1 0.0 +1 +22 =3",
@@ -197,7 +210,9 @@ static void cut_lines(void) {
             struct seen after = look(&job);
             CHECK(said.code != RELKVANU_BAD_LINE || (same_answer(said, told) && same_answer(said, it.answer) && same(&before, &after)));
             CHECK(it.answer.what == RELKVANU_LINE_CALL ? told.code != RELKVANU_BAD_LINE : same_answer(it.answer, told));
+            (void)line_at_end(&job, cut, strlen(cut)).what;
         }
+        change_each_byte(&job, texts[at]);
         relkvanu_close(&job);
     }
 }
@@ -272,6 +287,63 @@ static void without_memory(void) {
     }
 }
 
+/* An ack line of this many files, padded with spaces to this length if it is shorter. */
+static size_t ack_of(char *line, size_t files, size_t len) {
+    size_t at = (size_t)sprintf(line, "ack 3000 1 0.0");
+    for (size_t file = 0; file < files; file++) {
+        at += (size_t)sprintf(line + at, " +%zu", 100 + file);
+    }
+    memset(line + at, ' ', at < len ? len - at : 0);
+    return at < len ? len : at;
+}
+
+/* The answer of a job with a pending checkpoint. */
+static relkvanu_answer of_pending(const char *text, size_t len) {
+    relkvanu job = plain();
+    DONE(line(&job, "tick 1000"), RELKVANU_TICK_TRIGGERED, 0, 1);
+    relkvanu_answer told = line_at_end(&job, text, len);
+    relkvanu_close(&job);
+    return told;
+}
+
+static void long_lines(void) {
+    static char text[ROOM];
+    DONE(of_pending("  tick   0001500 \r", 18), RELKVANU_TICK_HELD_INTERVAL, 0, 0);
+    DONE(of_pending(text, ack_of(text, 4096, 0)), RELKVANU_ACK_COMPLETED, 0, 0);
+    for (size_t files = 4097; files <= 9000; files += 4903) {
+        expect(of_pending(text, ack_of(text, files, 0)), RELKVANU_REFUSED, RELKVANU_TOO_MANY_FILES, 0, 0, __LINE__);
+    }
+    DONE(of_pending(text, ack_of(text, 1, LONGEST)), RELKVANU_ACK_COMPLETED, 0, 0);
+    for (size_t len = LONGEST + 1; len <= ROOM; len += len == LONGEST + 1 ? 1000 : 40000) {
+        expect(of_pending(text, ack_of(text, 1, len)), RELKVANU_BAD_LINE, RELKVANU_FAULT_TOO_LONG, 0, 0, __LINE__);
+    }
+    memset(text, '#', LONGEST + 1);
+    DONE(of_pending(text, LONGEST), RELKVANU_SKIPPED, 0, 0);
+    CHECK(of_pending(text, LONGEST + 1).code == RELKVANU_BAD_LINE);
+}
+
+/* The line of a call into a buffer of each length: none is cut, and nothing is written past the buffer. */
+static void written_lines(void) {
+    static uint64_t many[FILES];
+    const char *wanted = "ack 3000 2 1.1 +11 +12 =1";
+    relkvanu_call call = {.kind = RELKVANU_CALL_ACK, .vertex = 1, .index = 1, .now = 3000, .number = 2};
+    uint64_t fresh[] = {12, 11}, reused[] = {1};
+    char *end = guarded();
+    for (size_t len = 0; len <= strlen(wanted); len++) {
+        relkvanu_answer answer = relkvanu_call_line(&call, fresh, 2, reused, 1, (uint8_t *)end - len, len);
+        CHECK(len == strlen(wanted) ? answer.what == RELKVANU_WRITTEN : answer.code == RELKVANU_TOO_SHORT);
+        CHECK(answer.a == strlen(wanted));
+    }
+    CHECK(memcmp(end - strlen(wanted), wanted, strlen(wanted)) == 0);
+    for (size_t place = 0; place < FILES; place++) {
+        many[place] = UINT64_MAX - place;
+    }
+    relkvanu_answer answer = relkvanu_call_line(&call, many, FILES, NULL, 0, (uint8_t *)end - ROOM, ROOM);
+    CHECK(answer.code == RELKVANU_BAD_LINE && answer.what == RELKVANU_FAULT_TOO_LONG);
+    call.kind = UINT32_MAX;
+    BAD(relkvanu_call_line(&call, NULL, 0, NULL, 0, NULL, 0), RELKVANU_BAD_KIND);
+}
+
 /* What a line says, in a buffer of its own. */
 static void is_said(const char *text, uint32_t what, const uint64_t *wanted, size_t len) {
     uint64_t *numbers = block(len * sizeof *numbers);
@@ -314,6 +386,8 @@ int main(void) {
     short_takes();
     cut_lines();
     without_memory();
+    long_lines();
+    written_lines();
     opening();
     printf("lines: all as told\n");
     return 0;

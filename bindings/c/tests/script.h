@@ -3,7 +3,7 @@
 #ifndef RELKVANU_SCRIPT_H
 #define RELKVANU_SCRIPT_H
 
-#include "../../include/relkvanu.h"
+#include "../../../include/relkvanu.h"
 
 #include <stdio.h>
 

@@ -10,6 +10,7 @@
     of(open) of(close) of(tick) of(ack) of(restore) of(take) of(show) of(refusal_text) of(answer_text) of(line) of(line_says) of(line_call) \
     of(call_line) of(make) of(opening_lines) of(save) of(open_saved) of(files_of) of(pins_of) of(taken_files) of(open_fenced) of(forfeit) of(ack_in) \
     of(garbage) of(fenced_text) of(align_open) of(align_element) of(align_barrier) of(align_end) of(align_give_up) \
+    of(unaligned_open) of(unaligned_element) of(unaligned_barrier) of(unaligned_end) of(unaligned_give_up) of(unaligned_overtake) \
     of(group_make) of(group_hold) of(group_answer)
 /* clang-format on */
 
@@ -90,9 +91,20 @@ static void try_alignment(const struct functions *lib, void *none) {
     CHECK(aligner.latest == 7);
 }
 
+static void try_recorder(const struct functions *lib, void *none) {
+    relkvanu_recorder recorder = {7, 1};
+    CHECK(lib->unaligned_open(&recorder, none, 0).what == RELKVANU_STEP_BAD_INPUTS);
+    CHECK(lib->unaligned_element(&recorder, none, 0, 0).what == RELKVANU_STEP_UNKNOWN_INPUT);
+    CHECK(lib->unaligned_barrier(&recorder, none, 0, 0, 1).what == RELKVANU_STEP_UNKNOWN_INPUT);
+    CHECK(lib->unaligned_end(&recorder, none, 0, 0).what == RELKVANU_STEP_UNKNOWN_INPUT);
+    CHECK(lib->unaligned_overtake(&recorder, none, 0, 7).what == RELKVANU_STEP_NOTHING);
+    CHECK(lib->unaligned_give_up(&recorder, none, 0, 7).what == RELKVANU_STEP_ABANDON);
+    CHECK(recorder.latest == 7 && recorder.phase == 0);
+}
+
 static void try_groups(const struct functions *lib, void *none) {
     relkvanu job = {NULL};
-    relkvanu_group group = {0}, told = {.told = 5};
+    relkvanu_group group = {0}, told = {.told = 5, .given = 5};
     relkvanu_call call = {.kind = RELKVANU_CALL_TICK, .now = 3};
     relkvanu_answer held = {.code = RELKVANU_CLOSED};
     relkvanu_made made;
@@ -112,6 +124,7 @@ int main(int argc, char **argv) {
         try_names(&lib, pointers[place]);
         try_texts(&lib, pointers[place]);
         try_alignment(&lib, pointers[place]);
+        try_recorder(&lib, pointers[place]);
         try_groups(&lib, pointers[place]);
     }
     CHECK(argc == 1 || dlclose(library) == 0);

@@ -140,6 +140,7 @@ static const struct damage {
     /* empty, backwards, overlapping, in another order, beyond the next name */
     {"[10,11]", "[10,10]"},
     {"[10,11]", "[11,10]"},
+    {"[10,11]", "[12,13]"},
     {"[12,13]", "[10,13]"},
     {"[[10,11],[12,13]]", "[[12,13],[10,11]]"},
     {"[12,13]", "[14,15]"},
@@ -152,6 +153,9 @@ static const struct damage {
     {"[10,11]", "[10]"},
     {"[10,11]", "[10,11,12]"},
     {"[10,11]", "10"},
+    {"[10,11]", "[10,\"11\"]"},
+    {"\"mode\":\"running\"", "\"mode\":\"run\""},
+    {"\"version\":2", "\"version\":0"},
     {"[10,11]", "[10,-11]"},
     {"[[10,11],[12,13]]", "{}"},
     {",\"unspent\":[[10,11],[12,13]]", ""},
@@ -187,9 +191,43 @@ static void sound(void) {
     DONE(open_text(&other, with(image, "[[10,11],[12,13]]", "[[10,11],[11,12],[12,13]]")), RELKVANU_OPENED, 0, 0);
     DONE(ack(&other, 2, 3600, 3, 11), RELKVANU_ACK_COMPLETED, 1, 2);
     relkvanu_close(&other);
+    static const struct damage limits[] = {{"\"term\":2", "\"term\":4611686018427387904"},
+        {"\"next\":14,\"term\"", "\"next\":4611686018427387904,\"term\""}, {"[[10,11],[12,13]]", "[]"}};
+    for (size_t at = 0; at < sizeof limits / sizeof limits[0]; at++) {
+        DONE(open_text(&other, with(image, limits[at].part, limits[at].other)), RELKVANU_OPENED, 0, 0);
+        relkvanu_close(&other);
+    }
+    /* a job that holds so many names would have run out of memory, too */
+    expect(open_text(&other, with(image, "\"next\":14,\"term\":2,\"unspent\":[[10,11],[12,13]]",
+                                 "\"next\":4611686018427387904,\"term\":2,\"unspent\":[[14,4611686018427387904]]")),
+        RELKVANU_NO_MEMORY, 0, 0, 0, __LINE__);
     DONE(open_text(&other, with(image, "\"version\":2", "\"version\":1")), RELKVANU_OPENED, 0, 0);
     FENCED(relkvanu_term(&other), RELKVANU_NO_NAMES, 0);
     DONE(relkvanu_ack(&other, 3600, 3, 0, 0, (uint64_t[]){20}, 1, NULL, 0), RELKVANU_ACK_COMPLETED, 1, 2);
+    relkvanu_close(&other);
+    relkvanu_close(&job);
+}
+
+/* Names 5 to 8 and then 9 and 10 were reserved, and checkpoint 1 has file 6. Two ranges touch, as in the texts of earlier builds: written again they are one. */
+static void writes(void) {
+    static const char touching[] =
+        "{\"base\":null,\"clock\":{\"completed\":1040,\"due\":2000,\"latest\":1040},\"failures\":0,\"mode\":\"running\",\"name"
+        "s\":{\"next\":11,\"term\":1,\"unspent\":[[5,6],[7,9],[9,11]]},\"next\":2,\"opening\":{\"config\":{\"at_once\":1,\"in"
+        "terval\":1000,\"keep_on_cancel\":false,\"pause\":0,\"retained\":1,\"timeout\":600000,\"tolerable\":0},\"first\":1"
+        ",\"shape\":[1],\"start\":0},\"outbox\":{\"taken\":[],\"waiting\":[]},\"records\":[{\"acks\":[{\"files\":[6],\"index\":"
+        "0,\"vertex\":0}],\"id\":1,\"kind\":\"checkpoint\",\"pins\":[],\"shape\":[1],\"started\":1000,\"state\":\"done\"}],\"sha"
+        "pe\":[1],\"version\":2}";
+    relkvanu job = named(5), other = {NULL};
+    static char image[IMAGE];
+    DONE(relkvanu_reserve(&job, 1, 4), RELKVANU_RESERVED, 5, 4);
+    DONE(relkvanu_tick(&job, 1000), RELKVANU_TICK_TRIGGERED, 0, 1);
+    DONE(ack(&job, 1, 1040, 1, 6), RELKVANU_ACK_COMPLETED, 0, 0);
+    DONE(relkvanu_reserve(&job, 1, 2), RELKVANU_RESERVED, 9, 2);
+    const char *wanted = with(touching, "[7,9],[9,11]", "[7,11]");
+    CHECK(saved(&job, image) == strlen(wanted) && memcmp(image, wanted, strlen(wanted)) == 0);
+    DONE(open_text(&other, touching), RELKVANU_OPENED, 0, 0);
+    DONE(relkvanu_term(&other), RELKVANU_TERM, 1, 11);
+    CHECK(saved(&other, image) == strlen(wanted) && memcmp(image, wanted, strlen(wanted)) == 0);
     relkvanu_close(&other);
     relkvanu_close(&job);
 }
@@ -251,6 +289,7 @@ int main(void) {
     buffers();
     damaged();
     sound();
+    writes();
     memory();
     printf("images with names: all as told\n");
     return 0;

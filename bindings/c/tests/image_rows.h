@@ -1,9 +1,9 @@
-/* Images as docs/IMAGE.md has them, each beside one that differs from it in one point: one of the two is sound and the other is not. What
+/* Images as docs/LOGS.md has them, each beside one that differs from it in one point: one of the two is sound and the other is not. What
  * always holds for a coordinator is in docs/RULES.md: how many records of a kind there are, in which order, and which numbers they have. */
 #ifndef RELKVANU_IMAGE_ROWS_H
 #define RELKVANU_IMAGE_ROWS_H
 
-#include "../../include/relkvanu.h"
+#include "../../../include/relkvanu.h"
 
 #include <inttypes.h>
 #include <stdio.h>
@@ -33,6 +33,10 @@ static const struct image_row image_rows[] = {
     {"a pending savepoint before a done checkpoint", "sC", 0, 1, 0, 1, 2000, 1, 3, true},
     {"a pending checkpoint before a done savepoint", "cS", 0, 1, 0, 1, 2000, 1, 3, true},
     {"the first number as the next one", "", 0, 1, 0, 1, 2000, 4, 4, true},
+    {"no number left", "", 0, 1, 0, 1, 2000, 1, UINT64_C(1) << 62, true},
+    {"the greatest first number", "", 0, 1, 0, 1, 2000, (UINT64_C(1) << 62) - 1, UINT64_C(1) << 62, true},
+    {"a first number above the greatest", "", 0, 1, 0, 1, 2000, UINT64_C(1) << 62, UINT64_C(1) << 62, false},
+    {"a due moment that has passed", "", 0, 1, 0, 1, 0, 1, 1, true},
     {"a next number below the first one", "", 0, 1, 0, 1, 2000, 4, 3, false},
     {"1000 savepoints", "", 1000, 1, 0, 1, 2000, 1, 1001, true},
     {"1001 savepoints", "", 1001, 1, 0, 1, 2000, 1, 1002, false},

@@ -1,8 +1,8 @@
 /* groups: tries the groups of relkvanu.h over a log in memory of which a crash keeps what was synced and some of the first lines behind it. A list of
  * calls is made in groups of each size, and killed at each call: before its line is appended, behind it, in a sync that fails, behind a sync that
  * nobody heard of, and before an answer is told. Then a new handle makes what the log has, and the callers without an answer ask again. Each time,
- * the names that were told have to be told once, and each answer that was told has to stand in the log, in order. A control tells answers before
- * the sync, and has to be found out. */
+ * the names that were told have to be told once, and each answer that was told has to stand in the log, in order; and late questions, with receipts of
+ * earlier groups, have to be refused. A control tells answers before the sync, and has to be found out. */
 #include "logs.h"
 
 enum { MOST = 64, LONGEST = 256, CALLS = 8, MOST_GROUP = 3 };
@@ -33,7 +33,7 @@ struct run {
     relkvanu job;
     relkvanu_group group;
     relkvanu_answer held[MOST_GROUP], told[MOST];
-    uint64_t receipts[MOST_GROUP];
+    uint64_t receipts[MOST_GROUP], given;
     size_t told_len, asked;
     bool tells_early;
 };
@@ -46,7 +46,7 @@ struct kill {
 
 static void begin(struct run *run) {
     run->job = named(5);
-    run->group = (relkvanu_group){0};
+    run->group = (relkvanu_group){.given = run->given};
     for (size_t at = 0; at < run->log.len; at++) {
         CHECK(line(&run->job, run->log.lines[at]).code == RELKVANU_DONE);
     }
@@ -73,7 +73,7 @@ static bool makes(struct run *run, size_t nth, const struct kill *kill) {
     size_t call = run->asked + nth;
     relkvanu_answer held = relkvanu_group_make(
         &run->job, &run->group, run->held, MOST_GROUP, &calls[call], NULL, 0, NULL, 0, NULL, 0, bytes, sizeof bytes, &made);
-    CHECK(held.code == RELKVANU_DONE && held.a == nth && (held.what == RELKVANU_APPEND || held.what == RELKVANU_HELD_BACK));
+    CHECK(held.code == RELKVANU_DONE && held.a == run->given++ && (held.what == RELKVANU_APPEND || held.what == RELKVANU_HELD_BACK));
     BAD(relkvanu_group_answer(&run->group, run->held, MOST_GROUP, held.a), RELKVANU_BAD_RECEIPT);
     run->receipts[nth] = held.a;
     if (run->tells_early) {
@@ -104,9 +104,18 @@ static void fails(struct run *run) {
         RELKVANU_BAD_GROUP);
 }
 
+/* Neither the receipts of earlier groups tell anything, nor one that was not given yet. */
+static void ask_late(const struct run *run, size_t len) {
+    BAD(relkvanu_group_answer(&run->group, run->held, MOST_GROUP, run->given), RELKVANU_BAD_RECEIPT);
+    BAD(relkvanu_group_answer(&run->group, run->held, MOST_GROUP, UINT64_MAX), RELKVANU_BAD_RECEIPT);
+    for (uint64_t late = 0; late < run->given - len; late++) {
+        BAD(relkvanu_group_answer(&run->group, run->held, MOST_GROUP, late), RELKVANU_BAD_RECEIPT);
+    }
+}
+
 /* Tells the answers of a group. Returns whether it is killed before one. */
 static bool tells(struct run *run, size_t len, const struct kill *kill) {
-    BAD(relkvanu_group_answer(&run->group, run->held, MOST_GROUP, len), RELKVANU_BAD_RECEIPT);
+    ask_late(run, len);
     for (size_t nth = 0; nth < len; nth++, run->asked++) {
         if (kill->place == UNTOLD && kill->call == run->asked) {
             return true;
@@ -232,7 +241,7 @@ static void by_hand(void) {
 /* An answer of another function, such as a read, is held back with the others. */
 static void reads(void) {
     relkvanu job = named(5);
-    relkvanu_group group = {0};
+    relkvanu_group group = {0}, full = {.given = UINT64_C(1) << 62};
     relkvanu_answer held[2], choice = relkvanu_choice(&job);
     DONE(choice, RELKVANU_CHOICE_FRESH, 0, 0);
     DONE(relkvanu_group_hold(&group, held, 2, &choice), RELKVANU_HELD_BACK, 0, 0);
@@ -244,8 +253,12 @@ static void reads(void) {
     DONE(relkvanu_group_answer(&group, held, 2, 0), RELKVANU_CHOICE_FRESH, 0, 0);
     DONE(relkvanu_group_answer(&group, held, 2, 1), RELKVANU_TERM, 1, 5);
     BAD(relkvanu_group_answer(&group, held, 1, 1), RELKVANU_BAD_RECEIPT);
-    DONE(relkvanu_group_hold(&group, held, 2, &choice), RELKVANU_HELD_BACK, 0, 0);
+    DONE(relkvanu_group_hold(&group, held, 2, &choice), RELKVANU_HELD_BACK, 2, 0);
     BAD(relkvanu_group_answer(&group, held, 2, 1), RELKVANU_BAD_RECEIPT);
+    DONE(relkvanu_group_synced(&group), RELKVANU_SYNCED, 1, 0);
+    BAD(relkvanu_group_answer(&group, held, 2, 0), RELKVANU_BAD_RECEIPT); /* the place is that of receipt 2 now */
+    DONE(relkvanu_group_answer(&group, held, 2, 2), RELKVANU_TERM, 1, 5);
+    BAD(relkvanu_group_hold(&full, held, 2, &choice), RELKVANU_BAD_RECEIPT);
     relkvanu_close(&job);
 }
 
@@ -260,7 +273,7 @@ static void lacks_memory(void) {
     expect(relkvanu_group_make(&job, &group, held, 1, &calls[0], NULL, 0, NULL, 0, NULL, 0, bytes, sizeof bytes, &made), RELKVANU_NO_MEMORY,
         0, 0, 0, __LINE__);
     heap_refuse(0);
-    CHECK(group.waiting == 0 && group.told == 0 && !group.has_failed);
+    CHECK(group.waiting == 0 && group.told == 0 && !group.has_failed && group.given == 0);
     DONE(relkvanu_term(&job), RELKVANU_TERM, 1, 5);
     relkvanu_close(&job);
 }

@@ -2,7 +2,7 @@
 #ifndef RELKVANU_FENCED_H
 #define RELKVANU_FENCED_H
 
-#include "../../include/relkvanu.h"
+#include "../../../include/relkvanu.h"
 
 #include <inttypes.h>
 #include <stdio.h>

@@ -1,16 +1,15 @@
-/* aligning ROWS: makes the steps of examples/alignment.rows, and compares each with what stands there. The bytes of the inputs are a block of
- * their own with the length that the call gets. Then it gives each function memory of any content: each such memory is an alignment. A step that
- * is refused must change nothing. aligning --time prints what an element and a barrier cost. */
+/* aligning ROWS [unaligned]: makes the steps of examples/alignment.rows, or with a recorder those of examples/unaligned.rows, and compares each
+ * with what stands there. The bytes of the inputs are a block of their own with the length that the call gets. Then it gives each function
+ * memory of any content: each such memory is an alignment. A step that is refused must change nothing. */
 #define _GNU_SOURCE
-#include "../../include/relkvanu.h"
+#include "../../../include/relkvanu.h"
 
 #include <inttypes.h>
 #include <stdio.h>
 #include <stdlib.h>
 #include <string.h>
-#include <time.h>
 
-enum { ANY_MEMORIES = 20000, RUNS = 3000, IN_A_RUN = 5000 };
+enum { ANY_MEMORIES = 20000 };
 
 static const char *const STEPS[] = {
     [RELKVANU_STEP_PROCESS] = "process",
@@ -24,11 +23,17 @@ static const char *const STEPS[] = {
     [RELKVANU_STEP_HELD_INPUT] = "held_input",
     [RELKVANU_STEP_ENDED_INPUT] = "ended_input",
     [RELKVANU_STEP_BAD_INPUTS] = "bad_inputs",
+    [RELKVANU_STEP_RECORD] = "record",
+    [RELKVANU_STEP_SNAP] = "snap",
+    [RELKVANU_STEP_COMPLETE] = "complete",
 };
 
-/* The alignment of a task. */
+static bool is_unaligned;
+
+/* The alignment of a task, or its recorder. */
 struct task {
     relkvanu_aligner aligner;
+    relkvanu_recorder recorder;
     uint8_t *inputs;
     size_t len;
 };
@@ -38,7 +43,7 @@ static const char *name_of(relkvanu_step step) {
 }
 
 static bool is_refused(relkvanu_step step) {
-    return step.what >= RELKVANU_STEP_UNKNOWN_INPUT;
+    return step.what >= RELKVANU_STEP_UNKNOWN_INPUT && step.what <= RELKVANU_STEP_BAD_INPUTS;
 }
 
 static relkvanu_step open_task(struct task *task, size_t len) {
@@ -48,12 +53,32 @@ static relkvanu_step open_task(struct task *task, size_t len) {
         exit(2);
     }
     memset(task->inputs, 7, len);
-    return relkvanu_align_open(&task->aligner, task->inputs, len);
+    return is_unaligned ? relkvanu_unaligned_open(&task->recorder, task->inputs, len)
+                        : relkvanu_align_open(&task->aligner, task->inputs, len);
+}
+
+static relkvanu_step step_of_recorder(struct task *task, const char *event, uint64_t first, uint64_t second) {
+    if (strcmp(event, "element") == 0) {
+        return relkvanu_unaligned_element(&task->recorder, task->inputs, task->len, (uint32_t)first);
+    }
+    if (strcmp(event, "barrier") == 0) {
+        return relkvanu_unaligned_barrier(&task->recorder, task->inputs, task->len, (uint32_t)first, second);
+    }
+    if (strcmp(event, "end") == 0) {
+        return relkvanu_unaligned_end(&task->recorder, task->inputs, task->len, (uint32_t)first);
+    }
+    if (strcmp(event, "overtake") == 0) {
+        return relkvanu_unaligned_overtake(&task->recorder, task->inputs, task->len, first);
+    }
+    return relkvanu_unaligned_give_up(&task->recorder, task->inputs, task->len, first);
 }
 
 static relkvanu_step step_of(struct task *task, const char *event, uint64_t first, uint64_t second) {
     if (strcmp(event, "open") == 0) {
         return open_task(task, first);
+    }
+    if (is_unaligned) {
+        return step_of_recorder(task, event, first, second);
     }
     if (strcmp(event, "element") == 0) {
         return relkvanu_align_element(&task->aligner, task->inputs, task->len, (uint32_t)first);
@@ -76,7 +101,9 @@ static relkvanu_step make(struct task *task, const char *event, uint64_t first, 
     }
     memcpy(bytes, task->inputs, task->len);
     relkvanu_step step = step_of(task, event, first, second);
-    if (is_refused(step) && (task->aligner.latest != old.aligner.latest || memcmp(bytes, task->inputs, task->len) != 0)) {
+    bool is_same = task->aligner.latest == old.aligner.latest && task->recorder.latest == old.recorder.latest &&
+                   task->recorder.phase == old.recorder.phase;
+    if (is_refused(step) && (!is_same || memcmp(bytes, task->inputs, task->len) != 0)) {
         fprintf(stderr, "aligning: %s %" PRIu64 " %" PRIu64 ": %s, and something has changed\n", event, first, second, name_of(step));
         exit(1);
     }
@@ -131,7 +158,7 @@ static uint64_t next_random(uint64_t *state) {
 
 /* Memories of any content, also with no input: each step is one that the header has. */
 static void make_any(void) {
-    static const char *const EVENTS[] = {"element", "barrier", "end", "give_up"};
+    static const char *const EVENTS[] = {"element", "barrier", "end", "give_up", "overtake"};
     uint64_t random = 88172645463325252u;
     for (int at = 0; at < ANY_MEMORIES; at++) {
         struct task task = {.inputs = NULL};
@@ -139,9 +166,10 @@ static void make_any(void) {
         for (size_t input = 0; input < task.len; input++) {
             task.inputs[input] = (uint8_t)next_random(&random);
         }
-        task.aligner.latest = next_random(&random) % 4;
+        task.aligner.latest = task.recorder.latest = next_random(&random) % 4;
+        task.recorder.phase = (uint32_t)next_random(&random) % 5;
         for (int step = 0; step < 20; step++) {
-            const char *event = EVENTS[next_random(&random) % 4];
+            const char *event = EVENTS[next_random(&random) % (is_unaligned ? 5 : 4)];
             relkvanu_step told = make(&task, event, next_random(&random) % 10, next_random(&random) % 4);
             if (name_of(told)[0] == '?') {
                 exit(1);
@@ -151,64 +179,9 @@ static void make_any(void) {
     }
 }
 
-static double now(void) {
-    struct timespec it;
-    clock_gettime(CLOCK_MONOTONIC, &it);
-    return (double)it.tv_sec * 1e9 + (double)it.tv_nsec;
-}
-
-/* The nanoseconds of an element, of so many on each input in turn. */
-static double time_elements(struct task *task, uint32_t count) {
-    uint64_t processed = 0;
-    uint32_t input = 0;
-    double from = now();
-    for (uint32_t at = 0; at < count; at++) {
-        processed += relkvanu_align_element(&task->aligner, task->inputs, task->len, input).what;
-        input = input + 1 == task->len ? 0 : input + 1;
-    }
-    double took = now() - from;
-    if (processed != (uint64_t)count * RELKVANU_STEP_PROCESS) {
-        exit(1);
-    }
-    return took / count;
-}
-
-/* The nanoseconds of a barrier, of those of one record. */
-static double time_barriers(struct task *task, uint64_t id) {
-    double from = now();
-    for (uint32_t input = 0; input + 1 < task->len; input++) {
-        if (relkvanu_align_barrier(&task->aligner, task->inputs, task->len, input, id).what != RELKVANU_STEP_WAIT) {
-            exit(1);
-        }
-    }
-    if (relkvanu_align_barrier(&task->aligner, task->inputs, task->len, (uint32_t)task->len - 1, id).what != RELKVANU_STEP_CUT) {
-        exit(1);
-    }
-    return (now() - from) / (double)task->len;
-}
-
-/* Prints the shortest times of a task with so many inputs: on a busy machine the others have those of other programs too. */
-static void time_steps(size_t len) {
-    struct task task = {.inputs = NULL};
-    double element = 1e9, barrier = 1e9;
-    (void)open_task(&task, len).what;
-    for (uint64_t id = 1; id <= RUNS; id++) {
-        double elements = time_elements(&task, IN_A_RUN), barriers = time_barriers(&task, id);
-        element = elements < element ? elements : element;
-        barrier = barriers < barrier ? barriers : barrier;
-    }
-    printf("%zu inputs: an element %.2f ns, a barrier %.1f ns\n", len, element, barrier);
-    free(task.inputs);
-}
-
 int main(int argc, char **argv) {
-    if (argc == 2 && strcmp(argv[1], "--time") == 0) {
-        time_steps(2);
-        time_steps(64);
-        time_steps(RELKVANU_MOST_INPUTS);
-        return 0;
-    }
-    int made = argc == 2 ? make_rows(argv[1]) : 0;
+    is_unaligned = argc == 3 && strcmp(argv[2], "unaligned") == 0;
+    int made = argc == 2 || is_unaligned ? make_rows(argv[1]) : 0;
     if (made == 0) {
         fprintf(stderr, "aligning: no rows\n");
         return 1;

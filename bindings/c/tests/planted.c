@@ -3,7 +3,7 @@
  * them. */
 #define _GNU_SOURCE
 #define RELKVANU_NODISCARD /* what is planted counts here, and no answer */
-#include "../../include/relkvanu.h"
+#include "../../../include/relkvanu.h"
 
 #include <pthread.h>
 #include <stdio.h>
