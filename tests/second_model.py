@@ -1,7 +1,7 @@
-"""A second model of the coordinator, in plain Python: a method for each call. It was written from the pages alone (docs/RULES.md, RULES-NAMES.md,
+"""A second model of the coordinator, in plain Python: a method for each call. It was written from the pages alone (docs/RULES.md, RULES.md,
 GLOSSARY.md, SCRIPT.md and LOGS.md), without a look at the definitions that were proved or at the code. second_script.py reads scripts and logs for
 it, and tests/compare_models compares it with the proved programs. It counts all uses again at each call, which is slow and easy to check.
-A text below a name says which section of a page it follows. R is RULES.md, N RULES-NAMES.md, S SCRIPT.md and L LOGS.md.
+A text below a name says which section of a page it follows. R is RULES.md, N RULES.md, S SCRIPT.md and L LOGS.md.
 
 After its first comparisons it was changed in two places where a page left open what is printed: which file `Spent` and `NeverReserved` name, and
 whether `BadShape` or `NoNames` comes first in a log. The pages say that now. No answer of the programs differed from a sentence of the pages. Whoever
@@ -148,7 +148,7 @@ class Coordinator:
     # What calls share.
 
     def moment(self, now):
-        """R 6 "Moments": the moment at which the call takes place."""
+        """R 6 "Timestamps": the moment at which the call takes place."""
         if now > MOMENTS:
             raise Refused("MomentTooLarge")
         return max(now, self.seen)

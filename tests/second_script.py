@@ -1,5 +1,5 @@
 """Reads scripts and logs for the second model, and prints its answers. As second_model.py it was written from the pages alone: S is docs/SCRIPT.md,
-L LOGS.md, and N RULES-NAMES.md."""
+L LOGS.md, and N RULES.md."""
 from second_model import NAMES, TERMS, Coordinator, Fenced, Names, Refused, made_config, made_shape
 
 # S 5 and 11: the greatest of each.
