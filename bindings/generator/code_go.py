@@ -79,7 +79,6 @@ SAID = {
     "cancel": "Cancel ends the job for good.",
 }
 # The same of a store, if it differs.
-SAID_OF_STORE = {"tick": "Tick says that time has passed. A timer calls AwaitTick."}
 # What Go says of replies in its own words.
 SAID_OF_REPLIES = {
     "SAVEPOINT_TRIGGERED": "SavepointTriggered is the reply to a savepoint.",
@@ -139,12 +138,6 @@ def method(call: Call) -> str:
     return text + f"\t{given} := c.{how}{c_call(call)})\n\treturn {reply_of(call)}{{{fields}}}, err\n}}\n"
 
 
-def store_method(call: Call) -> str:
-    number = "" if call.number is None else ", Now: StoreNow" if call.has_moment() else f", Number: {go_name(call.number)}"
-    text = comment_of(call, {**SAID, **SAID_OF_STORE}) + signature(call, "Store", None if call.has_moment() else call.number)
-    return text + f" {{\n\treturn one[{reply_of(call)}](s, Call{{Kind: Call{camel(call.name)}{number}}})\n}}\n"
-
-
 def line(call: Call) -> str:
     name, number = camel(call.name), go_name(call.number or "")
     article, given = "an" if call.name[0] in "aeiou" else "a", f"{number} uint64" if number else ""
@@ -197,7 +190,6 @@ def generated() -> Dict[str, Dict[str, str]]:
             "the lines of calls of one number": listed(line(it) for it in calls.calls()),
             "the replies to calls of one number": "".join(case(it) for it in own(calls.plain())),
         },
-        "store_calls.go": {"the calls of one number": listed(store_method(it) for it in calls.stored())},
         "calls.go": {"the kinds": constants("CallKind", of("call_kind", "Call"))},
         "replies.go": {
             "the ends of ticks": constants("TickEnd", ticks), "the names of ends": named(ticks, ends("TICK_")),

@@ -10,7 +10,8 @@ from generator.header import MADE, Enum, Number, macros, parameters, pointed
 # which the groups are. Of each step of an alignment Java would copy the bytes of all inputs. No class calls
 # the function for the text of an answer's numbers. It brings that function into the native library, in which the store's looks for it.
 GROUPS = [f"relkvanu_group_{it}" for it in ("make", "hold", "synced", "failed", "answer")]
-LEFT_OUT = {"relkvanu_make", *GROUPS, *(f"relkvanu_align_{it}" for it in ("open", "element", "barrier", "end", "give_up"))}
+LEFT_OUT = {"relkvanu_make", *GROUPS, *(f"relkvanu_{mode}_{it}" for mode in ("align", "unaligned") for it in ("open", "element", "barrier", "end", "give_up")),
+            "relkvanu_unaligned_overtake"}
 
 # The head of a file in C, which stays as it is made.
 IN_C = f"/* {MADE} */\n/* clang-format off */\n"
@@ -156,7 +157,7 @@ def java_structs(structs: Dict[str, Any], functions: List[JavaFunction]) -> str:
 
 def numbered(structs: Dict[str, Any]) -> List[Tuple[str, Any]]:
     """All structs but the handle, of which Java has the address, and those of what is left out."""
-    return [(name, fields) for name, fields in structs.items() if name not in ("relkvanu", "relkvanu_made", "relkvanu_group", "relkvanu_aligner", "relkvanu_step")]
+    return [(name, fields) for name, fields in structs.items() if name not in ("relkvanu", "relkvanu_made", "relkvanu_group", "relkvanu_aligner", "relkvanu_recorder", "relkvanu_step")]
 
 
 def java_c(functions: List[JavaFunction]) -> str:
@@ -308,7 +309,6 @@ def cases() -> str:
 
 # What Java says of a call, its number and its reply in its own words.
 SAID = {"savepoint": "Triggers a savepoint.", "dispose": "A user disposes of a completed savepoint."}
-SAID_OF_STORE = {**SAID, "tick": "Time has passed. A timer calls {@link #awaitTick}."}
 NUMBERS = {"dispose": "the savepoint"}
 RESULTS_OF_CALLS = {
     "tick": "what happened",
@@ -352,7 +352,6 @@ def method(call: Call) -> str:
     """A method of the coordinator, of which threads that wait for a call know unless the call is quiet."""
     given, passed = (f"long {java_name(call.number)}", f", {java_name(call.number)}") if call.number else ("", "")
     text = f"    /**\n{lines_of(calls.words_of(call, SAID))}     *\n{param(call)}     * @return {result_of(call)}\n     */\n"
-    text += "    @Override\n" if call.name in calls.REPORTS else ""
     text += f"    public {reply_type(call)} {java_name(call.name)}({given}) {{\n"
     native = f"(at, out) -> Native.{java_name(call.name)}(at{passed}, out)"
     if call.has_moment() or call.is_quiet():
@@ -374,27 +373,10 @@ def line(call: Call) -> str:
     return text + f"    public static String {java_name(call.name)}({given}) {{\n        return line(Header.{call.kind()}, {passed});\n    }}\n"
 
 
-def of_store(call: Call) -> str:
-    """A call of a list, which has the moment of the store's clock."""
-    number = java_name(call.number) if call.number and not call.has_moment() else ""
-    text = documented(CALLS.get(call.name, call.named()), call, bool(number))
-    text += f"    public static StoreCall {java_name(call.name)}({f'long {number}' if number else ''}) {{\n"
-    return text + f"        return of(Header.{call.kind()}, {number or 0});\n    }}\n"
-
-
-def store_method(call: Call) -> str:
-    number = java_name(call.number) if call.number and not call.has_moment() else ""
-    text = f"    /**\n{lines_of(calls.words_of(call, SAID_OF_STORE))}     *\n{param(call) if number else ''}     * @return {result_of(call)}\n     */\n"
-    text += f"    public {reply_type(call)} {java_name(call.name)}({f'long {number}' if number else ''}) {{\n"
-    return text + f"        return ({reply_type(call)}) call(StoreCall.{java_name(call.name)}({number})).reply();\n    }}\n"
-
-
 def generated() -> Dict[str, Dict[str, str]]:
     """What is made, by file and place."""
     return {
         "Reply.java": {"the replies": replies()}, "Answers.java": {"what tells the replies": cases()},
         "Coordinator.java": {"the calls of one number": "\n".join(method(it) for it in calls.plain())},
         "Lines.java": {"the lines of calls of one number": "\n".join(line(it) for it in calls.calls() if it.name != "fence")},
-        "StoreCall.java": {"the calls of one number": "\n".join(of_store(it) for it in calls.plain())},
-        "Store.java": {"the calls of one number": "\n".join(store_method(it) for it in calls.stored())},
     }

@@ -167,10 +167,8 @@ def generated() -> Dict[str, Dict[str, str]]:
         "__init__.py": {"the import of replies": imports(), "the names of replies": exports()},
         "coordinator.py": {"the names": all_names(), "the calls of one number": "\n".join(method(it) for it in calls.plain())},
         "lines.py": {"the lines of calls of one number": "\n\n".join(line(it) for it in calls.plain())},
-        "store.py": {
-            "the calls of one number": "\n".join(of_store(it) for it in calls.plain()),
-            "the calls of one number of a store": "\n".join(store_method(it) for it in calls.stored()),
-        },
+        "jobs.py": {"the calls of one number": "\n".join(of_store(it) for it in calls.plain())},
+        "store.py": {"the calls of one number of a store": "\n".join(store_method(it) for it in calls.stored())},
         "trace.py": {"the first words of calls": words()},
         "replies.py": {"the replies": replies()},
         "reads.py": {"the modes": enum("Mode", "What the job is doing.", "mode_"), "the standings": enum("Standing", "What a number is.", "stands_")},

@@ -188,12 +188,3 @@ def rust(path: Any, it: Declarations, uses: str) -> str:
 def in_rust() -> Dict[str, str]:
     uses = "use crate::storage::{relkvanu_storage};\nuse crate::{relkvanu, relkvanu_answer, relkvanu_call, relkvanu_settings};\nuse std::ffi::{c_char, c_int, c_void};\n"
     return {"store.rs": rust(STORE, of_store(), uses), "storage.rs": rust(STORAGE, of_storage(), "use std::ffi::{c_char, c_int, c_void};\n")}
-
-
-def java(path: Any, name: str, prefix: str) -> str:
-    text = f"package relkvanu;\n\n/** {MADE.format(path.name)} */\nfinal class {name} {{\n    private {name}() {{}}\n\n"
-    own = [it._replace(name=it.name.removeprefix(prefix)) for it in header.macros(path)]
-    for it in own:
-        text += f"    static final long {it.name} = -1;\n" if it.value == "UINT64_MAX" else f"    static final int {it.name} = {it.value.rstrip('u')};\n"
-    names = "".join(f" {name.removeprefix(prefix)}," for name in statuses(path))
-    return text + f"    /** All statuses. */\n    static final int[] STATUSES = {{{names.rstrip(',').lstrip()}}};\n}}\n"

@@ -48,7 +48,7 @@ func Open(settings Settings, shape []uint64, now, first uint64) (*Coordinator, e
 	})
 }
 
-// OpenSaved opens the coordinator that an image describes, which Save returned (docs/IMAGE.md): with names if the image has some. It answers
+// OpenSaved opens the coordinator that an image describes, which Save returned (docs/LOGS.md): with names if the image has some. It answers
 // every list of calls as the saved one would. The error is BadImage if the bytes are not an image, or the state is not sound, or no
 // coordinator could be opened so.
 //

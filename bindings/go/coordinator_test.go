@@ -3,12 +3,8 @@ package relkvanu_test
 import (
 	"bytes"
 	"errors"
-	"fmt"
 	"math"
-	"os"
 	"reflect"
-	"runtime"
-	"strings"
 	"sync"
 	"testing"
 	"time"
@@ -55,20 +51,6 @@ func TestErrorsAreFoundAndNamed(t *testing.T) {
 	equal(t, relkvanu.BadShape.Error(), "relkvanu: an argument is outside its limits: BadShape")
 	equal(t, errorOf(job.RestoreSavepoint(0, 0, nil)), error(relkvanu.BadSavepoint))
 	equal(t, errorOf(job.Restore(0, []uint64{})), error(relkvanu.BadShape))
-}
-
-// The names are those of the header, in its order.
-func TestRefusalsHaveTheirNames(t *testing.T) {
-	names := strings.Fields("MomentTooLarge NotRunning TooManyFiles RepeatedFile UnknownCheckpoint UnknownSubtask AlreadyAcknowledged NameTaken " +
-		"FileGone NoSuchSavepoint InUse TooManySavepoints NotTaken NoSuchRecord IdsUsedUp")
-	all := []relkvanu.Refusal{
-		relkvanu.MomentTooLarge, relkvanu.NotRunning, relkvanu.TooManyFiles, relkvanu.RepeatedFile, relkvanu.UnknownCheckpoint,
-		relkvanu.UnknownSubtask, relkvanu.AlreadyAcknowledged, relkvanu.NameTaken, relkvanu.FileGone, relkvanu.NoSuchSavepoint,
-		relkvanu.InUse, relkvanu.TooManySavepoints, relkvanu.NotTaken, relkvanu.NoSuchRecord, relkvanu.IDsUsedUp,
-	}
-	for place, it := range all {
-		equal(t, it.String(), names[place])
-	}
 }
 
 func TestAMomentThatIsFarAheadIsRefused(t *testing.T) {
@@ -171,69 +153,6 @@ func TestAClosedOneStaysClosed(t *testing.T) {
 	must(open.Tick(0))
 }
 
-func TestAJobIsOpenedAnewFromItsLastCheckpoint(t *testing.T) {
-	first, second := relkvanu.Subtask{}, relkvanu.Subtask{Index: 1}
-	job := opened(2)
-	must(job.Tick(1000))
-	must(job.Ack(1000, 1, first, []uint64{1, 2}, nil))
-	must(job.Ack(1000, 1, second, []uint64{3}, []uint64{2}))
-	files := must(must(job.Show(1)).Files())
-	job.Close()
-	job = must(relkvanu.Open(relkvanu.Every(1000), []uint64{2}, 0, 2))
-	defer job.Close()
-	equal(t, must(job.Tick(2000)).ID, 2)
-	known := map[uint64]bool{}
-	for _, it := range []relkvanu.Subtask{first, second} {
-		var fresh, reused []uint64
-		for _, file := range files[it] {
-			if known[file] {
-				reused = append(reused, file)
-			} else {
-				fresh = append(fresh, file)
-			}
-			known[file] = true
-		}
-		must(job.Ack(2000, 2, it, fresh, reused))
-	}
-	equal(t, fmt.Sprint(must(must(job.Show(2)).Files())), "map[0.0:[1 2] 0.1:[2 3]]")
-	equal(t, must(job.Count(2)).Uses, 2)
-	equal(t, must(job.Restore(3000, nil)), relkvanu.Restored{From: relkvanu.Choice{Kind: relkvanu.Checkpoint, ID: 2}})
-}
-
-func TestMetadataThatIsLongerThanTheFirstBuffer(t *testing.T) {
-	job := opened(1)
-	defer job.Close()
-	must(job.Tick(1000))
-	files := make([]uint64, 1000)
-	for place := range files {
-		files[place] = math.MaxUint64 - 999 + uint64(place)
-	}
-	must(job.Ack(1000, 1, relkvanu.Subtask{}, files, nil))
-	shown := must(job.Show(1))
-	equal(t, fmt.Sprint(must(shown.Files())), fmt.Sprint(map[relkvanu.Subtask][]uint64{{}: files}))
-	told := must(shown.Metadata())
-	equal(t, fmt.Sprintf("%+v", told)[:67], "{ID:1 Kind:checkpoint State:done Started:1000 Shape:[1] Missing:0 A")
-}
-
-func TestTheNextTickIsWhenSomethingCanHappen(t *testing.T) {
-	job := must(relkvanu.Open(relkvanu.Settings{Interval: 1000, AtOnce: 1, Timeout: 5000, Retained: 1}, []uint64{1}, 0, 1))
-	defer job.Close()
-	next := func(last relkvanu.Ticked) string {
-		moment, is, err := job.NextTick(last)
-		return fmt.Sprint(moment, is, err)
-	}
-	equal(t, next(must(job.Tick(0))), "1000 true <nil>")
-	equal(t, next(must(job.Tick(1000))), "2000 true <nil>")
-	held := must(job.Tick(2000))
-	equal(t, held, relkvanu.Ticked{End: relkvanu.HeldAtOnce})
-	equal(t, next(held), "6000 true <nil>")
-	equal(t, next(must(job.Tick(6000))), "0 false <nil>")
-	equal(t, errors.Is(errorOf(job.Tick(7000)), relkvanu.NotRunning), true)
-	equal(t, next(relkvanu.Ticked{}), "0 false <nil>")
-	must(job.Restore(7000, nil))
-	equal(t, next(must(job.Tick(7000))), "8000 true <nil>")
-}
-
 func TestACallWakesWhoWaitsAndAReportDoesNot(t *testing.T) {
 	job := cancelled()
 	seen := job.Calls()
@@ -308,76 +227,5 @@ func TestClosedWhileOthersCall(t *testing.T) {
 		}
 		job.Close()
 		group.Wait()
-	}
-}
-
-// status is the number of a line of this process's status.
-func status(name string) (number int) {
-	text, _ := os.ReadFile("/proc/self/status")
-	_, after, _ := strings.Cut(string(text), name+":")
-	fmt.Sscan(after, &number)
-	return number
-}
-
-// No goroutine is pinned: a thread for each of these would be 2000.
-func TestManyGoroutinesNeedFewThreads(t *testing.T) {
-	var group sync.WaitGroup
-	for it := 0; it < 2000; it++ {
-		group.Add(1)
-		go func() {
-			defer group.Done()
-			job := opened(64)
-			defer job.Close()
-			for now := uint64(0); now < 100; now++ {
-				must(job.Tick(now))
-			}
-		}()
-	}
-	group.Wait()
-	// Go starts more threads when calls into C are kept waiting for a processor.
-	if threads := status("Threads"); threads == 0 || threads > 200+8*runtime.GOMAXPROCS(0) {
-		t.Errorf("%d threads", threads)
-	}
-}
-
-// withFiles is a job whose checkpoint has 4096 files. It takes some 350 kB.
-func withFiles() *relkvanu.Coordinator {
-	job, files := opened(64), make([]uint64, 64)
-	must(job.Tick(1000))
-	for index := uint16(0); index < 64; index++ {
-		for place := range files {
-			files[place] = 64*uint64(index) + uint64(place)
-		}
-		must(job.Ack(1000, 1, relkvanu.Subtask{Index: index}, files, nil))
-	}
-	return job
-}
-
-// waitForFinalizers waits until those have run whose objects an earlier collection found: they run in turn.
-func waitForFinalizers() {
-	ran := make(chan struct{})
-	runtime.SetFinalizer(&struct{ ran chan struct{} }{ran}, func(last *struct{ ran chan struct{} }) { close(last.ran) })
-	runtime.GC()
-	<-ran
-}
-
-func loseMany() {
-	for lost := 1; lost <= 1000; lost++ {
-		withFiles()
-		if lost%100 == 0 {
-			runtime.GC()
-			waitForFinalizers()
-		}
-	}
-}
-
-// Lost coordinators are freed by their finalizers once the collector runs: others take their room. If none were freed, the second thousand
-// would take another 350 MB.
-func TestLostOnesAreFreed(t *testing.T) {
-	loseMany()
-	before := status("VmRSS")
-	loseMany()
-	if after := status("VmRSS"); before == 0 || after > before+175_000 {
-		t.Errorf("%d kB, and after 1000 lost coordinators %d kB", before, after)
 	}
 }

@@ -14,8 +14,6 @@ var (
 	ErrNoMemory = errors.New("relkvanu: out of memory")
 	// ErrClosed says that the coordinator was closed, or never opened.
 	ErrClosed = errors.New("relkvanu: the coordinator is closed")
-	// ErrReading says that the goroutine is in Store.Read, and would wait for itself: make the call after it.
-	ErrReading = errors.New("relkvanu: this goroutine is in Store.Read: make the call after it")
 )
 
 // Refusal is why a call was refused: the first of these that applies.
@@ -60,8 +58,6 @@ func (r Refusal) Error() string { return "relkvanu: the call is refused: " + r.S
 type Refused struct {
 	Why  Refusal
 	File uint64 // the file that is to blame, after NameTaken and FileGone
-
-	About string // of the first call of a list of a store that was refused: its record, subtask and term, and the refusal
 }
 
 var refusalsOfFiles = map[Refusal]bool{
@@ -74,9 +70,7 @@ var refusalsOfFiles = map[Refusal]bool{
 // String is as a script prints it, such as "NameTaken 7".
 func (e *Refused) String() string { return withFile(e.Why, refusalsOfFiles[e.Why], e.File) }
 
-func (e *Refused) Error() string {
-	return "relkvanu: the call is refused: " + withAbout(e.String(), e.About)
-}
+func (e *Refused) Error() string { return "relkvanu: the call is refused: " + e.String() }
 
 // Unwrap is the Refusal.
 func (e *Refused) Unwrap() error { return e.Why }
@@ -87,8 +81,6 @@ func (e *Refused) Unwrap() error { return e.Why }
 type FencedError struct {
 	Why  Fenced
 	File uint64 // the file that is to blame, after FencedSpent and FencedNeverReserved
-
-	About string // as that of Refused. After FencedOldTerm it has both terms
 }
 
 var fencedOfFiles = map[Fenced]bool{
@@ -101,17 +93,10 @@ var fencedOfFiles = map[Fenced]bool{
 // String is as a log prints it, such as "Spent 7".
 func (e *FencedError) String() string { return withFile(e.Why, fencedOfFiles[e.Why], e.File) }
 
-func (e *FencedError) Error() string { return "relkvanu: fenced: " + withAbout(e.String(), e.About) }
+func (e *FencedError) Error() string { return "relkvanu: fenced: " + e.String() }
 
 // Unwrap is the Fenced.
 func (e *FencedError) Unwrap() error { return e.Why }
-
-func withAbout(text, about string) string {
-	if about == "" {
-		return text
-	}
-	return text + " (" + about + ")"
-}
 
 // withFile is a name, and the file if it has one.
 func withFile(why fmt.Stringer, has bool, file uint64) string {
@@ -136,7 +121,7 @@ const (
 	BadImage    BadArgument = C.RELKVANU_BAD_IMAGE    // The bytes are not an image, or the state is not sound, or no coordinator could be opened so.
 	BadName     BadArgument = C.RELKVANU_BAD_NAME     // The first name is 0 or above 2^62.
 	BadGroup    BadArgument = C.RELKVANU_BAD_GROUP    // The group has failed: open the handle again, from the log.
-	BadReceipt  BadArgument = C.RELKVANU_BAD_RECEIPT  // No answer may be told by the receipt, or there is no place for another answer.
+	BadReceipt  BadArgument = C.RELKVANU_BAD_RECEIPT  // No answer may be told by the receipt, or there is no place or receipt for another answer.
 	// bindings/generate: end
 
 	BadSavepoint BadArgument = 1 << 31 // no savepoint has the number 0: only this package checks it

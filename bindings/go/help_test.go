@@ -2,7 +2,6 @@ package relkvanu_test
 
 import (
 	"testing"
-	"time"
 
 	"relkvanu"
 )
@@ -21,16 +20,6 @@ func equal[Value any](t *testing.T, got, wanted Value) {
 	t.Helper()
 	if any(got) != any(wanted) {
 		t.Errorf("%v, not %v", got, wanted)
-	}
-}
-
-// within fails the test if the condition does not come.
-func within(t *testing.T, condition func() bool) {
-	t.Helper()
-	for end := time.Now().Add(300 * time.Second); !condition(); time.Sleep(time.Millisecond) {
-		if time.Now().After(end) {
-			t.Fatal("what is waited for does not come")
-		}
 	}
 }
 

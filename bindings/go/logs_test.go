@@ -1,9 +1,7 @@
 package relkvanu_test
 
 import (
-	"errors"
 	"fmt"
-	"math"
 	"os"
 	"path/filepath"
 	"strings"
@@ -90,58 +88,4 @@ func TestNamesInLogs(t *testing.T) {
 			makeLog(t, name+" by "+how, loggedLines(log), call)
 		}
 	}
-}
-
-func TestNamesInLinesThatAreWritten(t *testing.T) {
-	long := make([]uint64, 9000)
-	for place := range long {
-		long[place] = math.MaxUint64 - uint64(place)
-	}
-	for _, it := range []struct{ got, wanted string }{
-		{lineOf(relkvanu.FenceLine(20)), "fence 20<nil>"},
-		{lineOf(relkvanu.ReserveLine(2, 1000)), "reserve 2 1000<nil>"},
-		{lineOf(relkvanu.ForfeitLine(1, []uint64{7, 9})), "forfeit 1 7 9<nil>"},
-		{lineOf(relkvanu.ForfeitLine(1, nil)), "forfeit 1<nil>"},
-		{lineOf(relkvanu.AckInLine(3, 5, 1, relkvanu.Subtask{Vertex: 1, Index: 2}, []uint64{12, 11}, []uint64{7})), "in 3 ack 5 1 1.2 +11 +12 =7<nil>"},
-		{lineOf(relkvanu.DeclineInLine(3, 5, 1, relkvanu.Subtask{Index: 3})), "in 3 decline 5 1 0.3<nil>"},
-		{lineOf(relkvanu.Call{Kind: relkvanu.CallTick, Now: 5, Term: 3}.Line()), "in 3 tick 5<nil>"},
-	} {
-		equal(t, it.got, it.wanted)
-	}
-	equal(t, errorOf(relkvanu.ForfeitLine(1, long)), error(relkvanu.LineTooLong))
-}
-
-func TestNamesInLinesThatAreRead(t *testing.T) {
-	for line, wanted := range map[string]string{
-		"in 9 ack 5 6 7.8 +11 =12 +10": "{3 5 6 7.8 [10 11] [12] 9} true <nil>", "reserve 4 8": "{14 0 8 0.0 [] [] 4} true <nil>",
-		"fence 4": "{13 0 4 0.0 [] [] 0} true <nil>", "in 0 tick 5": "{1 5 0 0.0 [] [] 0} true <nil>",
-	} {
-		call, is, err := relkvanu.CallOf([]byte(line))
-		equal(t, fmt.Sprint(call, is, err), wanted)
-	}
-	job := busy()
-	defer job.Close()
-	image := string(must(job.Save()))
-	for line, wanted := range map[string]error{
-		"fence": relkvanu.LineMissing, "reserve 2 1000 5": relkvanu.LineExtra, "forfeit 1 +7": relkvanu.LineNumber, "in 3": relkvanu.LineMissing,
-		"in tick 5": relkvanu.LineNumber, "in 3 in 3 tick 5": relkvanu.LineWord, "in 3 reserve 3 1": relkvanu.LineWord, "reserved 5": relkvanu.LineWord,
-		"in 3 job 1": relkvanu.LineNoCall,
-	} {
-		if err := errorOf(job.Line([]byte(line))); !errors.Is(err, wanted) {
-			t.Errorf("%s: %v", line, err)
-		}
-	}
-	equal(t, string(must(job.Save())), image)
-}
-
-// Another call with a term is the plain one where there are names, and is refused where there are none.
-func TestNamesAndOtherLinesWithATerm(t *testing.T) {
-	job, plain := busy(), opened(1)
-	defer job.Close()
-	defer plain.Close()
-	equal(t, byLines(job, 1, []byte("in 9 count 13")), "count 13 2\n") // checkpoint 2 and the pin of checkpoint 3
-	equal(t, byLines(job, 1, []byte("in 9 show 3")), must(job.Show(3)).String()+"\n")
-	equal(t, byLines(plain, 1, []byte("in 9 count 13")), "fenced NoNames\n")
-	equal(t, byLines(plain, 1, []byte("reserve 1 1")), "fenced NoNames\n")
-	equal(t, byLines(plain, 1, []byte("in 0 count 13")), "count 13 0\n")
 }

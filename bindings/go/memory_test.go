@@ -5,7 +5,6 @@ package relkvanu_test
 import (
 	"errors"
 	"fmt"
-	"regexp"
 	"testing"
 
 	"relkvanu"
@@ -62,51 +61,6 @@ func told(t *testing.T, job *relkvanu.Coordinator, takesMemory bool, wanted stri
 	}
 }
 
-// These calls take no memory, but if their lines are written.
-var takesNone = regexp.MustCompile(`^(in \d+ )?(decline|cancel|deleted|undeleted|count) `)
-
-// refusing makes the call of a line in this way, and on copies of the job with each request refused, alone and with all after it. A refused call
-// changes nothing, and is made again. It counts the refusals.
-func refusing(t *testing.T, refusals *int, how string) func(*relkvanu.Coordinator, int, []byte) string {
-	call := ways[how]
-	return func(job *relkvanu.Coordinator, number int, line []byte) string {
-		before := copyOf(job)
-		defer before.Close()
-		image, wanted := string(must(before.Save())), call(job, number, line)
-		for _, refuse := range []func(uint64){heap.Refuse, heap.RefuseFrom} {
-			for nth, more := uint64(1), true; more; nth++ {
-				copy := copyOf(before)
-				refuse(nth)
-				answer := call(copy, number, line)
-				more = heap.Requests() >= nth
-				heap.Refuse(0)
-				if answer == "error "+relkvanu.ErrNoMemory.Error()+"\n" {
-					*refusals++
-					equal(t, how != "calls" && takesNone.Match(line), false)
-					equal(t, string(must(copy.Save())), image)
-					answer = call(copy, number, line)
-				}
-				equal(t, answer, wanted)
-				equal(t, string(must(copy.Save())), string(must(job.Save())))
-				copy.Close()
-			}
-		}
-		return wanted
-	}
-}
-
-func TestLogsWithoutMemory(t *testing.T) {
-	for how := range ways {
-		refusals := 0
-		for name, log := range logs(t) {
-			makeLog(t, name+" by "+how, loggedLines(log), refusing(t, &refusals, how))
-		}
-		if refusals < 500 {
-			t.Errorf("%s: %d refusals", how, refusals)
-		}
-	}
-}
-
 func TestTextsAndReadsWithoutMemory(t *testing.T) {
 	job := withCheckpoint3()
 	defer job.Close()
@@ -157,7 +111,9 @@ func opens(t *testing.T, open func() (*relkvanu.Coordinator, error)) {
 func TestOpeningsWithoutMemory(t *testing.T) {
 	opens(t, func() (*relkvanu.Coordinator, error) { return relkvanu.Open(settings, []uint64{2}, 0, 1) })
 	opens(t, func() (*relkvanu.Coordinator, error) { return relkvanu.OpenFenced(settings, []uint64{2}, 0, 1, 5) })
-	for _, job := range []*relkvanu.Coordinator{withCheckpoint3(), busy()} {
+	named := must(relkvanu.OpenFenced(settings, []uint64{2}, 0, 1, 5))
+	must(named.Reserve(1, 3))
+	for _, job := range []*relkvanu.Coordinator{withCheckpoint3(), named} {
 		image := must(job.Save())
 		job.Close()
 		opens(t, func() (*relkvanu.Coordinator, error) { return relkvanu.OpenSaved(image) })

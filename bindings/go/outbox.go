@@ -63,7 +63,7 @@ func (o *owner) show(id uint64) (Shown, error) {
 	return Shown{JSON: json}, err
 }
 
-// Save is the image of the coordinator, as JSON (docs/IMAGE.md): all of its state.
+// Save is the image of the coordinator, as JSON (docs/LOGS.md): all of its state.
 func (c *Coordinator) Save() ([]byte, error) {
 	o, err := c.enter()
 	if err != nil {

@@ -2,7 +2,7 @@
 //
 // Goroutines may share a [Coordinator]: its own lock admits one call at a time, and it needs no particular thread. Close it. The
 // coordinator reads no clock and deletes no file by itself. The caller gives the moment of each call, in milliseconds, at most
-// 2^62 - 1, and fetches the files to delete. A [Discarder] does that in goroutines of its own.
+// 2^62 - 1, and fetches the files to delete.
 //
 // A call that is not made returns an error, and nothing has changed:
 //
@@ -23,7 +23,8 @@
 // A coordinator with names ([OpenFenced]) gives out the numbers of files, each once, and refuses tasks of a term that a restore or a cancel has
 // ended. [Coordinator.Garbage] says at any time which files of a storage may be deleted.
 //
-// With the build tag relkvanu_store there is a Store too, a coordinator whose calls are durable: one SQLite file for each job.
+// The package has no durable coordinator: an engine keeps the lines of its calls in a log (examples/go), calls relkvanu_store.h by cgo, or calls the
+// service over HTTP.
 //
 // pkg-config finds the library and its header. docs/RULES.md says what each call does, and when it is refused.
 package relkvanu

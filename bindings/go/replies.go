@@ -105,7 +105,6 @@ type Declined struct {
 type Restored struct {
 	From     Choice
 	Released uint64
-	Term     uint64 // of a Store whose job has names: the term that begins, with which the tasks are started. Otherwise 0
 }
 
 // Taken has the files that were fetched, in their order.

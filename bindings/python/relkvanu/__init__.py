@@ -9,6 +9,7 @@ import importlib
 from typing import TYPE_CHECKING, Any
 
 from relkvanu.errors import Error
+from relkvanu.keys import group_of
 from relkvanu.reads import Chosen, FileCounts, Garbage, Kind, Live, Mode, RunningTerm, Standing
 from relkvanu.replies import Forfeited, Named, Reply, Reserved, Shown, Taken
 # bindings/generate makes the import of replies
@@ -47,7 +48,7 @@ __all__ = [
     "Abandon", "Aligner", "BadArgument", "BadLine", "BadStep", "Chosen", "Closed", "Coordinator", "Cut", "Discarded", "Discarder",
     "Error", "Fenced", "FileCounts", "Forfeited", "Garbage", "Kind", "Live", "Mode", "Named", "OutOfMemory", "OutOfRange", "Outbox",
     "Patience", "Refused", "Reply", "Reserved", "RunningTerm", "Settings", "Shown", "Standing", "Step", "Taken", "TooShort", "Unknown",
-    "calls", "lines", "version",
+    "calls", "group_of", "lines", "version",
 ]
 # bindings/generate makes the names of replies
 __all__ += [

@@ -1,43 +1,27 @@
-"""The bucket of `relkvanu discard`, `relkvanu sweep` and `relkvanu savepoints`, which start this program and decide what is done. A line of its input is
-what to do, a line of its output the answer, both in JSON; it ends with its input. It needs boto3 (Debian's python3-boto3)."""
+"""The buckets of `relkvanu clean`, `savepoints` and `restore`, which start this program and decide what is done. A line of its input is what to do in which
+place, a line of its output the answer with the same number, both in JSON; it ends with its input. What is done in one place keeps no other waiting. It needs
+boto3 (Debian's python3-boto3)."""
 import json
 import signal
 import sys
-from typing import Any, Callable, Dict, Iterator, Optional
+import threading
+from concurrent.futures import ThreadPoolExecutor
+from typing import Any, Callable, Dict, Iterator, Optional, Tuple
 
 from relkvanu.storage import KeepsVersions, Marker, NotThere, OtherJob, StorageError
 
 Request = Dict[str, Any]
+MOST_THREADS = 1000  # as many as who asks has at most
+# what somebody has to look at, as the metrics name it
+LOOK = {NotThere: "no_marker", OtherJob: "other_marker", KeepsVersions: "keeps_versions"}
 
 
-def opened(asked: Request) -> Any:
-    """The bucket. Until its marker is held it may have none."""
-    from relkvanu.s3 import Bucket, client
+class Place:
+    """A bucket. One thread at a time asks for something in it."""
 
-    class Held(Bucket):
-        is_held = False
-
-        def check(self) -> None:
-            if self.is_held:
-                super().check()
-
-    return Held(asked["bucket"], asked["job"], prefix=asked["prefix"], suffix=asked["suffix"], s3=client(asked["endpoint"], asked["region"]),
-                keeps_versions=asked["keeps_versions"], marker=Marker(*asked["marker"]))
-
-
-class Helper:
-    def __init__(self) -> None:
-        self.bucket: Any = None
+    def __init__(self, bucket: Any) -> None:
+        self.bucket = bucket
         self.listing: Iterator[Dict[int, int]] = iter(())
-
-    def open(self, asked: Request) -> Request:
-        try:
-            self.bucket = opened(asked)
-        except ImportError as error:
-            return {"error": f"--bucket needs boto3, python3-boto3 of Debian: {error}"}
-        except ValueError as error:
-            return {"error": f"--endpoint, --region: {error}"}
-        return {}
 
     def beside(self, asked: Request) -> Request:
         return {"names": self.bucket.beside(asked["start"])}
@@ -78,22 +62,71 @@ class Helper:
     def page(self, _: Request) -> Request:
         return {"files": list(next(self.listing, {}).items())}
 
-    def answer(self, line: str) -> Request:
-        asked = json.loads(line)
-        do: Callable[[Request], Request] = getattr(self, asked["do"].replace(" ", "_"))
+
+class Helper:
+    """All places that are open, and a client for each server."""
+
+    def __init__(self) -> None:
+        self._places: Dict[int, Place] = {}
+        self._clients: Dict[Tuple[Optional[str], Optional[str]], Any] = {}
+        self._lock = threading.Lock()  # of these, and of the output
+
+    def _opened(self, asked: Request) -> Place:
+        """The bucket. Until its marker is held it may have none."""
+        from relkvanu.s3 import Bucket, client
+
+        class Held(Bucket):
+            is_held = False
+
+            def check(self) -> None:
+                if self.is_held:
+                    super().check()
+
+        server = (asked["endpoint"], asked["region"])
+        with self._lock:
+            if server not in self._clients:
+                self._clients[server] = client(*server)
+        return Place(Held(asked["bucket"], asked["job"], prefix=asked["prefix"], suffix=asked["suffix"], s3=self._clients[server],
+                          keeps_versions=asked["keeps_versions"], marker=Marker(*asked["marker"])))
+
+    def _open(self, asked: Request) -> Request:
         try:
-            return do(asked)
+            self._places[asked["place"]] = self._opened(asked)
+        except ImportError as error:
+            return {"error": f"a bucket needs boto3, python3-boto3 of Debian: {error}"}
+        except ValueError as error:
+            return {"error": f"endpoint, region: {error}"}
+        return {}
+
+    def _done(self, asked: Request) -> Request:
+        if asked["do"] == "open":
+            return self._open(asked)
+        if asked["do"] == "close":
+            self._places.pop(asked["place"], None)
+            return {}
+        do: Callable[[Request], Request] = getattr(self._places[asked["place"]], asked["do"].replace(" ", "_"))
+        return do(asked)
+
+    def answer(self, line: str) -> None:
+        asked = json.loads(line)
+        try:
+            told = self._done(asked)
         except (NotThere, OtherJob, KeepsVersions) as error:
-            return {"error": str(error), "look": True}
+            told = {"error": str(error), "look": LOOK[type(error)]}
         except StorageError as error:
-            return {"error": str(error)}
+            told = {"error": str(error)}
+        except Exception as error:  # noqa: B902  who asks waits for an answer
+            told = {"error": f"{type(error).__name__}: {error}"}
+        with self._lock:
+            print(json.dumps({"id": asked["id"], **told}), flush=True)
 
 
 def main() -> None:
     signal.signal(signal.SIGINT, signal.SIG_IGN)  # of a terminal: what it was told is done to its end
     helper = Helper()
-    for line in sys.stdin:
-        print(json.dumps(helper.answer(line)), flush=True)
+    with ThreadPoolExecutor(MOST_THREADS) as threads:
+        for line in sys.stdin:
+            threads.submit(helper.answer, line)
 
 
 if __name__ == "__main__":

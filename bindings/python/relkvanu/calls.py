@@ -4,11 +4,9 @@ import enum
 from dataclasses import dataclass
 from typing import Callable, Dict, Optional, Tuple, Union
 
-from relkvanu import header
+from relkvanu import header, lines
 from relkvanu.coordinator import U64, Settings, Unknown, _done, _shared, _text
-from relkvanu.lines import (
-    _line, ack_line, advance_line, configure_line, decline_line, fence_line, forfeit_line, reserve_line, restore_line, settings_of, take_line,
-)
+from relkvanu.lines import _line, settings_of
 
 
 # bindings/generate makes the kinds
@@ -110,8 +108,14 @@ class Trigger:
 # bindings/generate: end
 
 
+class _OfFields:
+    def line(self) -> str:
+        """What the function of relkvanu.lines that has the call's name makes of its fields, in their order."""
+        return str(getattr(lines, f"{type(self).__name__.lower()}_line")(*vars(self).values()))
+
+
 @dataclass(frozen=True)
-class Ack:
+class Ack(_OfFields):
     """The files that a line says are in ascending order."""
 
     now: int
@@ -122,24 +126,18 @@ class Ack:
     reused: Tuple[int, ...] = ()
     term: int = 0
 
-    def line(self) -> str:
-        return ack_line(self.now, self.id, self.vertex, self.index, self.fresh, self.reused, self.term)
-
 
 @dataclass(frozen=True)
-class Decline:
+class Decline(_OfFields):
     now: int
     id: int
     vertex: int
     index: int
     term: int = 0
 
-    def line(self) -> str:
-        return decline_line(self.now, self.id, self.vertex, self.index, self.term)
-
 
 @dataclass(frozen=True)
-class Restore:
+class Restore(_OfFields):
     """From a savepoint, or from the latest record; in a new shape, or in the current one."""
 
     now: int
@@ -147,27 +145,18 @@ class Restore:
     shape: Optional[Tuple[int, ...]] = None
     term: int = 0
 
-    def line(self) -> str:
-        return restore_line(self.now, self.savepoint, self.shape, self.term)
-
 
 @dataclass(frozen=True)
-class Configure:
+class Configure(_OfFields):
     now: int
     settings: Settings
     term: int = 0
 
-    def line(self) -> str:
-        return configure_line(self.now, self.settings, self.term)
-
 
 @dataclass(frozen=True)
-class Take:
+class Take(_OfFields):
     most: int
     term: int = 0
-
-    def line(self) -> str:
-        return take_line(self.most, self.term)
 
 
 @dataclass(frozen=True)
@@ -180,43 +169,31 @@ class Show:
 
 
 @dataclass(frozen=True)
-class Fence:
+class Fence(_OfFields):
     """From here on names are given out, from this one on."""
 
     first_name: int
 
-    def line(self) -> str:
-        return fence_line(self.first_name)
-
 
 @dataclass(frozen=True)
-class Reserve:
+class Reserve(_OfFields):
     term: int
     count: int
 
-    def line(self) -> str:
-        return reserve_line(self.term, self.count)
-
 
 @dataclass(frozen=True)
-class Forfeit:
+class Forfeit(_OfFields):
     term: int
     names: Tuple[int, ...]
 
-    def line(self) -> str:
-        return forfeit_line(self.term, self.names)
-
 
 @dataclass(frozen=True)
-class Advance:
+class Advance(_OfFields):
     """The job begins again in a term above this one, the greatest that any task was told. Names are given out from first_name on."""
 
     now: int
     term: int
     first_name: int
-
-    def line(self) -> str:
-        return advance_line(self.now, self.term, self.first_name)
 
 
 # bindings/generate makes what a call is

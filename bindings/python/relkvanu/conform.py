@@ -30,10 +30,10 @@ RULES = {
     12: "a sink that starts publishes what the restored record has prepared, and gives up all else",
     13: "a sink publishes up to a completed checkpoint, or what the record has that the job was restored to",
     14: "a task holds after its snapshot for the savepoint of a stop",
-    15: "the savepoint of a way back reaches no task",
+    15: "a way back looks for its record's files first, and its savepoint reaches no task",
     16: "write a record's manifest after its commit, and before anybody is told",
     17: "a recovery begins from the newest choice, with numbers, terms and names above all that were told",
-    18: "a log that was lost is refused if it comes back",
+    18: "a log that was lost is refused if it comes back, by a marker that is looked at and written under one lock",
 }
 # Of a job with names these rules are others.
 NAMED_RULES = {
@@ -104,6 +104,8 @@ class Checker:
         self.early: Dict[int, int] = {}  # with names: files that were reported while they were there, and the line
         self.elements = Elements(self.broken, self.came, self.world.running)
         self.recoveries = Recoveries(self.broken, self.world)
+        for verb in ("channel", "reads", "takes", "takes_barrier", "prepares", "publishes", "drops"):
+            setattr(self, f"on_{verb}", getattr(self.elements, verb))
 
     def broken(self, rule: int, what: str, line: Optional[int] = None) -> None:
         self.findings.append(Finding(self.line if line is None else line, rule, what, self.world.has_names))
@@ -117,7 +119,7 @@ class Checker:
         name = "on_" + event.verb.replace(" ", "_")
         method: Callable[[Event], None] = getattr(self, name)
         method(event)
-        if event.verb in ("call", "unlinks", "writes", "storage", "log cut", "process starts", "prepares", "publishes", "drops"):
+        if event.verb in ("call", "unlinks", "writes", "storage", "lacks", "log cut", "process starts", "prepares", "publishes", "drops"):
             self.look()
 
     # The process and its log.
@@ -132,6 +134,9 @@ class Checker:
             raise NoTrace(f"the log can't be replayed: {fault}") from fault
         self.recoveries.process_starts(event.number)
         self.may_sweep = False
+
+    def on_process_looks(self, event: Event) -> None:
+        self.recoveries.looked.add(event.number)
 
     def on_process_ends(self, event: Event) -> None:
         self.world.processes.pop(event.number, None)
@@ -192,9 +197,19 @@ class Checker:
             _, word, *rest = rest
         self.note(reply, sender, rest)
         if isinstance(reply, (RestoredCheckpoint, RestoredSavepoint, RestoredFresh)):
-            self.elements.was_restored(getattr(reply, "id", 0), word == "restore" and rest[1:2] not in ([], ["latest"]))
+            is_chosen = word == "restore" and rest[1:2] not in ([], ["latest"])
+            if is_chosen and isinstance(reply, RestoredSavepoint):
+                self.goes_back(reply.id)
+            self.elements.was_restored(getattr(reply, "id", 0), is_chosen)
         if self.elements.stop:
             self.elements.stopped(self.world.core())
+
+    def goes_back(self, record: int) -> None:
+        """The job is restored to a record by its number. That of a stop is no way back: it was completed just now."""
+        files = dict(live_files(self.world.core(), self.world.running)).get(record, frozenset())
+        for file in sorted(files) if record != self.elements.stop else ():
+            if not self.world.storage.shows(file):
+                self.broken(15, f"the job goes back to record {record}, and file {file} of it is not in the storage")
 
     def note(self, reply: Optional[Reply], sender: Optional[Task], words: List[str]) -> None:
         """What the answer of a call entitles others to."""
@@ -245,46 +260,42 @@ class Checker:
             self.refused[sender] = {int(it[1:]) for it in event.line.split() if it.startswith("+")}
 
     def on_barrier(self, event: Event) -> None:
-        assert event.task is not None
         self.rests_on("record", event.number, f"the barrier of record {event.number} is sent")
-        self.elements.tells_barrier(event.task, event.number)
+        self.elements.tells_barrier(event.who, event.number)
         self.recoveries.acts(f"the barrier of record {event.number} is sent")
         self.recoveries.tells_record(event.number)
 
     def on_answer(self, event: Event) -> None:
-        assert event.task is not None
         if event.word != "refused":
-            self.rests_on("message", event.task, f"{event.task} is told")
-            self.recoveries.acts(f"{event.task} is told")
+            self.rests_on("message", event.who, f"{event.who} is told")
+            self.recoveries.acts(f"{event.who} is told")
         else:
-            self.drop(event.task, f"{event.task} is refused", self.refused.pop(event.task, set()), is_over=False)
-        for key in [it for it in self.under_way if it[0] == event.task]:
+            self.drop(event.who, f"{event.who} is refused", self.refused.pop(event.who, set()), is_over=False)
+        for key in [it for it in self.under_way if it[0] == event.who]:
             self.under_way[key] -= 1
 
     # Tasks.
 
     def on_starts(self, event: Event) -> None:
-        assert event.task is not None
-        subtask = event.task.subtask
+        subtask = event.who.subtask
         if not self.restored_since.get(subtask, True):
-            self.broken(4, f"{event.task} starts without a restore")
+            self.broken(4, f"{event.who} starts without a restore")
         else:
-            self.rests_on("restore", 0, f"{event.task} starts")
+            self.rests_on("restore", 0, f"{event.who} starts")
         self.restored_since[subtask] = False
-        self.world.running[subtask] = event.task
-        self.recoveries.task_starts(event.task)
+        self.world.running[subtask] = event.who
+        self.recoveries.task_starts(event.who)
         self.may_sweep = False
-        self.elements.starts(event.task)
+        self.elements.starts(event.who)
 
     def on_ends(self, _: Event) -> None:
         """It does nothing more. Only what it sent may still arrive."""
 
     def on_begins(self, event: Event) -> None:
-        assert event.task is not None
-        self.record_of[event.task] = event.number
-        for it in self.dropped.get(event.task, ()):
+        self.record_of[event.who] = event.number
+        for it in self.dropped.get(event.who, ()):
             it.is_over = True
-        self.elements.begins(event.task, event.number)
+        self.elements.begins(event.who, event.number)
 
     def on_lists(self, _: Event) -> None:
         """Nothing is judged by it."""
@@ -293,44 +304,21 @@ class Checker:
 
     # Elements, sinks, and what an operator asks for.
 
-    def on_channel(self, event: Event) -> None:
-        self.elements.channel(event)
-
-    def on_reads(self, event: Event) -> None:
-        self.elements.reads(event)
-
-    def on_takes(self, event: Event) -> None:
-        self.elements.takes(event)
-
-    def on_takes_barrier(self, event: Event) -> None:
-        self.elements.takes_barrier(event)
-
-    def on_prepares(self, event: Event) -> None:
-        self.elements.prepares(event)
-
-    def on_publishes(self, event: Event) -> None:
-        self.elements.publishes(event)
-
-    def on_drops(self, event: Event) -> None:
-        self.elements.drops(event)
-
     def on_complete(self, event: Event) -> None:
         self.rests_on("complete", event.number, f"{event.task} is told that record {event.number} is complete")
         self.recoveries.acts(f"{event.task} is told that record {event.number} is complete")
 
-    def on_stop(self, event: Event) -> None:
+    def on_stop_with(self, event: Event) -> None:
         self.elements.stop = event.number
 
     def on_back(self, event: Event) -> None:
         self.elements.backs[event.number] = event.other
 
     def on_gives_up(self, event: Event) -> None:
-        assert event.task is not None
-        self.drop(event.task, f"{event.task} gives up record {event.number}", self.written_by(event.task, event.number))
+        self.drop(event.who, f"{event.who} gives up record {event.number}", self.written_by(event.who, event.number))
 
     def on_sends_decline(self, event: Event) -> None:
-        assert event.task is not None
-        self.drop(event.task, f"{event.task} declines record {event.number}", self.written_by(event.task, event.number))
+        self.drop(event.who, f"{event.who} declines record {event.number}", self.written_by(event.who, event.number))
 
     def on_keeps(self, event: Event) -> None:
         """It will acknowledge the files in a later record."""
@@ -349,34 +337,31 @@ class Checker:
             it.files -= set(files)
 
     def on_writes(self, event: Event) -> None:
-        assert event.task is not None
         (file,) = event.files
         if self.world.storage.is_away:
-            self.broken(10, f"{event.task} writes file {file}, and the storage is away")
+            self.broken(10, f"{event.who} writes file {file}, and the storage is away")
         if self.world.has_names:
-            self.rests_on("name", file, f"{event.task} writes file {file}")
-        if self.writers.setdefault(file, event.task) != event.task:
-            self.broken(7, f"{event.task} writes file {file}, which {self.writers[file]} wrote")
-        self.written_for.setdefault(file, self.record_of.get(event.task))
-        self.clean.discard((event.task, file))
-        self.world.storage.write(event.task, file)
+            self.rests_on("name", file, f"{event.who} writes file {file}")
+        if self.writers.setdefault(file, event.who) != event.who:
+            self.broken(7, f"{event.who} writes file {file}, which {self.writers[file]} wrote")
+        self.written_for.setdefault(file, self.record_of.get(event.who))
+        self.clean.discard((event.who, file))
+        self.world.storage.write(event.who, file)
 
     def on_syncs(self, event: Event) -> None:
-        assert event.task is not None
         (file,) = event.files
-        self.clean.add((event.task, file))
+        self.clean.add((event.who, file))
         self.world.storage.sync(file)
 
     def on_sends_ack(self, event: Event) -> None:
-        assert event.task is not None
-        self.take_up(event.task, event.files)
+        self.take_up(event.who, event.files)
         for file in event.files:
-            if (event.task, file) not in self.clean:
-                self.broken(2, f"{event.task} acknowledges file {file}, which it has not synced")
-            first = self.named.setdefault(file, (event.task, event.number))
-            if first != (event.task, event.number) and not self.world.has_names:  # else its name is spent, and the message is refused
-                self.broken(7, f"{event.task} names file {file} as fresh in record {event.number}, and %s named it in record %d" % first)
-            self.under_way[event.task, file] = self.under_way.get((event.task, file), 0) + 1
+            if (event.who, file) not in self.clean:
+                self.broken(2, f"{event.who} acknowledges file {file}, which it has not synced")
+            first = self.named.setdefault(file, (event.who, event.number))
+            if first != (event.who, event.number) and not self.world.has_names:  # else its name is spent, and the message is refused
+                self.broken(7, f"{event.who} names file {file} as fresh in record {event.number}, and %s named it in record %d" % first)
+            self.under_way[event.who, file] = self.under_way.get((event.who, file), 0) + 1
 
     # Deletions, and the storage.
 
@@ -418,6 +403,9 @@ class Checker:
         else:
             self.world.storage.is_away = event.word == "away"
 
+    def on_lacks(self, event: Event) -> None:
+        self.world.storage.lack(event.files)
+
     def reported(self, file: int) -> None:
         storage = self.world.storage
         if self.world.has_names:  # a file that is there or comes back is garbage, and a sweep may find it yet
@@ -439,9 +427,9 @@ class Checker:
         """Files that are lost, and records that mix tasks."""
         if self.world.processes.get(self.world.newest) is None:
             return
-        storage = self.world.storage
+        storage, chosen = self.world.storage, self.recoveries.choice()
         for record, files in live_files(self.world.core(), self.world.running):
-            for file in sorted(files):
+            for file in sorted(files if record == chosen else files - storage.lacking):
                 if file not in storage.shown or file not in storage.kept:
                     self.came(f"file {file} is lost: record {record} uses it")
                 elif storage.shown[file] != self.world.accepted.get(file):

@@ -9,7 +9,10 @@ from dataclasses import dataclass
 from typing import TYPE_CHECKING, Any, Callable, Dict, Iterator, NoReturn, Optional, Sequence, Tuple, TypeVar, Union
 
 from relkvanu import header
-from relkvanu.errors import Error as Error  # also under this name
+from relkvanu.errors import (  # also under these names
+    BadArgument as BadArgument, BadLine as BadLine, Closed as Closed, Error as Error, Fenced as Fenced, OutOfMemory as OutOfMemory,
+    OutOfRange as OutOfRange, Refused as Refused, TooShort as TooShort, check_restore,
+)
 from relkvanu.reads import CHOSEN, LIVE, Chosen, FileCounts, Garbage, Live, Mode, RunningTerm, Standing
 from relkvanu.replies import MADE, HeldAtOnce, Reply, Shown, Taken
 
@@ -60,77 +63,6 @@ NAMES: Dict[int, Dict[int, str]] = {
 # bindings/generate: end
 
 
-class Refused(Error):
-    """The coordinator refused the call, and nothing has changed. `name` says why, such as "NotRunning". `file` is the
-    file that is to blame, if there is one."""
-
-    def __init__(self, name: str, file: Optional[int]) -> None:
-        super().__init__(name, file)  # with these it is made again where it is copied or unpickled
-        self.name = name
-        self.file = file
-        self.about = ""  # of a call of a Store: its record, subtask and term, and both terms
-
-    def __str__(self) -> str:
-        text = self.name if self.file is None else f"{self.name} {self.file}"
-        return f"{text} ({self.about})" if self.about else text
-
-
-class Fenced(Error):
-    """The term or the names refuse the call, and nothing has changed. `name` says why, such as "OldTerm". `file` is the file that is to
-    blame, if there is one: after "Spent" and "NeverReserved". After "Spent" a task deletes no file: an accepted acknowledgement
-    may have named it."""
-
-    def __init__(self, name: str, file: Optional[int]) -> None:
-        super().__init__(name, file)
-        self.name = name
-        self.file = file
-        self.about = ""  # of a call of a Store: its record, subtask and term, and both terms
-
-    def __str__(self) -> str:
-        text = self.name if self.file is None else f"{self.name} {self.file}"
-        return f"{text} ({self.about})" if self.about else text
-
-
-class BadArgument(Error, ValueError):
-    """A value is outside its limits, and nothing has changed. `name` says which, such as "BadShape"."""
-
-    def __init__(self, name: str) -> None:
-        super().__init__(name)
-        self.name = name
-
-
-class BadLine(Error, ValueError):
-    """A line of a script can't be read, or the line of a call would be too long. Nothing has changed. `name` is the fault,
-    such as "Missing". "NoCall" says that the line was read and makes no call."""
-
-    def __init__(self, name: str) -> None:
-        super().__init__(name)
-        self.name = name
-
-
-class TooShort(Error, ValueError):
-    """A take line would fetch `places` files, more than it may. Nothing has changed."""
-
-    def __init__(self, places: int) -> None:
-        super().__init__(places)
-        self.places = places
-
-    def __str__(self) -> str:
-        return f"the line would fetch {self.places} files"
-
-
-class OutOfRange(Error, OverflowError):
-    """A number does not fit into the bits that the call has for it. Nothing has changed."""
-
-
-class OutOfMemory(Error, MemoryError):
-    """Memory ran out, and nothing has changed: make the same call again."""
-
-
-class Closed(Error):
-    """The coordinator was closed."""
-
-
 class Unknown(Error):
     """The library gave an answer that this package does not know, so it is of another version. After this exception alone the call may
     have been made, if `code` is 0."""
@@ -170,28 +102,26 @@ def _check_version(library: ctypes.CDLL, path: str) -> None:
         )
 
 
-def _loaded() -> ctypes.CDLL:
+def _loaded(file: str, functions: Dict[str, Any], of: str, told: str, check: Callable[[ctypes.CDLL, str], None]) -> ctypes.CDLL:
     """The library in the folder that RELKVANU_LIB names, else the one beside the package, else that of the system. Raises ImportError if
-    there is none, if it lacks a function, or if it is of another version."""
+    there is none, if it lacks a function, or if the check does."""
     folder = os.environ.get("RELKVANU_LIB")
-    beside = pathlib.Path(__file__).resolve().parent / LIBRARY
-    if folder is not None:
-        path = os.path.join(folder, LIBRARY)
-    else:
-        path = str(beside) if beside.is_file() else LIBRARY
+    beside = pathlib.Path(__file__).resolve().parent / file
+    path = os.path.join(folder, file) if folder is not None else str(beside) if beside.is_file() else file
     try:
-        library = ctypes.CDLL(path)
-        _check_version(library, path)
-        for name, (result, parameters) in header.FUNCTIONS.items():
+        library = ctypes.CDLL(path, use_errno=True)  # which releases the interpreter's lock in each call
+        check(library, path)
+        for name, (result, parameters) in functions.items():
             function = getattr(library, name)
             function.argtypes, function.restype = parameters, result
     except (OSError, AttributeError) as fault:
-        told = "run make and set RELKVANU_LIB to its folder `build`, or install a release (docs/EMBEDDING.md)"
-        raise ImportError(f"the library of Relkvanu {header.VERSION} can't be loaded: {fault}; {told}", name="relkvanu", path=path) from None
+        raise ImportError(told % fault, name=of, path=path) from None
     return library
 
 
-_library = _loaded()
+_library = _loaded(LIBRARY, header.FUNCTIONS, "relkvanu", (
+    f"the library of Relkvanu {header.VERSION} can't be loaded: %s; run make and set RELKVANU_LIB to its folder `build`, or install a release (docs/EMBEDDING.md)"
+), _check_version)
 
 
 def _shared() -> ctypes.CDLL:
@@ -329,24 +259,24 @@ class Coordinator:
 
     @classmethod
     def open_saved(cls, image: Union[str, bytes]) -> "Coordinator":
-        """Opens the coordinator that an image describes, which save() returned (docs/IMAGE.md). It answers every list of calls as
+        """Opens the coordinator that an image describes, which save() returned (docs/LOGS.md). It answers every list of calls as
         the saved one would. Raises BadArgument if the text is not an image, or if the state is not sound, or no coordinator could be opened so."""
         text = image.encode() if isinstance(image, str) else image
-        opened = cls.__new__(cls)
-        opened._begin()
-        _done(opened._call("open_saved", _text(text), len(text), *_keys()))
-        return opened
+        return cls._opened("open_saved", _text(text), len(text))
 
     @classmethod
     def open_fenced(cls, settings: Settings, shape: Sequence[int], now: int, first: int, first_name: int) -> "Coordinator":
         """Opens a coordinator with names, in term 1. The first name that it gives out is `first_name`: all numbers of files that were
         used before are below it. ack() and decline() raise Fenced then: its tasks call ack_in() and decline_in(). Raises BadArgument
         for the settings first, then for the shape, the first name, the moment and the first number."""
-        values = _settings(settings)
+        return cls._opened(
+            "open_fenced", ctypes.byref(_settings(settings)), _words(shape), len(shape), _u64(now), _u64(first), _u64(first_name))
+
+    @classmethod
+    def _opened(cls, name: str, *words: Any) -> "Coordinator":
         opened = cls.__new__(cls)
         opened._begin()
-        numbers = _u64(now), _u64(first), _u64(first_name)
-        _done(opened._call("open_fenced", ctypes.byref(values), _words(shape), len(shape), *numbers, *_keys()))
+        _done(opened._call(name, *words, *_keys()))
         return opened
 
     def _begin(self) -> None:
@@ -524,10 +454,7 @@ class Coordinator:
     def restore(self, now: int, savepoint: Optional[int] = None, shape: Optional[Sequence[int]] = None) -> Reply:
         """Restores the job from a savepoint, or from the latest record if none is given. `shape` may give a new shape. An
         empty or bad shape is a BadArgument, before any refusal."""
-        if savepoint == 0:
-            raise BadArgument("no savepoint has the number 0")
-        if shape is not None and len(shape) == 0:
-            raise BadArgument("BadShape")
+        check_restore(savepoint, shape)
         return self._timed("restore", now, _u64(savepoint or 0), _words(shape or ()), len(shape or ()))
 
     def configure(self, now: int, settings: Settings) -> Reply:
@@ -547,7 +474,7 @@ class Coordinator:
         return Shown(_written(lambda text, length: self._call("show", _u64(id), text, length)))
 
     def save(self) -> str:
-        """The image of the coordinator, as JSON (docs/IMAGE.md): all of its state."""
+        """The image of the coordinator, as JSON (docs/LOGS.md): all of its state."""
         return _written(lambda text, length: self._call("save", text, length))
 
     def count(self, file: int) -> Reply:
@@ -579,13 +506,11 @@ class Coordinator:
 
     def moment(self) -> int:
         """The greatest moment that the coordinator has seen. It takes an earlier one for this one."""
-        seen: int = _done(self._call("moment")).a
-        return seen
+        return int(_done(self._call("moment")).a)
 
     def due(self) -> int:
         """The moment before which no tick triggers a checkpoint. Calls move it."""
-        moment: int = _done(self._call("due")).a
-        return moment
+        return int(_done(self._call("due")).a)
 
     def next_tick(self, ticked: Optional[Reply]) -> Optional[int]:
         """The moment of the next tick after a tick with this reply (None: it raised), unless another call comes first: when a

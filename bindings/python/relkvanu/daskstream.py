@@ -17,9 +17,9 @@ import streamz.core
 import streamz.dask
 from distributed import Client, Future, default_client
 
-from relkvanu import outputs as published
 from relkvanu.graphs import STATELESS, GraphError, by_name, nodes_of, stateful_here
 from relkvanu.jobs import Stopped, Superseded
+from relkvanu.outputs import Sink
 from relkvanu.parts import (
     Failed, Nothing, Part, PartError, Place, State, dumps_value, fold_all, loads_state, part_of, pickled, result_of, split, take_step, value_of,
 )
@@ -204,7 +204,7 @@ class Checkpoints(Resumable):
     """
 
     def __init__(self, sources: Any, storage: Union[Path, Place], coordinator: Coordinator, *, client: Optional[Client] = None, create: bool = False,
-                 every: float = 10, outputs: Sequence[published.Output] = (), patience: float = 300, watch: Optional[Watch] = None,
+                 every: float = 10, outputs: Sequence[Sink] = (), patience: float = 300, watch: Optional[Watch] = None,
                  begin_from: Optional[Place] = None, begin: bool = False) -> None:
         """Recovers the job whose coordinator is this file, on a disk of this machine, or this job of the service (relkvanu_service.Job), or makes one
         if `create` says so. `storage` has the states:
@@ -288,15 +288,19 @@ class Checkpoints(Resumable):
         times = [time.monotonic()]
         self._flight.landed(self._patience)
         times.append(time.monotonic())
-        packed = {name: published.pack(it) for name, it in self._outputs.items()}
-        saved = self._records.save((self.position, packed, self._origin), {name: [self._written(it.state)] for name, it in self._nodes.items()})
+        saved = self._records.save(self._meta, {name: [self._written(it.state)] for name, it in self._nodes.items()})
         times.append(time.monotonic())
-        self._publish(self._records.identity, saved.id, packed)
+        for it in self._outputs.values():
+            it.complete(saved.id, at_once=True)
         times.append(time.monotonic())
         self.saved, self._due = saved, times[-1] + self._every
         LOG.info("record %d: %d parts, %d bytes; waited %.3f s for elements, wrote for %.3f s, published for %.3f s",
                  saved.id, saved.written, saved.size, *(after - before for before, after in zip(times, times[1:])))
         return saved
+
+    def _meta(self, id: int) -> Any:
+        """What a record has beside the states."""
+        return self.position, {name: it.cut(id) for name, it in self._outputs.items()}, self._origin
 
     def restore(self) -> Any:
         """Puts the states of the last checkpoint back, and tells the outputs of it again. What outputs had for a later one is given up. Returns the
@@ -335,6 +339,8 @@ class Checkpoints(Resumable):
         origin = origin_of(self._begin_from)
         self._go_back(origin.record, origin.identity, self._begin_from)
         self._origin = origin.identity
+        for output in self._outputs.values():
+            output.begin(self._records.identity)
         self._taken()
 
     def _go_back(self, record: Optional[Record], job: str, place: Optional[Place] = None) -> None:
@@ -344,12 +350,9 @@ class Checkpoints(Resumable):
 
     def _tell(self, record: Optional[Record], job: str) -> None:
         """The outputs have this record, which is the last one, and nothing after it."""
-        for output in self._outputs.values():
-            output.rows = []
-        self.position, self._origin = None, None
-        if record is not None:
-            self.position, packed, self._origin = record.meta
-            self._publish(job, record.id, packed)
+        self.position, packed, self._origin = (None, {}, None) if record is None else record.meta
+        for name, output in self._outputs.items():  # one that is new has nothing in this record
+            output.begin(job, packed.get(name))
 
     def state(self, name: str) -> Any:
         """The state of a node, in the driver's memory."""
@@ -382,12 +385,6 @@ class Checkpoints(Resumable):
     def _check_names(self, record: Record) -> None:
         if record.parts.keys() != self._nodes.keys():
             raise GraphError(f"checkpoint {record.id} has the states of {sorted(record.parts)}, and the graph has {sorted(self._nodes)}")
-
-    def _publish(self, job: str, record: int, packed: Dict[str, bytes]) -> None:
-        """An output that is new, or that is no more, has nothing in this record."""
-        for name, output in self._outputs.items():
-            if name in packed:
-                published.publish(output, job, record, packed[name])
 
     # The event loop.
 

@@ -1,4 +1,4 @@
-"""What graphs of streamz have to be, so that a checkpoint is one moment (relkvanu.streamz, relkvanu.daskstream). It needs no library."""
+"""What graphs of streamz have to be, so that a checkpoint is one moment (relkvanu.daskstream). It needs no library."""
 from typing import Any, Dict, List, Sequence
 
 import streamz

@@ -150,6 +150,9 @@ STEP_UNKNOWN_INPUT = 8
 STEP_HELD_INPUT = 9
 STEP_ENDED_INPUT = 10
 STEP_BAD_INPUTS = 11
+STEP_RECORD = 12
+STEP_SNAP = 13
+STEP_COMPLETE = 14
 MOST_INPUTS = 4096
 ANSWER_TEXT = 128
 
@@ -216,12 +219,20 @@ class relkvanu_group(Structure):
         ("waiting", c_uint64),
         ("told", c_uint64),
         ("has_failed", c_bool),
+        ("given", c_uint64),
     ]
 
 
 class relkvanu_aligner(Structure):
     _fields_ = [
         ("latest", c_uint64),
+    ]
+
+
+class relkvanu_recorder(Structure):
+    _fields_ = [
+        ("latest", c_uint64),
+        ("phase", c_uint32),
     ]
 
 
@@ -322,4 +333,10 @@ FUNCTIONS: Dict[str, Tuple[Any, List[Any]]] = {
     "relkvanu_align_barrier": (relkvanu_step, [POINTER(relkvanu_aligner), POINTER(c_uint8), c_size_t, c_uint32, c_uint64]),
     "relkvanu_align_end": (relkvanu_step, [POINTER(relkvanu_aligner), POINTER(c_uint8), c_size_t, c_uint32]),
     "relkvanu_align_give_up": (relkvanu_step, [POINTER(relkvanu_aligner), POINTER(c_uint8), c_size_t, c_uint64]),
+    "relkvanu_unaligned_open": (relkvanu_step, [POINTER(relkvanu_recorder), POINTER(c_uint8), c_size_t]),
+    "relkvanu_unaligned_element": (relkvanu_step, [POINTER(relkvanu_recorder), POINTER(c_uint8), c_size_t, c_uint32]),
+    "relkvanu_unaligned_barrier": (relkvanu_step, [POINTER(relkvanu_recorder), POINTER(c_uint8), c_size_t, c_uint32, c_uint64]),
+    "relkvanu_unaligned_end": (relkvanu_step, [POINTER(relkvanu_recorder), POINTER(c_uint8), c_size_t, c_uint32]),
+    "relkvanu_unaligned_give_up": (relkvanu_step, [POINTER(relkvanu_recorder), POINTER(c_uint8), c_size_t, c_uint64]),
+    "relkvanu_unaligned_overtake": (relkvanu_step, [POINTER(relkvanu_recorder), POINTER(c_uint8), c_size_t, c_uint64]),
 }

@@ -5,19 +5,26 @@ from dataclasses import dataclass
 from typing import Any, Deque, List, Optional, Tuple, Union
 
 from relkvanu.aligner import Abandon, Aligner, BadStep, Cut, Step
+from relkvanu.errors import Error
 from relkvanu.reads import Chosen, Kind
 
 
 @dataclass(frozen=True)
 class Barrier:
     """A barrier of the record `id`. Files of `base` may be reused in it: what has changed since `base` is in fresh files. If it `holds`, the job is being
-    stopped: a task waits after its acknowledgement until it is ended, or until Engine.go_on()."""
+    stopped: a task waits after its acknowledgement until it is ended, or until Engine.go_on(). If it `drains` too, nothing follows: before its cut a task puts
+    out what it keeps, such as windows."""
 
     id: int
     kind: Kind
     base: Optional[Chosen]
     term: int
     holds: bool
+    drains: bool = False
+
+
+class InputsClosed(Error):
+    """The inputs were closed: the task ends."""
 
 
 class _End:
@@ -28,7 +35,7 @@ class Inputs:
     """The inputs of a task, from 0, each a channel of at most `room` items: elements, barriers and the end. Threads put them, and the task takes them. What
     comes behind a barrier stays on its input until the barrier has come on each one, as an Aligner says, or until its record is given up. An input that has
     ended counts as one on which each barrier has come. Make it anew when tasks start, and end again the inputs that had ended: no record says so.
-    Nothing closes it: who waits in put() or end() waits until the task takes, and who waits in take() until something comes or each input has ended."""
+    Who waits in put() or end() waits until the task takes, and who waits in take() until something comes or each input has ended; close() ends that."""
 
     def __init__(self, inputs: int, room: int = 100) -> None:
         """So many inputs, 1 to MOST_INPUTS, otherwise it raises BadArgument("BadInputs"). An input has room for one item at least."""
@@ -37,16 +44,18 @@ class Inputs:
         self._ended = [False] * inputs  # whether the end of each was put
         self._left = list(range(inputs))  # those whose end was not taken
         self._barrier: Optional[Barrier] = None  # the last one that came, of the record that is being aligned
+        self._is_closed = False
         lock = threading.Lock()
         self._free = self._asked()
         self._filled, self._emptied = threading.Condition(lock), threading.Condition(lock)
 
     def put(self, input: int, item: Any) -> None:
-        """Puts an element, which is no Barrier, or a barrier. Waits while the input is full. Raises IndexError if there is no such input, and
+        """Puts an element, which is no Barrier, or a barrier. Waits while the input is full. Raises IndexError if there is no such input, InputsClosed, and
         BadStep("EndedInput") behind its end."""
         channel = self._channels[input]
         with self._emptied:
-            self._emptied.wait_for(lambda: len(channel) < self._room)
+            self._emptied.wait_for(lambda: len(channel) < self._room or self._is_closed)
+            self._check_open()
             if self._ended[input]:
                 raise BadStep("EndedInput")
             self._ended[input] = isinstance(item, _End)
@@ -58,6 +67,20 @@ class Inputs:
         """Nothing more comes on this input. Waits while it is full, and raises as put(). If the others have delivered a barrier, take() returns that barrier once
         it has come to the end."""
         self.put(input, _End())
+
+    def close(self) -> None:
+        """The tasks end, as in an engine's end(): put(), end() and take() raise InputsClosed from now on, also where they wait. What was put and not taken is
+        given up. Any thread may call it, and it waits for none."""
+        with self._filled:
+            self._is_closed = True
+            for channel in self._channels:
+                channel.clear()
+            for it in (self._filled, self._emptied):
+                it.notify_all()
+
+    def _check_open(self) -> None:
+        if self._is_closed:
+            raise InputsClosed("the inputs were closed")
 
     def give_up(self, id: int) -> bool:
         """The coordinator or the task gives this record up, as in an engine's aborted(). True: it was being aligned. What its barriers held comes next, each input
@@ -73,11 +96,14 @@ class Inputs:
 
     def take(self) -> Tuple[int, Any]:
         """Waits for an element, and returns it with its input. Or it returns a Barrier that has come on each input that has not ended, with the input that was
-        the last: the task takes its snapshot now, sends the barrier on, and acknowledges. Raises BadStep("EndedInput") once each input has ended, and all was
-        taken; and BadStep("TwoOrders") if barriers come in another order on another input."""
+        the last: the task takes its snapshot now, sends the barrier on, and acknowledges. Raises InputsClosed; BadStep("EndedInput") once each input has ended,
+        and all was taken; and BadStep("TwoOrders") if barriers come in another order on another input."""
         with self._filled:
+            self._check_open()
             while self._left:
-                [self._last] = self._filled.wait_for(self._open)
+                found: Any = self._filled.wait_for(lambda: self._is_closed or self._open())
+                self._check_open()
+                [self._last] = found
                 item = self._channels[self._last].popleft()
                 if len(self._channels[self._last]) == self._room - 1:
                     self._emptied.notify_all()

@@ -1,213 +1,376 @@
-"""The coordinator of a job's records in the service (relkvanu_service): any machine may run the driver, and one at a time does. Whoever begins the job
-ends the term of the driver before, whose calls are refused from then on."""
+"""A job of the service (relkvanu_service.Job) as a relkvanu.jobs.Job: any machine may run its engine, and one at a time does. Whoever restores the job ends the
+term of the tasks before, whose calls are refused from then on. It needs no library."""
+import collections
 import contextlib
 import importlib
+import itertools
 import threading
-from typing import Any, Dict, Iterator, List, Optional, Sequence, Tuple
+from typing import Any, Callable, Container, Deque, Dict, Iterator, List, Optional, Sequence, Tuple
 
-from relkvanu.errors import Error
-from relkvanu.jobs import LONGEST, MOST_DELETED, SUBTASKS, TOLERABLE, Ack, Delete, Held, PendingRecord, Stopped, Superseded, lists_of
-from relkvanu.parts import Failed, Place, digest_of
-from relkvanu.reads import Garbage
-from relkvanu.storage import NotThere
-from relkvanu.sweep import of_service
+from relkvanu import header
+from relkvanu.errors import Error, Fenced, OutOfMemory, Refused
+from relkvanu.jobs import Call, JobPhase, Made, Opening, Outcome, Phase, StopFailed, StoreError, Superseded, lists_of, made_of
+from relkvanu.nexts import Next, NextBarrier, NextCancelled, NextEnded, NextFailed, NextIdle, NextStopped
+from relkvanu.reads import Chosen, FileCounts, Garbage, Kind, Live, Mode, RunningTerm
+from relkvanu.replies import (
+    AckCompleted, AckLate, AckPending, Cancelled, DeclineAborted, DeclineFailed, DeclineLate, Deleted, Disposed, Forfeited, Reply, Reserved,
+    RestoredCheckpoint, RestoredFresh, RestoredSavepoint, SavepointTriggered, Taken, Triggered, Undeleted,
+)
+from relkvanu.service_manifests import identity_of
+from relkvanu.storage import Marker
+from relkvanu.whole import Ending, Part, Past, Whole
 
 service: Any = importlib.import_module("relkvanu_service")
 LOST = importlib.import_module("requests").RequestException
-SETTINGS = {"interval": LONGEST, "timeout": LONGEST, "tolerable": TOLERABLE}  # the driver says when a record is due
 IDLE = 60.0  # seconds until the discarder looks again, if no record ends meanwhile
-MOST_CALLS = 1000  # in a request
+MOST_CALLS, MOST_FORFEITED = 1000, 4096  # of a request, and of a call
+RESERVED = 1000  # names that are reserved at once
+Answer = Dict[str, Any]
 
 
 @contextlib.contextmanager
-def _answers() -> Iterator[None]:
+def answers() -> Iterator[None]:
     """What the client raises, as this package says it."""
     try:
         yield
     except service.OtherLog as error:
         raise Superseded(f"a backup of the service was restored: {error}") from error
-    except service.OldTerm as error:
-        raise Superseded("another driver has begun the job, or somebody has restored or cancelled it") from error
-    except (service.Failed, service.Refused, service.Fenced) as error:
-        raise Failed(f"the service answers {error}") from error
+    except service.Refused as refused:
+        raise Refused(refused.name, refused.file) from refused
+    except service.Fenced as fenced:
+        raise Fenced(fenced.name, fenced.file) from fenced
+    except service.Failed as error:
+        if error.status == 507:
+            raise OutOfMemory from error
+        raise StoreError("Absent" if error.status == 404 else "NotDone", f"the service answers {error}", False) from error
     except LOST as error:
-        raise Failed(f"the service does not answer: {error}") from error
+        raise StoreError("NotDone", f"the service does not answer: {error}", False) from error
 
 
-def place_with_marker(job: Any, place: Place, create: bool) -> Place:
-    """The place as the job of the service has it: its marker says when the job was opened. A new job's place gets it."""
-    with _answers():
-        if create:
-            job.open(SETTINGS, [SUBTASKS], names=True)
-        state = job.state()
-        found = place._replace(marker=(str(job.marker()[0]), str(job.marker()[1])))
-    is_new = state["choice"]["kind"] == "fresh" and not any(state["files"][it] for it in ("in_use", "waiting", "taken"))
-    try:
-        found.open()
-    except NotThere:
-        if not (create and is_new):
-            raise
-        found.open(is_new=True)
-    return found
+def _body(call: Call) -> Answer:
+    """A call as the service takes it."""
+    subtask, term = f"{call.vertex}.{call.index}", call.term or None
+    bodies: Dict[int, Callable[[], Any]] = {
+        header.CALL_ACK: lambda: service.ack(  # with a figure the record keeps the order of the files
+            call.number, subtask, call.first, call.second, term=term, payload=call.payload or None, size=call.figures[0], millis=call.figures[1]),
+        header.CALL_DECLINE: lambda: service.decline(call.number, subtask, term, call.reason or None),
+        header.CALL_RESERVE: lambda: service.reserve(call.term, call.number),
+        header.CALL_FORFEIT: lambda: service.forfeit(call.term, call.first),
+        header.CALL_RESTORE: lambda: service.restore(call.number or "latest", list(call.first) or None),
+        header.CALL_SAVEPOINT: service.savepoint,
+        header.CALL_TRIGGER: service.trigger,
+        header.CALL_CANCEL: service.cancel,
+        header.CALL_DISPOSE: lambda: service.dispose(call.number),
+        header.CALL_DELETED: lambda: service.deleted(call.number),
+        header.CALL_UNDELETED: lambda: service.undeleted(call.number),
+        header.CALL_TAKE: lambda: service.take(call.number),
+    }
+    body: Answer = bodies[call.kind]()
+    return body
+
+
+REPLIES: Dict[Tuple[str, str], Callable[[Answer], Reply]] = {
+    ("ack", "pending"): lambda it: AckPending(it["missing"]),
+    ("ack", "completed"): lambda it: AckCompleted(it["dropped"], it["released"]),
+    ("ack", "late"): lambda it: AckLate(it.get("handed_out", 0)),
+    ("decline", "aborted"): lambda it: DeclineAborted(it.get("released", 0)),
+    ("decline", "failed"): lambda it: DeclineFailed(it.get("released", 0)),
+    ("decline", "late"): lambda it: DeclineLate(),
+    ("tick", "triggered"): lambda it: Triggered(it["expired"], it["id"]),
+    ("savepoint", "triggered"): lambda it: SavepointTriggered(it["id"]),
+    ("restore", "checkpoint"): lambda it: RestoredCheckpoint(it["id"], it["released"]),
+    ("restore", "savepoint"): lambda it: RestoredSavepoint(it["id"], it["released"]),
+    ("restore", "fresh"): lambda it: RestoredFresh(it["released"]),
+    ("cancel", "cancelled"): lambda it: Cancelled(it["dropped"], it["released"]),
+    ("dispose", "disposed"): lambda it: Disposed(it["released"]),
+}
+OTHERS: Dict[str, Callable[[Answer], Reply]] = {  # whose answers have a number there
+    "first": lambda it: Reserved(int(it["first"]), it["count"]),
+    "files": lambda it: Taken(tuple(map(int, it["files"]))),
+    "deleted": lambda it: Deleted(int(it["deleted"])),
+    "undeleted": lambda it: Undeleted(int(it["undeleted"])),
+}
+
+
+def _reply(answer: Answer) -> Reply:
+    named = [make for (word, what), make in REPLIES.items() if answer.get(word) == what]
+    others = [make for word, make in OTHERS.items() if word in answer]
+    return next(iter([*named, *others]), lambda _: Forfeited())(answer)
+
+
+def _outcome(answer: Answer) -> Outcome:
+    file = None if answer.get("file") is None else int(answer["file"])
+    if "refused" in answer:
+        return Refused(answer["refused"], file)
+    if "fenced" in answer:
+        return Fenced(answer["fenced"], file)
+    if answer.get("no_memory"):
+        return OutOfMemory()
+    kind = Kind(answer["kind"]) if answer.get("kind") in ("checkpoint", "savepoint") else None
+    return Made(_reply(answer), answer.get("seq", 0), None, answer.get("term", 0), kind, tuple(answer.get("ended", ())))
+
+
+def _chosen(choice: Optional[Answer]) -> Optional[Chosen]:
+    return Chosen(choice["id"], Kind(choice["kind"])) if choice is not None and "id" in choice else None
+
+
+def _part(subtask: str, told: Answer) -> Part:
+    vertex, index = map(int, subtask.split("."))
+    return Part(vertex, index, tuple(told["files"]), told["payload"], told["bytes"], told["millis"])
+
+
+def _past(told: Answer) -> Past:
+    endings = {"completed": Ending.COMPLETED, "declined": Ending.DECLINED, "expired": Ending.EXPIRED}
+    figures = {name: told[name] or 0 for name in ("acks", "first", "median", "p99", "slowest", "bytes", "millis")}
+    return Past(told["id"], Kind(told["kind"]), endings.get(told["how"], Ending.DROPPED), told["triggered"], told["ended"], reason=told["reason"] or "", **figures)
 
 
 class ServiceJob:
-    """A relkvanu.jobs.Job, of a relkvanu_service.Job."""
+    """A relkvanu.jobs.Job, of a relkvanu_service.Job that is open. Requests are made again for the patience of its client, under the same key."""
 
-    def __init__(self, job: Any, place: Place) -> None:
-        assert place.marker is not None
-        self._job = job
-        self.identity = digest_of(place.marker[1].encode())
-        self.is_whole = False
+    tells_savepoints = True
+
+    def __init__(self, job: Any) -> None:
+        self._job, self.name = job, str(job.name)
+        with answers():
+            self._marker = Marker(*job.marker())
+        self.identity = identity_of(self._marker.text.encode())
+        self._follower: Any = None  # of the events since this process has begun the job
+        self._events: Deque[Answer] = collections.deque()
+        self._awaits = False  # somebody takes them
+        self._lock = threading.Lock()  # of the names
+        self._names = range(0)  # that are reserved, of this term
         self._term = 0
-        self._follower: Any = None  # of the events since this driver has begun the job
-        self._savepoint: Optional[int] = None  # that the job has begun from
         self._ends, self._due = threading.Event(), threading.Event()
 
-    def begin(self, begins: bool = False) -> Optional[Held]:
-        self._begin_stopped(begins)
-        with _answers():
-            start = self._job.begin()
-        self._term, self._follower = start.term, start.follower
-        self._savepoint = start.id if start.kind == "savepoint" else None
-        self._dispose_of_old(start.id)
-        self._due.set()
-        return None if start.id is None else Held(start.id, [start.files.get(f"0.{it}", ()) for it in range(SUBTASKS)])
+    def storage_marker(self) -> Marker:
+        return self._marker
 
-    def _begin_stopped(self, begins: bool) -> None:
-        """Begins a job that has stopped, if it is to. Somebody else may do so meanwhile."""
-        with _answers():
-            state = self._job.state()
-            if state.get("phase") != "stopped":
-                return
-            if not begins:
-                raise self._stopped(state)
+    def opening(self) -> Opening:
+        return Opening.CANCELLED if self.mode() is Mode.CANCELLED else Opening.OLD
+
+    # What is committed.
+
+    def state(self) -> Answer:
+        with answers():
+            state: Answer = self._job.state()
+        return state
+
+    def term(self) -> RunningTerm:
+        with answers():
+            told = self._job.term()
+        return RunningTerm(told["term"], told["next_name"])
+
+    def phase(self) -> JobPhase:
+        state = self.state()
+        stop = state.get("stop") or {"savepoint": None, "failed": None}
+        failed = StopFailed[stop["failed"].upper()] if stop["failed"] else None
+        return JobPhase(Phase[state["phase"].upper()], stop["savepoint"], 0, failed)
+
+    def mode(self) -> Mode:
+        return Mode[self.state()["mode"].upper()]
+
+    def choice(self) -> Optional[Chosen]:
+        return _chosen(self.state()["choice"])
+
+    def live(self) -> List[Live]:
+        """Raises Superseded if a backup of the service was restored since this process has begun the job."""
+        if self._follower is not None:
+            with answers():
+                told = self._follower.next(0)
+            self._events.extend(told if self._awaits else ())
+        return [Live(it["id"], Kind(it["kind"]), it["done"]) for it in self.state()["live"]]
+
+    def shape(self) -> Tuple[int, ...]:
+        return tuple(self.state()["shape"])
+
+    def missing(self, id: int) -> List[Tuple[int, int]]:
+        with answers():
+            told = self._job.record(id)
+        missing = told["missing"] or (told["history"] or {}).get("missing", [])
+        return [(int(vertex), int(index)) for vertex, index in (it.split(".") for it in missing)]
+
+    def file_counts(self) -> FileCounts:
+        files = self.state()["files"]
+        return FileCounts(files["in_use"], files["waiting"], files["taken"])
+
+    def load(self, id: Optional[int] = None) -> Optional[Whole]:
+        """A restore by somebody else may end the record meanwhile: then there is another choice."""
+        choice = self.choice() if id is None else None
+        while id is not None or choice is not None:
             try:
-                self._job.begin_job()
-            except service.Refused as refusal:
-                if refusal.name != "NotStopped":
+                return self._loaded(choice.id if choice is not None else id)
+            except StoreError as why:
+                before, choice = choice, self.choice() if id is None else None
+                if why.name != "Absent" or id is not None or before == choice:
                     raise
+        return None
 
-    def _stopped(self, state: Dict[str, Any]) -> Stopped:
-        return Stopped(state["stop"]["savepoint"], f", or run `relkvanu begin {self._job.name}` before")
+    def _loaded(self, id: Optional[int]) -> Whole:
+        with answers():
+            told = self._job.load(id)
+        parts = sorted((_part(*it) for it in told["subtasks"].items()), key=lambda it: (it.vertex, it.index))
+        return Whole(told["id"], Kind(told["kind"]), tuple(told["shape"]), tuple(parts), self._term)
 
-    def _dispose_of_old(self, choice: Optional[int]) -> None:
-        """Savepoints of stops before the last record, where the service was killed after that was complete."""
-        with _answers():
-            live = self._job.state()["live"]
-        self._calls([service.dispose(it["id"]) for it in live if it["kind"] == "savepoint" and it["done"] and it["id"] != choice])
-
-    def held(self) -> Optional[Held]:
-        with _answers():
-            choice = self._job.state()["choice"]
-            if "id" not in choice:
-                return None
-            found = self._job.record(choice["id"])["live"]
-        if found is None:
-            raise Failed("another record is the last one")
-        files = {it["subtask"]: [int(file) for file in it["files"]] for it in found["acks"]}
-        return Held(choice["id"], [files.get(f"0.{it}", ()) for it in range(SUBTASKS)])
-
-    def reserve(self, count: int) -> Sequence[int]:
-        with _answers():
-            told = self._job.call(service.reserve(self._term, count))
-        return range(int(told["first"]), int(told["first"]) + told["count"])
-
-    def trigger(self, last: int, stops: bool = False) -> PendingRecord:
-        """A checkpoint that somebody else has triggered, as a driver that should have ended, is this one, and so is the savepoint with which somebody
-        stops the job. The service does not look at the term here, but in complete()."""
-        asked = self._asked(stops)
-        with _answers():
-            self._follower.next(wait=0)  # raises OtherLog if the service has lost them
-            state = self._job.state()
-        if state["choice"].get("id", 0) != last:
-            raise Failed("another record is the last one")
-        stop = state["stop"]["savepoint"] if state.get("phase") == "stopping" else None
-        pending = [it for it in state["live"] if not it["done"]]
-        savepoints = [it["id"] for it in pending if it["kind"] == "savepoint" and it["id"] != stop]
-        self._calls([service.decline(it, "0.0", term=self._term) for it in savepoints])  # its outputs could not be taken back
-        found: List[int] = [it["id"] for it in pending if it["kind"] == "checkpoint" and asked in (None, it["id"])]
-        if stop is not None:
-            return PendingRecord(stop, True)
-        if stops or not found:
-            raise Failed("the record that was triggered has ended")
-        return PendingRecord(found[0], False)
-
-    def _asked(self, stops: bool) -> Optional[int]:
-        """Asks for a record. Its number, or None if it is the one that somebody else has asked for, or the savepoint of a stop."""
-        with _answers():
-            try:
-                told: Optional[int] = (self._job.stop_job() if stops else self._job.checkpoint())["id"]
-            except service.Refused as refusal:
-                if refusal.name == "Stopped":
-                    raise self._stopped(self._job.state()) from refusal
-                if refusal.name not in ("AtOnce", "Stopping"):
-                    raise
-                return None
-        return told
-
-    def complete(self, id: int, acks: Sequence[Ack], spare: Sequence[int]) -> None:
-        calls = [service.forfeit(self._term, some) for some in lists_of(spare)]
-        calls += [service.ack(id, f"0.{index}", it.fresh, it.reused, term=self._term) for index, it in enumerate(acks)]
-        after = [] if self._savepoint is None else [service.dispose(self._savepoint)]
-        told = self._calls([*calls, *after])[len(calls) - 1]
-        if told.get("ack") != "completed":
-            raise Failed(f"record {id} was not completed: {told}")
-        self._savepoint = None
-        self._due.set()
-
-    def give_up(self, id: Optional[int], names: Sequence[int]) -> None:
-        calls = [service.forfeit(self._term, some) for some in lists_of(names)]
-        self._calls(calls if id is None else [*calls, service.decline(id, "0.0", term=self._term)])
+    def history(self, most: int = 100) -> List[Past]:
+        """The service may be a moment behind."""
+        with answers():
+            return [_past(it) for it in self._job.history(most)]
 
     def garbage(self, files: Sequence[int]) -> Garbage:
-        with _answers():
-            return of_service(self._job)(files)
+        with answers():
+            garbage, unissued = self._job.garbage(files)
+        return Garbage(tuple(garbage), tuple(unissued))
 
-    def counts(self) -> Tuple[int, int]:
-        with _answers():
-            files = self._job.state()["files"]
-        return files["in_use"], files["waiting"] + files["taken"]
+    # Calls.
 
-    def take(self) -> Sequence[int]:
-        with _answers():
-            found: List[int] = self._job.take(MOST_DELETED)
+    def calls(self, calls: Sequence[Call]) -> List[Outcome]:
+        """More than a thousand are made in several requests."""
+        with answers():
+            told = [self._job.made([_body(it) for it in some]) for some in lists_of(calls, MOST_CALLS)]
+        outcomes = [_outcome(answer) for some in told for answer in some["answers"]]
+        if any(isinstance(it, Made) and it.ended for it in outcomes):
+            self._due.set()  # files may be released
+        return outcomes
+
+    def call(self, call: Call) -> Made:
+        [outcome] = self.calls([call])
+        return made_of(outcome)
+
+    def _verb(self, verb: Callable[[], Answer], *names: str) -> Made:
+        """A refusal with one of these names says that somebody else was faster."""
+        try:
+            with answers():
+                return made_of(_outcome(verb()))
+        except Refused as refused:
+            if refused.name in names:
+                raise StoreError("NotNow", refused.name, False) from refused
+            raise
+
+    def restore(self, savepoint: Optional[int] = None, shape: Optional[Sequence[int]] = None) -> Made:
+        """It also reserves names, in the same commit: by that another process that still follows the job sees that this one has tasks."""
+        names = Call.reserve(self.term().term + 1, RESERVED)
+        with answers():
+            told = self._job.made([_body(Call.restore(savepoint, shape)), _body(names)])
+            made, reserved = made_of(_outcome(told["answers"][0])), _outcome(told["answers"][1])
+            self._follower = self._job.follower(made.place, told.get("log"))
+        self._events.clear()
+        with self._lock:
+            self._term, self._names = made.term, made_of_reserved(reserved) if isinstance(reserved, Made) else range(0)
+        if not self._names:  # somebody has restored it since the term was read
+            with contextlib.suppress(Fenced):  # and since then, which the events tell
+                self._reserve(1)
+        self._due.set()
+        return made
+
+    def begin_job(self) -> Made:
+        return self._verb(self._job.begin_job, "NotStopped")
+
+    def stop_job(self) -> Made:
+        return self._verb(self._job.stop_job, "Stopping", "Stopped")
+
+    def trigger(self) -> Made:
+        return self._verb(self._job.checkpoint)
+
+    def savepoint(self) -> Made:
+        return self.call(Call.savepoint())
+
+    def cancel(self) -> Made:
+        return self.call(Call.cancel())
+
+    def reserve(self, term: int, count: int) -> range:
+        with self._lock:
+            if term != self._term:
+                return made_of_reserved(self.call(Call.reserve(term, count)))
+            if len(self._names) < count:
+                self._reserve(count)
+            names, self._names = self._names[:count], self._names[count:]
+            return names
+
+    def _reserve(self, count: int) -> None:
+        self._names = made_of_reserved(self.call(Call.reserve(self._term, max(count, RESERVED))))
+
+    def forfeit(self, term: int, names: Sequence[int]) -> None:
+        for outcome in self.calls([Call.forfeit(term, some) for some in lists_of(names, MOST_FORFEITED)]):
+            made_of(outcome)
+
+    # What happens.
+
+    def await_next(self, longest: int = 1000) -> Next:
+        """Waits for a second at least, if nothing happens: the service counts them so."""
+        self._awaits = True
+        if self._ends.is_set():
+            return NextEnded()
+        if self._follower is None:  # stopped when it was found, or begun by nobody here
+            self._ends.wait(longest / 1000)
+            return NextStopped() if self.phase().phase is Phase.STOPPED else NextFailed()
+        if not self._events:
+            with answers():
+                self._events.extend(self._follower.next(max(1, longest // 1000)))
+        return self._next_of(self._events.popleft()) if self._events else NextIdle()
+
+    def _next_of(self, event: Answer) -> Next:
+        ended, word = tuple(event["ended"]), event["event"]
+        if ended or word == "completed":
+            self._due.set()
+        if word == "triggered":
+            return NextBarrier(event["id"], Kind(event["kind"]), _chosen(event.get("base")), ended)
+        if word in ("restored", "missed"):
+            return self._begun(event)
+        return NextFailed(ended) if word == "failed" else NextCancelled(ended) if word == "cancelled" else NextIdle(ended)
+
+    def _begun(self, event: Answer) -> Next:
+        """Somebody has restored the job: an operator, or its stop is complete. Raises Superseded if it was another engine: that has reserved names. Where calls
+        were missed, names behind the last event may be this one's own."""
+        self._events.clear()
+        if self.phase().phase is Phase.STOPPED:
+            return NextStopped(tuple(event["ended"]))
+        if self.mode() is Mode.CANCELLED:
+            return NextCancelled(tuple(event["ended"]))
+        with answers():
+            behind = list(itertools.islice(self._job.log(event["seq"]), MOST_CALLS))
+        if event["event"] == "restored" and any(it["line"].startswith("reserve ") for it in behind):
+            raise Superseded("another process has begun the job")
+        return NextFailed(tuple(event["ended"]))
+
+    def discard_lists(self, delete: Callable[[List[int]], Container[int]], batch: int = 1000) -> None:
+        is_first = True
+        while not self._ends.is_set():
+            with contextlib.suppress(Error, OSError):  # the caller's next call raises what lasts
+                self._discard_some(delete, self._left() if is_first or not self._due.is_set() else [], batch)
+                is_first = False
+            if not self._ends.is_set():  # stop() may have come before clear()
+                self._due.wait(IDLE)
+
+    def _discard_some(self, delete: Callable[[List[int]], Container[int]], files: List[int], batch: int) -> None:
+        self._due.clear()
+        while files := files or self._taken(batch):
+            failed = delete(files)
+            kinds = ((header.CALL_UNDELETED if it in failed else header.CALL_DELETED, it) for it in files)
+            self.calls([Call(kind, number=it) for kind, it in kinds])  # a report is refused if another process has made it
+            if any(it in failed for it in files):
+                return
+            files = []
+
+    def _taken(self, most: int) -> List[int]:
+        with answers():
+            found: List[int] = self._job.take(most)
         return found
 
     def _left(self) -> List[int]:
-        """What a driver had taken and not reported when it was killed. A file may be deleted twice."""
-        with _answers():
-            return [int(it["file"]) for it in self._job.files(MOST_DELETED)["taken"]]
-
-    def report(self, files: Sequence[int], failed: Dict[int, str]) -> None:
-        """A report is refused if another driver has made it."""
-        self._calls([{"call": "undeleted" if it in failed else "deleted", "file": str(it)} for it in files])
-
-    def discard(self, delete: Delete) -> None:
-        while not self._ends.is_set():
-            with contextlib.suppress(Error, OSError):
-                files: Sequence[int] = [] if self._due.is_set() else self._left()
-                self._due.clear()
-                while files := files or self.take():
-                    failed = delete(list(files))
-                    self.report(files, failed)
-                    files = []
-                    if failed:
-                        break
-            if not self._ends.is_set():  # stop() may have come before clear()
-                self._due.wait(IDLE)
+        """What a process had taken and not reported when it was killed. A file may be deleted twice."""
+        with answers():
+            return [int(it["file"]) for it in self._job.files(1000)["taken"]]
 
     def stop(self) -> None:
         self._ends.set()
         self._due.set()
 
     def close(self) -> None:
-        """The service goes on with the job, and has its files."""
+        """The service goes on with the job."""
+        self.stop()
 
-    def _calls(self, calls: Sequence[Dict[str, Any]]) -> List[Dict[str, Any]]:
-        """The answers of calls, of which none is refused for its term."""
-        with _answers():
-            answers: List[Dict[str, Any]] = [answer for some in lists_of(calls, MOST_CALLS) for answer in self._job.calls(some)]
-        if any(it.get("fenced") == "OldTerm" for it in answers):
-            raise Superseded("another driver has begun the job, or somebody has restored or cancelled it")
-        return answers
+
+def made_of_reserved(made: Made) -> range:
+    assert isinstance(made.reply, Reserved), made
+    return made.reply.names

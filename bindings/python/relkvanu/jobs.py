@@ -1,24 +1,28 @@
-"""What records (relkvanu.records) need of the coordinator of their job. relkvanu.job_in_file has it in a file of the driver's machine, and
-relkvanu.job_of_service in the service: then the driver's machine may be lost, and the driver needs no library."""
-from typing import Callable, Dict, List, NamedTuple, Optional, Protocol, Sequence, Tuple, TypeVar
+"""The coordinator of a job, as the runner and Dask ask it: its calls as values, what they answer, and a protocol. A relkvanu.store.Store is such a Job, and
+relkvanu.job_of_service makes one of a job of the service. It needs no library."""
+import dataclasses
+import enum
+from dataclasses import dataclass, field
+from typing import TYPE_CHECKING, Callable, Container, List, Optional, Protocol, Sequence, Tuple, TypeVar, Union
 
-from relkvanu.errors import Error
-from relkvanu.reads import Garbage
+from relkvanu import header
+from relkvanu.errors import Error, check_restore
+from relkvanu.nexts import Next
+from relkvanu.reads import Chosen, FileCounts, Garbage, Kind, Live, Mode, RunningTerm
+from relkvanu.replies import Reply
+from relkvanu.storage import Marker
+from relkvanu.whole import Past, Whole
 
-SUBTASKS = 16  # the first one names the list of the record, and each other one at most MOST_FILES parts
-MOST_FILES = 4096
-MOST_FORFEITED = 4096  # names that one call gives up
-MOST_DELETED = 1000  # files in one request
-LONGEST = 1 << 40  # milliseconds
-TOLERABLE = 1000  # failed records in a row; after more a restore goes on, too
+if TYPE_CHECKING:  # these need the library
+    from relkvanu.coordinator import Settings
 
+LONGEST = 1 << 40  # milliseconds, of an interval
 T = TypeVar("T")
-Delete = Callable[[List[int]], Dict[int, str]]  # returns those that may be there still
 
 
 class Superseded(Error):
-    """This driver has lost its job: another driver has begun it, somebody has restored or cancelled it, or a backup of the service was restored. The
-    driver ends. What it does from here on has no effect on the job."""
+    """This process has lost its job: another one has begun it, or a backup of the service was restored. The process ends. What it does from here on has no
+    effect on the job."""
 
 
 class Stopped(Error):
@@ -30,75 +34,257 @@ class Stopped(Error):
         self.savepoint = savepoint
 
 
-class Held(NamedTuple):
-    """A complete record, and the files of each subtask."""
-
-    id: int
-    files: List[Sequence[int]]
+def subtasks_of(shape: Sequence[int]) -> List[Tuple[int, int]]:
+    """The vertex and the index of each."""
+    return [(vertex, index) for vertex, count in enumerate(shape) for index in range(count)]
 
 
-class PendingRecord(NamedTuple):
-    """A record that is pending. With `stops` it is the savepoint of a stop: once it is complete the job has stopped, in the same commit."""
-
-    id: int
-    stops: bool
-
-
-class Ack(NamedTuple):
-    """What a subtask acknowledges: files under names of this term that are new, and files of the last record."""
-
-    fresh: Sequence[int]
-    reused: Sequence[int] = ()
-
-
-def lists_of(items: Sequence[T], most: int = MOST_FORFEITED) -> List[Sequence[T]]:
+def lists_of(items: Sequence[T], most: int) -> List[Sequence[T]]:
     """The same in lists of at most so many."""
     return [items[begin:begin + most] for begin in range(0, len(items), most)]
 
 
+class StoreError(Error):
+    """A store was not opened, or a call was not made. `name` says why, such as "InUse", and `message` says where. If `closes` is true, a
+    commit failed: the store is closed, and its calls may or may not be in the log. Nobody may act on them. Open the store again, or end
+    the process. `errno` is what the system has said, if it has: after "NotPut" and "NotDone", and of an opening."""
+
+    def __init__(self, name: str, message: str, closes: bool, errno: int = 0) -> None:
+        super().__init__(name, message, closes)
+        self.name = name
+        self.message = message
+        self.closes = closes
+        self.errno = errno
+
+    def __str__(self) -> str:
+        return f"{self.name}: {self.message}" if self.message else self.name
+
+
+class Step(enum.Enum):
+    """What an engine has to do after an opening, in the order of the report."""
+
+    END_TASKS = 1  # tell the earlier tasks to end, and wait for none
+    RESTORE = 2  # call restore(): its reply says where the job begins again
+    SWEEP = 3  # call sweep(), or delete the files of the storage that garbage() says are garbage
+    START_TASKS = 4  # start tasks, a timer (await_tick) and a discarder (discard)
+    DISCARD = 5  # start a discarder alone: the job is cancelled, or stopped
+
+
+class Phase(enum.Enum):
+    """The phase of a job."""
+
+    RUNNING = 0  # the job runs, has failed or was cancelled: its mode says which
+    STOPPING = 1  # the savepoint of its stop is pending
+    STOPPED = 2  # that savepoint is done, and the job goes on from it when it begins
+
+
+class StopFailed(enum.Enum):
+    """Why a stop has failed."""
+
+    EXPIRED = 1  # its savepoint was not done within the timeout
+    DECLINED = 2  # a task has declined it
+    RESTORED = 3  # the job was restored before, as after a crash
+    CANCELLED = 4  # the job was cancelled, before it was stopped or afterwards
+    FAILED = 5  # the job has failed
+
+
+@dataclass(frozen=True)
+class JobPhase:
+    """The phase of a job, with the savepoint of its stop, and in STOPPED the term that began then. In RUNNING
+    stop_failed says why the last stop has failed, until the next one."""
+
+    phase: Phase
+    savepoint: Optional[int] = None
+    term: int = 0
+    stop_failed: Optional[StopFailed] = None
+
+
+@dataclass(frozen=True)
+class Call:
+    """A call of a list. Without a moment it has that of the store's clock. The term is that of its task."""
+
+    kind: int
+    now: Optional[int] = None
+    number: int = 0
+    vertex: int = 0
+    index: int = 0
+    first: Sequence[int] = ()
+    second: Sequence[int] = ()
+    term: int = 0
+    payload: bytes = b""  # of an acknowledgement, with its bytes and ms
+    figures: Tuple[int, int] = (0, 0)
+    reason: str = ""  # of a decline
+
+    # bindings/generate makes the calls of one number
+    @classmethod
+    def tick(cls, now: Optional[int] = None) -> "Call":
+        return cls(header.CALL_TICK, now)
+
+    @classmethod
+    def savepoint(cls, now: Optional[int] = None) -> "Call":
+        return cls(header.CALL_SAVEPOINT, now)
+
+    @classmethod
+    def dispose(cls, id: int) -> "Call":
+        return cls(header.CALL_DISPOSE, number=id)
+
+    @classmethod
+    def cancel(cls, now: Optional[int] = None) -> "Call":
+        return cls(header.CALL_CANCEL, now)
+
+    @classmethod
+    def deleted(cls, file: int) -> "Call":
+        return cls(header.CALL_DELETED, number=file)
+
+    @classmethod
+    def undeleted(cls, file: int) -> "Call":
+        return cls(header.CALL_UNDELETED, number=file)
+
+    @classmethod
+    def trigger(cls, now: Optional[int] = None) -> "Call":
+        return cls(header.CALL_TRIGGER, now)
+    # bindings/generate: end
+
+    @classmethod
+    def ack(
+        cls, id: int, vertex: int, index: int, fresh: Sequence[int] = (), reused: Sequence[int] = (), now: Optional[int] = None, term: int = 0,
+        payload: bytes = b"", figures: Tuple[int, int] = (0, 0),
+    ) -> "Call":
+        """The figures are the bytes of the task's snapshot, and the ms that it took."""
+        return cls(header.CALL_ACK, now, id, vertex, index, fresh, reused, term, payload, figures)
+
+    @classmethod
+    def decline(cls, id: int, vertex: int, index: int, now: Optional[int] = None, term: int = 0, reason: str = "") -> "Call":
+        return cls(header.CALL_DECLINE, now, id, vertex, index, term=term, reason=reason)
+
+    @classmethod
+    def reserve(cls, term: int, count: int) -> "Call":
+        return cls(header.CALL_RESERVE, 0, count, term=term)
+
+    @classmethod
+    def forfeit(cls, term: int, names: Sequence[int]) -> "Call":
+        return cls(header.CALL_FORFEIT, 0, first=names, term=term)
+
+    @classmethod
+    def configure(cls, settings: "Settings", now: Optional[int] = None) -> "Call":
+        """For a list of calls. Store.configure() says which value is outside its limits."""
+        return cls(header.CALL_CONFIGURE, now, first=[int(it) for it in dataclasses.astuple(settings)])
+
+    @classmethod
+    def advance(cls, term: int, first_name: int, now: Optional[int] = None) -> "Call":
+        return cls(header.CALL_ADVANCE, now, first_name, term=term)
+
+    @classmethod
+    def restore(cls, savepoint: Optional[int] = None, shape: Optional[Sequence[int]] = None, now: Optional[int] = None) -> "Call":
+        check_restore(savepoint, shape)
+        return cls(header.CALL_RESTORE, now, savepoint or 0, first=shape or ())
+
+    @classmethod
+    def take(cls, most: int) -> "Call":
+        return cls(header.CALL_TAKE, number=most)
+
+
+@dataclass(frozen=True)
+class Made:
+    """A call that was made and committed: its reply, its place in the log (0 if it changed nothing), and after a trigger the record that its
+    barrier names beside it. After a restore, cancel or advance: the term that begins. Tasks are started with it. `kind` is that of the record that was
+    triggered, acknowledged, declined, disposed of or restored (None: it had ended before), and `ended` are the numbers of records that the call has ended."""
+
+    reply: Reply
+    place: int
+    choice: Optional[Chosen]
+    term: int = 0
+    kind: Optional[Kind] = field(default=None, compare=False)
+    ended: Tuple[int, ...] = field(default=(), compare=False)
+
+
+Outcome = Union[Made, Error]
+
+
+def made_of(outcome: Outcome) -> Made:
+    """The call, if it was made."""
+    if isinstance(outcome, Error):
+        raise outcome
+    return outcome
+
+
+class Opening(enum.Enum):
+    """How a job was found."""
+
+    NEW = 1  # its tasks begin fresh, in the term that runs
+    OLD = 2  # restore() says where it begins
+    BEGUN = 3  # somebody has begun it since: await_next() hands that over
+    CANCELLED = 4
+
+
 class Job(Protocol):
-    """The coordinator. One thread at a time may call, but take(), report(), garbage() and discard() may run beside others."""
+    """The coordinator of a job: a Store, or a job of the service. The calls raise Refused, Fenced and OutOfMemory, and StoreError if it is not known that they
+    were made; Superseded if this process has lost the job. Threads may share it."""
 
-    identity: str  # of 32 hexadecimal digits, which no other job has
-    is_whole: bool  # no record and no task was before
+    @property
+    def identity(self) -> str:
+        """32 hexadecimal digits, which no other job has."""
 
-    def begin(self, begins: bool = False) -> Optional[Held]:
-        """Begins a new term, and returns the last complete record. Records that are pending end. A job that has stopped begins if `begins` says so,
-        and otherwise Stopped is raised."""
+    def storage_marker(self) -> Marker:
+        """What a storage has as its marker that the runner opens."""
 
-    def held(self) -> Optional[Held]:
-        """The last complete record, of a job that goes on as it is."""
+    def opening(self) -> Opening: ...
 
-    def reserve(self, count: int) -> Sequence[int]:
-        """Names for files that no file ever had."""
+    def term(self) -> RunningTerm: ...
 
-    def trigger(self, last: int, stops: bool = False) -> PendingRecord:
-        """Begins a record after the one that this process knows as the last, 0 for none. It is the savepoint of a stop if `stops` says so, or if
-        somebody else stops the job."""
+    def phase(self) -> JobPhase: ...
 
-    def complete(self, id: int, acks: Sequence[Ack], spare: Sequence[int]) -> None:
-        """Gives names up, and acknowledges for all subtasks. When it returns, the record is complete. The savepoint that the job has begun from is
-        disposed of with it: otherwise its files would stay, and a job has at most 1000 savepoints."""
+    def mode(self) -> Mode: ...
 
-    def give_up(self, id: Optional[int], names: Sequence[int]) -> None:
-        """Declines a record, and gives its names up. If this raises, begin() does so too."""
+    def choice(self) -> Optional[Chosen]:
+        """The record from which a restore would begin."""
 
-    def garbage(self, files: Sequence[int]) -> Garbage:
-        """Which of the files nobody will ever use."""
+    def live(self) -> List[Live]:
+        """The records that are pending or done, by their numbers."""
 
-    def counts(self) -> Tuple[int, int]:
-        """How many files are in use, and how many wait for deletion."""
+    def shape(self) -> Tuple[int, ...]: ...
 
-    def take(self) -> Sequence[int]:
-        """Files that are to be deleted, at most MOST_DELETED."""
+    def missing(self, id: int) -> List[Tuple[int, int]]:
+        """The subtasks that a pending record lacks."""
 
-    def report(self, files: Sequence[int], failed: Dict[int, str]) -> None:
-        """Of files that were taken: those that may be there still, and that the others are gone."""
+    def file_counts(self) -> FileCounts: ...
 
-    def discard(self, delete: Delete) -> None:
-        """Deletes what is released, until stop()."""
+    def load(self, id: Optional[int] = None) -> Optional[Whole]: ...
+
+    def restore(self, savepoint: Optional[int] = None, shape: Optional[Sequence[int]] = None) -> Made: ...
+
+    def begin_job(self) -> Made: ...
+
+    def stop_job(self) -> Made: ...
+
+    def trigger(self) -> Made: ...
+
+    def savepoint(self) -> Made: ...
+
+    def cancel(self) -> Made: ...
+
+    def calls(self, calls: Sequence[Call]) -> List[Outcome]:
+        """Makes calls with no other in between, in as few commits as may be."""
+
+    def call(self, call: Call) -> Made: ...
+
+    def reserve(self, term: int, count: int) -> range: ...
+
+    def forfeit(self, term: int, names: Sequence[int]) -> None: ...
+
+    def garbage(self, files: Sequence[int]) -> Garbage: ...
+
+    def history(self, most: int = 100) -> List[Past]: ...
+
+    def await_next(self, longest: int = 1000) -> Next:
+        """Hands over each record that is triggered and each restore, but this process's savepoint() and restore() if `tells_savepoints` is false."""
+
+    @property
+    def tells_savepoints(self) -> bool: ...
+
+    def discard_lists(self, delete: Callable[[List[int]], Container[int]], batch: int = 1000) -> None: ...
 
     def stop(self) -> None:
-        """Ends discard()."""
+        """Ends await_next() and discard_lists()."""
 
     def close(self) -> None: ...

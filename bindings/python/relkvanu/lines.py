@@ -1,10 +1,12 @@
 """Lines of a script (docs/SCRIPT.md): a log of calls, which the library writes and reads. Coordinator.line makes the call of one."""
 import ctypes
+import dataclasses
 from dataclasses import dataclass
 from typing import Optional, Sequence, Tuple, Union
 
 from relkvanu import header
-from relkvanu.coordinator import U64, BadArgument, Settings, Unknown, _done, _settings, _shared, _text, _u64, _within, _words, _written
+from relkvanu.coordinator import U64, Settings, Unknown, _done, _settings, _shared, _text, _u64, _within, _words, _written
+from relkvanu.errors import check_restore
 
 
 @dataclass(frozen=True)
@@ -71,13 +73,6 @@ def settings_of(numbers: Sequence[int]) -> Settings:
     return Settings(interval, pause, at_once, timeout, tolerable, retained, bool(keep))
 
 
-def _numbers(settings: Settings) -> Tuple[int, ...]:
-    return (
-        settings.interval, settings.pause, settings.at_once, settings.timeout, settings.tolerable, settings.retained,
-        int(settings.keep_on_cancel),
-    )
-
-
 def opening_lines(settings: Settings, shape: Sequence[int], now: int) -> str:
     """The lines config, job and start of a coordinator whose first record has the number 1, each with its newline. Raises
     BadArgument."""
@@ -138,15 +133,12 @@ def decline_line(now: int, id: int, vertex: int, index: int, term: int = 0) -> s
 
 
 def restore_line(now: int, savepoint: Optional[int] = None, shape: Optional[Sequence[int]] = None, term: int = 0) -> str:
-    if savepoint == 0:
-        raise BadArgument("no savepoint has the number 0")
-    if shape is not None and len(shape) == 0:
-        raise BadArgument("BadShape")
+    check_restore(savepoint, shape)
     return _line(header.CALL_RESTORE, now, savepoint or 0, first=shape or (), term=term)
 
 
 def configure_line(now: int, settings: Settings, term: int = 0) -> str:
-    return _line(header.CALL_CONFIGURE, now, first=_numbers(settings), term=term)
+    return _line(header.CALL_CONFIGURE, now, first=[int(it) for it in dataclasses.astuple(settings)], term=term)
 
 
 def take_line(most: int, term: int = 0) -> str:

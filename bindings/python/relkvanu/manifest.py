@@ -1,4 +1,4 @@
-"""The text of a manifest, as docs/DURABLE-RECOVERY.md (The format) has it: one of a job of the service, or one that is made anew for another job. It needs
+"""The text of a manifest, as docs/RECOVERY.md (The format) has it: one of a job of the service, or one that is made anew for another job. It needs
 no library. Those of a durable coordinator are written by the library, which also says which ones are whole (relkvanu.store.Store.records)."""
 import contextlib
 import functools
@@ -38,6 +38,13 @@ def of_job(manifest: bytes, job: str) -> bytes:
     return sealed(found)
 
 
+def mark_of(manifest: bytes, place: str) -> bytes:
+    """The mark of a record that was claimed for this place. It has no files."""
+    found = json.loads(manifest)
+    del found["sum"], found["subtasks"]
+    return sealed({**found, "claimed": place})
+
+
 def members(text: bytes) -> Dict[str, Any]:
     """Nothing if the text is damaged: the library says so of it."""
     with contextlib.suppress(ValueError):
@@ -75,15 +82,16 @@ def files_in(manifest: bytes) -> Dict[int, Optional[int]]:
 
 
 class Sums:
-    """The checksums of a job's files, as the manifests of its records have them. The number of a file is given out once, so each file is read once, or not at
-    all."""
+    """The checksums and the lengths of a job's files, as the manifests of its records have them. The number of a file is given out once, so each file is
+    read once, or not at all, and its length is never taken anew."""
 
     def __init__(self, place: Any, *, reads: bool) -> None:
         self._place, self._reads = place, reads
         self._known: Dict[int, Dict[int, int]] = {}  # of each record
+        self._lengths: Dict[int, Dict[int, Optional[int]]] = {}
 
     def note(self, record: int, manifest: bytes) -> None:
-        self._known[record] = sums_in(manifest)
+        self._known[record], self._lengths[record] = sums_in(manifest), files_in(manifest)
 
     def note_all(self) -> None:
         """What the place has from before."""
@@ -95,10 +103,16 @@ class Sums:
     def drop(self, record: int) -> None:
         """It has ended."""
         self._known.pop(record, None)
+        self._lengths.pop(record, None)
 
     def keep(self, records: Container[int]) -> None:
         """The others have ended."""
         self._known = {record: it for record, it in self._known.items() if record in records}
+        self._lengths = {record: it for record, it in self._lengths.items() if record in records}
+
+    def length(self, file: int) -> Optional[int]:
+        """What a manifest says of it."""
+        return next((it[file] for it in self._lengths.values() if it.get(file) is not None), None)
 
     def of(self, file: int) -> Optional[int]:
         """Raises Gone if it is read, and is not there."""

@@ -1,32 +1,28 @@
-"""python3 -m relkvanu.manifests show|recover|export|import ..: what relkvanu-store does with manifests, where a place is s3://BUCKET/PREFIX. It calls this
-then. Its functions are for engines. Without a bucket, use those of relkvanu.store.Store.
+"""Manifests of a durable job, whose place may be s3://BUCKET/PREFIX. These functions are for engines too. Without a bucket, use those of relkvanu.store.Store.
 
 What is carried into a bucket has an object .relkvanu-part there until it is whole: so a command that was killed goes on when it is given again.
 """
-import argparse
 import concurrent.futures
 import contextlib
 import dataclasses
 import fcntl
 import functools
-import importlib
 import json
 import os
 import pathlib
 import posixpath
 import secrets
 import shutil
-import sys
 import tempfile
 import time
-from typing import Any, Dict, Iterator, List, Optional
+from typing import Any, Dict, Iterator, List, NamedTuple, Optional
 
-from relkvanu.errors import Error
-from relkvanu.manifest import PIECE, files_in, members, name_of, of_job, sum_of, sums_in
-from relkvanu.places import MARKER, PLAIN, Gone, InBucket, InFolder, Owner, Path, Place, give, gone_if_absent, make_file, place, sync
+from relkvanu.manifest import PIECE, files_in, mark_of, members, name_of, of_job, record_of, sum_of, sums_in
+from relkvanu.places import MARKER, PLAIN, Gone, InBucket, InFolder, Owner, Path, Place, give, gone_if_absent, make_file, sync
 from relkvanu.store import Carried, Record, Recovered, Store, StoreError
 
 PART = ".relkvanu-part"
+CLAIMED = ".claimed"  # behind the name of a manifest: the mark that stays where a claim has taken the record
 OPENINGS = 1024  # that a marker may lack, as in relkvanu_store_recover
 TRIES = 100  # a record may end while it is carried
 THREADS = 16  # requests at once
@@ -34,14 +30,14 @@ THREADS = 16  # requests at once
 
 @contextlib.contextmanager
 def listed(source: Place) -> Iterator[pathlib.Path]:
-    """A folder that the library reads in place of a bucket: with the marker, the manifests, and for each file that they name, and that is there, one of its
+    """A folder that the library reads in place of a bucket: with the marker, the manifests, the marks, and for each file that they name, and that is there, one of its
     length, which is a hole."""
     if isinstance(source, InFolder) and (source.form, source.at) == (PLAIN, ""):
         yield source.path
         return
     with tempfile.TemporaryDirectory(prefix="relkvanu-") as name:
         folder, owner, wanted = pathlib.Path(name), source.owner(), set()
-        for it in source.names():
+        for it in [*source.names(), *source.names(CLAIMED)]:
             text = source.read(it)
             if text is not None:
                 (folder / posixpath.basename(it)).write_bytes(text)
@@ -55,12 +51,26 @@ def listed(source: Place) -> Iterator[pathlib.Path]:
         yield folder
 
 
+def claims_in(source: Place) -> Dict[int, str]:
+    """The records that were claimed, each with the place that it was claimed for."""
+    found = {record_of(it[:-len(CLAIMED)]): source.read(it) for it in source.names(CLAIMED)}
+    return {record: str(members(text).get("claimed", "another place")) for record, text in found.items() if text is not None}
+
+
+def claimed(source: Place, record: int, place: str) -> StoreError:
+    return StoreError("Absent", f"{source.url}: record {record} was claimed for {place}: repeat that command or start its job, or give the number of an "
+                                "earlier record", False)
+
+
 def chosen(source: Place, folder: pathlib.Path, record: int) -> Record:
-    """The record that a recovery begins from, or the one with this number."""
+    """The record that a recovery begins from, or the one with this number. Without a number none is earlier than one that was claimed."""
     for it in Store.records(folder):
         is_whole = it.damage is None and it.is_of_job and it.missing == 0
         if is_whole and (it.id == record if record else it.is_next):
             return it
+    claims = claims_in(source)
+    if claims and (not record or record in claims):
+        raise claimed(source, record or max(claims), claims[record or max(claims)])
     raise StoreError("Absent", f"{source.url}: no record that has a manifest there has all its files", False)
 
 
@@ -313,22 +323,53 @@ def imported(source: Place, target: Place) -> Optional[int]:
     return next((id for id, text in manifests_of(target).items() if (id, members(text).get("origin")) in there), None)
 
 
-def begin(source: Place, job: Path, target: Place, record: int) -> Recovered:
+def begin(source: Place, target: Place, record: int) -> None:
     if imported(source, target) is None:
         if isinstance(target, InFolder) and not target.is_empty():
             raise StoreError("Present", f"{target.url}: it is there, and is no empty folder", False)
         carry(source, target, record, secrets.token_hex(16))
-    return recover(job, target)
 
 
 def import_job(source: Place, job: Path, target: Place, record: int = 0) -> Recovered:
     """Makes another job, at `job` over the target, of a record in the source, whose job may run."""
     if has_job(job):
         raise StoreError("Present", f"{os.fspath(job)}: there is a job", False)
-    return begin(source, job, target, record)
+    begin(source, target, record)
+    return recover(job, target)
 
 
-def leave(source: Place, record: int) -> None:
+def check_mark(source: Place, record: int, target: Place) -> None:
+    """Whether the record is not another claim's."""
+    place = claims_in(source).get(record, target.whole())
+    if place != target.whole():
+        raise claimed(source, record, place)
+
+
+def check_claim(source: Place, record: int, target: Place) -> None:
+    """Before anything changes."""
+    check_mark(source, record, target)
+    source.check_conditions(source.manifest(record))
+
+
+def mark(source: Place, target: Place) -> None:
+    """From now on the record is this claim's, before there is a job of it: so of claims that end in between no two have one."""
+    record = imported(source, target)
+    text = None if record is None else source.read(source.manifest(record))
+    if record is None or text is None or not source.write_once(source.manifest(record) + CLAIMED, mark_of(text, target.whole())):
+        for it in manifests_of(target):  # one of them has been there
+            check_mark(source, it, target)
+
+
+def leave_place(source: Place, target: Place) -> None:
+    """What an export has made goes with the mark of its record, once that has left."""
+    if source.owner() is None and not source.names():
+        for record, place in claims_in(source).items():
+            if place == target.whole():
+                source.remove(source.manifest(record) + CLAIMED)
+        source.remove_itself()
+
+
+def leave(source: Place, record: int, target: Place) -> None:
     """The files of the record leave the source, but for those that another record has, and then its manifest."""
     with listed(source) as folder:
         found = Store.records(folder)
@@ -338,15 +379,27 @@ def leave(source: Place, record: int) -> None:
     if record in files:
         drop(source, sorted(files.pop(record).difference(*files.values())))
         source.remove(source.manifest(record))
-    if source.owner() is None:
-        source.remove_itself()
+    leave_place(source, target)
 
 
-def fence(source: Place) -> None:
+class Fence(NamedTuple):
+    owner: Owner
+    tag: Optional[str]  # of the marker in a bucket
+
+
+def fence(source: Place) -> Optional[Fence]:
     owner = source.owner()
-    if owner is not None:
-        epochs = [it.get("epoch", 0) for it in map(members, manifests_of(source).values()) if it.get("job") == owner.job]
-        source.mark(Owner(owner.job, max([owner.epoch, *epochs]) + OPENINGS))
+    if owner is None:
+        return None
+    epochs = [it.get("epoch", 0) for it in map(members, manifests_of(source).values()) if it.get("job") == owner.job]
+    fenced = Owner(owner.job, max([owner.epoch, *epochs]) + OPENINGS)
+    return Fence(fenced, source.mark(fenced))
+
+
+def hold(source: Place, fenced: Optional[Fence]) -> None:
+    """Raises OtherJob if another claim has fenced a bucket since: then the record is that one's, and nothing leaves."""
+    if fenced is not None and fenced.tag is not None:
+        source.mark(fenced.owner, fenced.tag)
 
 
 def own(source: InBucket, record: Record) -> None:
@@ -357,14 +410,23 @@ def own(source: InBucket, record: Record) -> None:
 
 
 def claim(source: Place, job: Path, target: Place, record: int = 0) -> Recovered:
-    """import_job() by which the record's files leave the source, or stay in place if the target is the same. The source's old job is fenced first."""
+    """import_job() by which the record's files leave the source, or stay in place if the target is the same. The source's old job is fenced first. Of two
+    claims at once one is refused: a folder is locked, and in a bucket the marker is replaced only as long as it is the one that was read."""
     if isinstance(source, InFolder) and isinstance(target, InFolder):
         return Store.import_job(source.path, job, target.path, record, claim=True)
+    with source.locked():
+        return claim_locked(source, job, target, record)
+
+
+def claim_locked(source: Place, job: Path, target: Place, record: int) -> Recovered:
     is_in_place = isinstance(source, InBucket) and isinstance(target, InBucket) and (source.bucket, source.prefix) == (target.bucket, target.prefix)
     if has_job(job):
         return go_on(source, job, target)
+    if not record and not is_in_place:
+        record = imported(source, target) or 0
     with listed(source) as folder:
         one = chosen(source, folder, record)
+    check_claim(source, one.id, target)
     check_free(job)
     if is_in_place:
         if source.owner() is None and isinstance(source, InBucket):
@@ -373,9 +435,12 @@ def claim(source: Place, job: Path, target: Place, record: int = 0) -> Recovered
     is_begun = isinstance(target, InBucket) and target.read(PART) is not None
     if not is_begun and imported(source, target) is None and not target.is_empty():
         raise StoreError("Present", f"{target.url}: it is there, and is not empty", False)
-    fence(source)  # before the record is chosen, so that none is lost that the old job completes meanwhile
-    found = begin(source, job, target, record)
-    leave(source, found.record)
+    fenced = fence(source)  # before the record is chosen, so that none is lost that the old job completes meanwhile
+    begin(source, target, record)
+    hold(source, fenced)
+    mark(source, target)
+    found = recover(job, target)
+    leave(source, found.record, target)
     return found
 
 
@@ -383,15 +448,17 @@ def go_on(source: Place, job: Path, target: Place) -> Recovered:
     """A claim whose job is there already, as the same call has left it before it ended, or an import: then the old job runs, and is fenced first."""
     record = imported(source, target)
     if record is None:
-        source.remove_itself()  # of a claim that was killed behind its last file
+        leave_place(source, target)  # of a claim that was killed behind its last file
         raise StoreError("Present", f"{os.fspath(job)}: there is a job", False)
     it = members(manifests_of(target)[record])
-    fence(source)
-    leave(source, record)
+    check_claim(source, record, target)
+    hold(source, fence(source))
+    mark(source, target)
+    leave(source, record, target)
     return Recovered(record, it["kind"] == "savepoint", it["files"], it["bytes"], 0, 0, 0, 0, max(it["below"]["number"], record + 1))
 
 
-# The command.
+# What is printed.
 
 
 def state_of(it: Record) -> str:
@@ -410,13 +477,15 @@ def show_record(it: Record, state: str) -> None:
     print(f"{it.id:<12} {kind:<10} {written:<20} {it.files:>10} {it.bytes:>16}  {state}")
 
 
-def show_head(found: List[Record]) -> None:
+def show_head(source: Place, found: List[Record]) -> None:
+    for record, place in sorted(claims_in(source).items()):
+        print(f"record {record} was claimed for {place}")
     print(f"{'record':<12} {'kind':<10} {'written':<20} {'files':>10} {'bytes':>16}  state" if found else "no record has a manifest")
 
 
 def show(source: Place) -> None:
     found = records(source)
-    show_head(found)
+    show_head(source, found)
     for it in found:
         show_record(it, state_of(it))
 
@@ -457,17 +526,26 @@ def state_of_sums(it: Record, faults: Dict[int, str]) -> str:
     return state_of(it)
 
 
-def show_whole(source: Place) -> bool:
-    """show(), which reads the files too. Returns whether all are as the manifests say."""
+def show_whole(source: Place) -> None:
+    """show(), which reads the files too. It fails if something is not as a manifest says."""
     found, reads, texts, is_right = records(source), Reads(source), manifests_of(source), True
-    show_head(found)
+    show_head(source, found)
     for it in found:
         faults = {} if it.damage else reads.faults(texts.get(it.id, b""))
         show_record(it, state_of_sums(it, faults))
         for file, words in faults.items():
             print(f"  record {it.id}: file {file} {words}")
         is_right = is_right and not faults and it.damage is None
-    return is_right
+    if not is_right:
+        raise StoreError("Damaged", f"{source.url}: not all files are as the manifests say", False)
+
+
+def show_all(source: Place, reads: bool) -> None:
+    (show_whole if reads else show)(source)
+
+
+def tell_carried(to: str, made: Carried) -> None:
+    print(f"{to} has {'savepoint' if made.is_savepoint else 'checkpoint'} {made.record}, with {made.files} files of {made.bytes} bytes")
 
 
 def tell(job: str, made: Any) -> None:
@@ -479,56 +557,3 @@ def tell(job: str, made: Any) -> None:
         print(f"{made.savepoints} other savepoints live on, under new numbers")
     if made.passed:
         print(f"{made.passed} manifests were passed over, since they are damaged or lack files")
-
-
-def parser() -> argparse.ArgumentParser:
-    server = argparse.ArgumentParser(add_help=False, argument_default=argparse.SUPPRESS)
-    server.add_argument("--endpoint", metavar="URL", help="another S3 server than that of AWS")
-    server.add_argument("--region", help="its region")
-    it = argparse.ArgumentParser(prog="relkvanu-store", description="A folder may be s3://BUCKET/PREFIX.", parents=[server])
-    commands = it.add_subparsers(dest="command", required=True)
-    for name, words in (("show", ("place",)), ("recover", ("job", "place")), ("export", ("source", "target")), ("import", ("source", "job", "target"))):
-        command = commands.add_parser(name, parents=[server])
-        for word in words:
-            command.add_argument(word)
-        if name == "show":
-            command.add_argument("--whole", action="store_true", help="reads the files, and compares them with the checksums of the manifests")
-        else:
-            command.add_argument("record", nargs="?", type=int, default=0)
-        if name == "import":
-            command.add_argument("--claim", action="store_true", help="the files leave SOURCE, whose job is refused from then on")
-    return it
-
-
-def run(given: argparse.Namespace) -> bool:
-    """Returns whether all is right."""
-    s3 = importlib.import_module("relkvanu.s3").client(getattr(given, "endpoint", os.environ.get("AWS_ENDPOINT_URL")), getattr(given, "region", None))
-    at = functools.partial(place, s3=s3)
-    if given.command == "show" and given.whole:
-        return show_whole(at(given.place))
-    if given.command == "show":
-        show(at(given.place))
-    elif given.command == "recover":
-        tell(given.job, recover(given.job, at(given.place), given.record))
-    elif given.command == "export":
-        made = export(at(given.source), at(given.target), given.record)
-        print(f"{given.target} has {'savepoint' if made.is_savepoint else 'checkpoint'} {made.record}, with {made.files} files of {made.bytes} bytes")
-    else:
-        begins = claim if given.claim else import_job
-        tell(given.job, begins(at(given.source), given.job, at(given.target), given.record))
-    return True
-
-
-def main(words: Optional[List[str]] = None) -> int:
-    given = parser().parse_args(words)
-    try:
-        is_right = run(given)
-        sys.stdout.flush()
-    except (Error, OSError, ValueError) as error:
-        print(f"relkvanu-store: {error}", file=sys.stderr)
-        return 1
-    return 0 if is_right else 1
-
-
-if __name__ == "__main__":
-    sys.exit(main())

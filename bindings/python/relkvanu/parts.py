@@ -8,7 +8,6 @@ import functools
 import os
 import pickle
 import threading
-import zlib
 from dataclasses import dataclass, field
 from typing import Any, Callable, Dict, Iterable, Iterator, List, NamedTuple, Optional, Sequence, Tuple, Union
 
@@ -16,6 +15,7 @@ import cloudpickle
 import xxhash
 
 from relkvanu.errors import Error
+from relkvanu.keys import group_of
 from relkvanu.storage import Folder, Marker, bucket_and_prefix
 
 Pieces = List[memoryview]
@@ -215,18 +215,9 @@ def result_of(state: State) -> Any:
 # State by key.
 
 
-def _word(key: Any) -> bytes:
-    if isinstance(key, tuple):
-        return b"(%s)" % b"".join(b"%d:%s" % (len(it), it) for it in map(_word, key))
-    if not isinstance(key, (str, bytes, int)):
-        raise TypeError(f"a key is a str, bytes, int, or a tuple of such, and not a {type(key).__name__}")
-    return key if isinstance(key, bytes) else str(int(key) if isinstance(key, int) else key).encode()
-
-
 def part_of(key: Any, parts: int) -> int:
-    """Keys that are equal are in the same part, in each process. hash() of a text is another one in each, and equal values may be pickled in two
-    ways."""
-    return zlib.crc32(_word(key)) % parts
+    """As group_of(): equal values may be pickled in two ways, so keys are no pickles."""
+    return group_of(key, parts)
 
 
 def split(elements: Iterable[Any], parts: int, key: Optional[Callable[[Any], Any]]) -> List[List[Any]]:

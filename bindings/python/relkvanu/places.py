@@ -2,6 +2,7 @@
 import contextlib
 import copy
 import errno
+import fcntl
 import importlib
 import os
 import pathlib
@@ -47,7 +48,7 @@ def owner_in(text: Optional[bytes]) -> Optional[Owner]:
     return None if found is None else Owner(found[1].decode(), int(found[2]))
 
 
-def sync(folder: pathlib.Path) -> None:
+def sync(folder: Path) -> None:
     descriptor = os.open(folder, os.O_RDONLY | os.O_DIRECTORY)
     try:
         os.fsync(descriptor)
@@ -102,18 +103,32 @@ class InBucket:
         self.form = FileNames(self.prefix + form.prefix, form.suffix)
         unchecked = importlib.import_module("relkvanu.s3").UncheckedBucket
         self._bucket = unchecked(self.bucket, "any", prefix=self.form.prefix, suffix=form.suffix, s3=s3, keeps_versions=True, marker=Marker(marker, "any"))
+        self._tag: Optional[str] = None  # of the marker, as it was seen last
 
     def owner(self) -> Optional[Owner]:
-        return owner_in(self._bucket.read_beside(self.marker))
+        text, self._tag = self._bucket.read_marker()
+        return owner_in(text)
 
-    def mark(self, owner: Owner) -> None:
-        self._bucket.write_beside(self.marker, owner.text())
+    def mark(self, owner: Owner, tag: Optional[str] = None) -> Optional[str]:
+        """Replaces the marker with this tag, or the one that owner() has read, or mark() has written: nobody takes a fence away that came meanwhile.
+        Returns its tag."""
+        self._tag = self._bucket.write_marker(owner.text(), tag or self._tag)
+        return self._tag
+
+    @contextlib.contextmanager
+    def locked(self) -> Iterator[None]:
+        """A bucket has no lock. mark() finds out whether another command or an opening came in between."""
+        yield
 
     def manifest(self, record: int) -> str:
         return self.at + name_of(record)
 
-    def names(self) -> List[str]:
-        return [it for it in self._bucket.beside(f"{self.at}record-") if it.endswith(".manifest")]
+    def names(self, end: str = "") -> List[str]:
+        return [it for it in self._bucket.beside(f"{self.at}record-") if it.endswith(f".manifest{end}")]
+
+    def whole(self) -> str:
+        """What tells it from other places."""
+        return self.url.rstrip("/") + ("" if self.marker == MARKER else f"/{self.marker}")
 
     def read(self, name: str) -> Optional[bytes]:
         found: Optional[bytes] = self._bucket.read_beside(name)
@@ -121,6 +136,15 @@ class InBucket:
 
     def write(self, name: str, contents: bytes) -> None:
         self._bucket.write_beside(name, contents)
+
+    def write_once(self, name: str, contents: bytes) -> bool:
+        """Makes what is not there yet. Returns whether it was not."""
+        return bool(self._bucket.write_once_beside(name, contents))
+
+    def check_conditions(self, name: str) -> None:
+        """Raises StorageError if the server puts this object though it is there: it keeps no other claim out, and no opening that has read the marker."""
+        if not self._bucket.heeds_beside(name):
+            raise StorageError(errno.ENOSYS, "the server has no conditional writes, which a claim needs: end each process of the job, and import the record", self.url)
 
     def remove(self, name: str) -> None:
         self._bucket.remove_beside(name)
@@ -166,14 +190,30 @@ class InFolder:
     def owner(self) -> Optional[Owner]:
         return owner_in(self.read(self.marker))
 
-    def mark(self, owner: Owner) -> None:
+    def mark(self, owner: Owner, tag: Optional[str] = None) -> Optional[str]:
         self.write(self.marker, owner.text())
+        return tag
+
+    @contextlib.contextmanager
+    def locked(self) -> Iterator[None]:
+        """The lock of the folder that the library takes too: an opening waits, and looks at the marker again."""
+        with contextlib.ExitStack() as stack:
+            if self.path.is_dir():
+                folder = os.open(self.path, os.O_RDONLY | os.O_DIRECTORY)
+                stack.callback(os.close, folder)
+                with contextlib.suppress(OSError):  # a file system without such locks
+                    fcntl.flock(folder, fcntl.LOCK_EX)
+            yield
 
     def manifest(self, record: int) -> str:
         return self.at + name_of(record)
 
-    def names(self) -> List[str]:
-        return [self.at + it.name for it in (self.path / self.at).glob("record-*.manifest")]
+    def names(self, end: str = "") -> List[str]:
+        return [self.at + it.name for it in (self.path / self.at).glob(f"record-*.manifest{end}")]
+
+    def whole(self) -> str:
+        path = pathlib.Path(os.path.abspath(self.path))
+        return str(path.parent.resolve() / path.name) + ("" if self.marker == MARKER else f"/{self.marker}")
 
     def read(self, name: str) -> Optional[bytes]:
         try:
@@ -188,6 +228,16 @@ class InFolder:
         make_file(self.path / f"{name}{self.new}", [contents])
         os.rename(self.path / f"{name}{self.new}", path)
         sync(path.parent)
+
+    def write_once(self, name: str, contents: bytes) -> bool:
+        """Who writes it has the lock."""
+        is_free = not (self.path / name).exists()
+        if is_free:
+            self.write(name, contents)
+        return is_free
+
+    def check_conditions(self, name: str) -> None:
+        """A folder is locked."""
 
     def remove(self, name: str) -> None:
         sync(self.path)  # the files that left are gone before it

@@ -16,8 +16,9 @@ from typing import Any, Callable, Dict, Iterator, List, Mapping, NamedTuple, Opt
 
 from distributed import Client, Future, wait
 
+from relkvanu.drivers import MOST_FILES, SUBTASKS, Ack, Held, opened_driver
 from relkvanu.errors import Error
-from relkvanu.jobs import MOST_FILES, SUBTASKS, Ack, Held, Job, Stopped, Superseded
+from relkvanu.jobs import Stopped, Superseded
 from relkvanu.parts import Dumps, Failed, Loads, Part, PartError, Place, digest_of, get_part, opened, pickled, pickled_in_pieces, place_of, put_part
 from relkvanu.sweep import Swept, sweep
 
@@ -102,18 +103,6 @@ def losses() -> Iterator[None]:
         raise Failed(f"lost with a worker or the scheduler: {fault}") from None
 
 
-def _opened_job(coordinator: Coordinator, place: Place, create: bool) -> Tuple[Job, Place]:
-    """The coordinator, and the place with the marker that the job has there."""
-    if isinstance(coordinator, (str, os.PathLike)):
-        from relkvanu.job_in_file import FileJob
-
-        return FileJob(coordinator, place, create), place
-    from relkvanu.job_of_service import ServiceJob, place_with_marker
-
-    marked = place_with_marker(coordinator, place, create)
-    return ServiceJob(coordinator, marked), marked
-
-
 class Records:
     """The records of a job. One thread at a time may call. After an exception of save() only restore() goes on."""
 
@@ -124,7 +113,7 @@ class Records:
         writes, as distributed.progress. By default parts are pickled, so nobody else may write to the storage."""
         self._client, self._patience, self._dumps, self._loads, self._watch = client, patience, dumps, loads, watch
         name = pathlib.Path(coordinator).stem if isinstance(coordinator, (str, os.PathLike)) else coordinator.name
-        self._job, self._place = _opened_job(coordinator, place_of(storage, name), create)
+        self._job, self._place = opened_driver(coordinator, place_of(storage, name), create)
         try:
             self.storage = opened(self._place)
         except BaseException:
@@ -188,9 +177,9 @@ class Records:
         return get_part(place or self._place, part, self._loads)
 
     def save(self, meta: Any, parts: Mapping[str, Sequence[Union[Future, Any]]]) -> Saved:
-        """Takes a record of these parts: those that are futures are written by workers, others by this process. It is complete when this
-        returns. If it raises, the record before stands, and the caller has to restore(). If `stops` was set, or somebody stops the job of the service,
-        it is the savepoint of that stop: then check_stopped() raises."""
+        """Takes a record of these parts: those that are futures are written by workers, others by this process. `meta` is what the caller adds, or a function that
+        makes it of the record's number. It is complete when this returns. If it raises, the record before stands, and the caller has to restore(). If `stops` was
+        set, or somebody stops the job of the service, it is the savepoint of that stop: then check_stopped() raises."""
         self.check_stopped()
         if not self._whole:
             raise Failed("restore() first")
@@ -204,6 +193,7 @@ class Records:
                 id, is_stop = self._job.trigger(self._last.id, self.stops)  # while workers write
                 self._reserve(len(names))  # for the next record, which then need not wait for it
                 done = self._written(plans, names, puts)
+                meta = meta(id) if callable(meta) else meta
                 record = Record(id, meta, self._listed(id, meta, done, names[-1]))
                 self._acknowledge(id, done, names)
             except BaseException:
@@ -365,7 +355,7 @@ class Resumable:
             taken = self._records.taken
             try:
                 return work(again)
-            except (Superseded, Stopped):
+            except (Superseded, Stopped, ImportError):  # a worker without the package has it no later
                 raise
             except (Exception, *LOST) as fault:
                 again, left = True, (failures if self._records.taken > taken else left) - 1

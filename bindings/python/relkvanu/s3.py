@@ -3,7 +3,7 @@ as it does everywhere: in the environment, ~/.aws, or the role of the machine.""
 import errno
 import posixpath
 import threading
-from typing import TYPE_CHECKING, Any, Callable, Dict, Iterable, Iterator, List, Optional
+from typing import TYPE_CHECKING, Any, Callable, Dict, Iterable, Iterator, List, Optional, Tuple
 
 import boto3  # type: ignore[import]
 from botocore.config import Config  # type: ignore[import]
@@ -21,8 +21,8 @@ __all__ = ["Bucket", "KeepsVersions", "StateBucket", "client"]
 MOST_KEYS = 1000  # in a DeleteObjects, and on a page of a listing
 GONE = ("NoSuchBucket",)  # not NoSuchKey: that is an object that is not there
 ABSENT = ("NoSuchKey", "404", "NotFound")
-OTHERS = {"PreconditionFailed": errno.EEXIST, "NotImplemented": errno.ENOSYS}
-_asks = threading.local()  # of a thread that asks the server to refuse a key that is there
+OTHERS = {"PreconditionFailed": errno.EEXIST, "ConditionalRequestConflict": errno.EEXIST, "NotImplemented": errno.ENOSYS}
+_asks = threading.local()  # the conditions of a put, as headers, of the thread that makes it
 
 
 def client(endpoint: Optional[str] = None, region: Optional[str] = None) -> Any:
@@ -31,10 +31,9 @@ def client(endpoint: Optional[str] = None, region: Optional[str] = None) -> Any:
     return boto3.client("s3", endpoint_url=endpoint, region_name=region, config=how)
 
 
-def _if_none_match(params: Any, **_: Any) -> None:
-    """boto3 has no word for it before 1.35."""
-    if getattr(_asks, "once", False):
-        params["headers"]["If-None-Match"] = "*"
+def _add_conditions(params: Any, **_: Any) -> None:
+    """boto3 has no words for them before 1.35."""
+    params["headers"].update(getattr(_asks, "conditions", {}))
 
 
 class Bucket:
@@ -60,7 +59,7 @@ class Bucket:
         if next(self.pages(1), None):
             raise StorageError(errno.ENOTEMPTY, "a new job needs a place without state files", f"{self.bucket}/{self.names.prefix}")
         if self._read(self.marker.name) is None:
-            self._ask(self._s3.put_object, Key=self.marker.name, Body=self.marker.text.encode())
+            self.write_marker(self.marker.text.encode(), None)
 
     def check(self) -> None:
         check_marker(self._read(self.marker.name), self.marker, self.job, f"{self.bucket}/{self.names.prefix}")
@@ -80,29 +79,63 @@ class Bucket:
             raise Exists(errno.EEXIST, "there is such an object", f"{self.bucket}/{name}")
 
     def _tried_to_heed(self) -> bool:
-        """Whether the server refuses to put a key that is there: the marker, with the bytes that it has."""
+        """Whether the server refuses to put a key that is there: the marker."""
         self.check()
+        return self._is_heeded(self.marker.name, self.marker.text.encode())
+
+    def heeds_beside(self, name: str) -> bool:
+        """Whether the server refuses to put an object beside the marker that is there."""
+        return self._is_heeded(posixpath.join(posixpath.dirname(self.marker.name), name), self.read_beside(name) or b"")
+
+    def _is_heeded(self, name: str, contents: bytes) -> bool:
+        """Puts an object with the bytes that it has."""
         try:
-            return not self._put_once(self.marker.name, self.marker.text.encode())
+            self._put_if(name, contents, {"If-None-Match": "*"})
         except StorageError as error:
-            if error.errno != errno.ENOSYS:
+            if error.errno not in (errno.EEXIST, errno.ENOSYS):
                 raise
-            return False
+            return error.errno == errno.EEXIST
+        return False
 
     def _put_once(self, name: str, contents: bytes) -> bool:
         """Whether an object was made. If the request came twice, the answer to the second says that the first has made it."""
-        self._s3.meta.events.register("before-call.s3.PutObject", _if_none_match, unique_id="relkvanu-if-none-match")
-        _asks.once = True
         try:
-            self._ask(self._s3.put_object, Key=name, Body=contents)
+            self._put_if(name, contents, {"If-None-Match": "*"})
         except StorageError as error:
             if error.errno != errno.EEXIST:
                 raise
             came_twice = getattr(error.__cause__, "response", {}).get("ResponseMetadata", {}).get("RetryAttempts", 0) > 0
             return came_twice and name != self.marker.name and self._read(name) == contents
-        finally:
-            _asks.once = False
         return True
+
+    def _put_if(self, name: str, contents: bytes, conditions: Dict[str, str]) -> str:
+        """Puts an object if the server finds the conditions met. Returns its tag."""
+        self._s3.meta.events.register("before-call.s3.PutObject", _add_conditions, unique_id="relkvanu-conditions")
+        _asks.conditions = conditions
+        try:
+            tag: str = self._ask(self._s3.put_object, Key=name, Body=contents)["ETag"]
+            return tag
+        finally:
+            _asks.conditions = {}
+
+    def read_marker(self) -> Tuple[Optional[bytes], Optional[str]]:
+        """The marker and its tag, for write_marker()."""
+        told = self._found(self._s3.get_object, self.marker.name)
+        return (None, None) if told is None else (told["Body"].read(), told["ETag"])
+
+    def write_marker(self, text: bytes, tag: Optional[str]) -> str:
+        """Replaces the marker that has this tag, or makes one where there was none. Returns its tag. Raises OtherJob if another opening or command has
+        marked the place meanwhile. A server without conditional writes can't tell that: there each process has to be ended before."""
+        tags = [] if tag is None else [tag, tag.strip('"')]  # radosgw compares them without the quotes that it has told
+        for conditions in [{"If-Match": it} for it in tags] or [{"If-None-Match": "*"}]:
+            try:
+                return self._put_if(self.marker.name, text, conditions)
+            except StorageError as error:
+                if error.errno == errno.ENOSYS:
+                    return self._put_if(self.marker.name, text, {})
+                if error.errno != errno.EEXIST:
+                    raise
+        raise OtherJob(errno.EEXIST, "another opening or command has marked it meanwhile", f"{self.bucket}/{self.names.prefix}")
 
     def get(self, file: int) -> bytes:
         found = self._read(self.names.of(file))
@@ -168,6 +201,10 @@ class Bucket:
         """Makes or replaces an object beside the marker."""
         self._ask(self._s3.put_object, Key=posixpath.join(posixpath.dirname(self.marker.name), name), Body=contents)
 
+    def write_once_beside(self, name: str, contents: bytes) -> bool:
+        """Makes an object beside the marker, on a server that heeds conditions. Returns false if there is one."""
+        return self._put_once(posixpath.join(posixpath.dirname(self.marker.name), name), contents)
+
     def remove_beside(self, name: str) -> None:
         """Removes an object beside the marker. One that is not there is removed."""
         self._ask(self._s3.delete_object, Key=posixpath.join(posixpath.dirname(self.marker.name), name))
@@ -182,26 +219,20 @@ class Bucket:
             after = {"ContinuationToken": told["NextContinuationToken"]}
 
     def _is_there(self, name: str) -> bool:
-        try:
-            self._ask(self._s3.head_object, Key=name)
-        except StorageError as error:
-            if error.errno != errno.ENOENT or isinstance(error, NotThere):
-                raise
-            return False
-        return True
+        return self._found(self._s3.head_object, name) is not None
 
     def _read(self, name: str) -> Optional[bytes]:
+        told = self._found(self._s3.get_object, name)
+        return None if told is None else _Contents(told["Body"], f"{self.bucket}/{name}").read()
+
+    def _found(self, request: Callable[..., Any], name: str) -> Any:
+        """What a request about an object is answered, or None if there is none."""
         try:
-            told = self._ask(self._s3.get_object, Key=name)
+            return self._ask(request, Key=name)
         except StorageError as error:
             if error.errno != errno.ENOENT or isinstance(error, NotThere):
                 raise
             return None
-        try:
-            contents: bytes = told["Body"].read()
-        except (BotoCoreError, OSError) as error:
-            raise StorageError(errno.EIO, str(error), f"{self.bucket}/{name}") from error
-        return contents
 
     def _ask(self, request: Callable[..., Any], **words: Any) -> Any:
         """Makes a request. Raises NotThere if there is no bucket, and StorageError: with ENOENT if there is no object, with EEXIST if there is
@@ -224,7 +255,7 @@ class _Contents:
     def __init__(self, body: Any, where: str) -> None:
         self._body, self._where = body, where
 
-    def read(self, most: int) -> bytes:
+    def read(self, most: Optional[int] = None) -> bytes:
         try:
             found: bytes = self._body.read(most)
         except (BotoCoreError, OSError) as error:
@@ -256,7 +287,7 @@ class _Checksums(Sums):
 
 
 class StateBucket(Bucket):
-    """The state files of a job of relkvanu.store that has no `storage`, with its manifests: of them `relkvanu-store recover JOB s3://BUCKET/PREFIX` makes
+    """The state files of a job of relkvanu.store that has no `storage`, with its manifests: of them `relkvanu recover JOB s3://BUCKET/PREFIX` makes
     the job again if its file is lost. Made right after each opening. Its marker names the opening, so what an earlier one deletes is refused. The prefix ends
     with a slash, or is empty. Raises OtherJob for the place of another job, or of a later opening: then the job's file is an older copy. A store that was opened
     with `checksums` has one of each object in its manifests, for which the object is read once."""
@@ -273,7 +304,8 @@ class StateBucket(Bucket):
 
     def _begin(self) -> None:
         """The marker of this opening. A process that was killed between the job and its first marker has no files yet."""
-        found, where = self._read(self.marker.name), f"{self.bucket}/{self.names.prefix}"
+        where = f"{self.bucket}/{self.names.prefix}"
+        found, tag = self.read_marker()
         if found is None and self._report.choice is not None:
             check_marker(None, self.marker, self.job, where)
         if found is None and any(self.pages(1)):
@@ -284,7 +316,7 @@ class StateBucket(Bucket):
                 raise OtherJob(errno.EEXIST, f"not the storage of the job {self.job}", where)
             if int(owner[2]) > self._report.epoch:
                 raise OtherJob(errno.EEXIST, "a later opening of the job has used it, and the job's file is an older copy", where)
-        self._ask(self._s3.put_object, Key=self.marker.name, Body=self.marker.text.encode())
+        self.write_marker(self.marker.text.encode(), tag)
 
     def put_manifest(self, name: str, contents: bytes) -> None:
         self.write_beside(name, contents if self._sums is None else self._sums.added(record_of(name), contents))
@@ -307,4 +339,5 @@ class _Beside:
     """The manifests and the objects of a bucket, as checksums are made of them."""
 
     def __init__(self, bucket: StateBucket) -> None:
-        self.names, self.read, self.opened = bucket.manifests, bucket.read_beside, bucket.contents
+        self.names = lambda: [it for it in bucket.manifests() if it.endswith(".manifest")]
+        self.read, self.opened = bucket.read_beside, bucket.contents

@@ -4,14 +4,15 @@ writes one for each record before anybody is told that the record is complete:
     manifests = Manifests(job, service_folder("orders", "/srv/orders", "state-", ".bin"))
     manifests.keep()  # after begin(), before tasks start; after each completed checkpoint, before sinks are told
 
-It needs the client of the service, and no library. docs/SERVICE-RECOVERY.md has the rest."""
+It needs the client of the service, and no library. docs/RECOVERY.md has the rest."""
+import contextlib
 import hashlib
 import posixpath
 import time
 from typing import Any, Dict, Iterator, List, NamedTuple, Optional, Tuple
 
 from relkvanu.errors import Error
-from relkvanu.manifest import Sums, files_in, parts_in, record_of, sealed, sums_in
+from relkvanu.manifest import Sums, files_in, members, parts_in, record_of, sealed, sums_in
 from relkvanu.places import Gone, InBucket, InFolder, Owner, Path
 from relkvanu.storage import FileNames, NotThere, OtherJob
 
@@ -41,6 +42,17 @@ class _OfService:
         found: Optional[bytes] = self.read(self.marker)
         return found
 
+    def marked(self: Any) -> bytes:
+        """The same, or NotThere."""
+        found: Optional[bytes] = self.text()
+        if found is None:
+            raise NotThere(2, "there is no marker of the job", f"{self.url}/{self.marker}")
+        return found
+
+    def check_marker(self: Any, marker: bytes) -> None:
+        if self.marked() != marker:
+            raise OtherJob(17, "it names another job, or this one as another database has it", f"{self.url}/{self.marker}")
+
     def of(self: Any, identity: str) -> None:
         """From now on the manifests are those of this opening of the job."""
         self.at = f"{RECORDS}/{identity}/"
@@ -49,9 +61,10 @@ class _OfService:
         found = self.text()
         return None if found is None else Owner(identity_of(found), 1)
 
-    def mark(self: Any, owner: Owner) -> None:
+    def mark(self: Any, owner: Owner, tag: Optional[str] = None) -> Optional[str]:
         """The marker of an import, until there is a job that can be named."""
         self.write(self.marker, imported_marker(self.marker))
+        return None
 
 
 def imported_marker(name: str) -> bytes:
@@ -107,11 +120,7 @@ class Manifests:
                           "the next one has its own")
 
     def check(self) -> None:
-        found = self._place.text()
-        if found is None:
-            raise NotThere(2, "there is no marker of the job", f"{self._place.url}/{self._place.marker}")
-        if found != self._marker:
-            raise OtherJob(17, "it names another job, or this one as another database has it", f"{self._place.url}/{self._place.marker}")
+        self._place.check_marker(self._marker)
 
     def keep(self) -> Optional[int]:
         """Writes the manifest of the record that a restart would begin from, and those of other records that lack one, and removes those of records that
@@ -139,9 +148,14 @@ class Manifests:
         for nth, record in enumerate(missing, 1):
             # a checkpoint that is retained was the choice once, and before those behind it
             place, chosen = state["seq"] - len(missing) + nth, record == choice or live[record] == "checkpoint"
-            text = manifest_of(self._job, self._place, state, record, sums=self._sums, place=place, chosen=chosen)
+            origin = members(self._place.read(self._place.manifest(record)) or b"").get("origin")  # of an import
+            carried = {"origin": origin} if origin else {}
+            text = manifest_of(self._job, self._place, state, record, sums=self._sums, place=place, chosen=chosen, **carried)
             self._place.write(self._place.manifest(record), text)
             self._sums.note(record, text)
+            if record == choice and (lost := lost_of(self._job, self._place, record, text)):
+                raise NotKept(f"{self._job.name}: record {record} is not whole: the files {lost} are not there, or have another length than was acknowledged. "
+                              "Restore the job to another record")
         self._sums.keep(live)
         for record in there.difference(live):
             self._place.remove(self._place.manifest(record))
@@ -185,10 +199,36 @@ def manifest_of(job: Any, storage: Any, state: Dict[str, Any], record: int, *, s
 
 def _part(storage: Any, vertex: int, index: int, state: Dict[str, Any], sums: Optional[Sums]) -> Dict[str, Any]:
     payload = {"payload": state["payload"].hex()} if state["payload"] else {}
-    files = {str(file): storage.size(file) for file in state["files"]}
+    told = state.get("sizes") or [None] * len(state["files"])
+    files = {str(file): _length(storage, file, size, sums) for file, size in zip(state["files"], told)}
     checksums = {} if sums is None else sums.member(state["files"])
     figures = {name: state[name] for name in ("bytes", "millis") if state.get(name)}
     return {"vertex": vertex, "index": index, "files": files, **checksums, **payload, **figures}
+
+
+def _length(storage: Any, file: int, told: Optional[int], sums: Optional[Sums]) -> Optional[int]:
+    """The length that was acknowledged: as its task told it, or as an earlier manifest says. Of a file of which nobody has said it yet it is that of now."""
+    known = sums.length(file) if told is None and sums is not None else told
+    if known is not None and not isinstance(storage, InBucket):
+        return known
+    with contextlib.suppress(Gone):
+        return storage.size(file)  # type: ignore[no-any-return]
+    return None
+
+
+def lost_of(job: Any, storage: Any, record: int, manifest: bytes) -> List[int]:
+    """The files of a record that are not there, or have another length than its manifest says. Raises Gone if the record has ended since."""
+    lost = [file for file, length in files_in(manifest).items() if _is_lost(storage, file, length)]
+    if lost:
+        _whole(job, record)
+    return lost
+
+
+def _is_lost(storage: Any, file: int, length: Optional[int]) -> bool:
+    try:
+        return storage.size(file) not in (None, length)
+    except Gone:
+        return True
 
 
 def _subtasks(shape: List[int]) -> Iterator[Tuple[int, int]]:

@@ -1,50 +1,33 @@
-"""relkvanu keep|export|import|recover|records ..: what the service's command does with manifests. It runs this. A job of the service is made of a record by ordinary
-calls, as relkvanu_store_recover makes one of the durable coordinator: without names, so that its first acknowledgements may name the files that are there
-by the numbers that they have; then it gets names above all that were told. Until it has all, its settings are such that no engine can open it."""
-import argparse
+"""A job of the service is made of a record by ordinary calls, as relkvanu_store_recover makes one of the durable coordinator: without names, so that its first
+acknowledgements may name the files that are there by the numbers that they have; then it gets names above all that were told. Until it has all, its settings are
+such that no engine can open it."""
 import contextlib
 import fcntl
-import importlib
 import os
-import posixpath
 import re
 import shutil
-import sys
 from dataclasses import dataclass
 from typing import Any, Dict, Iterator, List, Optional, Sequence, Set
 
 from relkvanu import manifests
-from relkvanu.errors import Error
+from relkvanu.errors import Error, Stop
 from relkvanu.jobs import LONGEST, lists_of
 from relkvanu.manifest import Sums, members
-from relkvanu.places import Gone, InBucket, Place, place
+from relkvanu.places import Gone, InBucket, Place
 from relkvanu.service_manifests import (
-    MARK, Below, Manifests, ServiceFolder, identity_of, imported_marker, manifest_of, service_bucket, service_folder,
+    Below, ServiceFolder, identity_of, imported_marker, lost_of, manifest_of,
 )
-from relkvanu.storage import NotThere, OtherJob
+from relkvanu.storage import NotThere
 from relkvanu.store import Carried, Store, StoreError
 
 TRIES = 100  # a record may end while it is carried
-FAILED, WRONG_WORD, LOOK_FIRST = 1, 2, 78  # exit statuses
+LOOK_FIRST = 78  # an exit status
 # Of a job that is not whole yet: nothing is due and nothing expires, and no engine has these settings.
 MAKING = {"interval": LONGEST - 77, "pause": LONGEST - 77, "at_once": 1, "timeout": LONGEST - 77, "tolerable": 1000, "retained": 1, "keep_on_cancel": True}
 MOST_CALLS, MOST_FILES = 1000, 100_000  # of a request
 PAYLOAD = re.compile("([0-9a-f]{2}){0,4096}")
 OF_FILE = 40  # so many letters of a payload take the room of a file in a request
 SOME_NUMBERS, MOST_PASSED = 1024, 1 << 20  # for a manifest that can't be read, as in relkvanu_store_recover
-USAGE = """exit status:
-  0   it is done
-  1   it is not, and nothing has changed; or the service or the storage did not answer: give the same command again
-  2   a word is wrong
-  78  somebody has to look first: the place is not that of the job, or a discarder works in it"""
-
-
-class Stop(Exception):
-    """Why a command ends, and its exit status."""
-
-    def __init__(self, status: int, why: str) -> None:
-        super().__init__(why)
-        self.status = status
 
 
 class Refused(Error):
@@ -160,9 +143,8 @@ class Making:
             raise Refused(f"the manifest of record {record} lacks a subtask of its shape")
 
     def choice(self, record: int, manifest: Dict[str, Any], below: int) -> None:
-        """The record that the job goes on from, under its own number."""
+        """The record that the job goes on from, under its own number, which is the first one of the new job."""
         is_savepoint = manifest["kind"] == "savepoint"
-        self.pass_numbers(1, record)
         (told,) = make_calls(self.job, [self.client.savepoint() if is_savepoint else self.client.trigger()])
         if told["id"] != record:
             raise Refused(f"the next record is {told['id']}, not {record}: another program calls")
@@ -261,20 +243,20 @@ def locked(source: Any) -> Iterator[None]:
 class Recovery:
     """Makes a job of the service of the manifests in its place."""
 
+    is_copy = False  # whether the old job lives on: then sinks of the new one have a target of their own, and nobody was told its numbers
+
     def __init__(self, client: Any, service: Any, name: str, source: Any) -> None:
         self.client, self.service, self.name, self.source = client, service, name, source
         self.job = service.job(name)
 
     def run(self, record: int) -> Imported:
         with locked(self.source):
-            marker = self.source.text()
-            if marker is None:
-                raise NotThere(2, "there is no marker of the job", f"{self.source.url}/{self.source.marker}")
-            state = self.check(identity_of(marker))
-            self.source.of(identity_of(marker))
+            owner = identity_of(self.source.marked())
+            state = self.check(owner)
+            self.source.of(owner)
             found = found_in(self.source, record)
-            if state is None or self.identity() != identity_of(marker):
-                self.drop(state)
+            if state is None or self.identity() != owner:
+                self.open(state, owner, found)
                 self.make(found)
             return self.end(found)
 
@@ -301,12 +283,23 @@ class Recovery:
             make_calls(self.job, [self.client.cancel()])
         self.service.delete(self.name, abandon=True)
 
+    def open(self, state: Optional[Dict[str, Any]], owner: str, found: Found) -> None:
+        """Opens the new job. An engine that was not ended may open one that has nothing after each drop, until it has looked at the marker and ends."""
+        for left in reversed(range(TRIES)):
+            self.drop(state)
+            try:
+                self.service.open(self.name, MAKING, found.choice["shape"], names=False, first=found.record)
+                return
+            except self.client.Failed as failed:
+                if failed.field != "names" or not left:
+                    raise
+            state = self.check(owner)
+
     def make(self, found: Found) -> None:
         """All but the settings. Once the marker names the new job, an old one is refused."""
         choice = found.choice
-        self.service.open(self.name, MAKING, choice["shape"], names=False)
         making = Making(self.client, self.job)
-        making.choice(found.record, choice, max(found.below.number, found.record + 1))
+        making.choice(found.record, choice, self.next(found))
         for it in found.savepoints:
             making.savepoint(it)
         if found.savepoints:
@@ -330,8 +323,11 @@ class Recovery:
         for it in {choice["job"], choice.get("origin", owner), identity_of(imported_marker(self.source.marker))} - {owner}:
             forget(self.source, it)
         self.job.set(**choice["settings"])
-        return Imported(found.record, choice["kind"] == "savepoint", choice["files"], choice["bytes"], len(found.savepoints), found.passed,
-                        max(found.below.number, found.record + 1))
+        return Imported(found.record, choice["kind"] == "savepoint", choice["files"], choice["bytes"], len(found.savepoints), found.passed, self.next(found))
+
+    def next(self, found: Found) -> int:
+        """Above each number that somebody was told of the job."""
+        return found.record + 1 if self.is_copy else max(found.below.number, found.record + 1)
 
 
 # To carry a record out of a job of the service, and into one.
@@ -339,10 +335,11 @@ class Recovery:
 
 def export(job: Any, source: Any, target: Place, record: int) -> Carried:
     """Carries a complete record, or that from which a restart would begin, into an empty place. The job may run meanwhile."""
-    check_owner(job, source)
+    marker = job.marker()[1].encode()
+    source.check_marker(marker)
     if not target.is_empty():
         raise StoreError("Present", f"{target.url}: it is there, and is not empty", False)
-    source.of(identity_of(job.marker()[1].encode()))
+    source.of(identity_of(marker))
     sums = Sums(source, reads=False)
     sums.note_all()
     for _ in range(1 if record else TRIES):
@@ -352,53 +349,61 @@ def export(job: Any, source: Any, target: Place, record: int) -> Carried:
             raise StoreError("Absent", f"{job.name}: no record is complete", False)
         with contextlib.suppress(Gone):
             text = manifest_of(job, source, state, id, sums=sums)
+            if lost := lost_of(job, source, id, text):
+                raise StoreError("FileLost", f"{job.name}: record {id} is not whole: the files {lost} are not there, or have another length", False)
             size = manifests.carry_to(source, target, id, text, None)
             return Carried(id, members(text)["kind"] == "savepoint", members(text)["files"], size)
     raise StoreError("Absent", f"{job.name}: record {record} has ended, or is not complete" if record else f"{job.name}: its records end too soon", False)
 
 
-def check_owner(job: Any, source: Any) -> None:
-    found = source.text()
-    if found is None:
-        raise NotThere(2, "there is no marker of the job", f"{source.url}/{source.marker}")
-    if found != job.marker()[1].encode():
-        raise OtherJob(17, "it names another job, or this one as another database has it", f"{source.url}/{source.marker}")
-
-
 def import_job(recovery: Recovery, source: Place, record: int, claim: bool) -> Imported:
     """Makes a job of a record in `source`, which an export has made, or which is the storage of a durable job. A claim fences that one before it chooses the
     record, whose files leave `source` last of all."""
-    target = recovery.source
-    marker = target.text()
-    if marker is None or (isinstance(target, InBucket) and target.read(manifests.PART) is not None):
+    target, recovery.is_copy = recovery.source, not claim
+    if not claim:
         carry_in(recovery, source, record, claim)
-    else:
-        target.of(identity_of(marker))
-        if manifests.imported(source, target) is None:
-            if claim:
-                source.remove_itself()  # of a claim that was killed behind its last file
-            raise StoreError("Present", f"{target.url}: it is there, and is not empty", False)
-        if claim:
-            manifests.fence(source)  # an import may have left it, and then the old job runs
-    found = goes_on(recovery, source) if claim else recovery.run(0)
-    if claim:
-        manifests.leave(source, found.record)
+        return recovery.run(0)
+    with source.locked():
+        fenced = carry_in(recovery, source, record, claim)
+        manifests.hold(source, fenced)
+        manifests.mark(source, target)
+        found = goes_on(recovery, source)
+        manifests.leave(source, found.record, target)
     return found
 
 
-def carry_in(recovery: Recovery, source: Place, record: int, claim: bool) -> None:
-    """The files, with a manifest of a job that is not there yet."""
+def carry_in(recovery: Recovery, source: Place, record: int, claim: bool) -> Optional[manifests.Fence]:
+    """The files, with a manifest of a job that is not there yet, unless an earlier try has left them. Returns the fence of a claim."""
     target = recovery.source
+    marker, is_begun = target.text(), isinstance(target, InBucket) and target.read(manifests.PART) is not None
+    if marker is not None and not is_begun:
+        return go_on_in(target, source, identity_of(marker), claim)
     recovery.check("")
     with manifests.listed(source) as folder:
-        manifests.chosen(source, folder, record)
-    if not target.is_empty() and not (isinstance(target, InBucket) and target.read(manifests.PART) is not None):
+        one = manifests.chosen(source, folder, record)
+    if not target.is_empty() and not is_begun:
         raise StoreError("Present", f"{target.url}: it is there, and is not empty", False)
     if claim:
-        manifests.fence(source)
+        manifests.check_claim(source, one.id, target)
+    fenced = manifests.fence(source) if claim else None
     owner = identity_of(imported_marker(target.marker))
     target.of(owner)
     manifests.carry(source, target, record, owner)
+    return fenced
+
+
+def go_on_in(target: Any, source: Place, owner: str, claim: bool) -> Optional[manifests.Fence]:
+    """The files are there already. An import may have left them, and then the old job runs."""
+    target.of(owner)
+    record = manifests.imported(source, target)
+    if record is None:
+        if claim:
+            manifests.leave_place(source, target)  # of a claim that was killed behind its last file
+        raise StoreError("Present", f"{target.url}: it is there, and is not empty", False)
+    if not claim:
+        return None
+    manifests.check_claim(source, record, target)
+    return manifests.fence(source)
 
 
 def goes_on(recovery: Recovery, source: Place) -> Imported:
@@ -415,169 +420,3 @@ def goes_on(recovery: Recovery, source: Place) -> Imported:
             raise
         it = members(manifests.manifests_of(recovery.source)[record])
         return Imported(record, it["kind"] == "savepoint", it["files"], it["bytes"], 0, 0, it["below"]["number"])
-
-
-# The commands.
-
-
-def parser() -> argparse.ArgumentParser:
-    place = argparse.ArgumentParser(add_help=False)
-    files = place.add_mutually_exclusive_group(required=True)
-    files.add_argument("--folder", metavar="DIR", help="the folder of the job's files")
-    files.add_argument("--bucket", metavar="NAME", help="the bucket of the job's files")
-    place.add_argument("--prefix", default="", help="the part of a file's name before its number; in a bucket of its key")
-    place.add_argument("--suffix", default="", help="the part of a file's name after its number")
-    place.add_argument("--endpoint", metavar="URL", help="another S3 server than that of AWS")
-    place.add_argument("--region", help="its region")
-    where = argparse.ArgumentParser(add_help=False, parents=[place])
-    where.add_argument("--url", metavar="URL", action="append", help="the service, by default http://127.0.0.1:7780; again: its next address")
-    where.add_argument("--token-file", metavar="FILE", help="a file whose first line is a write token")
-    where.add_argument("--ca", metavar="FILE", help="certificates that https trusts, by default the system's")
-    where.add_argument("--within", metavar="SECONDS", type=int, default=60, help="for how long a request that is not answered is made again")
-    it = argparse.ArgumentParser(prog="relkvanu", epilog=USAGE, formatter_class=argparse.RawDescriptionHelpFormatter)
-    commands = it.add_subparsers(dest="command", required=True)
-    for name, words in (("keep", ("job",)), ("export", ("job", "id", "to")), ("import", ("source", "job")), ("recover", ("job",))):
-        command = commands.add_parser(name, parents=[where])
-        for word in words:
-            command.add_argument(word)
-        if name in ("import", "recover"):
-            command.add_argument("--record", type=int, default=0, help="another record than the last one")
-        if name == "keep":
-            command.add_argument("--checksums", action="store_true", help="manifests have a checksum of each file, which is read once")
-        if name == "import":
-            command.add_argument("--claim", action="store_true", help="the files leave SOURCE, whose job is refused from then on")
-    looks = commands.add_parser("records", parents=[place])  # it needs no service
-    looks.add_argument("job")
-    looks.add_argument("--whole", action="store_true", help="reads the files, and compares them with the checksums of the manifests")
-    return it
-
-
-def module(name: str, what: str) -> Any:
-    """One that not each command needs."""
-    try:
-        return importlib.import_module(name)
-    except ImportError as error:
-        raise Stop(FAILED, f"{what}: {error}") from error
-
-
-def token(path: Optional[str]) -> Optional[str]:
-    if path is None:
-        return None
-    try:
-        with open(path, encoding="utf-8") as file:
-            return file.readline().strip()
-    except OSError as error:
-        raise Stop(FAILED, f"--token-file: {error}") from error
-
-
-def number(text: str) -> int:
-    """The number of a record; 0 stands for the one from which a restart would begin."""
-    if text != "latest" and not (text.isdecimal() and int(text)):
-        raise Stop(WRONG_WORD, f"{text!r} is neither the number of a record nor `latest`")
-    return 0 if text == "latest" else int(text)
-
-
-class Looked:
-    """What the words of a command stand for, of the files of a job."""
-
-    def __init__(self, given: argparse.Namespace) -> None:
-        self.given = given
-
-    def s3(self) -> Any:
-        return module("relkvanu.s3", "a bucket needs boto3, python3-boto3 of Debian").client(self.given.endpoint, self.given.region)
-
-    def files(self) -> Any:
-        it = self.given
-        if it.folder is None:
-            return service_bucket(it.job, it.bucket, it.prefix, it.suffix, self.s3())
-        return service_folder(it.job, it.folder, it.prefix, it.suffix)
-
-    def show(self) -> None:
-        source = self.files()
-        marker = source.text()
-        if marker is None:
-            raise NotThere(2, "there is no marker of the job", f"{source.url}/{source.marker}")
-        source.of(identity_of(marker))
-        if not self.given.whole:
-            manifests.show(source)
-        elif not manifests.show_whole(source):
-            raise Stop(FAILED, f"{source.url}: not all files are as the manifests say")
-
-
-class Given(Looked):
-    """The same with the service."""
-
-    def __init__(self, given: argparse.Namespace) -> None:
-        super().__init__(given)
-        self.client = module("relkvanu_service", "the client of the service is service/client/python/relkvanu_service.py, and needs python3-requests")
-        urls = given.url or ["http://127.0.0.1:7780"]
-        self.service = self.client.Service(*urls, token=token(given.token_file), patience=given.within, ca=given.ca)
-        self.job = self.service.job(given.job)
-
-    def place(self, url: str) -> Place:
-        return place(url, self.s3() if url.startswith("s3://") else None)
-
-    def keep(self) -> None:
-        kept = Manifests(self.job, self.files(), self.given.checksums).keep()
-        print("no record is complete" if kept is None else f"record {kept} has a manifest")
-
-    def export(self) -> None:
-        to = self.given.to
-        found = export(self.job, self.files(), self.place(to), number(self.given.id))
-        print(f"{to} has {'savepoint' if found.is_savepoint else 'checkpoint'} {found.record}, with {found.files} files of {found.bytes} bytes")
-
-    def recovery(self) -> Recovery:
-        return Recovery(self.client, self.service, self.given.job, self.files())
-
-    def do(self) -> None:
-        it = self.given
-        if it.command == "keep":
-            self.keep()
-        elif it.command == "export":
-            self.export()
-        elif it.command == "recover":
-            manifests.tell(it.job, self.recovery().run(it.record))
-        else:
-            manifests.tell(it.job, import_job(self.recovery(), self.place(it.source), it.record, it.claim))
-
-
-def look(given: argparse.Namespace) -> None:
-    try:
-        Looked(given).show()
-        sys.stdout.flush()
-    except (NotThere, OtherJob) as error:
-        raise Stop(LOOK_FIRST, str(error)) from error
-    except (Error, OSError) as error:
-        raise Stop(FAILED, str(error)) from error
-
-
-def run(given: argparse.Namespace) -> None:
-    if given.command == "records":
-        return look(given)
-    it = Given(given)
-    try:
-        it.do()
-        sys.stdout.flush()
-    except (NotThere, OtherJob) as error:
-        raise Stop(LOOK_FIRST, str(error)) from error
-    except (it.client.Failed, it.client.Refused, it.client.Fenced, Error, OSError) as error:  # those of requests are OSErrors
-        raise Stop(FAILED, str(error)) from error
-
-
-def main(arguments: Optional[List[str]] = None) -> int:
-    it = parser()
-    given = it.parse_args(arguments)
-    if (given.folder is not None and "/" in given.prefix + given.suffix) or posixpath.basename(given.prefix).startswith(MARK):
-        it.error(f"--prefix and --suffix: a '/' would name another folder, and files that begin with {MARK} say whose place it is")
-    try:
-        run(given)
-    except Stop as stop:
-        print(f"relkvanu: {stop}", file=sys.stderr)
-        return stop.status
-    except KeyboardInterrupt:
-        return 130
-    return 0
-
-
-if __name__ == "__main__":
-    sys.exit(main())

@@ -1,5 +1,5 @@
 """Where a job's state files are: a folder, or with relkvanu.s3 a bucket. A file is whole or not there, and is durable before a task acknowledges
-it; a file counts as deleted only in a storage that is there, and that is the job's. docs/DURABLE-STORAGE.md has a worked example."""
+it; a file counts as deleted only in a storage that is there, and that is the job's. docs/DURABLE.md has a worked example."""
 import contextlib
 import errno
 import itertools
@@ -193,6 +193,10 @@ class Folder:
         if found is None:
             raise StorageError(errno.ENOENT, "no such file", f"{self.path}/{self.names.of(file)}")
         return found
+
+    def read_beside(self, name: str) -> Optional[bytes]:
+        """What is beside the state files under this name, or None if there is none."""
+        return self._read(name)
 
     def delete(self, files: Iterable[int]) -> Dict[int, str]:
         failed: Dict[int, str] = {}

@@ -9,88 +9,36 @@ import contextlib
 import ctypes
 import enum
 import os
-import pathlib
 import threading
 import time
-from dataclasses import dataclass, field
-from typing import Any, Callable, Container, ContextManager, DefaultDict, Dict, Iterable, List, NoReturn, Optional, Protocol, Sequence, Set, Tuple, Union
+from dataclasses import dataclass
+from typing import Any, Callable, Container, ContextManager, DefaultDict, Dict, Iterable, List, NoReturn, Optional, Protocol, Sequence, Set, Tuple, TypeVar, Union
 
 from relkvanu import header, store_header
 from relkvanu.coordinator import (
-    U64, BadArgument, Coordinator, Error, Fenced, OutOfMemory, Refused, Settings, _done, _made, _settings, _told, _u64, _within, _words,
+    U64, BadArgument, Coordinator, Error, Fenced, OutOfMemory, Refused, Settings, _done, _loaded, _made, _settings, _told, _u64, _within, _words,
 )
-from relkvanu.lines import _numbers
+from relkvanu.jobs import (
+    Call as Call, JobPhase as JobPhase, Made as Made, Opening, Outcome, Phase as Phase, Step as Step, StopFailed as StopFailed, StoreError as StoreError, made_of, subtasks_of,
+)
 from relkvanu.nexts import (
     Next as Next, NextBarrier as NextBarrier, NextBegun as NextBegun, NextCancelled as NextCancelled, NextEnded as NextEnded, NextFailed as NextFailed,
     NextIdle as NextIdle, NextNotStopped as NextNotStopped, NextStopped as NextStopped,
 )
-from relkvanu.reads import CHOSEN, Chosen, Garbage, Kind, Mode, RunningTerm
+from relkvanu.reads import CHOSEN, Chosen, FileCounts, Garbage, Kind, Live, Mode, RunningTerm
 from relkvanu.replies import (
-    Failed, Reply, Reserved, RestoredCheckpoint, RestoredFresh, RestoredSavepoint, SavepointTriggered, Taken, Triggered,
+    Failed, Reserved, RestoredCheckpoint, RestoredFresh, RestoredSavepoint, SavepointTriggered, Taken, Triggered,
 )
-from relkvanu.storage import Marker
+from relkvanu.storage import MARKER, Marker, OtherJob
 from relkvanu.waits import Once, Task, is_main
 from relkvanu.whole import KINDS, Part, Past, Restored, Whole, _part, _past, _whole
 
 LIBRARY = "librelkvanu-store.so.0"
 FOREVER = (1 << 64) - 1
+SAID = ("BadArgument", "NotNow", "FileLost", "Damaged", "NotDone")  # the library has said why to the thread
 SLICE = 100  # ms: the main thread waits so long for a tick, and a discarder for files, before it looks for what has happened
 Path = Union[str, "os.PathLike[str]"]
-
-
-class StoreError(Error):
-    """A store was not opened, or a call was not made. `name` says why, such as "InUse", and `message` says where. If `closes` is true, a
-    commit failed: the store is closed, and its calls may or may not be in the log. Nobody may act on them. Open the store again, or end
-    the process. `errno` is what the system has said, if it has: after "NotPut" and "NotDone", and of an opening."""
-
-    def __init__(self, name: str, message: str, closes: bool, errno: int = 0) -> None:
-        super().__init__(name, message, closes)
-        self.name = name
-        self.message = message
-        self.closes = closes
-        self.errno = errno
-
-    def __str__(self) -> str:
-        return f"{self.name}: {self.message}" if self.message else self.name
-
-
-class Step(enum.Enum):
-    """What an engine has to do after an opening, in the order of the report."""
-
-    END_TASKS = 1  # tell the earlier tasks to end, and wait for none
-    RESTORE = 2  # call restore(): its reply says where the job begins again
-    SWEEP = 3  # call sweep(), or delete the files of the storage that garbage() says are garbage
-    START_TASKS = 4  # start tasks, a timer (await_tick) and a discarder (discard)
-    DISCARD = 5  # start a discarder alone: the job is cancelled, or stopped
-
-
-class Phase(enum.Enum):
-    """The phase of a job."""
-
-    RUNNING = 0  # the job runs, has failed or was cancelled: its mode says which
-    STOPPING = 1  # the savepoint of its stop is pending
-    STOPPED = 2  # that savepoint is done, and the job goes on from it when it begins
-
-
-class StopFailed(enum.Enum):
-    """Why a stop has failed."""
-
-    EXPIRED = 1  # its savepoint was not done within the timeout
-    DECLINED = 2  # a task has declined it
-    RESTORED = 3  # the job was restored before, as after a crash
-    CANCELLED = 4  # the job was cancelled, before it was stopped or afterwards
-    FAILED = 5  # the job has failed
-
-
-@dataclass(frozen=True)
-class JobPhase:
-    """The phase of a job, with the savepoint of its stop, and in STOPPED the term that began then. In RUNNING
-    stop_failed says why the last stop has failed, until the next one."""
-
-    phase: Phase
-    savepoint: Optional[int] = None
-    term: int = 0
-    stop_failed: Optional[StopFailed] = None
+T = TypeVar("T")
 
 
 def _phase(phase: int, savepoint: int, term: int, failed: int) -> JobPhase:
@@ -184,118 +132,6 @@ class Recovered:
     next_number: int
 
 
-@dataclass(frozen=True)
-class Call:
-    """A call of a list. Without a moment it has that of the store's clock. The term is that of its task."""
-
-    kind: int
-    now: Optional[int] = None
-    number: int = 0
-    vertex: int = 0
-    index: int = 0
-    first: Sequence[int] = ()
-    second: Sequence[int] = ()
-    term: int = 0
-    payload: bytes = b""  # of an acknowledgement, with its bytes and ms
-    figures: Tuple[int, int] = (0, 0)
-    reason: str = ""  # of a decline
-
-    # bindings/generate makes the calls of one number
-    @classmethod
-    def tick(cls, now: Optional[int] = None) -> "Call":
-        return cls(header.CALL_TICK, now)
-
-    @classmethod
-    def savepoint(cls, now: Optional[int] = None) -> "Call":
-        return cls(header.CALL_SAVEPOINT, now)
-
-    @classmethod
-    def dispose(cls, id: int) -> "Call":
-        return cls(header.CALL_DISPOSE, number=id)
-
-    @classmethod
-    def cancel(cls, now: Optional[int] = None) -> "Call":
-        return cls(header.CALL_CANCEL, now)
-
-    @classmethod
-    def deleted(cls, file: int) -> "Call":
-        return cls(header.CALL_DELETED, number=file)
-
-    @classmethod
-    def undeleted(cls, file: int) -> "Call":
-        return cls(header.CALL_UNDELETED, number=file)
-
-    @classmethod
-    def trigger(cls, now: Optional[int] = None) -> "Call":
-        return cls(header.CALL_TRIGGER, now)
-    # bindings/generate: end
-
-    @classmethod
-    def ack(
-        cls, id: int, vertex: int, index: int, fresh: Sequence[int] = (), reused: Sequence[int] = (), now: Optional[int] = None, term: int = 0,
-        payload: bytes = b"", figures: Tuple[int, int] = (0, 0),
-    ) -> "Call":
-        """The figures are the bytes of the task's snapshot, and the ms that it took."""
-        return cls(header.CALL_ACK, now, id, vertex, index, fresh, reused, term, payload, figures)
-
-    @classmethod
-    def decline(cls, id: int, vertex: int, index: int, now: Optional[int] = None, term: int = 0, reason: str = "") -> "Call":
-        return cls(header.CALL_DECLINE, now, id, vertex, index, term=term, reason=reason)
-
-    @classmethod
-    def reserve(cls, term: int, count: int) -> "Call":
-        return cls(header.CALL_RESERVE, 0, count, term=term)
-
-    @classmethod
-    def forfeit(cls, term: int, names: Sequence[int]) -> "Call":
-        return cls(header.CALL_FORFEIT, 0, first=names, term=term)
-
-    @classmethod
-    def configure(cls, settings: Settings, now: Optional[int] = None) -> "Call":
-        """For a list of calls. Store.configure() says which value is outside its limits."""
-        return cls(header.CALL_CONFIGURE, now, first=_numbers(settings))
-
-    @classmethod
-    def advance(cls, term: int, first_name: int, now: Optional[int] = None) -> "Call":
-        return cls(header.CALL_ADVANCE, now, first_name, term=term)
-
-    @classmethod
-    def restore(cls, savepoint: Optional[int] = None, shape: Optional[Sequence[int]] = None, now: Optional[int] = None) -> "Call":
-        if savepoint == 0:
-            raise BadArgument("no savepoint has the number 0")
-        if shape is not None and len(shape) == 0:
-            raise BadArgument("BadShape")
-        return cls(header.CALL_RESTORE, now, savepoint or 0, first=shape or ())
-
-    @classmethod
-    def take(cls, most: int) -> "Call":
-        return cls(header.CALL_TAKE, number=most)
-
-
-@dataclass(frozen=True)
-class Made:
-    """A call that was made and committed: its reply, its place in the log (0 if it changed nothing), and after a trigger the record that its
-    barrier names beside it. After a restore, cancel or advance: the term that begins. Tasks are started with it. `kind` is that of the record that was
-    triggered, acknowledged, declined, disposed of or restored (None: it had ended before), and `ended` are the numbers of records that the call has ended."""
-
-    reply: Reply
-    place: int
-    choice: Optional[Chosen]
-    term: int = 0
-    kind: Optional[Kind] = field(default=None, compare=False)
-    ended: Tuple[int, ...] = field(default=(), compare=False)
-
-
-Outcome = Union[Made, Error]
-
-
-def _made_of(outcome: Outcome) -> Made:
-    """The call, if it was made."""
-    if isinstance(outcome, Error):
-        raise outcome
-    return outcome
-
-
 def _next_of(made: Made) -> Next:
     """The case of a tick, or of what a timer hands over."""
     reply = made.reply
@@ -312,22 +148,7 @@ def _next_of(made: Made) -> Next:
     return NextFailed(made.ended) if isinstance(reply, Failed) else NextIdle(made.ended)
 
 
-def _loaded() -> ctypes.CDLL:
-    folder = os.environ.get("RELKVANU_LIB")
-    beside = pathlib.Path(__file__).resolve().parent / LIBRARY
-    path = os.path.join(folder, LIBRARY) if folder is not None else str(beside) if beside.is_file() else LIBRARY
-    try:
-        library = ctypes.CDLL(path, use_errno=True)  # which releases the interpreter's lock in each call
-        for name, (result, parameters) in store_header.FUNCTIONS.items():
-            function = getattr(library, name)
-            function.argtypes, function.restype = parameters, result
-    except (OSError, AttributeError) as fault:
-        raise ImportError(f"the library of relkvanu.store can't be loaded: {fault}", name="relkvanu.store", path=path) from None
-    return library
-
-
-_library = _loaded()
-
+_library = _loaded(LIBRARY, store_header.FUNCTIONS, "relkvanu.store", "the library of relkvanu.store can't be loaded: %s", lambda library, path: None)
 
 AT_FDCWD = -100  # a path that is not in a folder of its own
 
@@ -350,6 +171,25 @@ def _check(status: int, message: bytes) -> None:
         raise OutOfMemory
     if status != store_header.OK:
         raise StoreError(store_header.STATUSES[status], message.decode(errors="replace"), False, ctypes.get_errno())
+
+
+def _told_of(kind: Callable[..., T], found: Any, function: Callable[..., int], *words: Any) -> T:
+    """What a function that needs no store tells of what it has made."""
+    _check(function(*words, ctypes.byref(found)), found.message)
+    return kind(**{name: getattr(found, name) for name, *_ in found._fields_[:-2]})
+
+
+def _recovered(function: Callable[..., int], *words: Any) -> Recovered:
+    return _told_of(Recovered, store_header.relkvanu_store_recovered(), function, *words)
+
+
+def _noting(records: List[Record]) -> Any:
+    """Notes each record that the library tells of."""
+    def note(_: object, found: Any) -> bool:
+        records.append(_record(found.contents))
+        return True
+
+    return store_header.relkvanu_store_each_record(note)
 
 
 def _record(it: Any) -> Record:
@@ -553,6 +393,7 @@ class Store:
         `backup` opens a backup, once: see backup().
         With `manifests` the storage folder gets a manifest of each complete record, of which recover() makes the job again if its file is lost.
         With `checksums` too the manifests have a checksum of each file, for which the store reads it once: see check_records()."""
+        self.path = os.fspath(path)
         self._store = ctypes.c_void_p()
         self._process = os.getpid()
         self._used: Set[object] = set()  # who is in the library; add and discard are one step each, so an interrupt leaves nobody here
@@ -565,6 +406,7 @@ class Store:
         self._token = 0
         self._places: List[Tuple[Any, ...]] = []  # the functions of keep_manifests(), which C calls
         self.manifest_fault: Optional[BaseException] = None
+        self._kept: Optional[Manifests] = None  # the place of keep_manifests()
         self.checksums = checksums  # whether its manifests have them
         flags = create * store_header.CREATE | only_create * store_header.CREATE_ONLY | adopt * store_header.ADOPT
         words, found = _words(shape), store_header.relkvanu_store_report()
@@ -598,6 +440,8 @@ class Store:
             return OutOfMemory()
         if status == store_header.NOT_PUT:
             return StoreError("NotPut", os.strerror(number), False, number)
+        if status == store_header.STORAGE and self._message(store):  # a commit has found that the storage is another's
+            return StoreError("Storage", self._message(store), True)
         if status in (store_header.NOT_DONE, store_header.STORAGE, store_header.PRESENT):
             return StoreError(store_header.STATUSES[status], _why(), False, number if status == store_header.NOT_DONE else 0)
         return StoreError(store_header.STATUSES[status], self._message(store), _closes(status))
@@ -610,12 +454,13 @@ class Store:
             raise StoreError("InRead", "this thread is in read(), so the call would wait for itself: make it after the read", False)
         return self._store
 
-    def _at_once(self, work: Callable[[ctypes.c_void_p], Any]) -> Any:
-        """Does what never waits, with the store, which is not freed meanwhile."""
+    def _at_once(self, work: Callable[[ctypes.c_void_p], Any], in_read: bool = True) -> Any:
+        """Does what never waits, with the store, which is not freed meanwhile. Or it waits in this thread, and may not be called `in_read`: then a handler runs in
+        what it calls, or afterwards."""
         use = object()
         try:
             self._used.add(use)
-            return work(self._opened(in_read=True))
+            return work(self._opened(in_read))
         finally:
             self._used.discard(use)
 
@@ -642,16 +487,15 @@ class Store:
             if not is_main() or task.is_taken_back():
                 self._used.discard(use)
 
-    def _made(self, function: Callable[..., int], *words: Any, fine: int = store_header.OK, says: bool = False) -> int:
+    def _made(self, function: Callable[..., int], *words: Any, fine: Sequence[int] = (), says: bool = False, at_once: bool = False) -> int:
         """Makes a call of the library that may wait, and returns its status, which is OK or fine. One that says why it was not made has said it for this thread."""
         def work(store: ctypes.c_void_p) -> Tuple[int, Optional[Exception]]:
             status = function(store, *words)
-            fault = self._fault(status, store, fine)
-            if says and status in (store_header.BAD_ARGUMENT, store_header.FILE_LOST, store_header.DAMAGED):
-                fault = StoreError(store_header.STATUSES[status], _why(), False)
-            return status, fault
+            if says and store_header.STATUSES[status] in SAID:
+                return status, StoreError(store_header.STATUSES[status], _why(), False)
+            return status, self._fault(status, store, *fine)
 
-        status, fault = self._waits(work)
+        status, fault = self._at_once(work) if at_once else self._waits(work)
         if fault is not None:
             raise fault
         return int(status)
@@ -711,7 +555,7 @@ class Store:
     def call(self, call: Call) -> Made:
         """One call."""
         (outcome,) = self.calls([call])
-        return _made_of(outcome)
+        return made_of(outcome)
 
     # bindings/generate makes the calls of one number of a store
     def tick(self, now: Optional[int] = None) -> Made:
@@ -780,7 +624,27 @@ class Store:
         return Garbage(tuple(garbage[: answer.a]), tuple(unissued[: answer.b]))
 
     def restore(self, savepoint: Optional[int] = None, shape: Optional[Sequence[int]] = None, now: Optional[int] = None) -> Made:
+        """Raises StoreError("FileLost") if a savepoint that is named lacks a file in the storage folder, or in the bucket that has the manifests: nothing has
+        changed then."""
+        if savepoint:
+            self._look_for(savepoint)
         return self.call(Call.restore(savepoint, shape, now))
+
+    def _look_for(self, id: int) -> None:
+        """Looks for the files of a record in a bucket, before all checkpoints are dropped. In a folder the library looks."""
+        pages = getattr(self._kept, "pages", None)
+        if pages is None:
+            return
+        try:
+            found = self.load(id)
+        except StoreError as why:
+            if why.name != "Absent":
+                raise
+            return  # the call will be refused
+        lost = {file for part in found.parts for file in part.files} if found is not None else set()
+        lost.difference_update(*pages())
+        if lost:
+            raise StoreError("FileLost", f"file {min(lost)} of record {id} is missing", False)
 
     def restore_whole(self, savepoint: Optional[int] = None, shape: Optional[Sequence[int]] = None, now: Optional[int] = None) -> Restored:
         """restore(), and the record from which the job begins: see load(). The term is that of the tasks."""
@@ -799,7 +663,9 @@ class Store:
 
         found, each = store_header.relkvanu_store_loaded(), store_header.relkvanu_store_each_part(note)
         self._made(_library.relkvanu_store_load, _u64(id or 0), ctypes.byref(found), each, None, says=True)
-        return _whole(found, parts)
+        origin = (U64 * 2)()
+        is_carried = self._at_once(lambda store: _library.relkvanu_store_origin(store, _u64(found.id), origin))
+        return _whole(found, parts, f"{origin[0]:016x}{origin[1]:016x}" if is_carried else "")
 
     def history(self, most: int = 100) -> List[Past]:
         """At most so many of the last thousand records that are complete or have failed, the last one first."""
@@ -833,30 +699,23 @@ class Store:
     def go_back(self, id: int, accept_published: bool = False) -> Made:
         """Goes back to a done checkpoint that is retained, in one commit. What sinks have published for later records is not taken back, and the job will
         publish it again: `accept_published` has to say that this is accepted. The reply says where the job begins, and Made.term is the term of its tasks.
-        Raises Refused("NoSuchRecord"), or BadArgument("BadShape") if the job has another shape than the checkpoint had."""
+        Raises Refused("NoSuchRecord"), BadArgument("BadShape") if the job has another shape than the checkpoint had, or StoreError("FileLost") if the
+        checkpoint lacks a file: nothing has changed then."""
         flags = store_header.ACCEPT_PUBLISHED if accept_published else 0
+        if accept_published:
+            self._look_for(id)
         return self._verb(_library.relkvanu_store_go_back, _u64(id), flags)
 
     def phase(self) -> JobPhase:
         """Whether the job runs, is being stopped or is stopped, of what is committed."""
         found = store_header.relkvanu_store_job_phase()
-        fault = self._at_once(lambda store: self._fault(_library.relkvanu_store_phase(store, ctypes.byref(found)), store))
-        if fault is not None:
-            raise fault
+        self._made(_library.relkvanu_store_phase, ctypes.byref(found), at_once=True)
         return _phase(found.phase, found.savepoint, found.term, found.stop_failed)
 
     def _verb(self, function: Callable[..., int], *words: Any) -> Made:
         call = store_header.relkvanu_store_call()
-
-        def work(store: ctypes.c_void_p) -> Optional[Exception]:
-            status = function(store, *words, ctypes.byref(call))
-            fault = self._fault(status, store)
-            return StoreError(fault.name, _why(), False) if isinstance(fault, StoreError) and fault.name in ("BadArgument", "NotNow") else fault
-
-        fault = self._waits(work)
-        if fault is not None:
-            raise fault
-        return _made_of(_List.outcome(call))
+        self._made(function, *words, ctypes.byref(call), says=True)
+        return made_of(_List.outcome(call))
 
     def submit(self, calls: Sequence[Call]) -> int:
         """For event loops: as calls(), but returns a token at once. completed() returns it with the outcomes."""
@@ -887,8 +746,7 @@ class Store:
                 raise fault
             return token
 
-        token: int = self._at_once(work)
-        return token
+        return int(self._at_once(work))
 
     def completed(self) -> List[Tuple[int, Union[List[Outcome], StoreError]]]:
         """The submits that are committed, or failed, since the last time. Never waits."""
@@ -905,29 +763,74 @@ class Store:
         made = self._submits.pop(it.token)
         if it.status == store_header.OK:
             return made.outcomes()
-        return StoreError(store_header.STATUSES[it.status], self._message(store), _closes(it.status))
+        return StoreError(store_header.STATUSES[it.status], self._message(store), _closes(it.status) or it.status == store_header.STORAGE)
 
     def fileno(self) -> int:
         """A descriptor that can be read (select, asyncio) while there are completions."""
-        descriptor: int = self._at_once(_library.relkvanu_store_descriptor)
-        return descriptor
+        return int(self._at_once(_library.relkvanu_store_descriptor))
 
     def read(self) -> ContextManager[Reads]:
         """`with job.read() as reads:` reads what is committed. All callers wait meanwhile, so be quick, and make no call: one of this thread raises
         StoreError("InRead"), but close(), which ends the read, and submit()."""
         return _Reading(self)
 
+    # What the protocol of a Job (relkvanu.jobs) has beside these.
+
+    tells_savepoints = False
+
+    @property
+    def identity(self) -> str:
+        return self.report.job
+
+    def storage_marker(self) -> Marker:
+        return Marker(MARKER, f"relkvanu: state files of the job {self.report.job}\n")
+
+    def opening(self) -> Opening:
+        if self.report.phase.phase is Phase.STOPPED:
+            return Opening.BEGUN
+        if Step.START_TASKS not in self.report.steps:
+            return Opening.CANCELLED
+        return Opening.OLD if Step.RESTORE in self.report.steps else Opening.NEW
+
+    def mode(self) -> Mode:
+        with self.read() as reads:
+            mode: Mode = reads.mode()
+        return mode
+
+    def choice(self) -> Optional[Chosen]:
+        with self.read() as reads:
+            choice: Optional[Chosen] = reads.choice()
+        return choice
+
+    def live(self) -> List[Live]:
+        with self.read() as reads:
+            first: Optional[Live] = reads.live_from(0)
+            found = [first] if first is not None else []
+            while found and (it := reads.live_from(found[-1].id + 1)) is not None:
+                found.append(it)
+        return found
+
+    def missing(self, id: int) -> List[Tuple[int, int]]:
+        with self.read() as reads:
+            acked = {it["subtask"] for it in reads.show(id).metadata["acks"]}
+        return [it for it in subtasks_of(self.shape()) if "%d.%d" % it not in acked]
+
+    def shape(self) -> Tuple[int, ...]:
+        return self.job()[1]
+
+    def file_counts(self) -> FileCounts:
+        with self.read() as reads:
+            counts: FileCounts = reads.file_counts()
+        return counts
+
     def now(self) -> int:
         """The moment of the store's clock."""
-        moment: int = self._at_once(_library.relkvanu_store_now)
-        return moment
+        return int(self._at_once(_library.relkvanu_store_now))
 
     def next_tick(self) -> Optional[int]:
         """After how many milliseconds the next tick has to come, unless a call is made before; None: only a call can bring one."""
         wait = U64()
-        fault = self._at_once(lambda store: self._fault(_library.relkvanu_store_next_tick(store, ctypes.byref(wait)), store))
-        if fault is not None:
-            raise fault
+        self._made(_library.relkvanu_store_next_tick, ctypes.byref(wait), at_once=True)
         return None if wait.value == FOREVER else wait.value
 
     def await_tick(self, longest: int = 1000) -> Optional[Made]:
@@ -937,7 +840,7 @@ class Store:
         None: none was due. It comes at once if the job has failed or was cancelled (read the mode), is stopped, or its stop has failed (see phase()).
         await_next() tells these apart."""
         status, outcome = self._timed(longest)
-        return _made_of(outcome) if status == store_header.OK else None
+        return made_of(outcome) if status == store_header.OK else None
 
     def await_next(self, longest: int = 1000) -> Next:
         """As await_tick(), with one case for each thing that an engine does next: see relkvanu.nexts. Waits at most `longest` milliseconds, 0 to 2^64 - 1. A
@@ -955,7 +858,7 @@ class Store:
             return UNTICKED[status]()
         if isinstance(outcome, Refused) and outcome.name == "NotRunning":
             return self._standstill()
-        return _next_of(_made_of(outcome))
+        return _next_of(made_of(outcome))
 
     def _standstill(self) -> Next:
         """Why a tick was refused, or none is due. Nothing is due if that is over by now."""
@@ -972,21 +875,11 @@ class Store:
         while status == store_header.TIMED_OUT or (status in waits and call.answer.a == 0):
             part = min(left, SLICE) if is_main() else left
             left -= part
-            status = self._awaited(part, call, more)
+            status = self._made(_library.relkvanu_store_await_tick_with, part, ctypes.byref(call), ctypes.byref(more), fine=(
+                store_header.TIMED_OUT, store_header.NOT_STOPPED, *waits))
             if left == 0:
                 break
         return status, _List.outcome(call)
-
-    def _awaited(self, longest: int, call: store_header.relkvanu_store_call, more: Any) -> int:
-        def work(store: ctypes.c_void_p) -> Tuple[int, Optional[Exception]]:
-            status = _library.relkvanu_store_await_tick_with(store, longest, ctypes.byref(call), ctypes.byref(more))
-            return status, self._fault(
-                status, store, store_header.TIMED_OUT, store_header.NOT_RUNNING, store_header.JOB_STOPPED, store_header.NOT_STOPPED)
-
-        status, fault = self._waits(work)
-        if fault is not None:
-            raise fault
-        return int(status)
 
     def put(self, file: int, contents: bytes) -> None:
         """Makes a file of the storage folder by its number. When it returns, a loss of power does not take the file, and a task may acknowledge it.
@@ -1034,7 +927,7 @@ class Store:
         "NotNow" (another backup writes it) or "NotPut" (a full disk, say): then there is none, and the store goes on.
 
         A BACKUP LACKS THE CALLS SINCE IT WAS MADE. Store(.., backup=True) opens it, once, after all processes and tasks of the job have ended, and then
-        the engine restores a record whose files are all there: docs/DURABLE-BACKUP.md, A backup. Without that it raises StoreError("Storage")."""
+        the engine restores a record whose files are all there: docs/DURABLE-OPERATION.md, Back up. Without that it raises StoreError("Storage")."""
         message, name = ctypes.create_string_buffer(512), _bytes(path)
 
         def work(store: ctypes.c_void_p) -> Tuple[int, int]:
@@ -1060,7 +953,7 @@ class Store:
                     work(*words)
                 except BaseException as error:  # nothing passes through C
                     self.manifest_fault = error
-                    return 9  # RELKVANU_STORAGE_FAILED
+                    return 4 if isinstance(error, OtherJob) else 9  # RELKVANU_STORAGE_OTHER_JOB, _FAILED
                 return 0
             return done
 
@@ -1079,14 +972,12 @@ class Store:
             self._made(_library.relkvanu_store_keep_manifests, *functions, None)
         except StoreError as error:
             raise (self.manifest_fault or error) from None
-        self._place = functions  # a call that is refused leaves those that C has
+        self._kept = place
 
     @staticmethod
     def recover_listed(path: Path, listing: Path, record: int = 0) -> Recovered:
         """recover() for a job whose manifests keep_manifests() has kept: `listing` is a folder that stands for the place. relkvanu.manifests makes one."""
-        found = store_header.relkvanu_store_recovered()
-        _check(_library.relkvanu_store_recover_listed(_bytes(path), _bytes(listing), _u64(record), ctypes.byref(found)), found.message)
-        return Recovered(**{name: getattr(found, name) for name, *_ in found._fields_[:-2]})
+        return _recovered(_library.relkvanu_store_recover_listed, _bytes(path), _bytes(listing), _u64(record))
 
     @staticmethod
     def recover(path: Path, storage: Path, record: int = 0) -> Recovered:
@@ -1096,10 +987,7 @@ class Store:
 
         Raises StoreError "Present" (there is a job), "Absent" (no record with a manifest has all its files), "Damaged" (a manifest that can't be read is
         later: give a record), "Storage" or "InUse", and nothing has changed."""
-        found = store_header.relkvanu_store_recovered()
-        status = _library.relkvanu_store_recover(_bytes(path), _bytes(storage), _u64(record), ctypes.byref(found))
-        _check(status, found.message)
-        return Recovered(**{name: getattr(found, name) for name, *_ in found._fields_[:-2]})
+        return _recovered(_library.relkvanu_store_recover, _bytes(path), _bytes(storage), _u64(record))
 
     @staticmethod
     def export(storage: Path, to: Path, record: int = 0) -> Carried:
@@ -1107,58 +995,43 @@ class Store:
         the storage folder may run meanwhile. Killed at any moment it has done nothing, or all. Raises StoreError "Present" (there is something at
         `to`), "Absent" (no record with a manifest has all its files) and so on."""
         found = store_header.relkvanu_store_carried()
-        status = _library.relkvanu_store_export(_bytes(storage), _u64(record), _bytes(to), ctypes.byref(found))
-        _check(status, found.message)
-        return Carried(**{name: getattr(found, name) for name, *_ in found._fields_[:-2]})
+        return _told_of(Carried, found, _library.relkvanu_store_export, _bytes(storage), _u64(record), _bytes(to))
 
     @staticmethod
     def import_job(source: Path, path: Path, storage: Path, record: int = 0, claim: bool = False) -> Recovered:
         """Makes another job, at `path` over the folder `storage`, of a record in `source`: an exported folder, or the storage folder of a job, which may run.
         With `claim` the record's files leave `source`, or stay in place if `storage` is the same folder, and a job that has the folder is refused from then on.
-        Raises StoreError as export() and recover()."""
-        found = store_header.relkvanu_store_recovered()
+        A mark stays there: without a number nothing else takes an earlier record for the latest ("Absent"). Raises StoreError as export() and recover()."""
         function = _library.relkvanu_store_claim if claim else _library.relkvanu_store_import
-        status = function(_bytes(source), _u64(record), _bytes(path), _bytes(storage), ctypes.byref(found))
-        _check(status, found.message)
-        return Recovered(**{name: getattr(found, name) for name, *_ in found._fields_[:-2]})
+        return _recovered(function, _bytes(source), _u64(record), _bytes(path), _bytes(storage))
 
     @staticmethod
     def put_back(backup: Path, path: Path, storage: Path) -> Tuple[Recovered, str]:
-        """Puts a backup of backup() back in the place of the job's file. Read docs/DURABLE-BACKUP.md, A backup, first. Returns what the job goes on from, and
+        """Puts a backup of backup() back in the place of the job's file. Read docs/DURABLE-OPERATION.md, Back up, first. Returns what the job goes on from, and
         the folder that has what was there before."""
         found = store_header.relkvanu_store_recovered()
-        _check(_library.relkvanu_store_put_back(_bytes(backup), _bytes(path), _bytes(storage), ctypes.byref(found)), found.message)
-        return Recovered(**{name: getattr(found, name) for name, *_ in found._fields_[:-2]}), found.message.decode(errors="replace")
+        made = _told_of(Recovered, found, _library.relkvanu_store_put_back, _bytes(backup), _bytes(path), _bytes(storage))
+        return made, found.message.decode(errors="replace")
 
     @staticmethod
     def records(storage: Path) -> List[Record]:
         """The records of a storage folder that have a manifest, in the order of their numbers. It needs no job, and may be called at any time."""
-        message, records = ctypes.create_string_buffer(512), []
-
-        def note(_: object, found: Any) -> bool:
-            records.append(_record(found.contents))
-            return True
-
-        each = store_header.relkvanu_store_each_record(note)
-        _check(_library.relkvanu_store_records(_bytes(storage), each, None, message, len(message)), message.value)
+        message, records = ctypes.create_string_buffer(512), []  # type: Any, List[Record]
+        _check(_library.relkvanu_store_records(_bytes(storage), _noting(records), None, message, len(message)), message.value)
         return records
 
     @staticmethod
     def check_records(storage: Path) -> List[Tuple[Record, Dict[int, FileFault]]]:
         """The same, and reads the files: each one of which a manifest has a checksum, once. Returns for each record what is wrong with its files."""
-        message, records = ctypes.create_string_buffer(512), []
+        message, records = ctypes.create_string_buffer(512), []  # type: Any, List[Record]
         faults: DefaultDict[int, Dict[int, FileFault]] = collections.defaultdict(dict)
-
-        def note(_: object, found: Any) -> bool:
-            records.append(_record(found.contents))
-            return True
 
         def note_fault(_: object, record: int, file: int, fault: int) -> bool:
             faults[record][file] = FileFault(fault)
             return True
 
-        each, each_fault = store_header.relkvanu_store_each_record(note), store_header.relkvanu_store_each_fault(note_fault)
-        _check(_library.relkvanu_store_check_records(_bytes(storage), each, each_fault, None, message, len(message)), message.value)
+        each_fault = store_header.relkvanu_store_each_fault(note_fault)
+        _check(_library.relkvanu_store_check_records(_bytes(storage), _noting(records), each_fault, None, message, len(message)), message.value)
         return [(it, faults.get(it.id, {})) for it in records]
 
     def job(self) -> Tuple[Settings, Tuple[int, ...]]:
@@ -1215,20 +1088,11 @@ class Store:
 
         status, fault = store_header.OK, None
         while status != store_header.STOPPED and fault is None and not thrown:
-            status, fault = self._waits(work) if delete is None else self._in_this_thread(work)
+            status, fault = self._waits(work) if delete is None else self._at_once(work, in_read=False)
         if thrown:
             raise thrown[0]
         if fault is not None:
             raise fault
-
-    def _in_this_thread(self, work: Callable[[ctypes.c_void_p], Any]) -> Any:
-        """As _waits, of what calls a function of the engine: it is called in the thread that it was given in. A handler runs in it, or afterwards."""
-        use = object()
-        try:
-            self._used.add(use)
-            return work(self._opened())
-        finally:
-            self._used.discard(use)
 
     def stop(self) -> None:
         """Lets await_tick and discard end, now and later: await_tick raises StoreError("Stopped")."""

@@ -368,6 +368,7 @@ FUNCTIONS: Dict[str, Tuple[Any, List[Any]]] = {
     "relkvanu_store_await_tick": (c_int, [c_void_p, c_uint64, POINTER(relkvanu_store_call)]),
     "relkvanu_store_await_tick_with": (c_int, [c_void_p, c_uint64, POINTER(relkvanu_store_call), POINTER(relkvanu_store_more)]),
     "relkvanu_store_load": (c_int, [c_void_p, c_uint64, POINTER(relkvanu_store_loaded), relkvanu_store_each_part, c_void_p]),
+    "relkvanu_store_origin": (c_bool, [c_void_p, c_uint64, POINTER(c_uint64)]),
     "relkvanu_store_history": (c_int, [c_void_p, POINTER(relkvanu_store_past), POINTER(c_size_t)]),
     "relkvanu_store_trigger": (c_int, [c_void_p, POINTER(relkvanu_store_call)]),
     "relkvanu_store_configure": (c_int, [c_void_p, POINTER(relkvanu_settings), POINTER(relkvanu_store_call)]),

@@ -40,97 +40,63 @@ class Event:
     other: int = 0  # of a record, beside `number`
     source: str = ""  # a subtask that sends
 
+    @property
+    def who(self) -> Task:
+        assert self.task is not None
+        return self.task
 
-NUMBER = r"([0-9]{1,19})"
-SUBTASK = r"([0-9]+\.[0-9]+)"
-TASK = SUBTASK + " " + NUMBER
-FILES = r"((?: [0-9]{1,19})*)"
-SIGNED = r"((?: [+=][0-9]{1,19})*)"
-# Each line's form, its verb, and what its groups are.
-FORMS: Tuple[Tuple[str, str, str], ...] = (
-    (rf"process {NUMBER} starts", "process starts", "number"),
-    (rf"process {NUMBER} ends", "process ends", "number"),
-    (rf"process {NUMBER} goes on", "process goes on", "number"),
-    (r"log synced", "log synced", ""),
-    (r"log cut", "log cut", ""),
-    (r"log copied", "log copied", ""),
-    (r"log put back", "log put back", ""),
-    (rf"manifest {NUMBER}", "manifest", "number"),
-    (r"log lost", "log lost", ""),
-    (rf"process {NUMBER} recovers {NUMBER}", "process recovers", "number other"),
-    (r"log comes back", "log comes back", ""),
-    (rf"barrier {NUMBER} to {TASK}", "barrier", "number task"),
-    (rf"answer to {TASK} (accepted|late|refused)", "answer", "task word"),
-    (rf"from {TASK}", "from", "task"),
-    (r"dropped (.+)", "dropped", "line"),
-    (r"refused (.+)", "refused", "line"),
-    (rf"task {TASK} starts", "starts", "task"),
-    (rf"task {TASK} ends", "ends", "task"),
-    (rf"task {TASK} begins {NUMBER}", "begins", "task number"),
-    (rf"task {TASK} gives up {NUMBER}", "gives up", "task number"),
-    (rf"task {TASK} keeps{FILES}", "keeps", "task files"),
-    (rf"task {TASK} writes {NUMBER}", "writes", "task files"),
-    (rf"task {TASK} syncs {NUMBER}", "syncs", "task files"),
-    (rf"task {TASK} unlinks{FILES}", "unlinks", "task files"),
-    (rf"task {TASK} sends ack {NUMBER}{SIGNED}", "sends ack", "task number signed"),
-    (rf"task {TASK} sends decline {NUMBER}", "sends decline", "task number"),
-    (rf"(discarder|sweeper) unlinks{FILES}", "unlinks", "word files"),
-    (rf"sweeper lists{FILES}", "lists", "files"),
-    (r"folder synced", "folder synced", ""),
-    (r"storage (away|back|loses power)", "storage", "word"),
-    (rf"term {NUMBER} of {TASK}", "term", "number task"),
-    (rf"channel {SUBTASK} to {SUBTASK}", "channel", "source word"),
-    (rf"task {TASK} reads {NUMBER}", "reads", "task number"),
-    (rf"task {TASK} takes {NUMBER} from {SUBTASK}", "takes", "task number source"),
-    (rf"task {TASK} takes barrier {NUMBER} from {SUBTASK}", "takes barrier", "task number source"),
-    (rf"task {TASK} prepares {NUMBER}", "prepares", "task number"),
-    (rf"task {TASK} publishes{FILES}", "publishes", "task files"),
-    (rf"task {TASK} drops{FILES}", "drops", "task files"),
-    (rf"complete {NUMBER} to {TASK}", "complete", "number task"),
-    (rf"stop with {NUMBER}", "stop", "number"),
-    (r"begin", "begin", ""),
-    (rf"back to {NUMBER} with {NUMBER}", "back", "other number"),
+
+NUMBER, OTHER, FILE = (rf"(?P<{field}>[0-9]{{1,19}})" for field in ("number", "other", "files"))
+SOURCE, SUBTASK, TASK = r"(?P<source>[0-9]+\.[0-9]+)", r"(?P<word>[0-9]+\.[0-9]+)", r"(?P<subtask>[0-9]+\.[0-9]+) (?P<start>[0-9]{1,19})"
+FILES, SIGNED = r"(?P<files>(?: [0-9]{1,19})*)", r"(?P<signed>(?: [+=][0-9]{1,19})*)"
+# The forms of lines, whose groups are fields of an event. What a process does is a verb with that word before it.
+FORMS = (
+    rf"process {NUMBER} (?P<process>starts|looks|ends|goes on)",
+    rf"process {NUMBER} (?P<process>recovers) {OTHER}",
+    r"(?P<verb>log synced|log cut|log copied|log put back|log lost|log comes back|folder synced|begin)",
+    rf"(?P<verb>manifest|stop with) {NUMBER}",
+    rf"(?P<verb>barrier|complete) {NUMBER} to {TASK}",
+    rf"(?P<verb>answer) to {TASK} (?P<word>accepted|late|refused)",
+    rf"(?P<verb>from) {TASK}",
+    r"(?P<verb>dropped|refused) (?P<line>.+)",
+    rf"task {TASK} (?P<verb>starts|ends)",
+    rf"task {TASK} (?P<verb>begins|gives up|sends decline|reads|prepares) {NUMBER}",
+    rf"task {TASK} (?P<verb>writes|syncs) {FILE}",
+    rf"task {TASK} (?P<verb>keeps|unlinks|publishes|drops){FILES}",
+    rf"task {TASK} (?P<verb>sends ack) {NUMBER}{SIGNED}",
+    rf"task {TASK} (?P<verb>takes|takes barrier) {NUMBER} from {SOURCE}",
+    rf"(?P<word>discarder|sweeper) (?P<verb>unlinks){FILES}",
+    rf"sweeper (?P<verb>lists){FILES}",
+    rf"storage (?P<verb>lacks){FILES}",
+    r"(?P<verb>storage) (?P<word>away|back|loses power)",
+    rf"(?P<verb>term) {NUMBER} of {TASK}",
+    rf"(?P<verb>channel) {SOURCE} to {SUBTASK}",
+    rf"(?P<verb>back) to {OTHER} with {NUMBER}",
 )
-COMPILED = tuple((re.compile(form), verb, names.split()) for form, verb, names in FORMS)
+COMPILED = tuple(re.compile(form) for form in FORMS)
 # bindings/generate makes the first words of calls
 _CALLS = "tick|savepoint|ack|decline|dispose|restore|cancel|take|deleted|undeleted|fence|reserve|forfeit|trigger|configure|advance"
 # bindings/generate: end
 LOGGED = re.compile(rf"(config|job|start|in|{_CALLS})( .*)?")  # the library says what is missing
 
 
-def _event(verb: str, names: List[str], groups: Iterator[str]) -> Event:
-    task, number, files, reused, word, line = None, 0, (), (), "", ""  # type: Optional[Task], int, Files, Files, str, str
-    other, source = 0, ""
-    for name in names:
-        group = next(groups)
-        if name == "task":
-            task = Task(group, int(next(groups)))
-        elif name == "number":
-            number = int(group)
-        elif name == "other":
-            other = int(group)
-        elif name == "source":
-            source = group
-        elif name == "files":
-            files = tuple(map(int, group.split()))
-        elif name == "signed":
-            files = tuple(int(it[1:]) for it in group.split() if it[0] == "+")
-            reused = tuple(int(it[1:]) for it in group.split() if it[0] == "=")
-        elif name == "word":
-            word = group
-        else:
-            line = group
-    return Event(verb, task, number, files, reused, word, line, other, source)
+def _event(of: Dict[str, str]) -> Event:
+    verb = of["verb"] if "verb" in of else f"process {of['process']}"
+    signed = of.get("signed", "").split()
+    task = Task(of["subtask"], int(of["start"])) if "start" in of else None
+    files, reused = of.get("files", "").split() + [it[1:] for it in signed if it[0] == "+"], [it[1:] for it in signed if it[0] == "="]
+    return Event(verb, task, int(of.get("number", 0)), tuple(map(int, files)), tuple(map(int, reused)), of.get("word", ""), of.get("line", ""),
+                 int(of.get("other", 0)), of.get("source", ""))
 
 
 def read(text: str) -> Optional[Event]:
     """The event of a line; None for a comment or an empty line. Raises NoTrace."""
     if text.strip() == "" or text.startswith("#"):
         return None
-    for form, verb, names in COMPILED:
+    for form in COMPILED:
         found = form.fullmatch(text)
         if found:
-            return _event(verb, names, iter(found.groups()))
+            return _event(found.groupdict())
     if LOGGED.fullmatch(text):
         return Event("call", line=text)
     raise NoTrace(f"not a line of a trace: {text}")
@@ -143,6 +109,16 @@ class Storage:
     shown: Dict[int, Task] = field(default_factory=dict)
     kept: Dict[int, Task] = field(default_factory=dict)
     is_away: bool = False
+    lacking: Set[int] = field(default_factory=set)  # files that somebody else deleted
+
+    def shows(self, file: int) -> bool:
+        return file in self.shown and not self.is_away
+
+    def lack(self, files: Iterable[int]) -> None:
+        for file in files:
+            self.shown.pop(file, None)
+            self.kept.pop(file, None)
+            self.lacking.add(file)
 
     def write(self, task: Task, file: int) -> None:
         if not self.is_away:

@@ -115,16 +115,14 @@ class Elements:
         return work
 
     def reads(self, event: Event) -> None:
-        assert event.task is not None
-        self.take(event.task, event.task.subtask, event.number, "reads")
+        self.take(event.who, event.who.subtask, event.number, "reads")
 
     def takes(self, event: Event) -> None:
-        assert event.task is not None
-        work = self.work.get(event.task)
+        work = self.work.get(event.who)
         record = work.arrived.get(event.source, 0) if work else 0
         if work and record and record >= work.told:
-            self.broken(11, f"{event.task} takes element {event.number} from {event.source}, which is behind the barrier of record {record}")
-        self.take(event.task, event.source, event.number, "takes")
+            self.broken(11, f"{event.who} takes element {event.number} from {event.source}, which is behind the barrier of record {record}")
+        self.take(event.who, event.source, event.number, "takes")
 
     def take(self, task: Task, source: str, number: int, verb: str) -> None:
         work = self.goes_on(task, f"{verb} element {number}")
@@ -133,8 +131,7 @@ class Elements:
             work.written.add((source, number))
 
     def takes_barrier(self, event: Event) -> None:
-        assert event.task is not None
-        work = self.goes_on(event.task, f"takes the barrier of record {event.number}")
+        work = self.goes_on(event.who, f"takes the barrier of record {event.number}")
         if work is not None and event.number > work.begun():
             work.arrived[event.source] = event.number
 
@@ -156,9 +153,8 @@ class Elements:
         return self.targets.setdefault(task.subtask, Target())
 
     def prepares(self, event: Event) -> None:
-        assert event.task is not None
-        target, record = self.target(event.task, f"prepare record {event.number}"), event.number
-        work = self.work.setdefault(event.task, Work(Snapshot()))
+        target, record = self.target(event.who, f"prepare record {event.number}"), event.number
+        work = self.work.setdefault(event.who, Work(Snapshot()))
         target.prepared[record] = set() if record in target.closed else work.written
         work.written = set()
         work.now.prepared.add(record)
@@ -166,14 +162,13 @@ class Elements:
             work.cuts[record].prepared.add(record)
 
     def publishes(self, event: Event) -> None:
-        assert event.task is not None
         for record in event.files:
-            target = self.target(event.task, f"publish record {record}")
-            work = self.work.setdefault(event.task, Work(Snapshot()))
+            target = self.target(event.who, f"publish record {record}")
+            work = self.work.setdefault(event.who, Work(Snapshot()))
             if record not in work.now.prepared:
-                self.broken(12, f"{event.task} publishes what was prepared for record {record}, and its snapshot does not have that")
+                self.broken(12, f"{event.who} publishes what was prepared for record {record}, and its snapshot does not have that")
             if record > max(self.completed, self.restored):
-                self.broken(13, f"{event.task} publishes record {record}: no checkpoint from there on is complete, and the job was not restored to it")
+                self.broken(13, f"{event.who} publishes record {record}: no checkpoint from there on is complete, and the job was not restored to it")
             self.publish(target, record)
             work.now.prepared.discard(record)
 
@@ -186,8 +181,7 @@ class Elements:
         target.closed |= {record} if elements else set()
 
     def drops(self, event: Event) -> None:
-        assert event.task is not None
-        target = self.target(event.task, "give up what was prepared")
+        target = self.target(event.who, "give up what was prepared")
         for record in event.files:
             target.prepared.pop(record, None)
 

@@ -14,6 +14,7 @@ class Recoveries:
         self.lost: Optional[Log] = None  # the last log that was lost
         self.is_gone = self.was_recovered = self.is_old = False  # the log; since it was lost; whether that log is the job's again
         self.forgotten: Set[int] = set()  # files that acknowledgements named which no log has
+        self.looked: Set[int] = set()  # processes that have looked at the marker, and started later
         self.told = 0  # the greatest record that anybody was told of
         self.below_record = self.below_term = self.below_name = 0  # what the lost log has told is below these, or 0
 
@@ -75,7 +76,8 @@ class Recoveries:
         if self.is_gone:
             raise NoTrace("the log is lost")
         if self.is_old:
-            self.broken(18, f"process {process} starts with the log that was lost before the recovery")
+            before = ": it had looked at the marker before" if process in self.looked else ""
+            self.broken(18, f"process {process} starts with the log that was lost before the recovery{before}")
 
     def tells_record(self, record: int) -> None:
         if record < self.below_record and self.was_recovered and not self.is_old:

@@ -22,15 +22,24 @@ class Part:
     millis: int = 0
 
 
+class Origin(NamedTuple):
+    """From which job a record was carried, and its number there. What a sink's state lists in it was prepared in the target of that job."""
+
+    job: str
+    record: int
+
+
 @dataclass(frozen=True)
 class Whole:
-    """A complete record. Its parts are in the order of their subtasks. The term is the one that ran when it was read."""
+    """A complete record. Its parts are in the order of their subtasks. The term is the one that ran when it was read. It has an origin if the job was made of
+    it by an import or a claim, and has not made it itself."""
 
     id: int
     kind: Kind
     shape: Tuple[int, ...]
     parts: Tuple[Part, ...]
     term: int = 0
+    origin: Optional[Origin] = None
 
     def part(self, vertex: int, index: int) -> Part:
         """The part of a subtask; an empty one if the record has no such subtask, as after a restore in another shape."""
@@ -83,10 +92,11 @@ def _part(it: Any) -> Part:
     return Part(it.vertex, it.index, tuple(it.files[: it.files_len]), payload, it.bytes, it.millis)
 
 
-def _whole(found: Any, parts: List[Part]) -> Optional[Whole]:
+def _whole(found: Any, parts: List[Part], origin: str) -> Optional[Whole]:
     if found.kind == 0:
         return None
-    return Whole(found.id, KINDS[found.kind], tuple(found.shape[: found.shape_len]), tuple(parts), found.term)
+    shape, carried = tuple(found.shape[: found.shape_len]), Origin(origin, found.id) if origin else None
+    return Whole(found.id, KINDS[found.kind], shape, tuple(parts), found.term, carried)
 
 
 def _past(it: Any) -> Past:

@@ -1,4 +1,4 @@
-"""Memory that runs out, over a library whose heap refuses one request after the other (bindings/c/refusing_heap.c): a call that fails for
+"""Memory that runs out, over a library whose heap refuses one request after the other (bindings/c/tests/refusing_heap.c): a call that fails for
 that reason says so and has changed nothing, and is made again."""
 import ctypes
 import itertools
@@ -140,7 +140,3 @@ class Memory(unittest.TestCase):
             for log in test_names.logs().values():
                 test_names.replay(self, log, self.refusing(make))
             self.assertGreater(self.refusals, 500)
-
-
-if __name__ == "__main__":
-    unittest.main()

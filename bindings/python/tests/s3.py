@@ -1,7 +1,9 @@
 """State files in a bucket of the server that the environment names (bindings/s3/start): what is put, deleted and listed, what counts as deleted
 when the server fails, and what a sweeper deletes. bindings/s3/run runs it."""
+import contextlib
 import json
 import os
+import pathlib
 import signal
 import threading
 import time
@@ -24,6 +26,25 @@ from jobs_with_files import MARKER, job_with_files
 def client(**words):
     how = Config(retries={"max_attempts": 0}, connect_timeout=60, read_timeout=words.pop("patience", 300), s3={"addressing_style": "path"})
     return boto3.client("s3", **{"endpoint_url": os.environ["S3_ENDPOINT"], "region_name": os.environ["S3_REGION"], "config": how, **words})
+
+
+def is_still(process):
+    states = [it.read_text().rpartition(")")[2].split()[0] for it in pathlib.Path(f"/proc/{process}/task").glob("*/stat")]
+    return set(states) == {"T"}
+
+
+@contextlib.contextmanager
+def suspended(process):
+    """All threads of the process stand still: a signal may take a moment to reach the last one."""
+    os.kill(process, signal.SIGSTOP)
+    try:
+        while not is_still(process):
+            os.kill(process, signal.SIGSTOP)  # it is there
+            time.sleep(0.01)
+        yield
+        assert is_still(process), "somebody else has woken it"
+    finally:
+        os.kill(process, signal.SIGCONT)
 
 
 class OnAServer(unittest.TestCase):
@@ -107,7 +128,8 @@ class Files(OnAServer):
         self.assertEqual(list(self.files.pages()), [])
 
     def test_a_server_that_does_not_refuse_an_object_that_is_there(self):
-        with mock.patch("relkvanu.s3._if_none_match", lambda **_: None):
+        put_if = Bucket._put_if
+        with mock.patch.object(Bucket, "_put_if", lambda bucket, name, contents, _: put_if(bucket, name, contents, {})):
             self.files.put(1, b"first")
             self.assertEqual(self.requests(lambda: self.files.put(2, b"state")), [["HeadObject", "PutObject"]])
             with self.assertRaises(Exists):
@@ -192,19 +214,14 @@ class Failing(OnAServer):
         self.opened(is_new=True).put(1, b"")
 
     def test_a_time_out_is_not_deleted(self):
-        osd = int(os.environ["S3_OSD"])
         files = self.opened()
-        os.kill(osd, signal.SIGSTOP)
-        try:
-            # impatient from now on alone: on a busy machine any request may take a second
-            with mock.patch.object(files, "_s3", client(patience=1)):
-                self.assertEqual(set(files.delete([1, 2])), {1, 2})
-                with self.assertRaises(StorageError):
-                    files.put(3, b"")
-                with self.assertRaises(StorageError):
-                    list(files.pages())
-        finally:
-            os.kill(osd, signal.SIGCONT)
+        # impatient from now on alone: on a busy machine any request may take a second
+        with suspended(int(os.environ["S3_OSD"])), mock.patch.object(files, "_s3", client(patience=1)):
+            self.assertEqual(set(files.delete([1, 2])), {1, 2})
+            with self.assertRaises(StorageError):
+                files.put(3, b"")
+            with self.assertRaises(StorageError):
+                list(files.pages())
         self.assertEqual(self.opened().delete([1, 2]), {})
 
     def test_nobody_listens(self):
@@ -295,18 +312,15 @@ class Sweeping(OnAServer):
         self.assertEqual((swept.deleted, sorted(swept.failed)), (0, [4, 8]))
 
     def test_a_time_out_is_not_deleted(self):
-        osd = int(os.environ["S3_OSD"])
         slow = self.opened(prefix="orders/state-", suffix=".sst", marker=Marker(".relkvanu-orders", MARKER))
+        with contextlib.ExitStack() as stack:
 
-        def ask(files):
-            slow._s3 = client(patience=1)
-            os.kill(osd, signal.SIGSTOP)
-            return self.job.garbage(files)
+            def ask(files):
+                slow._s3 = client(patience=1)
+                stack.enter_context(suspended(int(os.environ["S3_OSD"])))
+                return self.job.garbage(files)
 
-        try:
             swept = relkvanu.sweep.sweep(slow, ask, delete=True)
-        finally:
-            os.kill(osd, signal.SIGCONT)
         self.assertEqual((swept.deleted, sorted(swept.failed)), (0, [4, 8]))
         self.assertEqual(relkvanu.sweep.sweep(self.files, self.job.garbage, delete=True).failed, {})
         self.assertEqual(self.keys(), [f"orders/state-{file}.sst" for file in (5, 6, 7, 9)])
@@ -356,7 +370,3 @@ class Sweeping(OnAServer):
         relkvanu.sweep.sweep(self.files, self.job.garbage, delete=True)
         self.assertEqual(len(self.keys()), 2)
         self.assertGreater(sum(it.deleted for it in swept), 10)
-
-
-if __name__ == "__main__":
-    unittest.main()

@@ -12,14 +12,16 @@ import tempfile
 import unittest
 import uuid
 import zlib
+from unittest import mock
 
 import boto3
 from botocore.config import Config
 
 from relkvanu import AckCompleted, Settings
 from relkvanu import manifests
-from relkvanu.manifests import place
-from relkvanu.s3 import StateBucket
+from relkvanu import __main__ as command
+from relkvanu.places import place
+from relkvanu.s3 import Bucket, StateBucket
 from relkvanu.storage import NotThere, OtherJob, StorageError
 from relkvanu.store import Call, Store, StoreError
 
@@ -27,7 +29,7 @@ TASKS, CLAIM = 3, "--claim"
 EACH, SEED = int(os.environ.get("EACH", "9")), os.environ.get("SEED", "1")  # of so many requests one is a kill's, on average
 KILLED = 9
 SETTINGS = Settings(interval=10, timeout=600_000)
-COMMAND = os.path.join(os.environ["RELKVANU_LIB"], "relkvanu-store")
+COMMAND = [sys.executable, "-m", "relkvanu"]
 
 
 def client():
@@ -107,12 +109,12 @@ class OnAServer(unittest.TestCase):
     by_command = set()
 
     def runs(self, *words):
-        """The command, which is in C, with the S3 client of Python: once for each first word. Then that client alone, which the command becomes."""
+        """The command: once for each verb in a process of its own."""
         if words[0] in self.by_command:
             return self.ended(0, False, *words)
         self.by_command.add(words[0])
         env = {**os.environ, "AWS_ENDPOINT_URL": os.environ["S3_ENDPOINT"], "AWS_DEFAULT_REGION": os.environ["S3_REGION"]}
-        ran = subprocess.run([COMMAND, *map(str, words)], env=env, stdout=subprocess.PIPE, stderr=subprocess.STDOUT, text=True)
+        ran = subprocess.run([*COMMAND, *map(str, words)], env=env, stdout=subprocess.PIPE, stderr=subprocess.STDOUT, text=True)
         return ran.returncode, ran.stdout
 
     def ended(self, at, after, *words):
@@ -170,15 +172,15 @@ class AJobOverABucket(OnAServer):
             later, third = completes(job, files, job.restore().term, reused=second[:1])
             self.assertEqual(self.sums(later), {file: f"{zlib.crc32(contents_of(file)):08x}" for file in [*second[:1], *third]})
         self.assertEqual(sorted(int(it) for it in gets if it.isdecimal()), sorted([*first, *second, *third]))
-        status, told = self.runs("show", "--whole", self.url("orders"))
+        status, told = self.runs("records", "--whole", self.url("orders"))
         self.assertEqual((status, told.count("each checksum is right")), (0, 2), told)
         self.s3.put_object(Bucket=self.bucket, Key=f"orders/{third[0]}", Body=b"damage" + contents_of(third[0])[6:])
         self.s3.delete_object(Bucket=self.bucket, Key=f"orders/{first[2]}")
-        status, told = self.runs("show", "--whole", self.url("orders"))
+        status, told = self.runs("records", "--whole", self.url("orders"))
         self.assertEqual(status, 1, told)
         self.assertIn(f"record {later}: file {third[0]} has another checksum", told)
         self.assertIn(f"record {kept}: file {first[2]} is missing", told)
-        self.assertEqual(self.runs("show", self.url("orders"))[0], 0)  # it reads none
+        self.assertEqual(self.runs("records", self.url("orders"))[0], 0)  # it reads none
 
     def test_an_object_without_a_checksum(self):
         """One that can't be read has none; a store that does not ask for them writes none, and a look says so."""
@@ -192,14 +194,14 @@ class AJobOverABucket(OnAServer):
             self.assertIsNone(job.manifest_fault)
             self.s3.meta.events.unregister("before-send.s3.GetObject", unique_id="fail")
             self.assertEqual(self.sums(record), {})
-        status, told = self.runs("show", "--whole", self.url("orders"))
+        status, told = self.runs("records", "--whole", self.url("orders"))
         self.assertEqual((status, f"checksums of {TASKS} files are not known" in told), (0, True), told)
         with self.opened(checksums=True) as (job, files):
             self.assertEqual(set(self.sums(record)), set(names))
         with self.opened() as (job, files):
             later, names = completes(job, files, job.restore().term)
             self.assertEqual(self.sums(later), {})
-        self.assertIn(f"checksums of {TASKS} files are not known", self.runs("show", "--whole", self.url("orders"))[1])
+        self.assertIn(f"checksums of {TASKS} files are not known", self.runs("records", "--whole", self.url("orders"))[1])
 
     def test_a_put_that_fails(self):
         with self.opened(create=True) as (job, files):
@@ -238,7 +240,7 @@ class AJobOverABucket(OnAServer):
             os.link(self.work / "job.db", self.work / "old.db")
             old = files
         self.lose()
-        status, told = self.runs("show", self.url("orders"))
+        status, told = self.runs("records", self.url("orders"))
         self.assertIn(f"{record} ", told)
         self.assertIn("whole; a recovery or an import begins from it", told)
         status, told = self.runs("recover", self.work / "job.db", self.url("orders"))
@@ -257,19 +259,36 @@ class AJobOverABucket(OnAServer):
             record, names = completes(job, files, job.report.term)
         self.s3.delete_object(Bucket=self.bucket, Key=f"orders/{names[1]}")
         self.lose()
-        _, told = self.runs("show", self.url("orders"))
+        _, told = self.runs("records", self.url("orders"))
         self.assertIn("1 files are missing", told)
         made = manifests.recover(self.work / "job.db", self.at("orders"))
         self.assertEqual((made.record, made.is_savepoint, made.passed), (first, True, 1))
 
+    def test_a_way_back_without_a_file(self):
+        """It is refused before the newer records are dropped."""
+        with Store(self.work / "job.db", Settings(interval=1000, retained=2), [TASKS], create=True) as job:
+            files = StateBucket(job, self.bucket, "orders/", s3=self.s3)
+            savepoint, saved = completes(job, files, job.report.term, savepoint=True)
+            first, names = completes(job, files, job.report.term)
+            record, _ = completes(job, files, job.report.term)
+            for name in (saved[0], names[0]):
+                self.s3.delete_object(Bucket=self.bucket, Key=f"orders/{name}")
+            for goes, lost in ((lambda: job.go_back(first, accept_published=True), names[0]), (lambda: job.restore(savepoint), saved[0])):
+                with self.assertRaisesRegex(StoreError, f"FileLost: file {lost} of record"):
+                    goes()
+            self.assertEqual(job.load().id, record)
+            with job.read() as reads:
+                self.assertEqual(reads.file_counts().waiting, 0)
+            self.assertEqual(job.go_back(record, accept_published=True).reply.id, record)
+
     def test_nothing_there(self):
-        self.assertEqual(self.runs("show", self.url("orders"))[1], "no record has a manifest\n")
+        self.assertEqual(self.runs("records", self.url("orders"))[1], "no record has a manifest\n")
         status, told = self.runs("recover", self.work / "job.db", self.url("orders"))
         self.assertEqual((status, "no marker" in told), (1, True), told)
         status, told = self.runs("export", self.url("orders"), self.work / "out")
         self.assertEqual((status, "no record" in told, (self.work / "out").exists()), (1, True, False), told)
-        status, told = self.runs("show", "s3://none-of-this-name/x")
-        self.assertEqual(status, 1, told)
+        status, told = self.runs("records", "s3://none-of-this-name/x")
+        self.assertEqual(status, 78, told)  # as for a job of the service: somebody has to look
 
 
 class Carrying(OnAServer):
@@ -347,6 +366,81 @@ class Carrying(OnAServer):
             with self.assertRaises(OtherJob):
                 files.put(5000, b"x")
 
+    def test_two_claims_at_once(self):
+        """The second one comes to its end before a step of the first one, which is refused then: also where an earlier record is still there."""
+        for nth, step in enumerate(("begin", "hold", "mark")):
+            prefix = f"orders-{nth}/"
+            with self.opened(f"{nth}.db", prefix, create=True) as (job, files):
+                completes(job, files, job.report.term, savepoint=True)
+                record, _ = completes(job, files, job.report.term)
+            does, made = getattr(manifests, step), []
+
+            def comes_second(*words, nth=nth, prefix=prefix, step=step, does=does, made=made):
+                with mock.patch.object(manifests, step, does):
+                    made.append(manifests.claim(self.at(prefix), self.work / f"second-{nth}.db", self.at(f"b-{nth}")))
+                return does(*words)
+
+            with mock.patch.object(manifests, step, comes_second), self.assertRaisesRegex((OtherJob, StoreError), "meanwhile|was claimed for"):
+                manifests.claim(self.at(prefix), self.work / f"first-{nth}.db", self.at(f"a-{nth}"))
+            self.assertEqual([it.record for it in made], [record])
+            with self.opened(f"second-{nth}.db", f"b-{nth}/") as (job, files):
+                self.check(job, files, record)
+            self.is_claimed(prefix, record, f"{self.url('b-')}{nth}")
+
+    def is_claimed(self, prefix, record, place):
+        """Nothing is made of an earlier record that is still there, unless somebody gives its number. Then the mark goes with the first opening."""
+        words = f"record {record} was claimed for {place}: "
+        for begins in (manifests.recover, lambda at, source: manifests.import_job(source, at, self.at("new")), lambda at, source: manifests.export(source, self.at("new"))):
+            with self.assertRaisesRegex(StoreError, words):
+                begins(self.work / "new.db", self.at(prefix))
+        status, told = self.runs("records", self.url(prefix))
+        self.assertEqual((status, told.startswith(words[:-2]), "a recovery or an import begins from it" in told), (0, True, False), told)
+        (earlier,) = [it.id for it in manifests.records(self.at(prefix))]
+        name = f"{prefix.strip('/')}-again.db"
+        self.assertGreater(manifests.recover(self.work / name, self.at(prefix), earlier).next_number, record)
+        with self.opened(name, prefix):
+            self.assertFalse([it for it in self.keys(prefix) if it.endswith(".claimed")])
+
+    def test_a_claim_on_a_server_without_conditional_writes(self):
+        """It is refused before the old job is fenced. A recovery is not: whoever gives it has ended each process."""
+        in_bucket, _ = self.bases()
+        put_if = Bucket._put_if
+        with mock.patch.object(Bucket, "_put_if", lambda bucket, name, contents, _: put_if(bucket, name, contents, {})):
+            with self.opened() as (job, files):
+                with self.assertRaisesRegex(StorageError, "no conditional writes"):
+                    manifests.claim(self.at("orders"), self.work / "new.db", self.at("a"))
+                self.assertEqual(self.keys("a/"), [])
+                self.check(job, files, in_bucket)
+            self.assertEqual(manifests.recover(self.work / "new.db", self.at("orders")).record, in_bucket + 1)  # the check has completed one
+
+    def test_a_claim_beside_an_opening(self):
+        """An opening that has read the marker does not take the fence of a claim away that came since."""
+        in_bucket, _ = self.bases()
+        read = Bucket.read_marker
+
+        def reads(bucket):
+            found = read(bucket)
+            with mock.patch.object(Bucket, "read_marker", read):
+                manifests.claim(self.at("orders"), self.work / "new.db", self.at("a"))
+            return found
+
+        with mock.patch.object(StateBucket, "read_marker", reads), self.assertRaisesRegex(OtherJob, "meanwhile"), self.opened():
+            pass
+        with self.opened("new.db", "a/") as (job, files):
+            self.check(job, files, in_bucket)
+
+    def test_an_engine_that_is_fenced(self):
+        """It is not told that its record is complete."""
+        self.bases()
+        with self.opened() as (job, files):
+            term = job.restore().term
+            manifests.recover(self.work / "new.db", self.at("orders"))
+            id, names = job.trigger().reply.id, job.reserve(term, TASKS)
+            with self.assertRaises(StoreError) as caught:
+                for index, name in enumerate(names):
+                    job.ack_in(term, id, 0, index, [name])
+            self.assertEqual((caught.exception.name, caught.exception.closes), ("Storage", True))
+
     def test_a_job_that_another_process_makes(self):
         """It is found before the old job is fenced."""
         in_bucket, _ = self.bases()
@@ -367,7 +461,7 @@ class Carrying(OnAServer):
         text = self.s3.get_object(Bucket=self.bucket, Key=key)["Body"].read()
         self.s3.put_object(Bucket=self.bucket, Key=key, Body=text.replace(b'"sum":"', b'"sum":"0'))
         with self.assertRaisesRegex(StoreError, "can't be read"):
-            manifests.leave(self.at("orders"), in_bucket)
+            manifests.leave(self.at("orders"), in_bucket, self.at("a"))
         self.assertLessEqual(set(self.of_bucket), set(self.numbers("orders/")))
 
     def test_a_claim_of_shared_objects(self):
@@ -381,7 +475,7 @@ class Carrying(OnAServer):
 
     def test_an_address_with_more(self):
         for url in (self.url("orders#eu"), self.url("orders?eu")):
-            status, told = self.runs("show", url)
+            status, told = self.runs("records", url)
             self.assertEqual((status, "no # and no ?" in told), (1, True), told)
 
     def test_claims_in_place(self):
@@ -465,9 +559,22 @@ class Kills(OnAServer):
     def test_import_and_claim(self):
         record, names = self.base("base/")
 
+        def rivals(source, job, target):
+            """Another claim is refused, or has the record before there is a job of the first one, which is refused then. Returns the job and the place that have it."""
+            other, elsewhere = job.with_name(f"rival-{job.name}"), f"{target}-rival"
+            status, said = self.ended(0, False, "import", CLAIM, source, other, elsewhere)
+            assert "was claimed for" in said if status else not job.exists(), (status, said)
+            return (job, target) if status else (other, elsewhere)
+
         def check(given, prefix, is_killed):
-            self.again(given, is_killed)
             is_claim, (source, job, target) = given[1] == CLAIM, given[-3:]
+            has_it = rivals(source, job, target) if is_claim and is_killed else (job, target)
+            if has_it == (job, target):
+                self.again(given, is_killed)
+            else:
+                status, said = self.ended(0, False, *given)
+                assert status and "was claimed for" in said and not job.exists(), said
+            job, target = has_it
             left = place(source, self.s3)
             assert bool(set(names) & set(left.sizes())) != is_claim, (given, left.sizes())
             assert all(it.missing == 0 for it in manifests.records(left)), manifests.records(left)
@@ -499,13 +606,9 @@ def runs_to(at, after, *words):
     status = 70
     try:
         ends_at(at, after)
-        status = manifests.main(["--endpoint", os.environ["S3_ENDPOINT"], "--region", os.environ["S3_REGION"], *map(str, words)])
+        status = command.main([*map(str, words), "--endpoint", os.environ["S3_ENDPOINT"], "--region", os.environ["S3_REGION"]])
     except BaseException as error:
         print(repr(error))
     finally:
         sys.stdout.flush()
         os._exit(status)
-
-
-if __name__ == "__main__":
-    unittest.main()

@@ -63,7 +63,3 @@ class Strange(unittest.TestCase):
     def test_an_answer_that_nobody_knows_is_an_exception_of_the_package(self):
         told = ran(TOLD, RELKVANU_LIB=os.environ["UNKNOWN"])
         self.assertEqual((told.stdout, told.stderr, told.returncode), (UNKNOWN, "", 0))
-
-
-if __name__ == "__main__":
-    unittest.main()

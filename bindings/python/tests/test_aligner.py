@@ -69,7 +69,3 @@ class Alignment(unittest.TestCase):
         for step in (lambda: Aligner(1).element(1 << 32), lambda: Aligner(1).barrier(0, 1 << 64), lambda: Aligner(1).end(-1)):
             with self.assertRaises(OutOfRange):
                 step()
-
-
-if __name__ == "__main__":
-    unittest.main()

@@ -404,6 +404,25 @@ class Elements(Judging):
         lines = [*FIRST, "task 0.0 1 publishes 1", "savepoint 0", "back to 1 with 2", "log synced", "barrier 2 to 0.0 1"]
         self.breaks(lines, 15, len(lines))
 
+    def test_15_a_way_back_to_a_record_that_lacks_a_file(self):
+        """Nobody misses the file of an older record until the job goes back to it. A storage that is away has none."""
+        retained = ["config 10 0 1 1000 0 2 delete" if line.startswith("config") else line for line in [*OPENING, *checkpoint(1, 1), *checkpoint(2, 2)]]
+        back = [line.replace("0.0", "0.0 =1") if line.startswith("ack") else line for line in BACK]
+        back = [line.replace(" 0 ", " 20 ") for line in back]
+        self.assertEqual(check([*retained, *back]), [])
+        for gone in ("storage lacks 1", "storage away"):
+            lines = [*retained, gone, *back]
+            self.breaks(lines, 15, lines.index("restore 20 3") + 1)
+        self.assertEqual(check([*retained, "storage lacks 1", "tick 30", "log synced"]), [])
+        self.breaks([*retained, "storage lacks 1", *back], 15, len(retained) + 5, "file 1 is lost: record 3 uses it")
+        self.assertEqual(found([*retained, "storage lacks 2"])[1], ["file 2 is lost: record 2 uses it"])
+
+    def test_15_a_restore_to_a_savepoint_that_lacks_a_file(self):
+        saved = [line.replace("tick 10", "savepoint 10") for line in [*OPENING, *checkpoint(1, 1)]]
+        restored = ["restore 10 1", "log synced", "task 0.0 2 starts"]
+        self.assertEqual(check([*saved, *restored]), [])
+        self.breaks([*saved, "storage lacks 1", *restored], 15, len(saved) + 2, "file 1 is lost: record 1 uses it")
+
     def test_1_a_sink_is_told_before_the_log_is_synced(self):
         unanswered = without(FIRST, "answer to 0.0 1 accepted")
         self.assertEqual(check(unanswered), [])
@@ -495,7 +514,3 @@ class Command(unittest.TestCase):
         self.assertEqual((status, out, errors), (2, "", "relkvanu-conform: line 1: not a line of a trace: what\n"))
         with contextlib.redirect_stderr(io.StringIO()), contextlib.redirect_stdout(io.StringIO()):
             self.assertEqual((main([]), main(["/no/such/trace"])), (2, 2))
-
-
-if __name__ == "__main__":
-    unittest.main()

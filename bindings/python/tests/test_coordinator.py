@@ -241,7 +241,3 @@ class Calls(unittest.TestCase):
             for thread in threads:
                 thread.join()
             self.assertEqual(job.show(1).metadata["state"], "done")
-
-
-if __name__ == "__main__":
-    unittest.main()

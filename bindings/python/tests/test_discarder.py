@@ -198,7 +198,3 @@ class Waiting(unittest.TestCase):
         from relkvanu import header
 
         self.assertEqual(version(), header.VERSION)
-
-
-if __name__ == "__main__":
-    unittest.main()

@@ -69,8 +69,8 @@ class Empty(unittest.TestCase):
         self.assertEqual(self.call("answer_text", CLOSED, *EMPTY), len("closed"))
 
     def step(self, what, name, *given):
-        aligner = header.relkvanu_aligner(latest=7)
-        self.assertEqual((self.call(f"align_{name}", aligner, *EMPTY, *given).what, aligner.latest), (what, 7), name)
+        for kind, task in (("align", header.relkvanu_aligner(latest=7)), ("unaligned", header.relkvanu_recorder(latest=7))):
+            self.assertEqual((self.call(f"{kind}_{name}", task, *EMPTY, *given).what, task.latest), (what, 7), name)
 
     def alignment(self):
         self.step(header.STEP_BAD_INPUTS, "open")
@@ -78,6 +78,7 @@ class Empty(unittest.TestCase):
         self.step(header.STEP_UNKNOWN_INPUT, "barrier", 0, 1)
         self.step(header.STEP_UNKNOWN_INPUT, "end", 0)
         self.step(header.STEP_NOTHING, "give_up", 7)
+        self.assertEqual(self.call("unaligned_overtake", header.relkvanu_recorder(latest=7), *EMPTY, 8).what, header.STEP_NOTHING)
 
     def test_null(self):
         self.calls()
@@ -86,7 +87,3 @@ class Empty(unittest.TestCase):
         self.alignment()
         with_lists = {name for name, (_, given) in header.FUNCTIONS.items() if any(it in LISTS for it in given)}
         self.assertEqual(with_lists - self.called, set())
-
-
-if __name__ == "__main__":
-    unittest.main()

@@ -75,7 +75,3 @@ class Exceptions(unittest.TestCase):
         with tempfile.TemporaryDirectory() as empty:
             return subprocess.run(
                 [sys.executable, "-c", program], env={**os.environ, "RELKVANU_LIB": empty}, stdout=subprocess.PIPE, stderr=subprocess.PIPE, text=True)
-
-
-if __name__ == "__main__":
-    unittest.main()

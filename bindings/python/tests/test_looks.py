@@ -78,7 +78,3 @@ class Waits(unittest.TestCase):
         """So it is tried twice also without a wait."""
         tries = self.tries(4, Patience(threads=1, longest_wait=0, first_wait=0, idle=0.01))
         self.assertEqual([given_back for _, given_back in tries], [0, 0, 1, 1])
-
-
-if __name__ == "__main__":
-    unittest.main()

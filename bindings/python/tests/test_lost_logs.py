@@ -112,6 +112,12 @@ class Lost(Judging):
         self.breaks(lines, 18, len(lines))
         self.assertEqual(check([*TWO, *LOST, "log comes back", "process 2 starts", "restore 20 latest", "log synced", "task 0.0 2 starts"]), [])
 
+    def test_18_a_process_that_looked_at_the_marker_before_the_recovery(self):
+        lines = [*TWO, *LOST[:2], "process 9 looks", *LOST[2:], *AGAIN[3:], "process 3 ends", "log comes back", "process 9 starts"]
+        self.breaks(lines, 18, len(lines))
+        self.assertIn("it had looked at the marker before", str(check(lines)[0]))
+        self.assertEqual(check([*TWO, *LOST[:2], "process 9 looks", "process 9 starts"]), [])
+
     def test_18_a_process_that_has_not_ended(self):
         self.breaks([*TWO, "log lost", *recovered(2, " +2")], 18, len(TWO) + 2)
 

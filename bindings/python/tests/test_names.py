@@ -150,7 +150,3 @@ class Logs(unittest.TestCase):
             for make in (Coordinator.line, test_rows.by_method):
                 with self.subTest(name):
                     replay(self, log, make)
-
-
-if __name__ == "__main__":
-    unittest.main()

@@ -58,7 +58,3 @@ class WhatRootMakes(InFolder):
         os.chown(self.path, 0, 0)
         Place(self.path).write("name", b"text")
         self.assertEqual(self.owners("name"), [(0, 0)])
-
-
-if __name__ == "__main__":
-    unittest.main()

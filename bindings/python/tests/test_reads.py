@@ -54,7 +54,3 @@ class Reads(unittest.TestCase):
             lambda: job.waiting_file(0), job.taken_files, lambda: job.next_tick(None),
         ):
             self.assertRaises(Closed, read)
-
-
-if __name__ == "__main__":
-    unittest.main()

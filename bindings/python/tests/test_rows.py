@@ -216,7 +216,3 @@ class Lines(unittest.TestCase):
                 with self.assertRaises(BadLine) as raised:
                     job.line(line)
                 self.assertEqual(raised.exception.name, name)
-
-
-if __name__ == "__main__":
-    unittest.main()

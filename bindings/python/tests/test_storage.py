@@ -300,7 +300,3 @@ class WithACoordinator(WithStorage):
         with self.assertRaises(Error):
             sweep(self.folder, lambda files: files)
         self.assertEqual(self.names(), ["1", "2", "9"])
-
-
-if __name__ == "__main__":
-    unittest.main()

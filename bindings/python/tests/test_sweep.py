@@ -1,7 +1,7 @@
 """The sweeper over a folder: only garbage goes, at any time, and beside a job that runs."""
 import threading
 import time
-import unittest
+from concurrent.futures import ThreadPoolExecutor
 from unittest import mock
 
 from relkvanu import Coordinator, Error, Fenced, Settings
@@ -102,12 +102,8 @@ class Sweeping(WithAJob):
             both.wait(300)
             return told
 
-        swept = []
-        sweepers = [threading.Thread(target=lambda: swept.append(sweep(self.folder, ask, delete=True))) for _ in range(2)]
-        for it in sweepers:
-            it.start()
-        for it in sweepers:
-            it.join()
+        with ThreadPoolExecutor(2) as sweepers:
+            swept = sweepers.map(lambda _: sweep(self.folder, ask, delete=True), range(2))
         self.assertEqual([(it.deleted, it.failed) for it in swept], [(2, {}), (2, {})])
         self.assertEqual(self.names(), ["5", "6", "7", "9"])
 
@@ -187,7 +183,3 @@ class BesideAJob(WithAJob):
             job.decline_in(term, now, triggered.id, 0, 0)
             job.restore(now)
         return last
-
-
-if __name__ == "__main__":
-    unittest.main()

@@ -1,20 +1,16 @@
 //go:build refusing_heap
 
-// Package heap is for tests over a library whose heap refuses one request after the other (bindings/c/refusing_heap.h).
+// Package heap is for tests over a library whose heap refuses one request after the other (bindings/c/tests/refusing_heap.h).
 package heap
 
 // #cgo pkg-config: relkvanu
 // #include <stdint.h>
 // void heap_refuse(uint64_t nth);
-// void heap_refuse_from(uint64_t nth);
 // uint64_t heap_requests(void);
 import "C"
 
 // Refuse refuses the nth request for memory from now on, once. Refuses none if nth is 0.
 func Refuse(nth uint64) { C.heap_refuse(C.uint64_t(nth)) }
-
-// RefuseFrom refuses the nth request for memory from now on, and all later ones.
-func RefuseFrom(nth uint64) { C.heap_refuse_from(C.uint64_t(nth)) }
 
 // Requests is how often memory was asked for since then.
 func Requests() uint64 { return uint64(C.heap_requests()) }

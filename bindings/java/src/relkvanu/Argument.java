@@ -20,7 +20,7 @@ public enum Argument {
     BAD_NAME(Header.BAD_NAME),
     /** The group has failed: open the handle again, from the log. */
     BAD_GROUP(Header.BAD_GROUP),
-    /** No answer may be told by the receipt, or there is no place for another answer. */
+    /** No answer may be told by the receipt, or there is no place or receipt for another answer. */
     BAD_RECEIPT(Header.BAD_RECEIPT);
 
     private static final Argument[] ALL = values();

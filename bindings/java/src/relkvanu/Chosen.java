@@ -2,12 +2,7 @@ package relkvanu;
 
 import java.util.Optional;
 
-/**
- * The record that a restore of the latest would begin from.
- *
- * @param id its number
- * @param kind its kind
- */
+/** The record that a restore of the latest would begin from. */
 public record Chosen(long id, Kind kind) {
     static Optional<Chosen> of(int what, long id) {
         return switch (what) {

@@ -30,7 +30,7 @@ import java.util.Optional;
  * beyond what a timer waits for. That is a day, unless an engine sets it, which it does if a longer time may pass without a call. Lines
  * of a log are not checked.
  */
-public final class Coordinator extends Reads implements AutoCloseable, Outbox {
+public final class Coordinator extends Reads implements AutoCloseable {
     private static final long DAY = 24L * 60 * 60 * 1000;
     private static final long LAST_MOMENT = (1L << 62) - 1;
     private static final long[] SAME_SHAPE = {};
@@ -51,27 +51,12 @@ public final class Coordinator extends Reads implements AutoCloseable, Outbox {
         }
     }
 
-    /**
-     * Opens the coordinator of a new job, whose first record has the number 1.
-     *
-     * @param settings the configuration
-     * @param shape the number of subtasks of each vertex
-     * @param now the moment of the opening
-     * @return the coordinator
-     */
+    /** Opens the coordinator of a new job, whose first record has the number 1. */
     public static Coordinator open(Settings settings, long[] shape, long now) {
         return open(settings, shape, now, 1);
     }
 
-    /**
-     * Opens a coordinator. Throws {@code BadArgument} for the settings first, then for the shape, the moment and the first number.
-     *
-     * @param settings the configuration
-     * @param shape the number of subtasks of each vertex
-     * @param now the moment of the opening
-     * @param first the number of the first record: 1 for a new job, otherwise one above all earlier numbers
-     * @return the coordinator
-     */
+    /** Opens a coordinator. Throws {@code BadArgument} for the settings first, then for the shape, the moment and the first number. */
     public static Coordinator open(Settings settings, long[] shape, long now, long first) {
         long[] numbers = settings.numbers();
         Objects.requireNonNull(shape, "shape");
@@ -82,13 +67,6 @@ public final class Coordinator extends Reads implements AutoCloseable, Outbox {
      * Opens a coordinator with names, in term 1. {@link #ack} and {@link #decline} throw {@code Fenced} then: its tasks call {@link #ackIn} and
      * {@link #declineIn}. Throws {@code BadArgument} for the settings first, then for the shape, the first name, the moment and the first
      * number.
-     *
-     * @param settings the configuration
-     * @param shape the number of subtasks of each vertex
-     * @param now the moment of the opening
-     * @param first the number of the first record: 1 for a new job, otherwise one above all earlier numbers
-     * @param firstName the first name that it gives out: all numbers of files that were used before are below it
-     * @return the coordinator
      */
     public static Coordinator openFenced(Settings settings, long[] shape, long now, long first, long firstName) {
         long[] numbers = settings.numbers();
@@ -103,18 +81,13 @@ public final class Coordinator extends Reads implements AutoCloseable, Outbox {
      *
      * <p>All calls that were made after the save are made again, before any task makes a call. Otherwise names that were given out since then
      * are given out again, and a term that has ended runs again.
-     *
-     * @param image the image
-     * @return the coordinator
      */
     public static Coordinator openSaved(byte[] image) {
         Objects.requireNonNull(image, "image");
         return new Coordinator((at, out) -> Native.openSaved(at, image, RANDOM.nextLong(), RANDOM.nextLong(), out));
     }
 
-    /**
-     * {@return the version of the native library: three numbers, such as "1.2.3"}
-     */
+    /** {@return the version of the native library: three numbers, such as "1.2.3"} */
     public static String version() {
         Library.need();
         return Native.version();
@@ -149,18 +122,12 @@ public final class Coordinator extends Reads implements AutoCloseable, Outbox {
         return past > moment() && past > due() && past > oldestExpiry().orElse(0);
     }
 
-    /**
-     * {@return how many milliseconds a moment may be ahead}
-     */
+    /** {@return how many milliseconds a moment may be ahead} */
     public long mostAhead() {
         return mostAhead;
     }
 
-    /**
-     * Sets how many milliseconds a moment may be ahead.
-     *
-     * @param millis how many
-     */
+    /** Sets how many milliseconds a moment may be ahead. */
     public void setMostAhead(long millis) {
         mostAhead = Checks.natural(millis, "a time");
     }
@@ -212,7 +179,6 @@ public final class Coordinator extends Reads implements AutoCloseable, Outbox {
      * @param file the file
      * @return the file
      */
-    @Override
     public Reply.Deleted deleted(long file) {
         return (Reply.Deleted) replied((at, out) -> Native.deleted(at, file, out));
     }
@@ -223,7 +189,6 @@ public final class Coordinator extends Reads implements AutoCloseable, Outbox {
      * @param file the file
      * @return the file
      */
-    @Override
     public Reply.Undeleted undeleted(long file) {
         return (Reply.Undeleted) replied((at, out) -> Native.undeleted(at, file, out));
     }
@@ -244,14 +209,6 @@ public final class Coordinator extends Reads implements AutoCloseable, Outbox {
      * A subtask has taken its part of a record. If the call is accepted, the fresh files belong to the coordinator. Otherwise the task deletes
      * a file only if no accepted acknowledgement ever named it. So it deletes none after {@code ALREADY_ACKNOWLEDGED}, the answer to a
      * repeat. After {@code NAME_TAKEN} it deletes no file that it named before.
-     *
-     * @param now the moment
-     * @param id the record
-     * @param vertex the vertex of the subtask
-     * @param index its place in the vertex
-     * @param fresh the files that it wrote, and has synced
-     * @param reused files of earlier records that it uses again
-     * @return what the record lacks
      */
     public Reply.Ack ack(long now, long id, int vertex, int index, long[] fresh, long... reused) {
         Checks.u16(vertex, "vertex");
@@ -261,61 +218,29 @@ public final class Coordinator extends Reads implements AutoCloseable, Outbox {
         return (Reply.Ack) timed(now, (at, out) -> Native.ack(at, now, id, vertex, index, fresh, reused, out));
     }
 
-    /**
-     * A subtask could not take its part of a record.
-     *
-     * @param now the moment
-     * @param id the record
-     * @param vertex the vertex of the subtask
-     * @param index its place in the vertex
-     * @return what became of the record
-     */
+    /** A subtask could not take its part of a record. */
     public Reply.Decline decline(long now, long id, int vertex, int index) {
         Checks.u16(vertex, "vertex");
         Checks.u16(index, "index");
         return (Reply.Decline) timed(now, (at, out) -> Native.decline(at, now, id, vertex, index, out));
     }
 
-    /**
-     * The job begins again from the latest record, in its shape.
-     *
-     * @param now the moment
-     * @return the record
-     */
+    /** The job begins again from the latest record, in its shape. */
     public Reply.Restore restoreLatest(long now) {
         return restore(now, 0, SAME_SHAPE);
     }
 
-    /**
-     * The job begins again from the latest record, in a new shape. A bad shape is a {@code BadArgument}, before any refusal.
-     *
-     * @param now the moment
-     * @param shape the number of subtasks of each vertex
-     * @return the record
-     */
+    /** The job begins again from the latest record, in a new shape. A bad shape is a {@code BadArgument}, before any refusal. */
     public Reply.Restore restoreLatest(long now, long[] shape) {
         return restore(now, 0, Checks.shape(shape));
     }
 
-    /**
-     * The job begins again from a savepoint, in its shape.
-     *
-     * @param now the moment
-     * @param id the savepoint
-     * @return the record
-     */
+    /** The job begins again from a savepoint, in its shape. */
     public Reply.Restore restoreSavepoint(long now, long id) {
         return restore(now, Checks.savepoint(id), SAME_SHAPE);
     }
 
-    /**
-     * The job begins again from a savepoint, in a new shape. A bad shape is a {@code BadArgument}, before any refusal.
-     *
-     * @param now the moment
-     * @param id the savepoint
-     * @param shape the number of subtasks of each vertex
-     * @return the record
-     */
+    /** The job begins again from a savepoint, in a new shape. A bad shape is a {@code BadArgument}, before any refusal. */
     public Reply.Restore restoreSavepoint(long now, long id, long[] shape) {
         return restore(now, Checks.savepoint(id), Checks.shape(shape));
     }
@@ -328,22 +253,12 @@ public final class Coordinator extends Reads implements AutoCloseable, Outbox {
      * Gives the coordinator names, in term 1. Make the call between the end of all tasks and their restart, since a task that began before
      * it has no term. Throws {@code Fenced} with {@code HAS_NAMES} if it has some, {@code BadArgument} with {@code BAD_NAME}, and {@code Fenced}
      * with {@code NAME_IN_USE} if a known file has this number or a greater one.
-     *
-     * @param firstName the first name that it gives out: all numbers of files that were used before are below it, those of files that nobody
-     *     acknowledged too
-     * @return that it has names
      */
     public Reply.Named fence(long firstName) {
         return (Reply.Named) replied((at, out) -> Native.fence(at, firstName, out));
     }
 
-    /**
-     * A task of a term reserves names for files that it will write. The reservation is in the durable log before the task uses one of them.
-     *
-     * @param term the term of the task
-     * @param count how many, 1 to 65536
-     * @return the names
-     */
+    /** A task of a term reserves names for files that it will write. The reservation is in the durable log before the task uses one of them. */
     public Reply.Reserved reserve(long term, long count) {
         return (Reply.Reserved) replied((at, out) -> Native.reserve(at, term, count, out));
     }
@@ -351,10 +266,6 @@ public final class Coordinator extends Reads implements AutoCloseable, Outbox {
     /**
      * A task of a term gives up names that it will not acknowledge, such as those of a failed upload: their files are garbage then. Names
      * that the term does not hold are passed over, so the call can be repeated.
-     *
-     * @param term the term of the task
-     * @param names the names
-     * @return that they are given up
      */
     public Reply.Forfeited forfeit(long term, long... names) {
         Objects.requireNonNull(names, "names");
@@ -364,11 +275,6 @@ public final class Coordinator extends Reads implements AutoCloseable, Outbox {
     /**
      * Restores a job that goes on from an older image, from its latest record. It is the first call of such a job. Throws {@code Fenced}
      * with {@code NO_NAMES} or {@code TERMS_USED_UP}, and {@code BadArgument} with {@code BAD_NAME}.
-     *
-     * @param now the moment
-     * @param term the greatest term that any task was told: the next one is above it
-     * @param firstName the first name that it gives out from now on, above each that was given out
-     * @return the record
      */
     public Reply.Restore advance(long now, long term, long firstName) {
         return (Reply.Restore) timed(now, (at, out) -> Native.advance(at, now, term, firstName, out));
@@ -377,15 +283,6 @@ public final class Coordinator extends Reads implements AutoCloseable, Outbox {
     /**
      * {@link #ack} of a task of a term. If it is accepted, it spends the names of the fresh files. The same acknowledgement once more throws
      * {@code Fenced} with {@code SPENT}, if it has fresh files: a task deletes no file for that answer.
-     *
-     * @param term the term of the task
-     * @param now the moment
-     * @param id the record
-     * @param vertex the vertex of the subtask
-     * @param index its place in the vertex
-     * @param fresh the files that it wrote, and has synced
-     * @param reused files of earlier records that it uses again
-     * @return what the record lacks
      */
     public Reply.Ack ackIn(long term, long now, long id, int vertex, int index, long[] fresh, long... reused) {
         Checks.u16(vertex, "vertex");
@@ -395,16 +292,7 @@ public final class Coordinator extends Reads implements AutoCloseable, Outbox {
         return (Reply.Ack) timed(now, (at, out) -> Native.ackIn(at, term, now, id, vertex, index, fresh, reused, out));
     }
 
-    /**
-     * {@link #decline} of a task of a term.
-     *
-     * @param term the term of the task
-     * @param now the moment
-     * @param id the record
-     * @param vertex the vertex of the subtask
-     * @param index its place in the vertex
-     * @return what became of the record
-     */
+    /** {@link #decline} of a task of a term. */
     public Reply.Decline declineIn(long term, long now, long id, int vertex, int index) {
         Checks.u16(vertex, "vertex");
         Checks.u16(index, "index");
@@ -414,11 +302,7 @@ public final class Coordinator extends Reads implements AutoCloseable, Outbox {
     /**
      * Fetches files that wait for deletion. Report each by {@link #deleted} or {@link #undeleted}. A repeated acknowledgement that comes late
      * may hand out a file that no longer exists: report it as deleted.
-     *
-     * @param most the most files
-     * @return the files, the longest waiting first
      */
-    @Override
     public Reply.Taken take(int most) {
         Checks.natural(most, "a number of files");
         try {
@@ -428,39 +312,22 @@ public final class Coordinator extends Reads implements AutoCloseable, Outbox {
         }
     }
 
-    /**
-     * Shows the metadata of a live record.
-     *
-     * @param id the record
-     * @return its metadata
-     */
+    /** Shows the metadata of a live record. */
     public Reply.Shown show(long id) {
         return new Reply.Shown(Lines.text(bytes((at, json, out) -> Native.show(at, id, json, out))));
     }
 
-    /**
-     * Counts the uses of a file, by acknowledgements and pins of live records.
-     *
-     * @param file the file
-     * @return how many there are
-     */
+    /** Counts the uses of a file, by acknowledgements and pins of live records. */
     public Reply.Counted count(long file) {
         return (Reply.Counted) replied((at, out) -> Native.count(at, file, out));
     }
 
-    /**
-     * {@return the image of the coordinator, all of its state, as JSON in UTF-8}
-     */
+    /** {@return the image of the coordinator, all of its state, as JSON in UTF-8} */
     public byte[] save() {
         return bytes(Native::save);
     }
 
-    /**
-     * Makes the call of a line of a script, with at most 4096 files in a take line.
-     *
-     * @param line the bytes before its newline
-     * @return the reply; empty if the line has no words or is a comment
-     */
+    /** Makes the call of a line of a script, with at most 4096 files in a take line. */
     public Optional<Reply> line(byte[] line) {
         return line(line, 4096);
     }
@@ -468,10 +335,6 @@ public final class Coordinator extends Reads implements AutoCloseable, Outbox {
     /**
      * Makes the call of a line of a script. Throws {@code BadLine} if it can't be read or makes no call, and what the call throws. A take
      * line that would fetch more files than it may throws {@code TooShort}.
-     *
-     * @param line the bytes before its newline
-     * @param most the most files that a take line fetches
-     * @return the reply; empty if the line has no words or is a comment
      */
     public Optional<Reply> line(byte[] line, int most) {
         byte[] own = line.clone();

@@ -1,7 +1,7 @@
 package relkvanu;
 
 /**
- * A call was not made, and nothing has changed, except maybe after {@link Unknown} and {@link NotStored}. Each exception of this package is one of the classes below.
+ * A call was not made, and nothing has changed, except maybe after {@link Unknown}. Each exception of this package is one of the classes below.
  *
  * <p>{@link Refused}, {@link Fenced} and {@link NoMemory} are answers that a job gets every day, so they have no stack trace. With {@code
  * -Drelkvanu.traces=true} they have one.
@@ -14,19 +14,6 @@ public abstract sealed class CoordinatorException extends RuntimeException {
         super(text, null, true, hasTrace);
     }
 
-    /** @serial what the call was about, or empty */
-    private String about = "";
-
-    /** Says what the call of a store was about: its record, subtask and term, and the refusal. */
-    void about(String words) {
-        about = words;
-    }
-
-    @Override
-    public String getMessage() {
-        return about.isEmpty() ? super.getMessage() : super.getMessage() + " (" + about + ")";
-    }
-
     private static String withFile(String text, boolean hasFile, long file) {
         return hasFile ? text + " " + FileNumbers.toString(file) : text;
     }
@@ -34,9 +21,7 @@ public abstract sealed class CoordinatorException extends RuntimeException {
     /** The coordinator refused the call. */
     public static final class Refused extends CoordinatorException {
         private static final long serialVersionUID = 1;
-        /** @serial why */
         private final Refusal refusal;
-        /** @serial the file that is to blame, or 0 */
         private final long file;
 
         Refused(Refusal refusal, long file) {
@@ -45,16 +30,12 @@ public abstract sealed class CoordinatorException extends RuntimeException {
             this.file = file;
         }
 
-        /**
-         * {@return why}
-         */
+        /** {@return why} */
         public Refusal refusal() {
             return refusal;
         }
 
-        /**
-         * {@return the file that is to blame, unsigned; 0 unless the refusal is {@code NAME_TAKEN} or {@code FILE_GONE}}
-         */
+        /** {@return the file that is to blame, unsigned; 0 unless the refusal is {@code NAME_TAKEN} or {@code FILE_GONE}} */
         public long file() {
             return file;
         }
@@ -66,9 +47,7 @@ public abstract sealed class CoordinatorException extends RuntimeException {
      */
     public static final class Fenced extends CoordinatorException {
         private static final long serialVersionUID = 1;
-        /** @serial why */
         private final relkvanu.Fenced reason;
-        /** @serial the file that is to blame, or 0 */
         private final long file;
 
         Fenced(relkvanu.Fenced reason, long file) {
@@ -77,16 +56,12 @@ public abstract sealed class CoordinatorException extends RuntimeException {
             this.file = file;
         }
 
-        /**
-         * {@return why}
-         */
+        /** {@return why} */
         public relkvanu.Fenced reason() {
             return reason;
         }
 
-        /**
-         * {@return the file that is to blame, unsigned; 0 unless the reason is {@code SPENT} or {@code NEVER_RESERVED}}
-         */
+        /** {@return the file that is to blame, unsigned; 0 unless the reason is {@code SPENT} or {@code NEVER_RESERVED}} */
         public long file() {
             return file;
         }
@@ -113,7 +88,6 @@ public abstract sealed class CoordinatorException extends RuntimeException {
     /** A value is outside its limits. */
     public static final class BadArgument extends CoordinatorException {
         private static final long serialVersionUID = 1;
-        /** @serial which one */
         private final Argument argument;
 
         BadArgument(Argument argument) {
@@ -121,9 +95,7 @@ public abstract sealed class CoordinatorException extends RuntimeException {
             this.argument = argument;
         }
 
-        /**
-         * {@return which one}
-         */
+        /** {@return which one} */
         public Argument argument() {
             return argument;
         }
@@ -132,7 +104,6 @@ public abstract sealed class CoordinatorException extends RuntimeException {
     /** A line of a script can't be read or makes no call, or the line of a call would be too long. */
     public static final class BadLine extends CoordinatorException {
         private static final long serialVersionUID = 1;
-        /** @serial why */
         private final LineFault fault;
 
         BadLine(LineFault fault) {
@@ -140,9 +111,7 @@ public abstract sealed class CoordinatorException extends RuntimeException {
             this.fault = fault;
         }
 
-        /**
-         * {@return why}
-         */
+        /** {@return why} */
         public LineFault fault() {
             return fault;
         }
@@ -151,7 +120,6 @@ public abstract sealed class CoordinatorException extends RuntimeException {
     /** A take line would fetch more files than it may. */
     public static final class TooShort extends CoordinatorException {
         private static final long serialVersionUID = 1;
-        /** @serial how many files the line would fetch */
         private final long places;
 
         TooShort(long places) {
@@ -159,9 +127,7 @@ public abstract sealed class CoordinatorException extends RuntimeException {
             this.places = places;
         }
 
-        /**
-         * {@return how many files it would fetch}
-         */
+        /** {@return how many files it would fetch} */
         public long places() {
             return places;
         }
@@ -185,25 +151,6 @@ public abstract sealed class CoordinatorException extends RuntimeException {
 
         Unknown(String kind, long what) {
             super("this package has no " + kind + " " + what, true);
-        }
-    }
-
-    /** A {@link Store} was not opened, or calls of one were not committed. */
-    public static final class NotStored extends CoordinatorException {
-        private static final long serialVersionUID = 1;
-        /** @serial why */
-        private final StoreFault fault;
-
-        NotStored(StoreFault fault, String message) {
-            super(message.isEmpty() ? fault.name() : fault.name() + ": " + message, true);
-            this.fault = fault;
-        }
-
-        /**
-         * {@return why}
-         */
-        public StoreFault fault() {
-            return fault;
         }
     }
 

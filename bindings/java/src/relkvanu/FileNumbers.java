@@ -7,42 +7,22 @@ import java.util.stream.Collectors;
 public final class FileNumbers {
     private FileNumbers() {}
 
-    /**
-     * {@return the number in decimal, such as 18446744073709551615 for -1}
-     *
-     * @param file the number
-     */
+    /** {@return the number in decimal, such as 18446744073709551615 for -1} */
     public static String toString(long file) {
         return Long.toUnsignedString(file);
     }
 
-    /**
-     * {@return the numbers in decimal, such as [1, 18446744073709551615]}
-     *
-     * @param files the numbers
-     */
+    /** {@return the numbers in decimal, such as [1, 18446744073709551615]} */
     public static String toString(long[] files) {
         return Arrays.stream(files).mapToObj(Long::toUnsignedString).collect(Collectors.joining(", ", "[", "]"));
     }
 
-    /**
-     * Reads a number in decimal.
-     *
-     * @param text the digits
-     * @return the number
-     * @throws NumberFormatException if it is no number, or is above 2<sup>64</sup> - 1
-     */
+    /** Reads a number in decimal. */
     public static long parse(String text) {
         return Long.parseUnsignedLong(text);
     }
 
-    /**
-     * Compares two numbers.
-     *
-     * @param one a number
-     * @param other another number
-     * @return a negative number if the first is less, 0 if both are equal, otherwise a positive number
-     */
+    /** Compares two numbers. */
     public static int compare(long one, long other) {
         return Long.compareUnsigned(one, other);
     }

@@ -2,19 +2,9 @@ package relkvanu;
 
 import java.util.Arrays;
 
-/**
- * Of some files, in their order: those that may be deleted, and those that are not of this job. Two with the same files are equal.
- *
- * @param garbage the files that are garbage for good, so they may be deleted at any time
- * @param unissued the files whose names were not given out, unsigned: nobody deletes them. They are another job's, or a log was lost
- */
+/** Of some files, in their order: those that may be deleted, and those that are not of this job. Two with the same files are equal. */
 public record Garbage(long[] garbage, long[] unissued) {
-    /**
-     * Copies the arrays.
-     *
-     * @param garbage the garbage
-     * @param unissued the others
-     */
+    /** Copies the arrays. */
     public Garbage {
         garbage = garbage.clone();
         unissued = unissued.clone();
@@ -26,17 +16,13 @@ public record Garbage(long[] garbage, long[] unissued) {
         return new Garbage(Arrays.copyOf(garbage, (int) first), Arrays.copyOf(unissued, (int) second));
     }
 
-    /**
-     * {@return a copy of the garbage}
-     */
+    /** {@return a copy of the garbage} */
     @Override
     public long[] garbage() {
         return garbage.clone();
     }
 
-    /**
-     * {@return a copy of the others}
-     */
+    /** {@return a copy of the others} */
     @Override
     public long[] unissued() {
         return unissued.clone();

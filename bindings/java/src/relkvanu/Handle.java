@@ -40,18 +40,6 @@ final class Handle implements Runnable {
         }
     }
 
-    /** A handle that somebody else closes, after lose. */
-    Handle(long address) {
-        this.address = address;
-    }
-
-    /** No function gets the handle any more. */
-    void lose() {
-        lock.lock();
-        address = 0;
-        lock.unlock();
-    }
-
     /** Closes it, after the call that another thread is in. */
     @Override
     public void run() {

@@ -219,7 +219,7 @@ final class Header {
     static final int BAD_NAME = 8;
     /** the group has failed: open the handle again, from the log */
     static final int BAD_GROUP = 9;
-    /** no answer may be told by the receipt, or there is no place for another answer */
+    /** no answer may be told by the receipt, or there is no place or receipt for another answer */
     static final int BAD_RECEIPT = 10;
     /** a line has at most 131072 bytes */
     static final int FAULT_TOO_LONG = 1;
@@ -263,7 +263,7 @@ final class Header {
     static final int STEP_NOTHING = 3;
     /** go on: an open input has not delivered the barrier yet */
     static final int STEP_WAIT = 4;
-    /** drop the barrier and go on: the record was cut or given up before */
+    /** drop the barrier and go on: the record was cut or given up, or is below one that was begun */
     static final int STEP_LATE = 5;
     /** take the snapshot for record id now, and then send its barrier on each output, before anything else */
     static final int STEP_CUT = 6;
@@ -277,6 +277,12 @@ final class Header {
     static final int STEP_ENDED_INPUT = 10;
     /** nothing has changed: a task has 1 to RELKVANU_MOST_INPUTS inputs */
     static final int STEP_BAD_INPUTS = 11;
+    /** add the element to the record, and process it before what comes behind it */
+    static final int STEP_RECORD = 12;
+    /** as RELKVANU_STEP_CUT of record id, but do not acknowledge yet: what comes before its barrier is recorded */
+    static final int STEP_SNAP = 13;
+    /** acknowledge record id, with its snapshot and with what was recorded */
+    static final int STEP_COMPLETE = 14;
     /** the most inputs of a task */
     static final int MOST_INPUTS = 4096;
     /** no text of an answer has more bytes */

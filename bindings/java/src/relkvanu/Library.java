@@ -69,10 +69,6 @@ final class Library {
         return "native/" + system + "/lib" + name + ".so";
     }
 
-    static boolean isInJar(String name) {
-        return Library.class.getResource(inJar(name)) != null;
-    }
-
     /** Nobody else can write to the folder. Linux keeps what is mapped when the file is gone. */
     private static void loadCopy(InputStream in, String name) throws IOException {
         Path folder = Files.createTempDirectory("relkvanu");

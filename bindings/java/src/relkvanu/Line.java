@@ -7,31 +7,17 @@ public sealed interface Line {
     /** A line without words, or a comment. */
     record Skip() implements Line {}
 
-    /**
-     * The configuration.
-     *
-     * @param settings its values
-     */
+    /** The configuration. */
     record Config(Settings settings) implements Line {}
 
-    /**
-     * The shape of the job. Two with the same numbers are equal.
-     *
-     * @param shape the number of subtasks of each vertex
-     */
+    /** The shape of the job. Two with the same numbers are equal. */
     record Job(long[] shape) implements Line {
-        /**
-         * Copies the array.
-         *
-         * @param shape the shape
-         */
+        /** Copies the array. */
         public Job {
             shape = shape.clone();
         }
 
-        /**
-         * {@return a copy of the shape}
-         */
+        /** {@return a copy of the shape} */
         @Override
         public long[] shape() {
             return shape.clone();
@@ -53,23 +39,12 @@ public sealed interface Line {
         }
     }
 
-    /**
-     * The opening.
-     *
-     * @param now its moment
-     */
+    /** The opening. */
     record Start(long now) implements Line {}
 
     /** A line that makes a call: {@link Coordinator#line} makes it. */
     record Call() implements Line {}
 
-    /**
-     * An acknowledgement for each subtask that is missing, which programs that run scripts make.
-     *
-     * @param now the moment
-     * @param id the record
-     * @param threads how many threads make them
-     * @param first the first file
-     */
+    /** An acknowledgement for each subtask that is missing, which programs that run scripts make. */
     record All(long now, long id, long threads, long first) implements Line {}
 }

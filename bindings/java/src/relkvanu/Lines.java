@@ -20,12 +20,7 @@ public final class Lines {
         return new String(utf8, StandardCharsets.UTF_8);
     }
 
-    /**
-     * Reads which line it is. Throws {@code BadLine}. Checks no number against the limits of a job.
-     *
-     * @param line the bytes before its newline
-     * @return the line
-     */
+    /** Reads which line it is. Throws {@code BadLine}. Checks no number against the limits of a job. */
     public static Line says(byte[] line) {
         Objects.requireNonNull(line, "line");
         Library.need();
@@ -52,11 +47,6 @@ public final class Lines {
     /**
      * Writes the lines config, job and start of a coordinator whose first record has the number 1, each with its newline. Throws {@code
      * BadArgument} if none could be opened so.
-     *
-     * @param settings the configuration
-     * @param shape the number of subtasks of each vertex
-     * @param now the moment of the opening
-     * @return the lines
      */
     public static String opening(Settings settings, long[] shape, long now) {
         long[] numbers = settings.numbers();
@@ -151,143 +141,67 @@ public final class Lines {
     }
     // bindings/generate: end
 
-    /**
-     * {@return the line of an acknowledgement}
-     *
-     * @param now the moment
-     * @param id the record
-     * @param vertex the vertex of the subtask
-     * @param index its place in the vertex
-     * @param fresh the files that it wrote
-     * @param reused files that it uses again
-     */
+    /** {@return the line of an acknowledgement} */
     public static String ack(long now, long id, int vertex, int index, long[] fresh, long... reused) {
         return ackIn(NO_TERM, now, id, vertex, index, fresh, reused);
     }
 
-    /**
-     * {@return the line of a decline}
-     *
-     * @param now the moment
-     * @param id the record
-     * @param vertex the vertex of the subtask
-     * @param index its place in the vertex
-     */
+    /** {@return the line of a decline} */
     public static String decline(long now, long id, int vertex, int index) {
         return declineIn(NO_TERM, now, id, vertex, index);
     }
 
-    /**
-     * {@return the line of a restore from the latest record}
-     *
-     * @param now the moment
-     */
+    /** {@return the line of a restore from the latest record} */
     public static String restoreLatest(long now) {
         return line(Header.CALL_RESTORE, now, 0);
     }
 
-    /**
-     * {@return the line of a restore from the latest record, in a new shape}
-     *
-     * @param now the moment
-     * @param shape the shape
-     */
+    /** {@return the line of a restore from the latest record, in a new shape} */
     public static String restoreLatest(long now, long[] shape) {
         return line(Header.CALL_RESTORE, 0, 0, now, 0, NO_TERM, Checks.shape(shape), NONE);
     }
 
-    /**
-     * {@return the line of a restore from a savepoint}
-     *
-     * @param now the moment
-     * @param id the savepoint
-     */
+    /** {@return the line of a restore from a savepoint} */
     public static String restoreSavepoint(long now, long id) {
         return line(Header.CALL_RESTORE, now, Checks.savepoint(id));
     }
 
-    /**
-     * {@return the line of a restore from a savepoint, in a new shape}
-     *
-     * @param now the moment
-     * @param id the savepoint
-     * @param shape the shape
-     */
+    /** {@return the line of a restore from a savepoint, in a new shape} */
     public static String restoreSavepoint(long now, long id, long[] shape) {
         return line(Header.CALL_RESTORE, 0, 0, now, Checks.savepoint(id), NO_TERM, Checks.shape(shape), NONE);
     }
 
-    /**
-     * {@return the line of a take}
-     *
-     * @param most the most files, unsigned
-     */
+    /** {@return the line of a take} */
     public static String take(long most) {
         return line(Header.CALL_TAKE, 0, most);
     }
 
-    /**
-     * {@return the line of a show}
-     *
-     * @param id the record
-     */
+    /** {@return the line of a show} */
     public static String show(long id) {
         return line(Header.CALL_SHOW, 0, id);
     }
 
-    /**
-     * {@return the line of a fence: from here on names are given out}
-     *
-     * @param firstName the first name
-     */
+    /** {@return the line of a fence: from here on names are given out} */
     public static String fence(long firstName) {
         return line(Header.CALL_FENCE, 0, firstName);
     }
 
-    /**
-     * {@return the line of a reservation}
-     *
-     * @param term the term of the task
-     * @param count how many names
-     */
+    /** {@return the line of a reservation} */
     public static String reserve(long term, long count) {
         return line(Header.CALL_RESERVE, 0, 0, 0, count, term, NONE, NONE);
     }
 
-    /**
-     * {@return the line that gives names up}
-     *
-     * @param term the term of the task
-     * @param names the names
-     */
+    /** {@return the line that gives names up} */
     public static String forfeit(long term, long... names) {
         return line(Header.CALL_FORFEIT, 0, 0, 0, 0, term, Objects.requireNonNull(names, "names"), NONE);
     }
 
-    /**
-     * {@return the line of an acknowledgement by a task of a term}
-     *
-     * @param term the term of the task; 0 for none
-     * @param now the moment
-     * @param id the record
-     * @param vertex the vertex of the subtask
-     * @param index its place in the vertex
-     * @param fresh the files that it wrote
-     * @param reused files that it uses again
-     */
+    /** {@return the line of an acknowledgement by a task of a term} */
     public static String ackIn(long term, long now, long id, int vertex, int index, long[] fresh, long... reused) {
         return line(Header.CALL_ACK, vertex, index, now, id, term, fresh, reused);
     }
 
-    /**
-     * {@return the line of a decline by a task of a term}
-     *
-     * @param term the term of the task; 0 for none
-     * @param now the moment
-     * @param id the record
-     * @param vertex the vertex of the subtask
-     * @param index its place in the vertex
-     */
+    /** {@return the line of a decline by a task of a term} */
     public static String declineIn(long term, long now, long id, int vertex, int index) {
         return line(Header.CALL_DECLINE, vertex, index, now, id, term, NONE, NONE);
     }

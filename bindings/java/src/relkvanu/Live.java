@@ -2,13 +2,7 @@ package relkvanu;
 
 import java.util.Optional;
 
-/**
- * A live record.
- *
- * @param id its number
- * @param kind its kind
- * @param isDone whether it is done, or pending
- */
+/** A live record. */
 public record Live(long id, Kind kind, boolean isDone) {
     static Optional<Live> of(int what, long id, long done) {
         return switch (what) {

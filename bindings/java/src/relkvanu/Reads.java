@@ -7,7 +7,7 @@ import java.util.OptionalLong;
 import java.util.function.Supplier;
 
 /** The reads of a {@link Coordinator}, and what a timer waits for. */
-abstract sealed class Reads permits Coordinator, StoreReads {
+abstract sealed class Reads permits Coordinator {
     final Handle handle;
 
     Reads(Handle handle) {
@@ -40,13 +40,7 @@ abstract sealed class Reads permits Coordinator, StoreReads {
         }
     }
 
-    /**
-     * Makes calls with no other thread's call between them. Delete, send and wait outside of it.
-     *
-     * @param calls makes the calls
-     * @param <T> what they return
-     * @return what the calls return
-     */
+    /** Makes calls with no other thread's call between them. Delete, send and wait outside of it. */
     public <T> T locked(Supplier<T> calls) {
         handle.lock();
         try {
@@ -57,30 +51,17 @@ abstract sealed class Reads permits Coordinator, StoreReads {
         }
     }
 
-    /**
-     * {@return the number of calls so far that may have changed what a timer waits for}
-     */
+    /** {@return the number of calls so far that may have changed what a timer waits for} */
     public long calls() {
         return handle.calls();
     }
 
-    /**
-     * Waits until {@link #calls} is above a number.
-     *
-     * @param seen the number
-     * @throws InterruptedException if the thread is interrupted
-     */
+    /** Waits until {@link #calls} is above a number. */
     public void waitForCall(long seen) throws InterruptedException {
         waitForNanos(seen, Long.MAX_VALUE);
     }
 
-    /**
-     * Waits until {@link #calls} is above a number, or a time is over.
-     *
-     * @param seen the number
-     * @param atMost the time
-     * @throws InterruptedException if the thread is interrupted
-     */
+    /** Waits until {@link #calls} is above a number, or a time is over. */
     public void waitForCall(long seen, Duration atMost) throws InterruptedException {
         waitForNanos(seen, atMost.compareTo(Duration.ofNanos(Long.MAX_VALUE)) < 0 ? atMost.toNanos() : Long.MAX_VALUE);
     }
@@ -95,30 +76,22 @@ abstract sealed class Reads permits Coordinator, StoreReads {
 
     // Reads: none changes anything. None but pinsOf and takenFiles wants memory of the library.
 
-    /**
-     * {@return what the job is doing}
-     */
+    /** {@return what the job is doing} */
     public Mode mode() {
         return call(Native::mode, (what, a, b) -> Mode.of(what));
     }
 
-    /**
-     * {@return the greatest moment that the coordinator has seen; it takes an earlier one for this one}
-     */
+    /** {@return the greatest moment that the coordinator has seen; it takes an earlier one for this one} */
     public long moment() {
         return call(Native::moment, (what, a, b) -> a);
     }
 
-    /**
-     * {@return the moment before which no tick triggers a checkpoint; calls move it}
-     */
+    /** {@return the moment before which no tick triggers a checkpoint; calls move it} */
     public long due() {
         return call(Native::due, (what, a, b) -> a);
     }
 
-    /**
-     * {@return the moment from which a pending record is expired; empty if none is pending}
-     */
+    /** {@return the moment from which a pending record is expired; empty if none is pending} */
     public OptionalLong oldestExpiry() {
         return call(Native::oldestExpiry, (what, a, b) -> what == Header.EXPIRES ? OptionalLong.of(a) : OptionalLong.empty());
     }
@@ -127,9 +100,6 @@ abstract sealed class Reads permits Coordinator, StoreReads {
      * The moment of the next tick after a tick, unless another call comes first: when a checkpoint is due or a pending record expires. While
      * as many are pending as may be, it is the expiry, because {@link #due} has passed. After a tick that ran out of memory it has passed:
      * wait for a second instead.
-     *
-     * @param ticked the reply of the tick; null if it threw
-     * @return the moment; empty if nothing changes before the next call, for example while the job has failed
      */
     public OptionalLong nextTick(Reply.Tick ticked) {
         return locked(() -> {
@@ -141,83 +111,49 @@ abstract sealed class Reads permits Coordinator, StoreReads {
         });
     }
 
-    /**
-     * {@return the record that a restore of the latest would begin from; empty if it would begin from nothing}
-     */
+    /** {@return the record that a restore of the latest would begin from; empty if it would begin from nothing} */
     public Optional<Chosen> choice() {
         return call(Native::choice, (what, a, b) -> Chosen.of(what, a));
     }
 
-    /**
-     * {@return the live record at a place, in order of their numbers; empty past the last} Its time grows with the place.
-     *
-     * @param place the place, from 0
-     */
+    /** {@return the live record at a place, in order of their numbers; empty past the last} Its time grows with the place. */
     public Optional<Live> live(long place) {
         return call((at, out) -> Native.live(at, place, out), Live::of);
     }
 
-    /**
-     * {@return the live record with the least number that is at least this one; empty if there is none}
-     *
-     * @param id the number
-     */
+    /** {@return the live record with the least number that is at least this one; empty if there is none} */
     public Optional<Live> liveFrom(long id) {
         return call((at, out) -> Native.liveFrom(at, id, out), Live::of);
     }
 
-    /**
-     * {@return what a number is}
-     *
-     * @param id the number
-     */
+    /** {@return what a number is} */
     public Standing standing(long id) {
         return call((at, out) -> Native.standing(at, id, out), (what, a, b) -> Standing.of(what));
     }
 
-    /**
-     * {@return the files that a subtask acknowledged in a live record, ascending; empty if it has not acknowledged in one}
-     *
-     * @param id the record
-     * @param vertex the vertex of the subtask
-     * @param index its place in the vertex
-     */
+    /** {@return the files that a subtask acknowledged in a live record, ascending; empty if it has not acknowledged in one} */
     public Optional<long[]> filesOf(long id, int vertex, int index) {
         Checks.u16(vertex, "vertex");
         Checks.u16(index, "index");
         return files((at, files, out) -> Native.filesOf(at, id, vertex, index, files, out));
     }
 
-    /**
-     * {@return the files that a pending record keeps beside those of its acknowledgements, ascending}
-     *
-     * @param id the record
-     */
+    /** {@return the files that a pending record keeps beside those of its acknowledgements, ascending} */
     public long[] pinsOf(long id) {
         return files((at, files, out) -> Native.pinsOf(at, id, files, out)).orElseThrow();
     }
 
-    /**
-     * {@return the files that were fetched and are not yet reported, ascending}
-     */
+    /** {@return the files that were fetched and are not yet reported, ascending} */
     public long[] takenFiles() {
         return files(Native::takenFiles).orElseThrow();
     }
 
-    /**
-     * {@return the file at a place among those that wait for deletion, the next to be fetched first; empty past the last}
-     *
-     * @param place the place, from 0
-     */
+    /** {@return the file at a place among those that wait for deletion, the next to be fetched first; empty past the last} */
     public OptionalLong waitingFile(long place) {
         return call((at, out) -> Native.waitingFile(at, place, out), (what, a, b) -> what == Header.WAITING ? OptionalLong.of(a) : OptionalLong.empty());
     }
 
-    /**
-     * {@return how many subtasks of a record have not acknowledged; empty if no record with this number is pending}
-     *
-     * @param id the record
-     */
+    /** {@return how many subtasks of a record have not acknowledged; empty if no record with this number is pending} */
     public OptionalLong missing(long id) {
         return call((at, out) -> Native.missing(at, id, out), (what, a, b) -> what == Header.MISSING ? OptionalLong.of(a) : OptionalLong.empty());
     }
@@ -225,8 +161,6 @@ abstract sealed class Reads permits Coordinator, StoreReads {
     /**
      * The term that runs, and the next name. Whoever restarts the tasks reads it after the restore, and tells each of them once the restore is
      * durable. A task never asks for it: one that should be dead would learn the new term. Throws {@code Fenced} without names.
-     *
-     * @return the term
      */
     public RunningTerm term() {
         return call(Native::term, RunningTerm::of);
@@ -235,9 +169,6 @@ abstract sealed class Reads permits Coordinator, StoreReads {
     /**
      * Sorts files of a storage, at any time, also while tasks run. Ask a coordinator whose calls are durable: one that forgot a call also
      * forgets which files are in use. Throws {@code Fenced} without names.
-     *
-     * @param files the files
-     * @return those that may be deleted, and those whose names were not given out, which nobody deletes
      */
     public Garbage garbage(long... files) {
         long[] garbage = new long[files.length];
@@ -245,9 +176,7 @@ abstract sealed class Reads permits Coordinator, StoreReads {
         return call((at, out) -> Native.garbage(at, files, garbage, unissued, out), (what, first, second) -> Garbage.of(what, garbage, first, unissued, second));
     }
 
-    /**
-     * {@return how many files are in use, wait for deletion, and were fetched}
-     */
+    /** {@return how many files are in use, wait for deletion, and were fetched} */
     public FileCounts fileCounts() {
         try {
             return handle.counts();

@@ -11,9 +11,7 @@ import java.util.stream.LongStream;
 public sealed interface Reply {
     /** The reply to a tick. */
     sealed interface Tick extends Reply {
-        /**
-         * {@return how many records expired in it}
-         */
+        /** {@return how many records expired in it} */
         long expired();
     }
 
@@ -25,30 +23,18 @@ public sealed interface Reply {
 
     /** The reply to a restore. */
     sealed interface Restore extends Reply {
-        /**
-         * {@return how many files it released}
-         */
+        /** {@return how many files it released} */
         long released();
     }
 
-    /**
-     * Files were fetched for deletion. Two replies with the same files in the same order are equal.
-     *
-     * @param files the files, the longest waiting first
-     */
+    /** Files were fetched for deletion. Two replies with the same files in the same order are equal. */
     record Taken(long[] files) implements Reply {
-        /**
-         * Copies the array.
-         *
-         * @param files the files
-         */
+        /** Copies the array. */
         public Taken {
             files = files.clone();
         }
 
-        /**
-         * {@return a copy of the files}
-         */
+        /** {@return a copy of the files} */
         @Override
         public long[] files() {
             return files.clone();
@@ -70,17 +56,11 @@ public sealed interface Reply {
         }
     }
 
-    /**
-     * The metadata of a record.
-     *
-     * @param json the metadata, as docs/SCRIPT.md describes it
-     */
+    /** The metadata of a record. */
     record Shown(String json) implements Reply {
         private static final Pattern ACK = Pattern.compile("\\{\"files\":\\[([0-9,]*)\\],\"subtask\":\"([0-9]+)\\.([0-9]+)\"\\}");
 
-        /**
-         * {@return the files of each subtask that has acknowledged, ascending, in the order of the subtasks}
-         */
+        /** {@return the files of each subtask that has acknowledged, ascending, in the order of the subtasks} */
         public Map<Subtask, long[]> files() {
             Map<Subtask, long[]> found = new LinkedHashMap<>();
             Matcher acks = ACK.matcher(json);
@@ -92,16 +72,9 @@ public sealed interface Reply {
         }
     }
 
-    /**
-     * Names are reserved for files that a task will write.
-     *
-     * @param first the first name
-     * @param count how many there are: the others follow it
-     */
+    /** Names are reserved for files that a task will write. */
     record Reserved(long first, long count) implements Reply {
-        /**
-         * {@return the names, ascending}
-         */
+        /** {@return the names, ascending} */
         public long[] names() {
             return LongStream.range(first, first + count).toArray();
         }

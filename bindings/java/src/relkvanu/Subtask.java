@@ -1,11 +1,6 @@
 package relkvanu;
 
-/**
- * A subtask of a job.
- *
- * @param vertex its vertex, from 0
- * @param index its place in the vertex, from 0
- */
+/** A subtask of a job. */
 public record Subtask(int vertex, int index) {
     /** As scripts write it, such as 1.0. */
     @Override

@@ -3,11 +3,8 @@ package relkvanu;
 import static org.junit.jupiter.api.Assertions.assertArrayEquals;
 import static org.junit.jupiter.api.Assertions.assertEquals;
 import static org.junit.jupiter.api.Assertions.assertThrows;
-import static org.junit.jupiter.api.Assertions.assertTrue;
 
 import java.util.List;
-import java.util.Map;
-import java.util.Optional;
 import org.junit.jupiter.api.Test;
 import org.junit.jupiter.api.function.Executable;
 
@@ -76,23 +73,6 @@ class CoordinatorTest {
     }
 
     @Test
-    void aTimerThatWaitsForLongIsNotAhead() {
-        try (Coordinator job = Jobs.opened(Settings.every(100 * DAY).withTimeout(200 * DAY), 1)) {
-            assertEquals(new Reply.Triggered(0, 1), job.tick(job.due()));
-            assertEquals(1, job.tick(300 * DAY).expired());
-        }
-    }
-
-    @Test
-    void aLineOfALogIsNotChecked() {
-        try (Coordinator job = Jobs.opened(SETTINGS, 1)) {
-            job.line(Jobs.line("tick 1000000000000"));
-            assertEquals(1000000000000L, job.moment());
-            job.tick(1000000000000L + DAY);
-        }
-    }
-
-    @Test
     void aNumberThatDoesNotFitIsNotCut() {
         try (Coordinator job = Jobs.opened(SETTINGS, 2)) {
             job.tick(1000);
@@ -116,31 +96,9 @@ class CoordinatorTest {
         try (Coordinator job = Jobs.opened(SETTINGS, 1)) {
             List<Executable> calls = List.of(() -> job.ack(0, 1, 0, 0, null), () -> job.ack(0, 1, 0, 0, Jobs.files(), (long[]) null), () -> job.line(null), () -> job.restoreLatest(0, null),
                 () -> Coordinator.open(null, new long[] {1}, 0), () -> Coordinator.open(SETTINGS, null, 0), () -> Coordinator.openSaved(null), () -> Lines.says(null),
-                () -> Lines.opening(SETTINGS, null, 0), () -> Lines.ack(0, 1, 0, 0, null), () -> new Discarder(job, null), () -> new Discarder(null, file -> {}));
+                () -> Lines.opening(SETTINGS, null, 0), () -> Lines.ack(0, 1, 0, 0, null));
             calls.forEach(it -> assertThrows(NullPointerException.class, it));
         }
-    }
-
-    @Test
-    void fileNumbersAreUnsigned() {
-        assertEquals("18446744073709551615", FileNumbers.toString(-1));
-        assertEquals("[1, 18446744073709551615]", FileNumbers.toString(Jobs.files(1, -1)));
-        assertEquals(-1, FileNumbers.parse("18446744073709551615"));
-        assertThrows(NumberFormatException.class, () -> FileNumbers.parse("18446744073709551616"));
-        assertTrue(FileNumbers.compare(-1, 1) > 0 && FileNumbers.compare(1, 2) < 0 && FileNumbers.compare(-1, -1) == 0);
-        assertEquals("Taken[files=[18446744073709551615]]", new Reply.Taken(Jobs.files(-1)).toString());
-        assertEquals(new Reply.Taken(Jobs.files(-1)), new Reply.Taken(Jobs.files(-1)));
-        assertEquals("Deleted[file=18446744073709551615]", new Reply.Deleted(-1).toString());
-        assertEquals("Discarded[deleted=1, failed=2, givenUp=[18446744073709551615]]", new Discarded(1, 2, List.of(-1L)).toString());
-    }
-
-    @Test
-    void aReplyDoesNotChange() {
-        long[] files = Jobs.files(1, 2);
-        Reply.Taken taken = new Reply.Taken(files);
-        files[0] = 7;
-        taken.files()[1] = 8;
-        assertEquals(new Reply.Taken(Jobs.files(1, 2)), taken);
     }
 
     @Test
@@ -154,25 +112,5 @@ class CoordinatorTest {
             () -> job.live(0), () -> job.missing(1), job::fileCounts, () -> job.liveFrom(0), () -> job.standing(1), () -> job.filesOf(1, 0, 0), () -> job.pinsOf(1), () -> job.waitingFile(0),
             job::takenFiles, () -> job.nextTick(null), () -> job.waitForCall(100));
         calls.forEach(it -> assertThrows(CoordinatorException.Closed.class, it));
-    }
-
-    @Test
-    void aJobIsOpenedAnewFromItsLastCheckpoint() {
-        Map<Subtask, long[]> files;
-        try (Coordinator job = Jobs.opened(SETTINGS, 2)) {
-            job.tick(1000);
-            job.ack(1000, 1, 0, 0, Jobs.files(1, 2));
-            job.ack(1000, 1, 0, 1, Jobs.files(3), 2);
-            files = job.show(1).files();
-        }
-        try (Coordinator job = Coordinator.open(SETTINGS, new long[] {2}, 0, 2)) {
-            assertEquals(new Reply.Triggered(0, 2), job.tick(2000));
-            assertArrayEquals(Jobs.files(2, 3), files.get(new Subtask(0, 1)));
-            job.ack(2000, 2, 0, 0, files.get(new Subtask(0, 0)));
-            job.ack(2000, 2, 0, 1, Jobs.files(3), 2);
-            assertEquals(List.of(1L, 2L, 1L), List.of(job.count(1).uses(), job.count(2).uses(), job.count(3).uses()));
-            assertEquals(new Reply.RestoredCheckpoint(2, 0), job.restoreLatest(3000));
-            assertEquals(Optional.of(new Chosen(2, Kind.CHECKPOINT)), job.choice());
-        }
     }
 }

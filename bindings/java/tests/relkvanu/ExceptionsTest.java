@@ -2,65 +2,15 @@ package relkvanu;
 
 import static org.junit.jupiter.api.Assertions.assertEquals;
 import static org.junit.jupiter.api.Assertions.assertFalse;
-import static org.junit.jupiter.api.Assertions.assertSame;
 import static org.junit.jupiter.api.Assertions.assertThrows;
 import static org.junit.jupiter.api.Assertions.assertTrue;
 
-import java.io.ByteArrayInputStream;
-import java.io.ByteArrayOutputStream;
-import java.io.ObjectInputStream;
-import java.io.ObjectOutputStream;
-import java.util.Arrays;
 import java.util.List;
 import org.junit.jupiter.api.Test;
 import org.junit.jupiter.api.function.Executable;
 
 /** What the package throws. */
 class ExceptionsTest {
-    private static final List<CoordinatorException> ALL = List.of(new CoordinatorException.Refused(Refusal.NOT_RUNNING, 0), new CoordinatorException.Refused(Refusal.NAME_TAKEN, -1),
-        new CoordinatorException.Fenced(Fenced.NEVER_RESERVED, -1),
-        new CoordinatorException.NoMemory(), new CoordinatorException.Closed(), new CoordinatorException.BadArgument(Argument.BAD_SHAPE), new CoordinatorException.BadLine(LineFault.MISSING),
-        new CoordinatorException.TooShort(5), new CoordinatorException.OutOfRange("out"), new CoordinatorException.Unknown("reply", 999), new CoordinatorException.NotStored(StoreFault.FULL, "job.db: full"),
-        new CoordinatorException.NoLibrary("none"));
-
-    @Test
-    void aCopySaysTheSame() throws Exception {
-        for (CoordinatorException it : ALL) {
-            ByteArrayOutputStream bytes = new ByteArrayOutputStream();
-            try (ObjectOutputStream to = new ObjectOutputStream(bytes)) {
-                to.writeObject(it);
-            }
-            try (ObjectInputStream from = new ObjectInputStream(new ByteArrayInputStream(bytes.toByteArray()))) {
-                CoordinatorException again = (CoordinatorException) from.readObject();
-                assertSame(it.getClass(), again.getClass());
-                assertEquals(it.getMessage(), again.getMessage());
-            }
-        }
-        assertEquals("NameTaken 18446744073709551615", ALL.get(1).getMessage());
-        assertEquals("NeverReserved 18446744073709551615", ALL.get(2).getMessage());
-    }
-
-    @Test
-    void eachKindIsHere() {
-        Class<?>[] kinds = CoordinatorException.class.getPermittedSubclasses();
-        assertTrue(Arrays.stream(kinds).allMatch(kind -> ALL.stream().anyMatch(kind::isInstance)));
-        assertEquals(11, kinds.length);
-    }
-
-    /** The names are those of the library, and no number is beyond them. */
-    @Test
-    void everyRefusalHasItsName() {
-        Library.need();
-        int what = 0;
-        for (Refusal it : Refusal.values()) {
-            byte[] text = new byte[32];
-            int length = (int) Native.refusalText(++what, text);
-            assertEquals(Lines.text(Arrays.copyOf(text, length)), it.text());
-            assertSame(it, Refusal.of(what));
-        }
-        assertEquals(0, Native.refusalText(what + 1, new byte[32]));
-    }
-
     @Test
     void aRefusalNamesTheFile() {
         try (Coordinator job = Jobs.opened(Settings.every(1000), 2)) {

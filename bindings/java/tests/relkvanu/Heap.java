@@ -11,9 +11,6 @@ final class Heap {
     /** Refuses the n-th request for memory from now on, once. Refuses none if n is 0. */
     static native void refuse(long nth);
 
-    /** Refuses the n-th request for memory from now on, and all later ones. */
-    static native void refuseFrom(long nth);
-
     /** How often memory was asked for since then. */
     static native long requests();
 }

@@ -4,7 +4,6 @@ import static org.junit.jupiter.api.Assertions.assertEquals;
 import static org.junit.jupiter.api.Assertions.assertThrows;
 import static org.junit.jupiter.api.Assertions.assertTrue;
 
-import java.nio.file.Path;
 import java.util.List;
 import java.util.regex.Pattern;
 import org.junit.jupiter.api.Tag;
@@ -20,7 +19,7 @@ class LibraryTest {
         List<Executable> ways = List.of(Coordinator::version, () -> Coordinator.open(Settings.every(1000), new long[] {1}, 0), () -> Coordinator.openFenced(Settings.every(1000), new long[] {1}, 0, 1, 1),
             () -> Coordinator.openSaved(new byte[] {1}), () -> Lines.says(new byte[] {}),
             () -> Lines.tick(1), () -> Lines.opening(Settings.every(1000), new long[] {1}, 0),
-            () -> Store.open(Path.of("job.db"), Settings.every(1000), new long[] {1}, StoreOptions.of(StoreOptions.Opening.CREATE)), Coordinator::version);
+            Coordinator::version);
         String first = assertThrows(CoordinatorException.NoLibrary.class, ways.get(0)).getMessage();
         assertTrue(told.matcher(first).find(), first);
         assertTrue(first.contains(Header.VERSION), first);

@@ -4,33 +4,22 @@ import static org.junit.jupiter.api.Assertions.assertArrayEquals;
 import static org.junit.jupiter.api.Assertions.assertEquals;
 import static org.junit.jupiter.api.Assertions.assertTrue;
 
-import java.io.IOException;
 import java.util.Arrays;
 import java.util.List;
-import java.util.Map;
-import java.util.Optional;
-import java.util.function.BiFunction;
 import java.util.function.Function;
-import java.util.function.LongConsumer;
 import java.util.function.Supplier;
-import java.util.regex.Pattern;
 import java.util.stream.LongStream;
 import org.junit.jupiter.api.Tag;
 import org.junit.jupiter.api.Test;
 
 /**
- * Memory that runs out, over a library whose heap refuses one request after the other (bindings/c/refusing_heap.c): a call that fails for that
+ * Memory that runs out, over a library whose heap refuses one request after the other (bindings/c/tests/refusing_heap.c): a call that fails for that
  * reason says so and has changed nothing, and is made again. The copies of long arrays are of that heap, too.
  */
 @Tag("refusing")
 class MemoryTest {
     private static final long[] MANY = LongStream.rangeClosed(100, 400).toArray();
-    /** These calls take no memory, but if their lines are written. */
-    private static final Pattern TAKES_NONE = Pattern.compile("(in \\d+ )?(decline|cancel|deleted|undeleted|count) ");
     private int faults;
-    private int all;
-    private long requests;
-    private LongConsumer refuse = Heap::refuse;
 
     private static String text(Object told) {
         return told instanceof long[] files ? FileNumbers.toString(files) : told instanceof byte[] bytes ? Lines.text(bytes) : told.toString();
@@ -38,7 +27,7 @@ class MemoryTest {
 
     /** Makes a call with a request refused, and once more if it ran out of memory. Before that it has changed nothing. */
     private <T> T withRefusal(long nth, Supplier<T> call, Runnable unchanged) {
-        refuse.accept(nth);
+        Heap.refuse(nth);
         try {
             return call.get();
         } catch (CoordinatorException.NoMemory fault) {
@@ -51,12 +40,10 @@ class MemoryTest {
         }
     }
 
-    /**
-     * Makes the call of a coordinator; and of copies of it, each with another request refused, alone and with all after it. A call may reuse room that an
-     * earlier one left. A copy has no such room, so its requests are counted.
-     */
-    private <T> T told(Coordinator job, Function<Coordinator, T> call) {
+    /** Makes the call of a coordinator; and of copies of it, each with another request refused. A call may reuse room that an earlier one left, and a copy has none. */
+    private <T> T told(Coordinator job, Function<Coordinator, T> call, boolean takesMemory) {
         byte[] image = job.save();
+        long requests;
         try (Coordinator copy = Coordinator.openSaved(image)) {
             Heap.refuse(0);
             call.apply(copy);
@@ -64,56 +51,16 @@ class MemoryTest {
         }
         T answer = call.apply(job);
         faults = 0;
-        for (LongConsumer way : List.<LongConsumer>of(Heap::refuse, Heap::refuseFrom)) {
-            refuse = way;
-            for (long nth = 1; nth <= requests; nth++) {
-                try (Coordinator copy = Coordinator.openSaved(image)) {
-                    T again = withRefusal(nth, () -> call.apply(copy), () -> assertArrayEquals(image, copy.save()));
-                    assertEquals(text(answer), text(again));
-                    assertArrayEquals(job.save(), copy.save());
-                }
+        for (long nth = 1; nth <= requests; nth++) {
+            try (Coordinator copy = Coordinator.openSaved(image)) {
+                T again = withRefusal(nth, () -> call.apply(copy), () -> assertArrayEquals(image, copy.save()));
+                assertEquals(text(answer), text(again));
+                assertArrayEquals(job.save(), copy.save());
             }
         }
-        return answer;
-    }
-
-    private <T> T told(Coordinator job, Function<Coordinator, T> call, boolean takesMemory) {
-        T answer = told(job, call);
         assertEquals(takesMemory, faults > 0);
         assertTrue(takesMemory || requests == 0);
         return answer;
-    }
-
-    /** Makes the call of a line so, with refusals. What refuses it is thrown at the end. */
-    private Optional<Reply> refusing(BiFunction<Coordinator, byte[], Optional<Reply>> make, Coordinator job, byte[] line, boolean isWritten) {
-        CoordinatorException[] why = {null};
-        Optional<Reply> reply = told(job, it -> {
-            try {
-                return make.apply(it, line);
-            } catch (CoordinatorException.NoMemory fault) {
-                throw fault;
-            } catch (CoordinatorException fault) {
-                why[0] = fault;
-                return Optional.empty();
-            }
-        });
-        all += faults;
-        assertTrue(faults == 0 || isWritten || !TAKES_NONE.matcher(Lines.text(line)).lookingAt(), () -> Lines.text(line));
-        if (why[0] != null) {
-            throw why[0];
-        }
-        return reply;
-    }
-
-    @Test
-    void logs() throws IOException {
-        for (Map.Entry<String, BiFunction<Coordinator, byte[], Optional<Reply>>> way : LogsTest.WAYS.entrySet()) {
-            all = 0;
-            for (String log : LogsTest.logs().values()) {
-                LogsTest.makes(log, (job, line) -> refusing(way.getValue(), job, line, way.getKey().contains("written")));
-            }
-            assertTrue(all > 500, way.getKey() + ": " + all);
-        }
     }
 
     /** Long arrays are copied. */
@@ -183,7 +130,9 @@ class MemoryTest {
         opens(() -> Jobs.opened(Jobs.SETTINGS, 2));
         opens(() -> Coordinator.open(Jobs.SETTINGS, LongStream.range(0, 200).map(it -> 1).toArray(), 0));
         opens(() -> Coordinator.openFenced(Jobs.SETTINGS, new long[] {2}, 0, 1, 5));
-        for (Coordinator job : List.of(Jobs.withCheckpoint3(), NamesTest.busy())) {
+        Coordinator named = Coordinator.openFenced(Jobs.SETTINGS, new long[] {2}, 0, 1, 5);
+        named.reserve(1, 3);
+        for (Coordinator job : List.of(Jobs.withCheckpoint3(), named)) {
             byte[] image = job.save();
             job.close();
             opens(() -> Coordinator.openSaved(image));

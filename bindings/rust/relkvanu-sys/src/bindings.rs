@@ -216,7 +216,7 @@ pub const RELKVANU_BAD_IMAGE: u32 = 7;
 pub const RELKVANU_BAD_NAME: u32 = 8;
 /// the group has failed: open the handle again, from the log
 pub const RELKVANU_BAD_GROUP: u32 = 9;
-/// no answer may be told by the receipt, or there is no place for another answer
+/// no answer may be told by the receipt, or there is no place or receipt for another answer
 pub const RELKVANU_BAD_RECEIPT: u32 = 10;
 /// a line has at most 131072 bytes
 pub const RELKVANU_FAULT_TOO_LONG: u32 = 1;
@@ -260,7 +260,7 @@ pub const RELKVANU_STEP_HOLD: u32 = 2;
 pub const RELKVANU_STEP_NOTHING: u32 = 3;
 /// go on: an open input has not delivered the barrier yet
 pub const RELKVANU_STEP_WAIT: u32 = 4;
-/// drop the barrier and go on: the record was cut or given up before
+/// drop the barrier and go on: the record was cut or given up, or is below one that was begun
 pub const RELKVANU_STEP_LATE: u32 = 5;
 /// take the snapshot for record id now, and then send its barrier on each output, before anything else
 pub const RELKVANU_STEP_CUT: u32 = 6;
@@ -274,6 +274,12 @@ pub const RELKVANU_STEP_HELD_INPUT: u32 = 9;
 pub const RELKVANU_STEP_ENDED_INPUT: u32 = 10;
 /// nothing has changed: a task has 1 to RELKVANU_MOST_INPUTS inputs
 pub const RELKVANU_STEP_BAD_INPUTS: u32 = 11;
+/// add the element to the record, and process it before what comes behind it
+pub const RELKVANU_STEP_RECORD: u32 = 12;
+/// as RELKVANU_STEP_CUT of record id, but do not acknowledge yet: what comes before its barrier is recorded
+pub const RELKVANU_STEP_SNAP: u32 = 13;
+/// acknowledge record id, with its snapshot and with what was recorded
+pub const RELKVANU_STEP_COMPLETE: u32 = 14;
 /// the most inputs of a task
 pub const RELKVANU_MOST_INPUTS: u32 = 4096;
 /// no text of an answer has more bytes
@@ -342,12 +348,20 @@ pub struct relkvanu_group {
     pub waiting: u64,
     pub told: u64,
     pub has_failed: bool,
+    pub given: u64,
 }
 
 #[repr(C)]
 #[derive(Clone, Copy, Debug)]
 pub struct relkvanu_aligner {
     pub latest: u64,
+}
+
+#[repr(C)]
+#[derive(Clone, Copy, Debug)]
+pub struct relkvanu_recorder {
+    pub latest: u64,
+    pub phase: u32,
 }
 
 #[repr(C)]
@@ -440,7 +454,7 @@ extern "C" {
     /// RELKVANU_MOMENT: the greatest moment that the coordinator has seen, at its opening or in an accepted call. It takes an earlier moment for this one. So it shows whether a clock has run ahead.
     pub fn relkvanu_moment(handle: *mut relkvanu) -> relkvanu_answer;
 
-    /// RELKVANU_DUE: the moment from which neither the interval nor the pause holds a checkpoint back. No tick before it triggers one. A tick at it or later triggers one, with three exceptions: as many are pending as may be, the job is not running, or so many checkpoints expire in the tick that the job fails over. A call that triggers, completes or restores may move this moment, so read it again after a call.
+    /// RELKVANU_DUE: the moment from which neither the interval nor the pause holds a checkpoint back. No tick before it triggers one. A tick at it or later triggers one, with three exceptions: as many are pending as may be, the job is not running, or so many checkpoints expire in the tick that the job fails over. A call that triggers, completes, restores or configures may move this moment, so read it again after a call.
     pub fn relkvanu_due(handle: *mut relkvanu) -> relkvanu_answer;
 
     /// RELKVANU_EXPIRES: the moment from which a pending record is expired. A tick at that moment drops the record. RELKVANU_NONE_PENDING if no record is pending. Visits each pending record.
@@ -528,7 +542,7 @@ extern "C" {
         lines_len: usize,
     ) -> relkvanu_answer;
 
-    /// Makes a call and writes its line as relkvanu_make does, and holds its answer back. The first of these that applies: RELKVANU_BAD_ARGUMENT with RELKVANU_BAD_GROUP, or with RELKVANU_BAD_RECEIPT if waiting is held_len; RELKVANU_APPEND if relkvanu_make would return RELKVANU_DONE; RELKVANU_HELD_BACK if it would return RELKVANU_REFUSED or RELKVANU_FENCED; what it would return. Only RELKVANU_APPEND changes the handle, files, line and made. Only it and RELKVANU_HELD_BACK change the group and held. The first of them behind a sync ends what was told of that sync.
+    /// Makes a call and writes its line as relkvanu_make does, and holds its answer back. The first of these that applies: RELKVANU_BAD_ARGUMENT with RELKVANU_BAD_GROUP, or with RELKVANU_BAD_RECEIPT if waiting is held_len or given is 2^62; RELKVANU_APPEND if relkvanu_make would return RELKVANU_DONE; RELKVANU_HELD_BACK if it would return RELKVANU_REFUSED or RELKVANU_FENCED; what it would return. Only RELKVANU_APPEND changes the handle, files, line and made. Only it and RELKVANU_HELD_BACK change the group and held. The first of them behind a sync ends what was told of that sync.
     pub fn relkvanu_group_make(
         handle: *mut relkvanu,
         group: *mut relkvanu_group,
@@ -546,7 +560,7 @@ extern "C" {
         made: *mut relkvanu_made,
     ) -> relkvanu_answer;
 
-    /// Holds back the answer of any other function: of a read, or of a call whose line the program writes itself. RELKVANU_HELD_BACK; RELKVANU_BAD_ARGUMENT with RELKVANU_BAD_GROUP, or with RELKVANU_BAD_RECEIPT if waiting is held_len.
+    /// Holds back the answer of any other function: of a read, or of a call whose line the program writes itself. RELKVANU_HELD_BACK; RELKVANU_BAD_ARGUMENT with RELKVANU_BAD_GROUP, or with RELKVANU_BAD_RECEIPT if waiting is held_len or given is 2^62.
     pub fn relkvanu_group_hold(
         group: *mut relkvanu_group,
         held: *mut relkvanu_answer,
@@ -560,7 +574,7 @@ extern "C" {
     /// An append or a sync has failed: from now on the group holds nothing back, and tells nothing.
     pub fn relkvanu_group_failed(group: *mut relkvanu_group);
 
-    /// Returns the answer that was held back with this receipt, if it may be told. RELKVANU_BAD_ARGUMENT with RELKVANU_BAD_GROUP, or with RELKVANU_BAD_RECEIPT if it waits for a sync, was told of a sync before, or was never held back. Such an answer may be one that was held back too, of another function.
+    /// Returns the answer that was held back with this receipt, if it may be told. A receipt is given once, so however late it is asked, no other answer is told by it. RELKVANU_BAD_ARGUMENT with RELKVANU_BAD_GROUP, or with RELKVANU_BAD_RECEIPT if it waits for a sync, was told of a sync before, or was never held back. Such an answer may be one that was held back too, of another function.
     pub fn relkvanu_group_answer(
         group: *const relkvanu_group,
         held: *const relkvanu_answer,
@@ -703,6 +717,54 @@ extern "C" {
     pub fn relkvanu_align_give_up(
         aligner: *mut relkvanu_aligner,
         inputs: *mut u8,
+        inputs_len: usize,
+        id: u64,
+    ) -> relkvanu_step;
+
+    /// As relkvanu_align_open.
+    pub fn relkvanu_unaligned_open(
+        recorder: *mut relkvanu_recorder,
+        inputs: *mut u8,
+        inputs_len: usize,
+    ) -> relkvanu_step;
+
+    /// As relkvanu_align_element; and RELKVANU_STEP_RECORD.
+    pub fn relkvanu_unaligned_element(
+        recorder: *const relkvanu_recorder,
+        inputs: *const u8,
+        inputs_len: usize,
+        input: u32,
+    ) -> relkvanu_step;
+
+    /// As relkvanu_align_barrier; and RELKVANU_STEP_COMPLETE if it was the last of a record that has overtaken.
+    pub fn relkvanu_unaligned_barrier(
+        recorder: *mut relkvanu_recorder,
+        inputs: *mut u8,
+        inputs_len: usize,
+        input: u32,
+        id: u64,
+    ) -> relkvanu_step;
+
+    /// As relkvanu_align_end; and RELKVANU_STEP_COMPLETE.
+    pub fn relkvanu_unaligned_end(
+        recorder: *mut relkvanu_recorder,
+        inputs: *mut u8,
+        inputs_len: usize,
+        input: u32,
+    ) -> relkvanu_step;
+
+    /// As relkvanu_align_give_up: what was recorded for an abandoned record is given up.
+    pub fn relkvanu_unaligned_give_up(
+        recorder: *mut relkvanu_recorder,
+        inputs: *mut u8,
+        inputs_len: usize,
+        id: u64,
+    ) -> relkvanu_step;
+
+    /// Record id overtakes: its barrier was seen on an input, wherever it stands there, or has waited for long enough. RELKVANU_STEP_SNAP; RELKVANU_STEP_LATE if it is whole or was given up; RELKVANU_STEP_NOTHING while an earlier record is open (ask again once that has ended), if it has overtaken before, or if each input has ended.
+    pub fn relkvanu_unaligned_overtake(
+        recorder: *mut relkvanu_recorder,
+        inputs: *const u8,
         inputs_len: usize,
         id: u64,
     ) -> relkvanu_step;

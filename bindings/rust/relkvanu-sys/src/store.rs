@@ -423,6 +423,7 @@ extern "C" {
         each: relkvanu_store_each_part,
         with: *mut c_void,
     ) -> c_int;
+    pub fn relkvanu_store_origin(store: *const relkvanu_store, id: u64, job: *mut u64) -> bool;
     pub fn relkvanu_store_history(store: *mut relkvanu_store, past: *mut relkvanu_store_past, len: *mut usize)
         -> c_int;
     pub fn relkvanu_store_trigger(store: *mut relkvanu_store, call: *mut relkvanu_store_call) -> c_int;

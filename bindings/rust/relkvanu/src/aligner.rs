@@ -18,12 +18,18 @@ pub enum Step {
     Nothing,
     /// Go on: an open input has not delivered the barrier yet.
     Wait,
-    /// Drop the barrier and go on: the record was cut or given up before.
+    /// Drop the barrier and go on: the record was cut or given up, or is below one that was begun.
     Late,
     /// Take the snapshot for this record now, and then send its barrier on each output, before anything else.
     Cut(Cut),
     /// Decline this record: it can no longer be cut.
     Abandon(u64),
+    /// Of a [`Recorder`]: add the element to the record, and process it before what comes behind it.
+    Record,
+    /// Of a [`Recorder`]: as at [`Step::Cut`] of this record, but acknowledge nothing yet: what comes before its barrier is still to be recorded.
+    Snap(u64),
+    /// Of a [`Recorder`]: acknowledge the record, with its snapshot and with what was recorded.
+    Complete(Cut),
 }
 
 /// The cut of a record at a task. Only an [`Aligner`] gives one out, at the cut; nobody can make or copy one. A task that acknowledges by
@@ -59,6 +65,8 @@ pub enum AlignFault {
     BadInputs,
     /// Barriers have come in another order on another input. Of the inputs of a `runner` alone: an [`Aligner`] abandons the earlier record.
     TwoOrders,
+    /// The inputs of a `runner` were closed: the task ends, which breaks no rule.
+    Closed,
     /// The linked library is of another version, this one.
     OtherLibrary { library: &'static str },
     /// A number that this crate does not know: the library is of another version.
@@ -73,6 +81,7 @@ impl fmt::Display for AlignFault {
             AlignFault::EndedInput => f.write_str("the input has ended"),
             AlignFault::BadInputs => f.write_str("bad number of inputs"),
             AlignFault::TwoOrders => f.write_str("barriers in two orders"),
+            AlignFault::Closed => f.write_str("the inputs are closed"),
             AlignFault::OtherLibrary { library } => write!(f, "the library is version {library}"),
             AlignFault::Unknown(what) => write!(f, "unknown step {what}"),
         }
@@ -92,12 +101,24 @@ fn step_of(told: sys::relkvanu_step) -> Stepped {
         sys::RELKVANU_STEP_LATE => Ok(Step::Late),
         sys::RELKVANU_STEP_CUT => Ok(Step::Cut(Cut { id: told.id })),
         sys::RELKVANU_STEP_ABANDON => Ok(Step::Abandon(told.id)),
+        sys::RELKVANU_STEP_RECORD => Ok(Step::Record),
+        sys::RELKVANU_STEP_SNAP => Ok(Step::Snap(told.id)),
+        sys::RELKVANU_STEP_COMPLETE => Ok(Step::Complete(Cut { id: told.id })),
         sys::RELKVANU_STEP_UNKNOWN_INPUT => Err(AlignFault::UnknownInput),
         sys::RELKVANU_STEP_HELD_INPUT => Err(AlignFault::HeldInput),
         sys::RELKVANU_STEP_ENDED_INPUT => Err(AlignFault::EndedInput),
         sys::RELKVANU_STEP_BAD_INPUTS => Err(AlignFault::BadInputs),
         other => Err(AlignFault::Unknown(other)),
     }
+}
+
+/// A step that changes the state and the inputs of this value.
+macro_rules! stepped {
+    ($self:ident.$state:ident, $step:ident $(, $word:ident)*) => {{
+        let (inputs, len) = ($self.inputs.as_mut_ptr(), $self.inputs.len());
+        // SAFETY: both are memory of this value, and the slice has as many places as is said.
+        step_of(unsafe { sys::$step(&mut $self.$state, inputs, len $(, $word)*) })
+    }};
 }
 
 /// The alignment of a task. A task begins a new one when it starts, also after a restore. `docs/ALIGNMENT.md` says what an engine does after
@@ -137,10 +158,7 @@ impl Aligner {
         }
         let mut made =
             Aligner { aligner: sys::relkvanu_aligner { latest: 0 }, inputs: vec![0; inputs].into_boxed_slice() };
-        // SAFETY: both are memory of this value, and the slice has as many places as is said.
-        let _ = step_of(unsafe {
-            sys::relkvanu_align_open(&mut made.aligner, made.inputs.as_mut_ptr(), made.inputs.len())
-        })?;
+        let _ = stepped!(made.aligner, relkvanu_align_open)?;
         Ok(made)
     }
 
@@ -151,32 +169,69 @@ impl Aligner {
 
     /// An element is next on this input, from 0: [`Step::Process`] or [`Step::Hold`].
     pub fn element(&self, input: u32) -> Stepped {
-        // SAFETY: as in `new`; the call changes nothing.
+        // SAFETY: both are memory of this value, and the slice has as many places as is said; the call changes nothing.
         step_of(unsafe { sys::relkvanu_align_element(&self.aligner, self.inputs.as_ptr(), self.inputs.len(), input) })
     }
 
     /// The barrier of this record is next on this input: [`Step::Wait`], [`Step::Late`], [`Step::Cut`], or [`Step::Abandon`] of an earlier
     /// record, whose place this one takes.
     pub fn barrier(&mut self, input: u32, id: u64) -> Stepped {
-        // SAFETY: as in `new`.
-        step_of(unsafe {
-            sys::relkvanu_align_barrier(&mut self.aligner, self.inputs.as_mut_ptr(), self.inputs.len(), input, id)
-        })
+        stepped!(self.aligner, relkvanu_align_barrier, input, id)
     }
 
     /// Nothing more comes on this input: [`Step::Nothing`], [`Step::Wait`] or [`Step::Cut`].
     pub fn end(&mut self, input: u32) -> Stepped {
-        // SAFETY: as in `new`.
-        step_of(unsafe {
-            sys::relkvanu_align_end(&mut self.aligner, self.inputs.as_mut_ptr(), self.inputs.len(), input)
-        })
+        stepped!(self.aligner, relkvanu_align_end, input)
     }
 
     /// The coordinator or the task gives this record up: [`Step::Abandon`] if it is being aligned, otherwise [`Step::Nothing`].
     pub fn give_up(&mut self, id: u64) -> Stepped {
-        // SAFETY: as in `new`.
+        stepped!(self.aligner, relkvanu_align_give_up, id)
+    }
+}
+
+/// An aligner whose records may overtake. While one is recorded [`element`](Self::element) is [`Step::Record`] on an input that has not delivered its
+/// barrier and [`Step::Process`] on others, and the last barrier, or end, is [`Step::Complete`]. After [`Step::Abandon`] the barrier is left on its
+/// input: ask again.
+#[derive(Debug)]
+pub struct Recorder {
+    recorder: sys::relkvanu_recorder,
+    inputs: Box<[u8]>,
+}
+
+impl Recorder {
+    /// The recorder of a task with this many inputs, all open: 1 to [`MOST_INPUTS`].
+    pub fn new(inputs: usize) -> Result<Recorder, AlignFault> {
+        let inputs = Aligner::new(inputs)?.inputs; // all open
+        Ok(Recorder { recorder: sys::relkvanu_recorder { latest: 0, phase: 0 }, inputs })
+    }
+
+    /// An element is next on this input: [`Step::Process`], [`Step::Hold`] or [`Step::Record`].
+    pub fn element(&self, input: u32) -> Stepped {
+        // SAFETY: as in that of an aligner.
         step_of(unsafe {
-            sys::relkvanu_align_give_up(&mut self.aligner, self.inputs.as_mut_ptr(), self.inputs.len(), id)
+            sys::relkvanu_unaligned_element(&self.recorder, self.inputs.as_ptr(), self.inputs.len(), input)
         })
+    }
+
+    /// The barrier of this record is next on this input.
+    pub fn barrier(&mut self, input: u32, id: u64) -> Stepped {
+        stepped!(self.recorder, relkvanu_unaligned_barrier, input, id)
+    }
+
+    /// Nothing more comes on this input.
+    pub fn end(&mut self, input: u32) -> Stepped {
+        stepped!(self.recorder, relkvanu_unaligned_end, input)
+    }
+
+    /// The coordinator or the task gives this record up.
+    pub fn give_up(&mut self, id: u64) -> Stepped {
+        stepped!(self.recorder, relkvanu_unaligned_give_up, id)
+    }
+
+    /// The barrier of this record was seen on an input, or has waited there for long enough: [`Step::Snap`]; [`Step::Late`]; or [`Step::Nothing`]
+    /// while an earlier record is open, if it has overtaken before, or if each input has ended.
+    pub fn overtake(&mut self, id: u64) -> Stepped {
+        stepped!(self.recorder, relkvanu_unaligned_overtake, id)
     }
 }

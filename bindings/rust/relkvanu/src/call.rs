@@ -1,4 +1,5 @@
 //! A call as a line of a log (`docs/SCRIPT.md`, with terms and names `docs/LOGS.md`), and the call that a line says.
+use crate::coordinator::parts;
 use crate::fault::{check_library, done, text, Fault};
 use crate::lines::LineFault;
 use relkvanu_sys as sys;
@@ -265,20 +266,9 @@ impl<'a> Call<'a> {
         check_library()?;
         let call = self.fields();
         let (first, second) = self.lists();
-        text(|bytes| {
-            // SAFETY: the fields, the slices and the buffer outlive the call, and have as many elements as is said.
-            unsafe {
-                sys::relkvanu_call_line(
-                    &call,
-                    first.as_ptr(),
-                    first.len(),
-                    second.as_ptr(),
-                    second.len(),
-                    bytes.as_mut_ptr(),
-                    bytes.len(),
-                )
-            }
-        })
+        let ((first, len), (second, count)) = (parts(first), parts(second));
+        // SAFETY: the fields, the slices and the buffer outlive the call, and have as many elements as is said.
+        text(|to| unsafe { sys::relkvanu_call_line(&call, first, len, second, count, to.as_mut_ptr(), to.len()) })
     }
 
     /// An empty shape is a bad one: the library takes it for none.
@@ -300,18 +290,13 @@ impl<'a> Call<'a> {
     }
 
     pub(crate) fn fields(&self) -> sys::relkvanu_call {
-        let of = |kind: CallKind, now, number| sys::relkvanu_call {
-            kind: kind.number(),
-            vertex: 0,
-            index: 0,
-            now,
-            number,
-            term: 0,
+        let of = |kind: CallKind, now, number| {
+            let kind = kind.number();
+            sys::relkvanu_call { kind, vertex: 0, index: 0, now, number, term: 0 }
         };
-        let part = |kind, now, number, (vertex, index): (u16, u16)| sys::relkvanu_call {
-            vertex,
-            index,
-            ..of(kind, now, number)
+        let part = |kind, now, number, (vertex, index)| {
+            let call = of(kind, now, number);
+            sys::relkvanu_call { vertex, index, ..call }
         };
         let in_term = |term, call| sys::relkvanu_call { term, ..call };
         match *self {
@@ -344,17 +329,8 @@ impl<'a> Call<'a> {
 /// What the library says of a line, and the call. Its lists are at the start of these.
 fn line_call(line: &[u8], first: &mut [u64], second: &mut [u64]) -> (sys::relkvanu_answer, sys::relkvanu_call) {
     let mut call = sys::relkvanu_call { kind: 0, vertex: 0, index: 0, now: 0, number: 0, term: 0 };
+    let (first, len, second, count) = (first.as_mut_ptr(), first.len(), second.as_mut_ptr(), second.len());
     // SAFETY: the slices and the fields outlive the call, and have as many elements as is said.
-    let told = unsafe {
-        sys::relkvanu_line_call(
-            line.as_ptr(),
-            line.len(),
-            &mut call,
-            first.as_mut_ptr(),
-            first.len(),
-            second.as_mut_ptr(),
-            second.len(),
-        )
-    };
+    let told = unsafe { sys::relkvanu_line_call(line.as_ptr(), line.len(), &mut call, first, len, second, count) };
     (told, call)
 }

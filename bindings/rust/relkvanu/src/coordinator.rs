@@ -1,7 +1,7 @@
 //! The coordinator of one job, for one thread at a time.
 use crate::aligner::Cut;
 use crate::answer::{self, Answer, Choice, FileCounts, Garbage, Live, Mode, RunningTerm, Standing};
-use crate::fault::{check_library, done, text, text_in, Fault, Refusal};
+use crate::fault::{check_library, done, text, text_in, written, Fault, Refusal};
 use relkvanu_sys as sys;
 use std::cell::{Cell, UnsafeCell};
 use std::collections::hash_map::RandomState;
@@ -37,15 +37,8 @@ impl Settings {
 
     /// The seven values in the order of the fields; the last is 0 or 1.
     pub fn numbers(&self) -> [u64; 7] {
-        [
-            self.interval,
-            self.pause,
-            self.at_once,
-            self.timeout,
-            self.tolerable,
-            self.retained,
-            u64::from(self.keep_on_cancel),
-        ]
+        let Settings { interval, pause, at_once, timeout, tolerable, retained, keep_on_cancel } = *self;
+        [interval, pause, at_once, timeout, tolerable, retained, u64::from(keep_on_cancel)]
     }
 
     /// The settings of such numbers. `None` if they are not seven, or the last is above 1.
@@ -53,43 +46,22 @@ impl Settings {
         let &[interval, pause, at_once, timeout, tolerable, retained, keep] = numbers else {
             return None;
         };
-        (keep <= 1).then_some(Settings {
-            interval,
-            pause,
-            at_once,
-            timeout,
-            tolerable,
-            retained,
-            keep_on_cancel: keep == 1,
-        })
+        let keep_on_cancel = keep == 1;
+        (keep <= 1).then_some(Settings { interval, pause, at_once, timeout, tolerable, retained, keep_on_cancel })
     }
 }
 
 impl From<&Settings> for sys::relkvanu_settings {
     fn from(settings: &Settings) -> Self {
-        sys::relkvanu_settings {
-            interval: settings.interval,
-            pause: settings.pause,
-            at_once: settings.at_once,
-            timeout: settings.timeout,
-            tolerable: settings.tolerable,
-            retained: settings.retained,
-            keep_on_cancel: settings.keep_on_cancel,
-        }
+        let Settings { interval, pause, at_once, timeout, tolerable, retained, keep_on_cancel } = *settings;
+        sys::relkvanu_settings { interval, pause, at_once, timeout, tolerable, retained, keep_on_cancel }
     }
 }
 
 impl From<&sys::relkvanu_settings> for Settings {
     fn from(it: &sys::relkvanu_settings) -> Self {
-        Settings {
-            interval: it.interval,
-            pause: it.pause,
-            at_once: it.at_once,
-            timeout: it.timeout,
-            tolerable: it.tolerable,
-            retained: it.retained,
-            keep_on_cancel: it.keep_on_cancel,
-        }
+        let sys::relkvanu_settings { interval, pause, at_once, timeout, tolerable, retained, keep_on_cancel } = *it;
+        Settings { interval, pause, at_once, timeout, tolerable, retained, keep_on_cancel }
     }
 }
 
@@ -130,6 +102,11 @@ impl Drop for Coordinator {
 
 type Called = Result<Answer, Fault>;
 
+/// A list as the library takes it.
+pub(crate) fn parts(list: &[u64]) -> (*const u64, usize) {
+    (list.as_ptr(), list.len())
+}
+
 fn called(told: sys::relkvanu_answer) -> Called {
     done(told).and_then(answer::answer)
 }
@@ -169,23 +146,14 @@ impl Coordinator {
         first: u64,
         first_name: u64,
     ) -> Result<Coordinator, Fault> {
+        let (settings, (shape, len)) = (settings.into(), parts(shape));
         // SAFETY: the handle is all zero; the settings and the slice outlive the call, which keeps none of them.
         Coordinator::opened(|handle, word, other| unsafe {
-            sys::relkvanu_open_fenced(
-                handle,
-                &settings.into(),
-                shape.as_ptr(),
-                shape.len(),
-                now,
-                first,
-                first_name,
-                word,
-                other,
-            )
+            sys::relkvanu_open_fenced(handle, &settings, shape, len, now, first, first_name, word, other)
         })
     }
 
-    /// Opens the coordinator that an image describes, which [`save`](Self::save) wrote (`docs/IMAGE.md`). It answers
+    /// Opens the coordinator that an image describes, which [`save`](Self::save) wrote (`docs/LOGS.md`). It answers
     /// every list of calls as the saved one would. Takes memory for the coordinator.
     pub fn open_saved(image: &[u8]) -> Result<Coordinator, Fault> {
         // SAFETY: the handle is all zero; the slice outlives the call, which does not keep it.
@@ -307,20 +275,9 @@ impl Coordinator {
     /// [`NameTaken`](crate::Refusal::NameTaken) it deletes no file that it named before.
     pub fn ack(&mut self, now: u64, id: u64, subtask: (u16, u16), fresh: &[u64], reused: &[u64]) -> Called {
         self.check_moment(now)?;
+        let ((vertex, index), (fresh, len), (reused, count)) = (subtask, parts(fresh), parts(reused));
         // SAFETY: as in `tick`; the slices outlive the call, which keeps none of them.
-        called(unsafe {
-            sys::relkvanu_ack(
-                self.handle(),
-                now,
-                id,
-                subtask.0,
-                subtask.1,
-                fresh.as_ptr(),
-                fresh.len(),
-                reused.as_ptr(),
-                reused.len(),
-            )
-        })
+        called(unsafe { sys::relkvanu_ack(self.handle(), now, id, vertex, index, fresh, len, reused, count) })
     }
 
     /// [`ack`](Self::ack) of the record that a task has [cut](crate::Aligner).
@@ -428,21 +385,9 @@ impl Coordinator {
         reused: &[u64],
     ) -> Called {
         self.check_moment(now)?;
+        let ((vertex, index), (fresh, len), (reused, count)) = (subtask, parts(fresh), parts(reused));
         // SAFETY: as in `tick`; the slices outlive the call, which keeps none of them.
-        called(unsafe {
-            sys::relkvanu_ack_in(
-                self.handle(),
-                term,
-                now,
-                id,
-                subtask.0,
-                subtask.1,
-                fresh.as_ptr(),
-                fresh.len(),
-                reused.as_ptr(),
-                reused.len(),
-            )
-        })
+        called(unsafe { sys::relkvanu_ack_in(self.handle(), term, now, id, vertex, index, fresh, len, reused, count) })
     }
 
     /// [`ack_in`](Self::ack_in) of the record that a task has [cut](crate::Aligner).
@@ -469,18 +414,9 @@ impl Coordinator {
     /// whose names were not given out, which nobody deletes. Changes nothing. Ask a coordinator whose calls are durable.
     pub fn garbage(&self, files: &[u64]) -> Result<Garbage, Fault> {
         let (mut garbage, mut unissued) = (vec![0; files.len()], vec![0; files.len()]);
+        let ((files, len), to, other) = (parts(files), garbage.as_mut_ptr(), unissued.as_mut_ptr());
         // SAFETY: as in `count`; the slice outlives the call, and each buffer has as many places as is said.
-        let told = unsafe {
-            sys::relkvanu_garbage(
-                self.read_handle(),
-                files.as_ptr(),
-                files.len(),
-                garbage.as_mut_ptr(),
-                garbage.len(),
-                unissued.as_mut_ptr(),
-                unissued.len(),
-            )
-        };
+        let told = unsafe { sys::relkvanu_garbage(self.read_handle(), files, len, to, len, other, len) };
         let told = reply(told, sys::RELKVANU_GARBAGE)?;
         garbage.truncate(told.a as usize);
         unissued.truncate(told.b as usize);
@@ -504,7 +440,7 @@ impl Coordinator {
         text(|json| unsafe { sys::relkvanu_show(self.read_handle(), id, json.as_mut_ptr(), json.len()) })
     }
 
-    /// The image of the coordinator, as JSON (`docs/IMAGE.md`): all of its state.
+    /// The image of the coordinator, as JSON (`docs/LOGS.md`): all of its state.
     pub fn save(&self) -> Result<String, Fault> {
         // SAFETY: as in `show`.
         let image = text_in(self.image_room.get(), |image| unsafe {
@@ -643,17 +579,8 @@ fn read(told: sys::relkvanu_answer) -> sys::relkvanu_answer {
     told
 }
 
-/// The files that are written into a buffer, which is made longer until it is long enough.
+/// The files that are written into a buffer.
 fn files(write: impl Fn(&mut [u64]) -> sys::relkvanu_answer) -> Result<Option<Vec<u64>>, Fault> {
-    let mut files = vec![0; 64];
-    loop {
-        let told = write(&mut files);
-        if told.code == sys::RELKVANU_TOO_SHORT {
-            files.resize(told.a as usize, 0);
-            continue;
-        }
-        let told = done(told)?;
-        files.truncate(told.a as usize);
-        return Ok((told.what == sys::RELKVANU_FILES).then_some(files));
-    }
+    let (told, files) = written(64, write)?;
+    Ok((told.what == sys::RELKVANU_FILES).then_some(files))
 }

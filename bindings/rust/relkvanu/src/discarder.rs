@@ -1,10 +1,11 @@
 //! Threads that delete the files that no record uses any more.
 use crate::answer::Answer;
 use crate::fault::{Fault, Refusal};
+use crate::locked;
 use crate::shared::SharedCoordinator;
 use std::io;
 use std::num::NonZeroU32;
-use std::sync::{Arc, Condvar, Mutex, MutexGuard, PoisonError};
+use std::sync::{Arc, Condvar, Mutex, PoisonError};
 use std::thread::{Builder, JoinHandle};
 use std::time::{Duration, Instant};
 
@@ -19,32 +20,29 @@ pub trait Outbox: Send + Sync + 'static {
     fn undeleted(&self, file: u64) -> Result<Answer, Fault>;
 }
 
+/// An outbox that is another type, whose methods have these names.
+macro_rules! outbox {
+    ($self:ident => $it:expr) => {
+        fn take<'a>(&$self, files: &'a mut [u64]) -> Result<&'a [u64], Fault> {
+            $it.take(files)
+        }
+
+        fn deleted(&$self, file: u64) -> Result<Answer, Fault> {
+            $it.deleted(file)
+        }
+
+        fn undeleted(&$self, file: u64) -> Result<Answer, Fault> {
+            $it.undeleted(file)
+        }
+    };
+}
+
 impl Outbox for SharedCoordinator {
-    fn take<'a>(&self, files: &'a mut [u64]) -> Result<&'a [u64], Fault> {
-        self.take(files)
-    }
-
-    fn deleted(&self, file: u64) -> Result<Answer, Fault> {
-        self.deleted(file)
-    }
-
-    fn undeleted(&self, file: u64) -> Result<Answer, Fault> {
-        self.undeleted(file)
-    }
+    outbox!(self => self);
 }
 
 impl<T: Outbox + ?Sized> Outbox for Arc<T> {
-    fn take<'a>(&self, files: &'a mut [u64]) -> Result<&'a [u64], Fault> {
-        (**self).take(files)
-    }
-
-    fn deleted(&self, file: u64) -> Result<Answer, Fault> {
-        (**self).deleted(file)
-    }
-
-    fn undeleted(&self, file: u64) -> Result<Answer, Fault> {
-        (**self).undeleted(file)
-    }
+    outbox!(self => **self);
 }
 
 /// How often and how long a [`Discarder`] tries.
@@ -143,7 +141,7 @@ impl Discarder {
 
     /// The counts so far.
     pub fn told(&self) -> Discarded {
-        self.shared.lock().told.clone()
+        locked(&self.shared.state).told.clone()
     }
 
     /// Ends the threads, each after its current attempt, and returns the counts. Files that were fetched and not
@@ -154,13 +152,13 @@ impl Discarder {
     }
 
     fn end(&mut self) {
-        self.shared.lock().is_over = true;
+        locked(&self.shared.state).is_over = true;
         self.shared.over.notify_all();
         for thread in self.threads.drain(..) {
             // a thread that panicked has said so itself
             let _ = thread.join();
         }
-        let given_up = self.shared.lock().told.given_up.clone();
+        let given_up = locked(&self.shared.state).told.given_up.clone();
         for file in given_up {
             self.shared.report(file, false);
         }
@@ -198,15 +196,11 @@ impl Drop for Batch<'_> {
 }
 
 impl Shared {
-    fn lock(&self) -> MutexGuard<'_, State> {
-        self.state.lock().unwrap_or_else(PoisonError::into_inner)
-    }
-
     /// Waits this long, or until the discarder is stopped. Returns whether it is stopped.
     fn is_over_after(&self, wait: Duration) -> bool {
         let (state, _) = self
             .over
-            .wait_timeout_while(self.lock(), wait, |state| !state.is_over)
+            .wait_timeout_while(locked(&self.state), wait, |state| !state.is_over)
             .unwrap_or_else(PoisonError::into_inner);
         state.is_over
     }
@@ -255,7 +249,7 @@ impl Shared {
         }
         it.attempts += 1;
         if it.attempts == self.patience.attempts.get() {
-            self.lock().told.given_up.push(it.file);
+            locked(&self.state).told.given_up.push(it.file);
             return true;
         }
         let Patience { first_wait, longest_wait, .. } = self.patience;
@@ -277,7 +271,7 @@ impl Shared {
         if is_gone {
             self.report(file, true);
         }
-        let mut state = self.lock();
+        let mut state = locked(&self.state);
         state.told.deleted += u64::from(is_gone);
         state.told.failed += u64::from(!is_gone);
         is_gone

@@ -183,26 +183,6 @@ fn name_of(number: u32, write: impl FnOnce(&mut [u8]) -> usize) -> String {
     }
 }
 
-impl Refusal {
-    /// The name of the refusal, such as `NotRunning`.
-    pub fn name(&self) -> String {
-        // SAFETY: the buffer is borrowed for writing, and has as many bytes as is said.
-        name_of(self.number(), |text| unsafe {
-            sys::relkvanu_refusal_text(self.number(), text.as_mut_ptr(), text.len())
-        })
-    }
-}
-
-impl Fenced {
-    /// The name of the reason, such as `OldTerm`.
-    pub fn name(&self) -> String {
-        // SAFETY: as for a refusal.
-        name_of(self.number(), |text| unsafe {
-            sys::relkvanu_fenced_text(self.number(), text.as_mut_ptr(), text.len())
-        })
-    }
-}
-
 fn write_with_file(f: &mut fmt::Formatter<'_>, name: &str, file: Option<u64>) -> fmt::Result {
     f.write_str(name)?;
     match file {
@@ -211,23 +191,38 @@ fn write_with_file(f: &mut fmt::Formatter<'_>, name: &str, file: Option<u64>) ->
     }
 }
 
-/// The name, and the file that is to blame, such as `NameTaken 7`.
-impl fmt::Display for Refusal {
-    fn fmt(&self, f: &mut fmt::Formatter<'_>) -> fmt::Result {
-        write_with_file(f, &self.name(), self.file())
-    }
+/// What refusals and fences have in common.
+macro_rules! reasons {
+    ($($reason:ident = $fault:ident by $text:ident;)*) => {$(
+        impl $reason {
+            /// Its name, such as `NotRunning` or `OldTerm`.
+            pub fn name(&self) -> String {
+                // SAFETY: the buffer is borrowed for writing, and has as many bytes as is said.
+                name_of(self.number(), |text| unsafe { sys::$text(self.number(), text.as_mut_ptr(), text.len()) })
+            }
+        }
+
+        /// The name, and the file that is to blame, such as `NameTaken 7`.
+        impl fmt::Display for $reason {
+            fn fmt(&self, f: &mut fmt::Formatter<'_>) -> fmt::Result {
+                write_with_file(f, &self.name(), self.file())
+            }
+        }
+
+        impl Error for $reason {}
+
+        impl From<$reason> for Fault {
+            fn from(why: $reason) -> Fault {
+                Fault::$fault(why)
+            }
+        }
+    )*};
 }
 
-/// The name, and the file that is to blame, such as `Spent 7`.
-impl fmt::Display for Fenced {
-    fn fmt(&self, f: &mut fmt::Formatter<'_>) -> fmt::Result {
-        write_with_file(f, &self.name(), self.file())
-    }
+reasons! {
+    Refusal = Refused by relkvanu_refusal_text;
+    Fenced = Fenced by relkvanu_fenced_text;
 }
-
-impl Error for Refusal {}
-
-impl Error for Fenced {}
 
 // bindings/generate makes the faults
 /// Why a call has changed nothing. After [`Unknown`](Fault::Unknown) alone it may have been made.
@@ -258,7 +253,7 @@ pub enum Fault {
     BadName,
     /// The group has failed: open the handle again, from the log.
     BadGroup,
-    /// No answer may be told by the receipt, or there is no place for another answer.
+    /// No answer may be told by the receipt, or there is no place or receipt for another answer.
     BadReceipt,
     /// A `take` line would fetch this many files, and the buffer has fewer places.
     TooShort { places: u64 },
@@ -314,18 +309,6 @@ pub(crate) fn check_library() -> Result<(), Fault> {
             false => Err(Fault::OtherLibrary { library }),
         }
     })
-}
-
-impl From<Refusal> for Fault {
-    fn from(why: Refusal) -> Fault {
-        Fault::Refused(why)
-    }
-}
-
-impl From<Fenced> for Fault {
-    fn from(why: Fenced) -> Fault {
-        Fault::Fenced(why)
-    }
 }
 
 impl fmt::Display for Fault {
@@ -384,14 +367,22 @@ pub(crate) fn text(write: impl Fn(&mut [u8]) -> sys::relkvanu_answer) -> Result<
 
 /// The same, if the text probably fits so many bytes.
 pub(crate) fn text_in(room: usize, write: impl Fn(&mut [u8]) -> sys::relkvanu_answer) -> Result<String, Fault> {
-    let mut bytes = vec![0; room];
+    written(room, write).map(|(told, bytes)| text_of(bytes, told.a as usize))
+}
+
+/// The answer of what writes into a buffer, which is made anew until it is long enough, and what is written.
+pub(crate) fn written<T: Clone + Default>(
+    mut room: usize,
+    write: impl Fn(&mut [T]) -> sys::relkvanu_answer,
+) -> Result<(sys::relkvanu_answer, Vec<T>), Fault> {
     loop {
-        let told = write(&mut bytes);
-        if told.code == sys::RELKVANU_TOO_SHORT {
-            bytes = vec![0; told.a as usize];
-            continue;
+        let mut buffer = vec![T::default(); room];
+        let told = write(&mut buffer);
+        if told.code != sys::RELKVANU_TOO_SHORT {
+            buffer.truncate(done(told)?.a as usize);
+            return Ok((told, buffer));
         }
-        return Ok(text_of(bytes, done(told)?.a as usize));
+        room = told.a as usize;
     }
 }
 

@@ -8,6 +8,7 @@
 //!   `runner::Runner` is the loop of an engine over it.
 //! - One that was opened by [`Coordinator::open_fenced`], or got names by [`Coordinator::fence`], gives out the numbers of files, each
 //!   once, and refuses tasks of a term that a restore or a cancel has ended, as [`Fault::Fenced`].
+//! - A [`Grouped`] tells its answers only once the program has synced its log.
 //! - An [`Aligner`] says when a task with several inputs may take what is next, and when it takes its snapshot.
 //! - A [`Discarder`] deletes the files that no record uses any more, in threads of its own.
 //!
@@ -26,9 +27,17 @@ mod call;
 mod coordinator;
 mod discarder;
 mod fault;
+mod group;
 #[cfg(feature = "store")]
 mod inputs;
+#[cfg(feature = "store")]
+pub mod job;
+mod keys;
+#[cfg(feature = "store")]
+mod lineage;
 mod lines;
+#[cfg(feature = "store")]
+pub mod outputs;
 #[cfg(feature = "store")]
 pub mod runner;
 mod shared;
@@ -38,15 +47,26 @@ mod signals;
 pub mod storage;
 #[cfg(feature = "store")]
 pub mod store;
+#[cfg(feature = "store")]
+pub mod unaligned;
 
-pub use aligner::{AlignFault, Aligner, Cut, Step, MOST_INPUTS};
+pub use aligner::{AlignFault, Aligner, Cut, Recorder, Step, MOST_INPUTS};
 pub use answer::{Answer, Choice, FileCounts, Garbage, Kind, Live, Mode, RunningTerm, Standing};
 pub use call::Call;
 pub use coordinator::{Coordinator, Settings};
 pub use discarder::{Discarded, Discarder, Outbox, Patience};
 pub use fault::*;
+pub use group::{Grouped, Held, Receipt, Told};
+pub use keys::group_of;
+#[cfg(feature = "store")]
+pub use lineage::Lineage;
 pub use lines::{opening_lines, Line, LineFault, Made, Said};
 pub use shared::SharedCoordinator;
+
+/// A lock, whose state a panic leaves sound wherever this is called.
+pub(crate) fn locked<T>(of: &std::sync::Mutex<T>) -> std::sync::MutexGuard<'_, T> {
+    of.lock().unwrap_or_else(std::sync::PoisonError::into_inner)
+}
 
 /// The version of the linked library: three numbers, such as "1.2.3".
 pub fn version() -> &'static str {

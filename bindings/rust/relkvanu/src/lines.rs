@@ -1,8 +1,8 @@
 //! Lines of a script (`docs/SCRIPT.md`) and of a log with names (`docs/LOGS.md`), which the library writes and reads.
 use crate::answer::{self, Answer, FileCounts};
 use crate::call::Call;
-use crate::coordinator::{Coordinator, Settings};
-use crate::fault::{check_library, done, text, text_of, Fault};
+use crate::coordinator::{parts, Coordinator, Settings};
+use crate::fault::{check_library, done, text, text_of, written, Fault};
 use relkvanu_sys as sys;
 use std::error::Error;
 use std::fmt;
@@ -90,6 +90,24 @@ pub struct Made<'a> {
     pub counts: FileCounts,
 }
 
+impl<'a> Made<'a> {
+    /// What the library told of a call, whose line is at the start of this buffer.
+    pub(crate) fn of(
+        told: sys::relkvanu_answer,
+        files: &'a [u64],
+        line: Vec<u8>,
+        made: sys::relkvanu_made,
+    ) -> Result<Made<'a>, Fault> {
+        let told = done(told)?;
+        let said = match told.what {
+            sys::RELKVANU_TAKEN => Said::Taken(&files[..told.a as usize]),
+            _ => Said::Called(answer::answer(told)?),
+        };
+        let counts = FileCounts { in_use: made.in_use, waiting: made.waiting, taken: made.taken };
+        Ok(Made { said, line: text_of(line, made.written as usize), waited: made.waited, counts })
+    }
+}
+
 /// Which line it is, with the numbers of one that makes no call.
 #[derive(Clone, Debug, PartialEq, Eq)]
 #[non_exhaustive]
@@ -112,17 +130,10 @@ impl Line {
     /// What the bytes before a newline say. Checks no number against the limits of a job.
     pub fn of(line: &[u8]) -> Result<Line, Fault> {
         check_library()?;
-        let mut numbers = vec![0; 8];
-        let says = loop {
-            // SAFETY: the slice and the buffer outlive the call, and have as many elements as is said.
-            let told =
-                unsafe { sys::relkvanu_line_says(line.as_ptr(), line.len(), numbers.as_mut_ptr(), numbers.len()) };
-            match told.code {
-                sys::RELKVANU_TOO_SHORT => numbers.resize(told.a as usize, 0),
-                _ => break done(told)?,
-            }
-        };
-        numbers.truncate(says.a as usize);
+        // SAFETY: the slice and the buffer outlive the call, and have as many elements as is said.
+        let (says, numbers) = written(8, |to: &mut [u64]| unsafe {
+            sys::relkvanu_line_says(line.as_ptr(), line.len(), to.as_mut_ptr(), to.len())
+        })?;
         Ok(match (says.what, numbers.as_slice()) {
             (sys::RELKVANU_LINE_SKIP, _) => Line::Skip,
             (sys::RELKVANU_LINE_CALL, _) => Line::Call,
@@ -154,6 +165,14 @@ pub fn opening_lines(settings: &Settings, shape: &[u64], now: u64) -> Result<Str
 /// No line has more bytes.
 const LONGEST: usize = 131_072;
 
+impl Call<'_> {
+    /// How many bytes its line has at most: a word of an acknowledgement at most 22, and what is before its files at most 86.
+    pub(crate) fn line_room(&self) -> usize {
+        let (first, second) = self.lists();
+        (128 + 22 * (first.len() + second.len())).min(LONGEST)
+    }
+}
+
 impl Coordinator {
     /// Makes a call, and returns what it did with its line, for a program that logs the calls that were made. It is one call of the
     /// library, where [`Call::line`] and [`line`](Self::line) are two.
@@ -166,51 +185,44 @@ impl Coordinator {
         if let Call::Show { id } = call {
             return self.shown(call, *id);
         }
-        let (first, second) = call.lists();
-        // a word of an acknowledgement has at most 22 bytes, and what is before its files at most 86
-        let mut room = (128 + 22 * (first.len() + second.len())).min(LONGEST);
+        let mut room = call.line_room();
         loop {
-            let (told, line, made) = self.make_into(call, files, vec![0; room]);
+            let (told, line, made) = self.make_into(call, files, vec![0; room], None);
             if told.code == sys::RELKVANU_TOO_SHORT && told.b != 0 {
                 room = told.b as usize;
                 continue;
             }
-            let told = done(told)?;
-            let said = match told.what {
-                sys::RELKVANU_TAKEN => Said::Taken(&files[..told.a as usize]),
-                _ => Said::Called(answer::answer(told)?),
-            };
-            let counts = FileCounts { in_use: made.in_use, waiting: made.waiting, taken: made.taken };
-            let (line, waited) = (text_of(line, made.written as usize), made.waited);
-            return Ok(Made { said, line, waited, counts });
+            return Made::of(told, files, line, made);
         }
     }
 
-    /// The answer, the buffer for the line, and what the call leaves.
-    fn make_into(
+    /// The answer, the buffer for the line, and what the call leaves. With a group and its places the answer is held back there.
+    pub(crate) fn make_into(
         &mut self,
         call: &Call<'_>,
         files: &mut [u64],
         mut line: Vec<u8>,
+        group: Option<(&mut sys::relkvanu_group, &mut [sys::relkvanu_answer])>,
     ) -> (sys::relkvanu_answer, Vec<u8>, sys::relkvanu_made) {
         let mut made = sys::relkvanu_made { written: 0, waited: 0, in_use: 0, waiting: 0, taken: 0 };
-        let (fields, (first, second)) = (call.fields(), call.lists());
-        // SAFETY: the handle is as the library last left it, and `&mut self` keeps other calls away; the fields, the slices and the
+        let (call, (first, second), handle) = (call.fields(), call.lists(), self.handle());
+        let ((first, len), (second, count)) = (parts(first), parts(second));
+        let (files, most, text, room) = (files.as_mut_ptr(), files.len(), line.as_mut_ptr(), line.len());
+        // SAFETY: the handle is as the library last left it, and `&mut self` keeps other calls away; the fields, the group, the slices and the
         // buffers outlive the call, none overlaps another, and each has as many elements as is said.
         let told = unsafe {
-            sys::relkvanu_make(
-                self.handle(),
-                &fields,
-                first.as_ptr(),
-                first.len(),
-                second.as_ptr(),
-                second.len(),
-                files.as_mut_ptr(),
-                files.len(),
-                line.as_mut_ptr(),
-                line.len(),
-                &mut made,
-            )
+            match group {
+                None => {
+                    sys::relkvanu_make(handle, &call, first, len, second, count, files, most, text, room, &mut made)
+                }
+                Some((group, held)) => {
+                    let (make, held, places) = (sys::relkvanu_group_make, held.as_mut_ptr(), held.len());
+                    make(
+                        handle, group, held, places, &call, first, len, second, count, files, most, text, room,
+                        &mut made,
+                    )
+                }
+            }
         };
         (told, line, made)
     }

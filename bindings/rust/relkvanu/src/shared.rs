@@ -4,9 +4,10 @@ use crate::call::Call;
 use crate::coordinator::{Coordinator, Settings};
 use crate::fault::Fault;
 use crate::lines::{Made, Said};
+use crate::locked;
 use std::num::NonZeroU64;
 use std::ops::Range;
-use std::sync::{Arc, Condvar, Mutex, MutexGuard, PoisonError};
+use std::sync::{Arc, Condvar, Mutex, MutexGuard};
 use std::time::Duration;
 
 type Called = Result<Answer, Fault>;
@@ -64,7 +65,7 @@ impl SharedCoordinator {
 
     /// The lock. A thread that panics under it leaves the coordinator between two calls, so its state is sound.
     fn lock(&self) -> MutexGuard<'_, Inner> {
-        self.shared.inner.lock().unwrap_or_else(PoisonError::into_inner)
+        locked(&self.shared.inner)
     }
 
     /// Runs a closure under one lock, and wakes threads that wait for a call. Delete, send and wait outside of it.
@@ -103,6 +104,16 @@ impl SharedCoordinator {
     }
 }
 
+/// The methods of [`Coordinator`] with these names, under the lock, each by the method of [`SharedCoordinator`] before its name.
+macro_rules! under_lock {
+    ($($(#[$of:meta])* $lock:ident $name:ident$(<$life:lifetime>)?($($word:ident: $what:ty),*) -> $told:ty;)*) => {
+        $($(#[$of])*
+        pub fn $name$(<$life>)?(&self, $($word: $what),*) -> $told {
+            self.$lock(|it| it.$name($($word),*))
+        })*
+    };
+}
+
 /// The calls and reads of [`Coordinator`], each under the lock. `next_tick` is not among them: it belongs to the tick before it, so
 /// both are made under one lock, by [`with`](Self::with).
 impl SharedCoordinator {
@@ -136,137 +147,47 @@ impl SharedCoordinator {
     }
     // bindings/generate: end
 
-    /// [`Coordinator::ack`] says who may then delete the files.
-    pub fn ack(&self, now: u64, id: u64, subtask: (u16, u16), fresh: &[u64], reused: &[u64]) -> Called {
-        self.with(|it| it.ack(now, id, subtask, fresh, reused))
-    }
-
-    pub fn decline(&self, now: u64, id: u64, subtask: (u16, u16)) -> Called {
-        self.with(|it| it.decline(now, id, subtask))
-    }
-
-    /// Gives the coordinator names: [`Coordinator::fence`].
-    pub fn fence(&self, first_name: u64) -> Result<(), Fault> {
-        self.quietly(|it| it.fence(first_name))
-    }
-
-    /// [`Coordinator::term`] says who asks for it.
-    pub fn term(&self) -> Result<RunningTerm, Fault> {
-        self.read(Coordinator::term)
-    }
-
-    /// Reserves names: [`Coordinator::reserve`].
-    pub fn reserve(&self, term: u64, count: u64) -> Result<Range<u64>, Fault> {
-        self.quietly(|it| it.reserve(term, count))
-    }
-
-    /// Gives names up: [`Coordinator::forfeit`].
-    pub fn forfeit(&self, term: u64, names: &[u64]) -> Result<(), Fault> {
-        self.quietly(|it| it.forfeit(term, names))
-    }
-
-    /// [`Coordinator::ack_in`] says who may then delete the files.
-    pub fn ack_in(&self, term: u64, now: u64, id: u64, subtask: (u16, u16), fresh: &[u64], reused: &[u64]) -> Called {
-        self.with(|it| it.ack_in(term, now, id, subtask, fresh, reused))
-    }
-
-    pub fn decline_in(&self, term: u64, now: u64, id: u64, subtask: (u16, u16)) -> Called {
-        self.with(|it| it.decline_in(term, now, id, subtask))
-    }
-
-    /// Which of these files may be deleted: [`Coordinator::garbage`].
-    pub fn garbage(&self, files: &[u64]) -> Result<Garbage, Fault> {
-        self.read(|it| it.garbage(files))
-    }
-
-    pub fn restore(&self, now: u64, savepoint: Option<NonZeroU64>, shape: Option<&[u64]>) -> Called {
-        self.with(|it| it.restore(now, savepoint, shape))
-    }
-
-    pub fn configure(&self, now: u64, settings: &Settings) -> Called {
-        self.with(|it| it.configure(now, settings))
-    }
-
-    pub fn take<'a>(&self, files: &'a mut [u64]) -> Result<&'a [u64], Fault> {
-        self.quietly(|it| it.take(files))
-    }
-
-    /// Makes a call, and returns its line too: [`Coordinator::make`].
-    pub fn make<'a>(&self, call: &Call<'_>, files: &'a mut [u64]) -> Result<Made<'a>, Fault> {
-        self.with(|it| it.make(call, files))
-    }
-
-    /// Makes the call of a line: [`Coordinator::line`].
-    pub fn line<'a>(&self, line: &[u8], files: &'a mut [u64]) -> Result<Said<'a>, Fault> {
-        self.with(|it| it.line(line, files))
-    }
-
-    pub fn show(&self, id: u64) -> Result<String, Fault> {
-        self.read(|it| it.show(id))
-    }
-
-    /// The image of the coordinator: [`Coordinator::save`].
-    pub fn save(&self) -> Result<String, Fault> {
-        self.read(|it| it.save())
-    }
-
-    pub fn count(&self, file: u64) -> Called {
-        self.read(|it| it.count(file))
-    }
-
-    pub fn mode(&self) -> Mode {
-        self.read(Coordinator::mode)
-    }
-
-    pub fn moment(&self) -> u64 {
-        self.read(Coordinator::moment)
-    }
-
-    pub fn due(&self) -> u64 {
-        self.read(Coordinator::due)
-    }
-
-    pub fn oldest_expiry(&self) -> Option<u64> {
-        self.read(Coordinator::oldest_expiry)
-    }
-
-    pub fn choice(&self) -> Choice {
-        self.read(Coordinator::choice)
-    }
-
-    pub fn live(&self, place: usize) -> Option<Live> {
-        self.read(|it| it.live(place))
-    }
-
-    pub fn live_from(&self, id: u64) -> Option<Live> {
-        self.read(|it| it.live_from(id))
-    }
-
-    pub fn standing(&self, id: u64) -> Standing {
-        self.read(|it| it.standing(id))
-    }
-
-    pub fn files_of(&self, id: u64, subtask: (u16, u16)) -> Option<Vec<u64>> {
-        self.read(|it| it.files_of(id, subtask))
-    }
-
-    pub fn pins_of(&self, id: u64) -> Result<Vec<u64>, Fault> {
-        self.read(|it| it.pins_of(id))
-    }
-
-    pub fn waiting_file(&self, place: usize) -> Option<u64> {
-        self.read(|it| it.waiting_file(place))
-    }
-
-    pub fn taken_files(&self) -> Result<Vec<u64>, Fault> {
-        self.read(Coordinator::taken_files)
-    }
-
-    pub fn missing(&self, id: u64) -> Option<u64> {
-        self.read(|it| it.missing(id))
-    }
-
-    pub fn file_counts(&self) -> FileCounts {
-        self.read(Coordinator::file_counts)
+    under_lock! {
+        /// [`Coordinator::ack`] says who may then delete the files.
+        with ack(now: u64, id: u64, subtask: (u16, u16), fresh: &[u64], reused: &[u64]) -> Called;
+        with decline(now: u64, id: u64, subtask: (u16, u16)) -> Called;
+        /// Gives the coordinator names: [`Coordinator::fence`].
+        quietly fence(first_name: u64) -> Result<(), Fault>;
+        /// [`Coordinator::term`] says who asks for it.
+        read term() -> Result<RunningTerm, Fault>;
+        /// Reserves names: [`Coordinator::reserve`].
+        quietly reserve(term: u64, count: u64) -> Result<Range<u64>, Fault>;
+        /// Gives names up: [`Coordinator::forfeit`].
+        quietly forfeit(term: u64, names: &[u64]) -> Result<(), Fault>;
+        /// [`Coordinator::ack_in`] says who may then delete the files.
+        with ack_in(term: u64, now: u64, id: u64, subtask: (u16, u16), fresh: &[u64], reused: &[u64]) -> Called;
+        with decline_in(term: u64, now: u64, id: u64, subtask: (u16, u16)) -> Called;
+        /// Which of these files may be deleted: [`Coordinator::garbage`].
+        read garbage(files: &[u64]) -> Result<Garbage, Fault>;
+        with restore(now: u64, savepoint: Option<NonZeroU64>, shape: Option<&[u64]>) -> Called;
+        with configure(now: u64, settings: &Settings) -> Called;
+        quietly take<'a>(files: &'a mut [u64]) -> Result<&'a [u64], Fault>;
+        /// Makes a call, and returns its line too: [`Coordinator::make`].
+        with make<'a>(call: &Call<'_>, files: &'a mut [u64]) -> Result<Made<'a>, Fault>;
+        /// Makes the call of a line: [`Coordinator::line`].
+        with line<'a>(line: &[u8], files: &'a mut [u64]) -> Result<Said<'a>, Fault>;
+        read show(id: u64) -> Result<String, Fault>;
+        /// The image of the coordinator: [`Coordinator::save`].
+        read save() -> Result<String, Fault>;
+        read count(file: u64) -> Called;
+        read mode() -> Mode;
+        read moment() -> u64;
+        read due() -> u64;
+        read oldest_expiry() -> Option<u64>;
+        read choice() -> Choice;
+        read live(place: usize) -> Option<Live>;
+        read live_from(id: u64) -> Option<Live>;
+        read standing(id: u64) -> Standing;
+        read files_of(id: u64, subtask: (u16, u16)) -> Option<Vec<u64>>;
+        read pins_of(id: u64) -> Result<Vec<u64>, Fault>;
+        read waiting_file(place: usize) -> Option<u64>;
+        read taken_files() -> Result<Vec<u64>, Fault>;
+        read missing(id: u64) -> Option<u64>;
+        read file_counts() -> FileCounts;
     }
 }

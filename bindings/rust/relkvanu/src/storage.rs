@@ -1,6 +1,43 @@
 //! Where a job's state files are: a trait that an engine implements for its own storage (an object store, say), and a folder
 //! (`include/relkvanu_storage.h`). A file is whole or not there, and durable before a task acknowledges it. It counts as deleted only in a
 //! storage that is there, and that is the job's.
+//!
+//! A storage of your own, over a client with puts, gets, deletions and listings. Here a map stands for the client of an object store:
+//! ```
+//! use relkvanu::storage::{Deletion, Page, Storage, StorageError, StoredFile};
+//! use std::{collections::BTreeMap, ops::ControlFlow, sync::Mutex};
+//!
+//! struct Bucket(Mutex<BTreeMap<u64, Vec<u8>>>);
+//!
+//! impl Storage for Bucket {
+//!     fn check(&self) -> Result<(), StorageError> {
+//!         Ok(()) // reads the marker, an object with the job's identity: `NotThere`, `OtherJob`
+//!     }
+//!     fn put(&self, file: u64, contents: &[u8]) -> Result<(), StorageError> {
+//!         match self.0.lock().unwrap().insert(file, contents.to_vec()) {
+//!             Some(_) => Err(StorageError::Present), // in S3 a put with `If-None-Match: *`
+//!             None => Ok(()),
+//!         }
+//!     }
+//!     fn get(&self, file: u64) -> Result<Vec<u8>, StorageError> {
+//!         self.0.lock().unwrap().get(&file).cloned().ok_or(StorageError::Absent)
+//!     }
+//!     fn delete(&self, files: &[u64]) -> Result<Vec<Deletion>, StorageError> {
+//!         let was_there = |file| self.0.lock().unwrap().remove(file).is_some();
+//!         Ok(files.iter().map(|it| if was_there(it) { Deletion::Deleted } else { Deletion::Missing }).collect())
+//!     }
+//!     fn pages(&self, most: usize, page: &mut Page<'_>) -> Result<ControlFlow<()>, StorageError> {
+//!         let file = |(file, it): (&u64, &Vec<u8>)| StoredFile { file: *file, bytes: it.len() as u64 };
+//!         let all: Vec<StoredFile> = self.0.lock().unwrap().iter().map(file).collect(); // `page` may delete
+//!         Ok(all.chunks(if most == 0 { 1000 } else { most }).try_for_each(page))
+//!     }
+//! }
+//! ```
+mod cached;
+
+pub(crate) use cached::checksum;
+pub use cached::Cached;
+
 use relkvanu_sys::storage as sys;
 use std::error::Error;
 use std::ffi::{c_int, c_void, CString};

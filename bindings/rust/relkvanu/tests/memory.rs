@@ -1,4 +1,4 @@
-//! Memory that runs out, over a library whose heap refuses one request after the other (`bindings/c/refusing_heap.c`): a call
+//! Memory that runs out, over a library whose heap refuses one request after the other (`bindings/c/tests/refusing_heap.c`): a call
 //! that fails says so and has changed nothing, and is made again. The heap counts for one thread, so
 //! this is one test. It is empty without `--cfg refusing_heap`, since the library that is shipped has another heap.
 #![cfg(refusing_heap)]

@@ -38,12 +38,14 @@ fn checkpoint(store: &Store, term: u64) -> u64 {
 }
 
 /// The job is that of the record, and takes another one.
-fn goes_on(job: &Path, state: &Path, record: u64) {
+fn goes_on(job: &Path, state: &Path, record: u64, origin: Option<[u64; 2]>) {
     let store = kept(job, state);
     assert_eq!(store.report().choice, Choice::Checkpoint(record));
+    assert_eq!(store.load(None).unwrap().unwrap().origin, origin);
     let restore = Call::Restore { now: relkvanu::store::NOW, savepoint: None, shape: None };
     let term = store.call(restore).unwrap().term.unwrap();
     assert!(checkpoint(&store, term) > record);
+    assert_eq!(store.load(None).unwrap().unwrap().origin, None);
 }
 
 /// A file that changed is found by who reads it.
@@ -67,7 +69,7 @@ fn a_record_that_is_carried() {
     let folder = Place::new("records");
     let at = |name: &str| folder.0.join(name);
     let store = kept(&folder.job(), &folder.state());
-    let id = checkpoint(&store, 1);
+    let (id, job) = (checkpoint(&store, 1), store.report().job);
     drop(store);
     let manifest = std::fs::read_to_string(folder.state().join(format!("record-{id}.manifest"))).unwrap();
     assert_eq!(manifest.matches("\"sums\":[\"").count(), 2);
@@ -106,12 +108,12 @@ fn a_record_that_is_carried() {
     let again = export(&folder.state(), 0, &at("out")).unwrap_err();
     assert_eq!(again.kind, StoreErrorKind::Present);
     import(&at("out"), 0, &at("other.db"), &at("other")).unwrap();
-    goes_on(&at("other.db"), &at("other"), id);
+    goes_on(&at("other.db"), &at("other"), id, Some(job));
     let claimed = claim(&at("out"), id, &at("third.db"), &at("third")).unwrap();
     assert_eq!(claimed.record, id);
     assert!(!at("out").exists());
-    goes_on(&at("third.db"), &at("third"), id);
-    goes_on(&folder.job(), &folder.state(), id);
+    goes_on(&at("third.db"), &at("third"), id, Some(job));
+    goes_on(&folder.job(), &folder.state(), id, None);
     fs::write(folder.state().join(format!("record-{id}.manifest")), "x").unwrap();
     let damaged = records(&folder.state()).unwrap();
     assert_eq!(damaged[0].damage, Some(StoreErrorKind::Damaged));

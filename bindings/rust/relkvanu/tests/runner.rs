@@ -7,11 +7,12 @@ use relkvanu::runner::{Barrier, Ended, Engine, Inputs, Record, RunFault, Runner,
 use relkvanu::store::{Awaited, CallError, Ending, More, Next, Options, Phase, Store, StoreError, StoreErrorKind, NOW};
 use relkvanu::{AlignFault, Answer, Call, Choice, Fault, Fenced, Kind, Refusal, Settings};
 use std::fs;
-use std::io::{BufRead, BufReader};
+use std::io::{self, BufRead, BufReader, Read};
 use std::num::NonZeroU64;
 use std::os::unix::process::ExitStatusExt;
 use std::path::Path;
 use std::process::{Command, Stdio};
+use std::sync::atomic::{AtomicUsize, Ordering::SeqCst};
 use std::sync::{mpsc, Arc, Condvar, Mutex};
 use std::thread::{self, JoinHandle};
 use std::time::{Duration, Instant};
@@ -95,8 +96,10 @@ impl Words {
         self.said().iter().filter_map(term).collect()
     }
 
-    fn completions(&self) -> usize {
-        self.said().iter().filter(|it| is_complete(it)).count()
+    /// So many completions from now on.
+    fn await_more(&self, count: usize) {
+        let before = self.said().iter().filter(|it| is_complete(it)).count();
+        self.await_words(before + count, is_complete);
     }
 
     fn takes_part(&self, it: &Barrier, index: u16) -> Result<(), CallError> {
@@ -189,8 +192,13 @@ fn opened(place: &Place, settings: Settings) -> Store {
 /// Runs an engine in a thread.
 fn begin(place: &Place, settings: Settings) -> (Arc<Runner<Words>>, Run) {
     let job = Runner::new(opened(place, settings), Words::default());
+    let run = runs(&job);
+    (job, run)
+}
+
+fn runs<E: Engine>(job: &Arc<Runner<E>>) -> Run {
     let runs = job.clone();
-    (job, thread::spawn(move || runs.run()))
+    thread::spawn(move || runs.run())
 }
 
 const QUICK: Settings = Settings { interval: 20, retained: 3, tolerable: 0, ..SETTINGS };
@@ -198,7 +206,11 @@ const QUICK: Settings = Settings { interval: 20, retained: 3, tolerable: 0, ..SE
 /// Ends the run, and closes the store.
 fn close(job: Arc<Runner<Words>>, run: Run) -> Vec<Word> {
     job.close();
-    assert_eq!(run.join().unwrap().unwrap(), Ended::Closed);
+    ended_as(Ended::Closed, job, run)
+}
+
+fn ended_as(ended_by: Ended, job: Arc<Runner<Words>>, run: Run) -> Vec<Word> {
+    assert_eq!(run.join().unwrap().unwrap(), ended_by);
     ended(job)
 }
 
@@ -231,27 +243,150 @@ fn checkpoints_and_a_next_process() {
 
 #[test]
 fn a_task_that_died() {
-    let place = Place::new("runner-died");
-    let (job, run) = begin(&place, QUICK);
-    job.engine().await_words(1, is_complete);
+    let (_place, job, run) = running("runner-died", QUICK);
     job.restart();
     job.engine().await_words(2, is_start);
-    let more = job.engine().completions() + 1;
-    job.engine().await_words(more, is_complete);
+    job.engine().await_more(1);
     let old = job.ack(1, 1, (0, 0), &[], &[], More::default());
     assert_eq!(old.unwrap_err(), CallError::Fault(Fault::Fenced(Fenced::OldTerm)));
     close(job, run);
 }
 
+/// The contents of a file that come once somebody says so.
+struct Slow(mpsc::Sender<()>, mpsc::Receiver<()>);
+
+impl Read for Slow {
+    fn read(&mut self, to: &mut [u8]) -> io::Result<usize> {
+        self.0.send(()).unwrap();
+        Ok(self.1.recv().map_or(0, |()| 5.min(to.len())))
+    }
+}
+
+/// A restart sweeps the file that a task is writing, and whatever else such a task meets, a panic too: each ends that task alone.
+#[test]
+fn faults_of_tasks_whose_term_has_ended() {
+    let (_place, job, run) = idle("runner-old-faults", IDLE);
+    let ((begins, has_begun), (goes, goes_on)) = (mpsc::channel(), mpsc::channel());
+    let (faults, told) = mpsc::channel();
+    let puts = job.spawn(move |job| {
+        let name = job.store().reserve(1, 1)?.start;
+        let put = job.store().put_from(name, Slow(begins, goes_on));
+        faults.send(put.clone().map_err(|why| why.kind))?;
+        Ok(put?)
+    });
+    let (panics, may_panic) = mpsc::channel::<()>();
+    let panics_late = job.spawn(move |_| {
+        may_panic.recv()?;
+        panic!("its input is gone");
+    });
+    has_begun.recv().unwrap();
+    job.restart();
+    job.engine().await_words(2, is_start);
+    goes.send(()).unwrap();
+    drop(goes);
+    panics.send(()).unwrap();
+    puts.join().unwrap();
+    panics_late.join().unwrap();
+    assert_eq!(told.recv().unwrap(), Err(StoreErrorKind::NotPut));
+    close(job, run); // it looks at faults first
+}
+
+/// It declines each barrier, by which its job fails, and closes the inputs of its tasks, which wait for elements, and for room.
+#[derive(Default)]
+struct Restarting {
+    inputs: Mutex<Vec<Arc<Inputs<u64>>>>,
+    job: Mutex<Option<Arc<Runner<Restarting>>>>,
+    starts: AtomicUsize,
+    tasks: Arc<AtomicUsize>, // that run
+}
+
+impl Restarting {
+    fn spawn(&self, job: &Arc<Runner<Restarting>>, task: impl FnOnce() -> Told + Send + 'static) {
+        let tasks = self.tasks.clone();
+        tasks.fetch_add(1, SeqCst);
+        job.spawn(move |_| {
+            let told = task();
+            tasks.fetch_sub(1, SeqCst);
+            told
+        });
+    }
+}
+
+impl Engine for Restarting {
+    fn start(&self, job: &Arc<Runner<Restarting>>, _: u64, _: Option<&Record>) -> Told {
+        *self.job.lock().unwrap() = Some(job.clone());
+        let inputs = Arc::new(Inputs::new(2, 1)?);
+        self.inputs.lock().unwrap().push(inputs.clone());
+        let (takes, puts) = (inputs.clone(), inputs.clone());
+        self.spawn(job, move || loop {
+            takes.take()?;
+        });
+        self.spawn(job, move || {
+            while !puts.is_closed() {
+                puts.put(0, 1);
+            }
+            Ok(())
+        });
+        self.spawn(job, move || {
+            inputs.put_barrier(1, barrier(1));
+            (0..2).for_each(|it| inputs.put(1, it)); // behind the barrier, and without room
+            Ok(())
+        });
+        self.starts.fetch_add(1, SeqCst);
+        Ok(())
+    }
+
+    fn barrier(&self, it: Barrier) -> Told {
+        let job = self.job.lock().unwrap().clone().unwrap();
+        Ok(job.decline(it.term, it.id, (0, 0), "a restart").map(drop)?)
+    }
+
+    fn complete(&self, _: u64) -> Told {
+        Ok(())
+    }
+
+    fn end(&self) -> Told {
+        self.inputs.lock().unwrap().drain(..).for_each(|it| it.close());
+        Ok(())
+    }
+}
+
+fn await_count(what: &AtomicUsize, is_such: impl Fn(usize) -> bool) {
+    let until = Instant::now() + LONGEST;
+    while !is_such(what.load(SeqCst)) {
+        assert!(Instant::now() < until, "{what:?}");
+        thread::sleep(Duration::from_millis(1));
+    }
+}
+
+/// A thousand in one process.
+#[test]
+fn restarts_that_leave_no_thread() {
+    let place = Place::new("runner-restarts");
+    let job = Runner::new(opened(&place, IDLE), Restarting::default());
+    let run = runs(&job);
+    let descriptors = || fs::read_dir("/proc/self/fd").unwrap().count();
+    let before = descriptors();
+    for restarts in 0..1000 {
+        await_count(&job.engine().starts, |it| it > restarts);
+        job.store().trigger().unwrap();
+    }
+    await_count(&job.engine().starts, |it| it > 1000);
+    await_count(&job.engine().tasks, |it| it <= 3);
+    let after = descriptors(); // other tests of this process open some too
+    assert!(after < before + 500, "{before} descriptors, and {after}");
+    job.close();
+    assert_eq!(run.join().unwrap().unwrap(), Ended::Closed);
+    await_count(&job.engine().tasks, |it| it == 0);
+    *job.engine().job.lock().unwrap() = None;
+}
+
 #[test]
 fn a_job_that_fails_is_restarted() {
-    let place = Place::new("runner-fails");
-    let (job, run) = begin(&place, QUICK);
-    job.engine().await_words(1, is_complete);
+    let (_place, job, run) = running("runner-fails", QUICK);
     *job.engine().declines.lock().unwrap() = Some(Kind::Checkpoint);
     job.engine().await_words(2, is_start);
-    let more = job.engine().completions() + 1;
-    job.engine().await_words(more, is_complete);
+    job.engine().await_more(1);
     let history = job.store().history(1000).unwrap();
     let declined = history.iter().find(|it| it.ending == Ending::Declined);
     assert_eq!(declined.unwrap().reason, "as it was told");
@@ -263,19 +398,15 @@ fn a_job_that_fails_is_restarted() {
 
 #[test]
 fn a_stop_and_a_begin() {
-    let place = Place::new("runner-stops");
-    let (job, run) = begin(&place, QUICK);
-    job.engine().await_words(1, is_complete);
+    let (place, job, run) = running("runner-stops", QUICK);
     let made = job.store().stop_job().unwrap();
     let Some(Answer::SavepointTriggered(id)) = made.called() else { unreachable!() };
-    assert_eq!(run.join().unwrap().unwrap(), Ended::Stopped);
-    let said = ended(job);
+    let said = ended_as(Ended::Stopped, job, run);
     let stopped = Stopped(id, TASKS.into());
     let last = [Barrier(id, Kind::Savepoint, true), Complete(id), End, stopped.clone()];
     assert_eq!(said[said.len() - 4..], last);
     let (job, run) = begin(&place, QUICK);
-    assert_eq!(run.join().unwrap().unwrap(), Ended::Stopped);
-    assert_eq!(ended(job), [End, stopped]);
+    assert_eq!(ended_as(Ended::Stopped, job, run), [End, stopped]);
     let options = Options { storage: Some(place.state()), ..Options::new(QUICK, &[TASKS.into()]) };
     Store::open(&place.job(), &options).unwrap().begin_job().unwrap();
     let (job, run) = begin(&place, QUICK);
@@ -335,12 +466,9 @@ impl Engine for Untold {
 
 #[test]
 fn an_engine_that_is_not_told_of_a_stop() {
-    let place = Place::new("runner-untold");
-    let (job, run) = begin(&place, QUICK);
-    job.engine().await_words(1, is_complete);
+    let (place, job, run) = running("runner-untold", QUICK);
     stops(&job);
-    assert_eq!(run.join().unwrap().unwrap(), Ended::Stopped);
-    ended(job);
+    ended_as(Ended::Stopped, job, run);
     assert_eq!(Runner::new(opened(&place, QUICK), Untold).run().unwrap(), Ended::Stopped);
 }
 
@@ -417,14 +545,12 @@ fn a_sweep_now_and_then() {
     for (interval, goes) in [(1, true), (600_000, false)] {
         let place = Place::new(&format!("runner-sweeps-{interval}"));
         let job = Runner::with_sweeps(opened(&place, QUICK), Words::default(), interval);
-        let runs = job.clone();
-        let run = thread::spawn(move || runs.run());
+        let run = runs(&job);
         job.engine().await_words(1, is_complete);
         let name = job.store().reserve(1, 1).unwrap().start;
         job.store().put(name, b"x").unwrap();
         job.store().forfeit(1, &[name]).unwrap();
-        let more = job.engine().completions() + 5;
-        job.engine().await_words(more, is_complete);
+        job.engine().await_more(5);
         let path = place.state().join(name.to_string());
         let until = Instant::now() + LONGEST;
         while goes && path.exists() && Instant::now() < until {
@@ -452,16 +578,13 @@ fn a_sweep_before_tasks_start() {
 
 #[test]
 fn reports_of_a_term() {
-    let place = Place::new("runner-reports");
-    let (job, run) = begin(&place, QUICK);
-    job.engine().await_words(1, is_complete);
+    let (_place, job, run) = running("runner-reports", QUICK);
     job.restart_of(1);
     job.engine().await_words(2, is_start);
     for _ in 0..10 {
         job.restart_of(1); // each task reports its death, also those that were fenced by the restart
     }
-    let more = job.engine().completions() + 10;
-    job.engine().await_words(more, is_complete);
+    job.engine().await_more(10);
     assert_eq!(job.engine().starts(), [1, 2]);
     job.restart_of(2);
     job.engine().await_words(3, is_start);
@@ -471,9 +594,7 @@ fn reports_of_a_term() {
 
 #[test]
 fn a_cancel_between_a_look_and_a_restore() {
-    let place = Place::new("runner-faster");
-    let (job, run) = begin(&place, QUICK);
-    job.engine().await_words(1, is_complete);
+    let (_place, job, run) = running("runner-faster", QUICK);
     *job.engine().then.lock().unwrap() = Some(Call::Cancel { now: NOW });
     job.restart();
     assert_eq!(run.join().unwrap().unwrap(), Ended::Cancelled);
@@ -483,9 +604,7 @@ fn a_cancel_between_a_look_and_a_restore() {
 
 /// A task that dies by a command of an operator, and reports it before the loop looks.
 fn restarts_after(name: &str, after: After) -> (Ended, Vec<Word>) {
-    let place = Place::new(name);
-    let (job, run) = begin(&place, Settings { interval: 1 << 39, ..QUICK });
-    job.engine().await_words(1, is_start);
+    let (_place, job, run) = idle(name, IDLE);
     *job.engine().after.lock().unwrap() = Some(after);
     job.store().stop_job().unwrap();
     let by = run.join().unwrap().unwrap();
@@ -517,9 +636,7 @@ fn a_stopped_job_that_is_restored_elsewhere() {
         let restore = Call::Restore { now: NOW, savepoint: NonZeroU64::new(1), shape: None };
         job.store().call(restore).unwrap();
     };
-    let place = Place::new("runner-elsewhere");
-    let (job, run) = begin(&place, Settings { interval: 1 << 39, ..QUICK });
-    job.engine().await_words(1, is_start);
+    let (_place, job, run) = idle("runner-elsewhere", IDLE);
     let made = job.store().call(Call::Savepoint { now: NOW }).unwrap(); // nobody sends its barrier
     assert_eq!(made.called(), Some(Answer::SavepointTriggered(1)));
     for index in 0..TASKS {
@@ -527,8 +644,7 @@ fn a_stopped_job_that_is_restored_elsewhere() {
     }
     *job.engine().after.lock().unwrap() = Some(elsewhere);
     assert_eq!(stops(&job), 2);
-    assert_eq!(run.join().unwrap().unwrap(), Ended::Stopped);
-    let said = ended(job);
+    let said = ended_as(Ended::Stopped, job, run);
     assert_eq!(said[1..], [Barrier(2, Kind::Savepoint, true), End, Stopped(1, 0)]);
 }
 
@@ -538,8 +654,7 @@ fn calls_from_inside_complete_and_aborted() {
     let settings = Settings { tolerable: 10, ..QUICK };
     let (job, run) = begin(&place, settings);
     *job.engine().calls_inside.lock().unwrap() = Some(Vec::new());
-    let more = job.engine().completions() + 2; // one of them may have begun before
-    job.engine().await_words(more, is_complete);
+    job.engine().await_more(2); // one of them may have begun before
     *job.engine().declines.lock().unwrap() = Some(Kind::Checkpoint);
     job.engine().await_words(1, |it| matches!(it, Aborted(_)));
     let faults = job.engine().calls_inside.lock().unwrap().take().unwrap();
@@ -549,15 +664,11 @@ fn calls_from_inside_complete_and_aborted() {
 
 #[test]
 fn a_stop_that_fails() {
-    let place = Place::new("runner-goes-on");
-    let settings = Settings { tolerable: 10, ..QUICK };
-    let (job, run) = begin(&place, settings);
-    job.engine().await_words(1, is_complete);
+    let (_place, job, run) = running("runner-goes-on", Settings { tolerable: 10, ..QUICK });
     *job.engine().declines.lock().unwrap() = Some(Kind::Savepoint);
     job.store().stop_job().unwrap();
     job.engine().await_word(GoOn);
-    let more = job.engine().completions() + 1;
-    job.engine().await_words(more, is_complete);
+    job.engine().await_more(1);
     let said = close(job, run);
     assert_eq!(said.iter().filter(|it| **it == GoOn).count(), 1);
 }
@@ -598,10 +709,7 @@ fn a_record_that_expires() {
 
 #[test]
 fn commands_of_an_operator() {
-    let place = Place::new("runner-commands");
-    let settings = Settings { interval: 1 << 39, ..QUICK };
-    let (job, run) = begin(&place, settings);
-    job.engine().await_words(1, is_start);
+    let (_place, job, run) = idle("runner-commands", IDLE);
     let triggers = || {
         let made = job.store().trigger().unwrap();
         let Some(Answer::Triggered { id, .. }) = made.called() else { unreachable!() };
@@ -634,6 +742,14 @@ fn a_cancel_leaves_no_file() {
 
 /// A job that triggers nothing by itself.
 const IDLE: Settings = Settings { interval: 1 << 39, ..QUICK };
+
+/// One that has completed a checkpoint.
+fn running(name: &str, settings: Settings) -> (Place, Arc<Runner<Words>>, Run) {
+    let place = Place::new(name);
+    let (job, run) = begin(&place, settings);
+    job.engine().await_words(1, is_complete);
+    (place, job, run)
+}
 
 fn idle(name: &str, settings: Settings) -> (Place, Arc<Runner<Words>>, Run) {
     let place = Place::new(name);
@@ -813,8 +929,7 @@ fn a_savepoint_that_would_wait_for_itself() {
 }
 
 fn assert_stops(job: Arc<Runner<Words>>, run: Run, id: u64) -> Vec<Word> {
-    assert_eq!(run.join().unwrap().unwrap(), Ended::Stopped);
-    let said = ended(job);
+    let said = ended_as(Ended::Stopped, job, run);
     let last = [Barrier(id, Kind::Savepoint, true), Complete(id), End, Stopped(id, TASKS.into())];
     assert_eq!(said[said.len() - 4..], last);
     said
@@ -829,8 +944,7 @@ fn a_stop_that_is_asked_for() {
     let job = Runner::new(opened(&place, IDLE), Words::default());
     job.begin_job().unwrap();
     assert_eq!(job.store().phase().unwrap().phase, Phase::Running);
-    let runs = job.clone();
-    let run = thread::spawn(move || runs.run());
+    let run = runs(&job);
     job.engine().await_words(1, is_start);
     let said = close(job, run);
     assert!(matches!(said[..], [End, Start(_, Some(1), 2), End]), "{said:?}");
@@ -863,8 +977,7 @@ fn an_engine_with_signals() {
     let job = Runner::new(opened(&place, IDLE), Words::default());
     *job.engine().takes_no_part.lock().unwrap() = std::env::var_os("RELKVANU_HANGS").is_some();
     job.stop_at_signals();
-    let runs = job.clone();
-    let run = thread::spawn(move || runs.run());
+    let run = runs(&job);
     for count in 1.. {
         job.engine().await_words(count, |_| true);
         let word = job.engine().said()[count - 1].clone();
@@ -993,7 +1106,7 @@ fn a_payload_of_a_barrier() {
 }
 
 fn barrier(id: u64) -> Barrier {
-    Barrier { id, kind: Kind::Checkpoint, base: Choice::Fresh, term: 1, holds: false }
+    Barrier { id, kind: Kind::Checkpoint, base: Choice::Fresh, term: 1, holds: false, drains: false }
 }
 
 /// Each input has its turn, and the one with the barrier has none until the cut.
@@ -1081,6 +1194,29 @@ fn room_for_nothing() {
     let inputs = Arc::new(Inputs::new(1, 0).unwrap());
     assert_finishes(&putter(&inputs, 0, 1));
     assert_eq!(inputs.take(), Ok(Taken::Element(0, 1)));
+}
+
+/// Who waits, and whoever comes later, goes on: for an element, and for room.
+#[test]
+fn inputs_that_are_closed() {
+    let inputs = Arc::new(Inputs::new(2, 1).unwrap());
+    inputs.put(0, 7);
+    let waits = putter(&inputs, 0, 8);
+    let empty = Arc::new(Inputs::<u64>::new(1, 1).unwrap());
+    let takes = empty.clone();
+    let taker = thread::spawn(move || takes.take());
+    thread::sleep(Duration::from_millis(50));
+    assert!(!waits.is_finished() && !taker.is_finished() && !inputs.is_closed());
+    inputs.close();
+    empty.close();
+    assert_finishes(&waits);
+    assert_finishes(&taker);
+    assert_eq!(taker.join().unwrap(), Err(AlignFault::Closed));
+    (0..3).for_each(|it| inputs.put(0, it)); // nobody takes them, and they wait for no room
+    inputs.end(1);
+    assert!(inputs.is_closed());
+    assert_eq!(inputs.take(), Err(AlignFault::Closed));
+    assert_eq!(inputs.give_up(1), Ok(false));
 }
 
 #[test]

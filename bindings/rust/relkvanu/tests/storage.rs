@@ -101,41 +101,6 @@ fn whose_folder_it_is() {
     assert!(matches!(open("orders", &new), Err(StorageError::NotEmpty)));
 }
 
-/// The numbers of the crate are those of the header, and none is missing but the flag that is no flag.
-#[test]
-fn numbers_of_the_header() {
-    use relkvanu_sys::storage as sys;
-    let path = Path::new(env!("CARGO_MANIFEST_DIR")).join("../../../include/relkvanu_storage.h");
-    let header = fs::read_to_string(path).unwrap();
-    let number = |line: &str| {
-        let (name, rest) = line.strip_prefix("#define RELKVANU_STORAGE_")?.split_once(' ')?;
-        let digits = rest.split_whitespace().next()?.trim_end_matches('u');
-        Some((name.to_string(), digits.parse::<u64>().ok()?))
-    };
-    let found: BTreeMap<String, u64> = header.lines().filter_map(number).collect();
-    let known = [
-        ("OK", sys::RELKVANU_STORAGE_OK as u64),
-        ("BAD_ARGUMENT", sys::RELKVANU_STORAGE_BAD_ARGUMENT as u64),
-        ("NO_MEMORY", sys::RELKVANU_STORAGE_NO_MEMORY as u64),
-        ("NOT_THERE", sys::RELKVANU_STORAGE_NOT_THERE as u64),
-        ("OTHER_JOB", sys::RELKVANU_STORAGE_OTHER_JOB as u64),
-        ("PRESENT", sys::RELKVANU_STORAGE_PRESENT as u64),
-        ("ABSENT", sys::RELKVANU_STORAGE_ABSENT as u64),
-        ("NOT_EMPTY", sys::RELKVANU_STORAGE_NOT_EMPTY as u64),
-        ("ENDED", sys::RELKVANU_STORAGE_ENDED as u64),
-        ("FAILED", sys::RELKVANU_STORAGE_FAILED as u64),
-        ("UNDELETED", sys::RELKVANU_STORAGE_UNDELETED.into()),
-        ("DELETED", sys::RELKVANU_STORAGE_DELETED.into()),
-        ("MISSING", sys::RELKVANU_STORAGE_MISSING.into()),
-        ("PAGE", sys::RELKVANU_STORAGE_PAGE as u64),
-        ("RECOVER", 0),
-        ("NEW", sys::RELKVANU_STORAGE_NEW.into()),
-        ("MOST_AFFIX", sys::RELKVANU_STORAGE_MOST_AFFIX as u64),
-    ];
-    let known: BTreeMap<String, u64> = known.map(|(name, it)| (name.to_string(), it)).into();
-    assert_eq!(found, known);
-}
-
 #[test]
 fn bad_options() {
     let place = Place::new("options");

@@ -1,15 +1,21 @@
-//! State files that are there already, or do not fit into memory; and what the job is.
+//! State files that are there already, or do not fit into memory; the folder of a store as any storage; and what the job is.
 use super::phase::said_why;
 use super::{c_path, Panic, Store, StoreError, StoreErrorKind};
 use crate::coordinator::Settings;
+use crate::storage::{Deletion, Page, Storage, StorageError, StoredFile, PAGE};
 use relkvanu_sys as sys;
 use std::ffi::{c_int, c_void};
+use std::fs::{self, File, OpenOptions};
 use std::io::{self, Read};
+use std::ops::ControlFlow;
+use std::os::unix::fs::OpenOptionsExt;
 use std::panic::{catch_unwind, resume_unwind, AssertUnwindSafe};
-use std::path::Path;
+use std::path::{Path, PathBuf};
 
 /// The descriptor of paths that are relative to the working folder.
 const AT_FDCWD: c_int = -100;
+/// Of an opening: no symbolic link is followed.
+const O_NOFOLLOW: c_int = 0o400_000;
 
 /// A source that is read for the library: what it failed or panicked with goes on to the caller.
 struct Reading<R> {
@@ -95,5 +101,71 @@ impl Store {
         self.check(unsafe { sys::store::relkvanu_store_job(self.at(), &mut settings, shape.as_mut_ptr(), &mut len) })?;
         shape.truncate(len);
         Ok(((&settings).into(), shape))
+    }
+}
+
+impl From<StoreError> for StorageError {
+    fn from(why: StoreError) -> StorageError {
+        match why.kind {
+            StoreErrorKind::Present => StorageError::Present,
+            StoreErrorKind::NoMemory => StorageError::NoMemory,
+            StoreErrorKind::Storage => StorageError::OtherJob,
+            _ => StorageError::Failed(io::Error::other(why)),
+        }
+    }
+}
+
+impl Store {
+    /// The path of the folder that is open, whatever is mounted or renamed to the path that it was opened by.
+    fn open_folder(&self) -> Result<PathBuf, StorageError> {
+        let folder = self.folder().ok_or(StorageError::NotThere)?;
+        Ok(PathBuf::from(format!("/proc/self/fd/{folder}")))
+    }
+}
+
+/// The state files of its folder. A runner deletes by [`Store::discard_files`] and [`Store::sweep`] instead.
+impl Storage for Store {
+    fn check(&self) -> Result<(), StorageError> {
+        self.open_folder().map(drop)
+    }
+
+    fn put(&self, file: u64, contents: &[u8]) -> Result<(), StorageError> {
+        Ok(Store::put(self, file, contents)?)
+    }
+
+    fn get(&self, file: u64) -> Result<Vec<u8>, StorageError> {
+        let path = self.open_folder()?.join(file.to_string());
+        let mut contents = Vec::new();
+        match OpenOptions::new().read(true).custom_flags(O_NOFOLLOW).open(path) {
+            Err(why) if why.kind() == io::ErrorKind::NotFound => return Err(StorageError::Absent),
+            opened => opened?.read_to_end(&mut contents)?,
+        };
+        Ok(contents)
+    }
+
+    fn delete(&self, files: &[u64]) -> Result<Vec<Deletion>, StorageError> {
+        let folder = self.open_folder()?;
+        let delete = |file: &u64| match fs::remove_file(folder.join(file.to_string())) {
+            Ok(()) => Deletion::Deleted,
+            Err(why) if why.kind() == io::ErrorKind::NotFound => Deletion::Missing,
+            Err(_) => Deletion::Undeleted,
+        };
+        let told = files.iter().map(delete).collect();
+        File::open(&folder)?.sync_all()?;
+        Ok(told)
+    }
+
+    fn pages(&self, most: usize, page: &mut Page<'_>) -> Result<ControlFlow<()>, StorageError> {
+        let mut found = Vec::new();
+        for entry in fs::read_dir(self.open_folder()?)? {
+            let entry = entry?;
+            let number =
+                entry.file_name().to_str().and_then(|it| it.parse().ok().filter(|file: &u64| file.to_string() == it));
+            if let Some(file) = number {
+                found.push(StoredFile { file, bytes: entry.metadata()?.len() });
+            }
+        }
+        let most = if most == 0 { PAGE } else { most.min(PAGE) };
+        Ok(found.chunks(most).try_for_each(page))
     }
 }

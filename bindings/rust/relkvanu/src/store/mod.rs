@@ -15,16 +15,19 @@ pub use opening::{Options, Report, Step};
 pub use phase::{why, JobPhase, Phase, StopFailed};
 pub use whole::{Ending, Part, Past, Restored, Whole};
 
-use crate::answer::{self, Answer, Garbage, RunningTerm};
+use crate::answer::{self, Garbage, RunningTerm};
 use crate::call::Call;
 use crate::coordinator::Coordinator;
 use crate::fault::{done, Fault};
+use crate::job::Job;
+use crate::locked;
 use crate::storage::{Functions, Storage};
 use calls::{outcome_of, List};
+use error::text;
 use opening::step;
 use relkvanu_sys as sys;
 use std::collections::HashMap;
-use std::ffi::{c_int, c_void, CStr, CString};
+use std::ffi::{c_int, c_void, CString};
 use std::fmt;
 use std::ops::Range;
 use std::os::fd::{BorrowedFd, RawFd};
@@ -32,7 +35,7 @@ use std::os::unix::ffi::OsStrExt;
 use std::panic::{catch_unwind, resume_unwind, AssertUnwindSafe};
 use std::path::Path;
 use std::ptr::{self, NonNull};
-use std::sync::{Mutex, MutexGuard, PoisonError};
+use std::sync::Mutex;
 use std::thread::{self, ThreadId};
 
 /// The moment of a call that the store shall choose: that of its clock, which never jumps.
@@ -109,12 +112,7 @@ impl Store {
         // SAFETY: the path, the options and what they point to outlive the call, which keeps none of them.
         let status = unsafe { sys::store::relkvanu_store_open(&mut store, path.as_ptr(), &given, &mut found) };
         let Some(store) = NonNull::new(store) else {
-            // SAFETY: the message ends with a zero.
-            let message = unsafe { CStr::from_ptr(found.message.as_ptr()) };
-            return Err(StoreError {
-                kind: StoreErrorKind::of(status),
-                message: message.to_string_lossy().into_owned(),
-            });
+            return Err(StoreError { kind: StoreErrorKind::of(status), message: text(&found.message) });
         };
         let report = Report {
             is_recovered: found.is_recovered,
@@ -144,17 +142,13 @@ impl Store {
 
     /// Refuses a call of the thread that reads: it would wait for itself.
     fn outside(&self) -> Result<(), StoreError> {
-        if *self.reader() != Some(thread::current().id()) {
+        if *locked(&self.reader) != Some(thread::current().id()) {
             return Ok(());
         }
         Err(StoreError {
             kind: StoreErrorKind::InRead,
             message: "this thread is in a read: make the call after it".to_owned(),
         })
-    }
-
-    fn reader(&self) -> MutexGuard<'_, Option<ThreadId>> {
-        self.reader.lock().unwrap_or_else(PoisonError::into_inner)
     }
 
     fn check(&self, status: c_int) -> Result<(), StoreError> {
@@ -167,10 +161,8 @@ impl Store {
     fn message(&self) -> String {
         let mut text = [0; sys::store::RELKVANU_STORE_MESSAGE];
         // SAFETY: the buffer has as many bytes as is said, and gets a zero at the end.
-        unsafe {
-            sys::store::relkvanu_store_message(self.at(), text.as_mut_ptr(), text.len());
-            CStr::from_ptr(text.as_ptr()).to_string_lossy().into_owned()
-        }
+        unsafe { sys::store::relkvanu_store_message(self.at(), text.as_mut_ptr(), text.len()) };
+        error::text(&text)
     }
 
     /// Makes 1 to 4096 calls, with no other in between, and returns once they are committed. After one without memory the later ones
@@ -199,16 +191,12 @@ impl Store {
 
     /// Makes one call that has more: an acknowledgement with a payload, or a decline with a reason.
     pub fn call_with(&self, call: Call<'_>, more: More<'_>) -> Result<Made, CallError> {
-        let mut outcomes = self.calls_with(&[(call, more)])?;
-        outcomes.pop().unwrap_or(Err(Fault::Memory)).map_err(CallError::Fault)
+        Job::call_with(self, call, more)
     }
 
     /// A task of this term gets names for files that it will write, 1 to 65536. They are durable, and are not given out again.
     pub fn reserve(&self, term: u64, count: u64) -> Result<Range<u64>, CallError> {
-        match self.call(Call::Reserve { term, count })?.called() {
-            Some(Answer::Reserved(first)) => Ok(first..first + count),
-            other => unreachable!("a reservation is answered {other:?}"),
-        }
+        Job::reserve(self, term, count)
     }
 
     /// A task of this term gives up names that it will not acknowledge, at most 65536: their files are garbage then. Names that the term does
@@ -272,7 +260,7 @@ impl Store {
         submit: impl Fn(*mut sys::store::relkvanu_store, *mut sys::store::relkvanu_store_call, usize, u64) -> c_int,
     ) -> Result<u64, StoreError> {
         let (at, len) = (list.calls.as_mut_ptr(), list.calls.len());
-        let mut submits = self.submits.lock().unwrap_or_else(|it| it.into_inner());
+        let mut submits = locked(&self.submits);
         submits.last += 1;
         let token = submits.last;
         submits.lists.insert(token, list);
@@ -286,7 +274,7 @@ impl Store {
     /// The submits that are committed, or failed, since the last time. Never waits.
     pub fn completed(&self) -> Vec<Completion> {
         let mut found = [sys::store::relkvanu_store_completion { token: 0, status: 0 }; 64];
-        let mut submits = self.submits.lock().unwrap_or_else(|it| it.into_inner());
+        let mut submits = locked(&self.submits);
         // SAFETY: the buffer has as many places as is said.
         let len = unsafe { sys::store::relkvanu_store_completed(self.at(), found.as_mut_ptr(), found.len()) };
         let complete = |it: &sys::store::relkvanu_store_completion| {
@@ -308,7 +296,7 @@ impl Store {
         let mut handle = ptr::null_mut();
         // SAFETY: the place for the handle is this function's own.
         self.check(unsafe { sys::store::relkvanu_store_read(self.at(), &mut handle) })?;
-        *self.reader() = Some(thread::current().id());
+        *locked(&self.reader) = Some(thread::current().id());
         let reading = Reading {
             of: self,
             handle,
@@ -378,7 +366,7 @@ impl Store {
     /// backup writes it) or `NotPut` (a full disk, say): then there is none, and the store goes on.
     ///
     /// **A backup lacks the calls since it was made.** [`Options::backup`] opens it, once, after all processes and tasks of the job have ended, and
-    /// then the engine restores a record whose files are all there: docs/DURABLE-BACKUP.md, A backup. Without that option the opening is refused.
+    /// then the engine restores a record whose files are all there: docs/DURABLE-OPERATION.md, Back up. Without that option the opening is refused.
     pub fn backup(&self, path: &Path) -> Result<(), StoreError> {
         self.outside()?;
         let path = c_path(path)?;
@@ -386,12 +374,7 @@ impl Store {
         // SAFETY: the path and the message outlive the call.
         let status =
             unsafe { sys::store::relkvanu_store_backup(self.at(), path.as_ptr(), message.as_mut_ptr(), message.len()) };
-        if status == sys::store::RELKVANU_STORE_OK {
-            return Ok(());
-        }
-        // SAFETY: the message ends with a zero.
-        let message = unsafe { CStr::from_ptr(message.as_ptr()) };
-        Err(StoreError { kind: StoreErrorKind::of(status), message: message.to_string_lossy().into_owned() })
+        error::check(status, &message)
     }
 
     /// The descriptor of the storage folder, which stays open until the drop: delete within it.
@@ -431,21 +414,14 @@ impl Store {
         loop {
             // SAFETY: the closure outlives the call, which calls it in this thread alone.
             let status = unsafe {
-                sys::store::relkvanu_store_discard_for(
-                    self.at(),
-                    batch,
-                    u64::MAX,
-                    delete::<F>,
-                    (&mut with as *mut (F, Option<Panic>)).cast(),
-                )
+                let with: *mut (F, Option<Panic>) = &mut with;
+                sys::store::relkvanu_store_discard_for(self.at(), batch, u64::MAX, delete::<F>, with.cast())
             };
             if let Some(panic) = with.1.take() {
                 resume_unwind(panic);
             }
-            match status {
-                sys::store::RELKVANU_STORE_STOPPED => return Ok(()),
-                sys::store::RELKVANU_STORE_NO_MEMORY | sys::store::RELKVANU_STORE_TIMED_OUT => {}
-                other => return self.check(other),
+            if !matches!(status, sys::store::RELKVANU_STORE_NO_MEMORY | sys::store::RELKVANU_STORE_TIMED_OUT) {
+                return self.check_end(status);
             }
         }
     }
@@ -454,7 +430,11 @@ impl Store {
     pub fn discard_files(&self, batch: usize) -> Result<(), StoreError> {
         self.outside()?;
         // SAFETY: without a storage the library takes that of the store.
-        let status = unsafe { sys::store::relkvanu_store_discard_storage(self.at(), batch, ptr::null()) };
+        self.check_end(unsafe { sys::store::relkvanu_store_discard_storage(self.at(), batch, ptr::null()) })
+    }
+
+    /// What a discarder returns.
+    fn check_end(&self, status: c_int) -> Result<(), StoreError> {
         match status {
             sys::store::RELKVANU_STORE_STOPPED => Ok(()),
             other => self.check(other),
@@ -467,11 +447,7 @@ impl Store {
         self.outside()?;
         let functions = Functions::of(&storage);
         // SAFETY: the storage outlives the call, which calls its functions in this thread alone.
-        let status = unsafe { sys::store::relkvanu_store_discard_storage(self.at(), batch, functions.at()) };
-        match status {
-            sys::store::RELKVANU_STORE_STOPPED => Ok(()),
-            other => self.check(other),
-        }
+        self.check_end(unsafe { sys::store::relkvanu_store_discard_storage(self.at(), batch, functions.at()) })
     }
 
     /// A sweep of any storage, as [`sweep`](Self::sweep).
@@ -487,6 +463,14 @@ impl Store {
     pub fn stop(&self) {
         // SAFETY: the store is open.
         unsafe { sys::store::relkvanu_store_stop(self.at()) }
+    }
+
+    /// What the store measures of itself.
+    pub fn measures(&self) -> sys::store::relkvanu_store_measures {
+        let mut found = Default::default();
+        // SAFETY: the place is this function's own, and has so many bytes.
+        unsafe { sys::store::relkvanu_store_measure(self.at(), &mut found, std::mem::size_of_val(&found)) };
+        found
     }
 
     /// Counts since the opening.
@@ -507,7 +491,7 @@ struct Reading<'a> {
 
 impl Drop for Reading<'_> {
     fn drop(&mut self) {
-        *self.of.reader() = None;
+        *locked(&self.of.reader) = None;
         // SAFETY: the handle is the store's own, and nobody else has it before the end of the read.
         unsafe {
             self.handle.write(self.job.taken_back());

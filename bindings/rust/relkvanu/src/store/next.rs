@@ -8,6 +8,8 @@ use crate::fault::{Fault, Refusal};
 pub enum Next {
     /// A record was triggered: its barrier goes to the sources. What has changed since `base` is in fresh files, and those of `base` may be reused.
     Barrier { id: u64, kind: Kind, base: Choice },
+    /// Of a job of the service: this checkpoint is complete, by whichever process.
+    Completed { id: u64 },
     /// Another thread has restored the job, as by [`Store::go_back`]: it begins here, and its tasks have this term.
     Begun { from: Choice, term: u64 },
     /// The job has failed: the engine restores it.

@@ -35,7 +35,7 @@ pub struct Options {
     pub earlier_image: bool,
     /// It is a backup, which is opened so once: see [`Store::backup`](super::Store::backup). Makes no job.
     pub backup: bool,
-    /// The folder of the storage gets a manifest of each complete record, of which the command `relkvanu-store recover` makes the job again if
+    /// The folder of the storage gets a manifest of each complete record, of which the command `relkvanu recover` makes the job again if
     /// its file is lost.
     pub manifests: bool,
     /// With `manifests`: these have a checksum of each file, for which the store reads it once.

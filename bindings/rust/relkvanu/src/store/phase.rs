@@ -1,11 +1,11 @@
 //! The commands of an operator, and the phase of a job: it runs, is being stopped, or is stopped.
 use super::calls::{outcome_of, List, Made};
-use super::error::{CallError, StoreError, StoreErrorKind};
+use super::error::{CallError, StoreError};
 use super::{Store, NOW};
 use crate::call::Call;
 use crate::coordinator::Settings;
 use relkvanu_sys as sys;
-use std::ffi::{c_int, CStr};
+use std::ffi::c_int;
 
 /// The phase of a job.
 #[derive(Clone, Copy, Debug, PartialEq, Eq, Hash)]
@@ -101,7 +101,8 @@ impl Store {
     }
 
     /// Goes back to a done checkpoint that is retained, in one commit. What sinks have published for later records is not taken back, and the job will
-    /// publish it again: `accept_published` has to say that this is accepted, or it is `BadArgument`.
+    /// publish it again: `accept_published` has to say that this is accepted, or it is `BadArgument`. `FileLost`: the checkpoint lacks a file, and nothing
+    /// has changed.
     pub fn go_back(&self, id: u64, accept_published: bool) -> Result<Made, CallError> {
         let flags = u32::from(accept_published) * sys::store::RELKVANU_STORE_ACCEPT_PUBLISHED;
         // SAFETY: the call outlives the function.
@@ -128,13 +129,7 @@ impl Store {
     ) -> Result<Made, CallError> {
         self.outside()?;
         let mut list = List::place();
-        let status = make(self.at(), list.calls.as_mut_ptr());
-        if let Err(mut why) = self.check(status) {
-            if matches!(why.kind, StoreErrorKind::BadArgument | StoreErrorKind::NotNow) {
-                why.message = said_why();
-            }
-            return Err(why.into());
-        }
+        self.check_why(make(self.at(), list.calls.as_mut_ptr()))?;
         outcome_of(&list.calls[0], &[]).map_err(CallError::Fault)
     }
 }
@@ -149,8 +144,6 @@ pub fn why() -> String {
 pub(super) fn said_why() -> String {
     let mut text = [0; sys::store::RELKVANU_STORE_MESSAGE];
     // SAFETY: the buffer has as many bytes as is said, and gets a zero at the end.
-    unsafe {
-        sys::store::relkvanu_store_why(text.as_mut_ptr(), text.len());
-        CStr::from_ptr(text.as_ptr()).to_string_lossy().into_owned()
-    }
+    unsafe { sys::store::relkvanu_store_why(text.as_mut_ptr(), text.len()) };
+    super::error::text(&text)
 }

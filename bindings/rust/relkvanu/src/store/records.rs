@@ -1,8 +1,9 @@
 //! What an operator does with manifests (`Options::manifests`): a job that lost its file is made again from its storage folder, and a record is carried
-//! elsewhere. `include/relkvanu_store.h` says how, and docs/DURABLE-RECOVERY.md.
+//! elsewhere. `include/relkvanu_store.h` says how, and docs/RECOVERY.md.
+use super::error::{check, text};
 use super::{c_path, StoreError, StoreErrorKind};
 use relkvanu_sys::store as sys;
-use std::ffi::{c_char, c_int, c_void, CStr};
+use std::ffi::{c_char, c_int, c_void};
 use std::path::Path;
 
 /// A record of a storage folder, as its manifest says it.
@@ -27,18 +28,11 @@ pub struct Record {
 
 impl Record {
     fn of(it: &sys::relkvanu_store_record) -> Record {
+        let sys::relkvanu_store_record { id, is_savepoint, is_of_job, is_next, written, files, bytes, missing, .. } =
+            *it;
         let is_whole = it.status == sys::RELKVANU_STORE_OK as u32;
-        Record {
-            id: it.id,
-            damage: (!is_whole).then(|| StoreErrorKind::of(it.status as c_int)),
-            is_savepoint: it.is_savepoint,
-            is_of_job: it.is_of_job,
-            is_next: it.is_next,
-            written: it.written,
-            files: it.files,
-            bytes: it.bytes,
-            missing: it.missing,
-        }
+        let damage = (!is_whole).then(|| StoreErrorKind::of(it.status as c_int));
+        Record { id, damage, is_savepoint, is_of_job, is_next, written, files, bytes, missing }
     }
 }
 
@@ -104,19 +98,6 @@ pub struct Recovered {
     pub set_aside: String,
 }
 
-fn text(message: &[c_char]) -> String {
-    // SAFETY: the library ends each message with a zero.
-    let message = unsafe { CStr::from_ptr(message.as_ptr()) };
-    message.to_string_lossy().into_owned()
-}
-
-fn check(status: c_int, message: &[c_char]) -> Result<(), StoreError> {
-    match status {
-        sys::RELKVANU_STORE_OK => Ok(()),
-        _ => Err(StoreError { kind: StoreErrorKind::of(status), message: text(message) }),
-    }
-}
-
 /// The records of a storage folder that have a manifest, in the order of their numbers. It needs no job, and may be called at any time.
 pub fn records(folder: &Path) -> Result<Vec<Record>, StoreError> {
     unsafe extern "C" fn note(with: *mut c_void, it: *const sys::relkvanu_store_record) -> bool {
@@ -130,13 +111,8 @@ pub fn records(folder: &Path) -> Result<Vec<Record>, StoreError> {
     let mut message = [0; sys::RELKVANU_STORE_MESSAGE];
     // SAFETY: all that is passed outlives the call.
     let status = unsafe {
-        sys::relkvanu_store_records(
-            folder.as_ptr(),
-            note,
-            (&mut found as *mut Vec<Record>).cast(),
-            message.as_mut_ptr(),
-            message.len(),
-        )
+        let with: *mut Vec<Record> = &mut found;
+        sys::relkvanu_store_records(folder.as_ptr(), note, with.cast(), message.as_mut_ptr(), message.len())
     };
     check(status, &message).map(|()| found)
 }
@@ -171,14 +147,8 @@ pub fn check_records(folder: &Path) -> Result<Vec<Checked>, StoreError> {
     let mut message = [0; sys::RELKVANU_STORE_MESSAGE];
     // SAFETY: all that is passed outlives the call.
     let status = unsafe {
-        sys::relkvanu_store_check_records(
-            folder.as_ptr(),
-            note,
-            note_fault,
-            (&mut told as *mut Checking).cast(),
-            message.as_mut_ptr(),
-            message.len(),
-        )
+        let (with, message, room): (*mut Checking, _, _) = (&mut told, message.as_mut_ptr(), message.len());
+        sys::relkvanu_store_check_records(folder.as_ptr(), note, note_fault, with.cast(), message, room)
     };
     check(status, &message).map(|()| told.found)
 }
@@ -193,18 +163,10 @@ fn recovered(
     // SAFETY: all zero is such a struct.
     let mut it: sys::relkvanu_store_recovered = unsafe { std::mem::zeroed() };
     check(make(path.as_ptr(), folder.as_ptr(), &mut it), &it.message)?;
-    Ok(Recovered {
-        record: it.record,
-        is_savepoint: it.is_savepoint,
-        files: it.files,
-        bytes: it.bytes,
-        passed: it.passed,
-        savepoints: it.savepoints,
-        term: it.term,
-        next_name: it.next_name,
-        next_number: it.next_number,
-        set_aside: text(&it.message),
-    })
+    let set_aside = text(&it.message);
+    let sys::relkvanu_store_recovered { record, is_savepoint, files, bytes, passed, savepoints, .. } = it;
+    let sys::relkvanu_store_recovered { term, next_name, next_number, .. } = it;
+    Ok(Recovered { record, is_savepoint, files, bytes, passed, savepoints, term, next_name, next_number, set_aside })
 }
 
 /// Makes the job at the path again, whose file was lost, from the manifests in its storage folder: from the last record that was the choice and has all its
@@ -239,7 +201,8 @@ pub fn import(from: &Path, record: u64, path: &Path, folder: &Path) -> Result<Re
     })
 }
 
-/// [`import`] by which the files leave `from`, or stay in place if the folder is the same. A job that has the folder is refused from then on.
+/// [`import`] by which the files leave `from`, or stay in place if the folder is the same. A job that has the folder is refused from then on. A mark stays there:
+/// without a number nothing else takes an earlier record for the latest.
 pub fn claim(from: &Path, record: u64, path: &Path, folder: &Path) -> Result<Recovered, StoreError> {
     let from = c_path(from)?;
     recovered(path, folder, |path, folder, told| {
@@ -248,7 +211,7 @@ pub fn claim(from: &Path, record: u64, path: &Path, folder: &Path) -> Result<Rec
     })
 }
 
-/// Puts a backup of [`Store::backup`](super::Store::backup) back in the place of the job's file. Read docs/DURABLE-BACKUP.md, A backup, first.
+/// Puts a backup of [`Store::backup`](super::Store::backup) back in the place of the job's file. Read docs/DURABLE-OPERATION.md, Back up, first.
 pub fn put_back(backup: &Path, path: &Path, folder: &Path) -> Result<Recovered, StoreError> {
     let backup = c_path(backup)?;
     recovered(path, folder, |path, folder, told| {

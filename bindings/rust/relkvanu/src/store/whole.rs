@@ -1,10 +1,11 @@
 //! A complete record as a whole, and the history of records.
+use super::error::text;
 use super::phase::said_why;
-use super::{CallError, Store, StoreError, StoreErrorKind, NOW};
+use super::{CallError, Store, StoreError, NOW};
 use crate::answer::{Answer, Choice, Kind};
 use crate::call::Call;
 use relkvanu_sys::store as sys;
-use std::ffi::{c_int, c_void, CStr};
+use std::ffi::{c_int, c_void};
 use std::num::NonZeroU64;
 
 /// What a subtask has in a record.
@@ -31,6 +32,9 @@ pub struct Whole {
     pub shape: Vec<u64>,
     /// One for each subtask, in their order.
     pub parts: Vec<Part>,
+    /// The job from which it was carried, as `Report::job` has it, where it had the same number; `None`: this job has made it. What a sink's state lists in it
+    /// was prepared in the target of that job.
+    pub origin: Option<[u64; 2]>,
 }
 
 impl Whole {
@@ -133,23 +137,10 @@ unsafe extern "C" fn note(with: *mut c_void, part: *const sys::relkvanu_store_pa
 }
 
 fn past_of(it: &sys::relkvanu_store_past) -> Past {
-    // SAFETY: the reason ends with a zero.
-    let reason = unsafe { CStr::from_ptr(it.reason.as_ptr()) };
-    Past {
-        id: it.id,
-        kind: kind_of(it.kind).unwrap_or(Kind::Unknown(0)),
-        ending: ending_of(it.outcome),
-        triggered: it.triggered,
-        ended: it.ended,
-        acks: it.acks,
-        first: it.first,
-        median: it.median,
-        p99: it.p99,
-        slowest: it.slowest,
-        bytes: it.bytes,
-        millis: it.millis,
-        reason: reason.to_string_lossy().into_owned(),
-    }
+    let sys::relkvanu_store_past { id, triggered, ended, acks, first, median, p99, slowest, bytes, millis, .. } = *it;
+    let (kind, ending, reason) =
+        (kind_of(it.kind).unwrap_or(Kind::Unknown(0)), ending_of(it.outcome), text(&it.reason));
+    Past { id, kind, ending, triggered, ended, acks, first, median, p99, slowest, bytes, millis, reason }
 }
 
 impl Store {
@@ -173,7 +164,14 @@ impl Store {
             term: found.term,
             shape: found.shape[..found.shape_len].to_vec(),
             parts,
+            origin: self.origin_of(found.id),
         }))
+    }
+
+    fn origin_of(&self, id: u64) -> Option<[u64; 2]> {
+        let mut job = [0; 2];
+        // SAFETY: the store is open, and the list has two places.
+        unsafe { sys::relkvanu_store_origin(self.at(), id, job.as_mut_ptr()) }.then_some(job)
     }
 
     /// A restore to the latest record or to this savepoint, in the shape that the job has or in this one, and the record from which the job begins, as
@@ -200,11 +198,7 @@ impl Store {
 
     /// As `check`, with what the library has said of it in this thread.
     pub(super) fn check_why(&self, status: c_int) -> Result<(), StoreError> {
-        self.check(status).map_err(|why| match why.kind {
-            StoreErrorKind::BadArgument | StoreErrorKind::FileLost | StoreErrorKind::Damaged => {
-                StoreError { message: said_why(), ..why }
-            }
-            _ => why,
-        })
+        self.check(status)
+            .map_err(|why| if why.kind.is_said() { StoreError { message: said_why(), ..why } } else { why })
     }
 }

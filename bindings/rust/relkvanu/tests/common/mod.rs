@@ -1,4 +1,5 @@
 //! What the tests of the durable coordinator share: a folder of a test's own, the settings of a job, and its next checkpoint.
+#![allow(dead_code)] // each test uses a part
 use relkvanu::store::{Options, Store};
 use relkvanu::{Answer, Call, Settings};
 use std::fs;

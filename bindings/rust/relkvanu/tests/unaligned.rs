@@ -1,0 +1,432 @@
+//! Inputs whose checkpoints overtake: what `take` gives, of items that were worked out by hand; the rows of a recorder; and a job over the runner, which is
+//! killed.
+#![cfg(feature = "store")]
+mod common;
+
+use common::{new_job, Place, SETTINGS};
+use relkvanu::job::Job as JobOf;
+use relkvanu::outputs::{Files, Sink};
+use relkvanu::runner::{Ack, Barrier, Ended, Engine, Record, RunFault, Runner, Told};
+use relkvanu::store::{More, Store};
+use relkvanu::unaligned::{check, elements_in, file_of, NotRescalable, Taken, UnalignedInputs};
+use relkvanu::{AlignFault, Choice, Kind, Recorder, Settings, Step};
+use std::collections::{BTreeMap, VecDeque};
+use std::fs;
+use std::io::{BufRead, BufReader};
+use std::mem::ManuallyDrop;
+use std::process::{Command, Stdio};
+use std::sync::atomic::{AtomicUsize, Ordering::SeqCst};
+use std::sync::{Arc, Mutex};
+use std::thread;
+use std::time::Duration;
+
+fn barrier(id: u64) -> Barrier {
+    Barrier { id, kind: Kind::Checkpoint, base: Choice::Fresh, term: 1, holds: false, drains: false }
+}
+
+fn inputs(count: usize, after: u64) -> UnalignedInputs<u32> {
+    UnalignedInputs::new(count, 8, Duration::from_millis(after), Vec::new()).unwrap()
+}
+
+fn put(inputs: &UnalignedInputs<u32>, input: usize, elements: &[u32]) {
+    elements.iter().for_each(|it| inputs.put(input, *it).unwrap());
+}
+
+fn takes(inputs: &UnalignedInputs<u32>, count: usize) -> Vec<(usize, u32)> {
+    let mut taken: Vec<(usize, u32)> = (0..count)
+        .map(|_| match inputs.take().unwrap() {
+            Taken::Element(input, element) => (input, element),
+            other => panic!("{other:?}"),
+        })
+        .collect();
+    taken.sort_unstable();
+    taken
+}
+
+fn told(step: Result<Step, AlignFault>) -> String {
+    let (name, id) = match step {
+        Ok(Step::Cut(cut)) => ("cut".into(), cut.id()),
+        Ok(Step::Complete(cut)) => ("complete".into(), cut.id()),
+        Ok(Step::Snap(id)) => ("snap".into(), id),
+        Ok(Step::Abandon(id)) => ("abandon".into(), id),
+        Ok(step) => (format!("{step:?}").to_lowercase(), 0),
+        Err(AlignFault::UnknownInput) => ("unknown_input".into(), 0),
+        Err(AlignFault::HeldInput) => ("held_input".into(), 0),
+        Err(AlignFault::EndedInput) => ("ended_input".into(), 0),
+        Err(AlignFault::BadInputs) => ("bad_inputs".into(), 0),
+        Err(other) => panic!("{other}"),
+    };
+    format!("{name} {id}")
+}
+
+fn made(task: &mut Option<Recorder>, words: &[&str]) -> String {
+    let number = |at: usize| words[at].parse::<u64>().unwrap();
+    if words[0] == "open" {
+        return match Recorder::new(number(1) as usize) {
+            Ok(recorder) => {
+                *task = Some(recorder);
+                "nothing 0".into()
+            }
+            Err(fault) => told(Err(fault)),
+        };
+    }
+    let task = task.as_mut().unwrap();
+    told(match words[0] {
+        "element" => task.element(number(1) as u32),
+        "barrier" => task.barrier(number(1) as u32, number(2)),
+        "end" => task.end(number(1) as u32),
+        "overtake" => task.overtake(number(1)),
+        _ => task.give_up(number(1)),
+    })
+}
+
+/// A barrier that was taken makes room, also where the others have not delivered it.
+#[test]
+fn room_behind_a_barrier() {
+    let inputs = Arc::new(UnalignedInputs::new(2, 1, Duration::from_secs(600), Vec::new()).unwrap());
+    let puts = inputs.clone();
+    let source = thread::spawn(move || {
+        puts.put_barrier(0, barrier(1))?;
+        puts.put(0, 7)?;
+        puts.put_barrier(1, barrier(1))
+    });
+    thread::sleep(Duration::from_millis(100)); // the source waits for room
+    assert_eq!(inputs.take(), Ok(Taken::Cut(barrier(1))));
+    assert_eq!((source.join().unwrap(), inputs.take()), (Ok(()), Ok(Taken::Element(0, 7))));
+}
+
+#[test]
+fn steps_are_those_of_the_rows() {
+    let rows = include_str!("../../../../examples/unaligned.rows");
+    let (mut task, mut count) = (None, 0);
+    for (event, wanted) in rows.lines().filter_map(|row| row.split_once(" = ")) {
+        assert_eq!(made(&mut task, &event.split(' ').collect::<Vec<_>>()), wanted, "{event}");
+        count += 1;
+    }
+    assert!(count > 60);
+}
+
+#[test]
+fn a_checkpoint_overtakes_what_is_on_the_way() {
+    let inputs = inputs(2, 0);
+    put(&inputs, 0, &[1, 2]);
+    inputs.put_barrier(0, barrier(7)).unwrap();
+    put(&inputs, 0, &[3]);
+    put(&inputs, 1, &[10]);
+    assert_eq!(inputs.take(), Ok(Taken::Snap(barrier(7))));
+    put(&inputs, 1, &[20]);
+    inputs.put_barrier(1, barrier(7)).unwrap();
+    put(&inputs, 1, &[30]);
+    assert_eq!(inputs.take(), Ok(Taken::Recorded(barrier(7), vec![(0, 1), (0, 2), (1, 10), (1, 20)])));
+    assert_eq!(takes(&inputs, 6), [(0, 1), (0, 2), (0, 3), (1, 10), (1, 20), (1, 30)]);
+}
+
+#[test]
+fn what_an_earlier_checkpoint_recorded_is_still_on_the_way() {
+    let inputs = inputs(1, 0);
+    put(&inputs, 0, &[1, 2]);
+    inputs.put_barrier(0, barrier(7)).unwrap();
+    assert_eq!(inputs.take(), Ok(Taken::Snap(barrier(7))));
+    assert_eq!(inputs.take(), Ok(Taken::Recorded(barrier(7), vec![(0, 1), (0, 2)])));
+    assert_eq!(takes(&inputs, 1), [(0, 1)]);
+    put(&inputs, 0, &[3]);
+    inputs.put_barrier(0, barrier(8)).unwrap();
+    assert_eq!(inputs.take(), Ok(Taken::Snap(barrier(8))));
+    assert_eq!(inputs.take(), Ok(Taken::Recorded(barrier(8), vec![(0, 2), (0, 3)])));
+    inputs.end(0).unwrap();
+    assert_eq!(takes(&inputs, 2), [(0, 2), (0, 3)]);
+    assert_eq!(inputs.take(), Err(AlignFault::EndedInput));
+}
+
+#[test]
+fn it_is_aligned_until_the_timeout() {
+    let quick = inputs(2, 60_000);
+    for input in 0..2 {
+        put(&quick, input, &[1]);
+        quick.put_barrier(input, barrier(7)).unwrap();
+    }
+    assert_eq!(takes(&quick, 2), [(0, 1), (1, 1)]);
+    assert_eq!(quick.take(), Ok(Taken::Cut(barrier(7))));
+    let slow = inputs(2, 20);
+    slow.put_barrier(0, barrier(7)).unwrap();
+    put(&slow, 0, &[1]);
+    assert_eq!(slow.take(), Ok(Taken::Snap(barrier(7))));
+    assert_eq!(takes(&slow, 1), [(0, 1)]);
+    slow.end(1).unwrap();
+    assert_eq!(slow.take(), Ok(Taken::Recorded(barrier(7), vec![])));
+}
+
+#[test]
+fn a_savepoint_is_aligned_and_what_is_given_up_goes_on() {
+    let inputs = inputs(2, 0);
+    inputs.put_barrier(0, Barrier { kind: Kind::Savepoint, ..barrier(7) }).unwrap();
+    put(&inputs, 0, &[1]);
+    inputs.put_barrier(0, barrier(8)).unwrap();
+    inputs.put_barrier(1, Barrier { kind: Kind::Savepoint, ..barrier(7) }).unwrap();
+    assert!(matches!(inputs.take(), Ok(Taken::Cut(Barrier { id: 7, .. }))));
+    assert_eq!(inputs.take(), Ok(Taken::Snap(barrier(8))));
+    assert_eq!((inputs.give_up(8), inputs.give_up(8)), (Ok(true), Ok(false)));
+    assert_eq!(takes(&inputs, 1), [(0, 1)]);
+}
+
+#[test]
+fn what_was_recorded_comes_first_and_barriers_come_in_where_it_is_full() {
+    let inputs = UnalignedInputs::new(1, 1, Duration::ZERO, vec![(0, 1), (0, 2)]).unwrap();
+    inputs.put_barrier(0, barrier(7)).unwrap();
+    assert_eq!(inputs.take(), Ok(Taken::Snap(barrier(7))));
+    assert_eq!(inputs.take(), Ok(Taken::Recorded(barrier(7), vec![(0, 1), (0, 2)])));
+    thread::scope(|scope| {
+        scope.spawn(|| put(&inputs, 0, &[3]));
+        assert_eq!(takes(&inputs, 3), [(0, 1), (0, 2), (0, 3)]);
+    });
+    inputs.close();
+    assert_eq!(inputs.take(), Err(AlignFault::Closed));
+    assert_eq!(UnalignedInputs::new(1, 1, Duration::ZERO, vec![(1, 1)]).err(), Some(AlignFault::UnknownInput));
+}
+
+#[test]
+fn a_file_of_recorded_elements_is_known_and_not_rescaled() {
+    let file = file_of(7, b"[[0,1]]");
+    assert_eq!(file, b"relkvanu recorded 7\n[[0,1]]");
+    assert_eq!((elements_in(7, &file), elements_in(8, &file)), (Some(&b"[[0,1]]"[..]), None));
+    assert_eq!(check(3, false, [(6, &b"state"[..]), (7, &file)]), Err(NotRescalable { id: 3 }));
+    assert_eq!((check(3, true, [(7, &file[..])]), check(3, false, [(6, &b"state"[..])])), (Ok(()), Ok(())));
+}
+
+const SOURCES: usize = 6;
+const SHAPE: [u64; 2] = [SOURCES as u64, 1];
+const SINK: (u16, u16) = (1, 0);
+const FIRST: u64 = 5; // elements of each source before its first barrier
+const KILLS: u64 = 6; // 200 were tried by hand
+
+type Job = Arc<Runner<Slow>>;
+type Elements = Vec<(usize, u64)>;
+
+/// Sources whose elements are their numbers, full channels, and a sink that takes a millisecond for each. In the first term the sink takes nothing before the
+/// first barrier of each source was put.
+struct Slow {
+    sink: Sink<Files>,
+    tasks: Mutex<Tasks>,
+    sent: AtomicUsize,     // barriers
+    recorded: AtomicUsize, // elements, with which the term began
+}
+
+/// Of a term.
+#[derive(Default)]
+struct Tasks {
+    inputs: Option<Arc<UnalignedInputs<u64>>>,
+    barriers: Vec<VecDeque<Barrier>>, // of each source
+}
+
+fn bytes_of(elements: &[(usize, u64)]) -> Vec<u8> {
+    elements.iter().flat_map(|(input, it)| [(*input as u64).to_le_bytes(), it.to_le_bytes()].concat()).collect()
+}
+
+fn numbers(bytes: &[u8]) -> Vec<u64> {
+    bytes.chunks_exact(8).map(|it| u64::from_le_bytes(it.try_into().unwrap())).collect()
+}
+
+fn elements_of(bytes: &[u8]) -> Elements {
+    numbers(bytes).chunks_exact(2).map(|it| (it[0] as usize, it[1])).collect()
+}
+
+impl Slow {
+    fn new(place: &Place, store: &Store) -> Slow {
+        let target = place.0.join("target");
+        fs::create_dir_all(&target).unwrap();
+        let job = JobOf::identity(store);
+        let (sent, recorded) = (AtomicUsize::new(0), AtomicUsize::new(0));
+        Slow { sink: Sink::new(Files::new(target), job), tasks: Mutex::default(), sent, recorded }
+    }
+
+    fn read(job: &Job, inputs: &UnalignedInputs<u64>, source: usize, mut next: u64) -> Told {
+        let slow = job.engine();
+        while !inputs.is_closed() {
+            let barrier = slow.tasks.lock().unwrap().barriers[source].front().copied();
+            match barrier {
+                Some(barrier) if next >= FIRST => {
+                    slow.tasks.lock().unwrap().barriers[source].pop_front();
+                    inputs.put_barrier(source, barrier)?;
+                    slow.sent.fetch_add(1, SeqCst);
+                    job.ack_payload(&barrier, (0, source as u16), &next.to_le_bytes())?;
+                }
+                None if next == FIRST && slow.sent.load(SeqCst) < SOURCES => thread::sleep(Duration::from_millis(1)),
+                _ => {
+                    inputs.put(source, next)?;
+                    next += 1;
+                }
+            }
+        }
+        Ok(())
+    }
+
+    fn write(job: &Job, inputs: &UnalignedInputs<u64>) -> Told {
+        let (slow, mut snapshot) = (job.engine(), Vec::new());
+        while slow.sent.load(SeqCst) < SOURCES && !inputs.is_closed() {
+            thread::sleep(Duration::from_millis(1));
+        }
+        loop {
+            match inputs.take()? {
+                Taken::Element(source, element) => {
+                    thread::sleep(Duration::from_millis(1));
+                    slow.sink.push(format!("{source} {element}"));
+                }
+                Taken::Cut(it) => drop(job.ack_payload(&it, SINK, &slow.sink.prepare(it.id)?)?),
+                Taken::Snap(it) => snapshot = slow.sink.prepare(it.id)?,
+                Taken::Recorded(barrier, elements) => {
+                    let more = More { payload: &snapshot, ..More::default() };
+                    let ack = Ack { barrier, subtask: SINK, fresh: &[], reused: &[], more };
+                    job.ack_recorded(ack, &bytes_of(&elements))?;
+                }
+            }
+        }
+    }
+}
+
+impl Engine for Slow {
+    fn start(&self, job: &Job, _: u64, record: Option<&Record>) -> Told {
+        let state = |subtask| record.map_or(Ok(None), |it| job.state(it, subtask));
+        self.sink.begin(&state(SINK)?.unwrap_or_default(), None)?;
+        let recorded = elements_of(&record.map_or(Ok(Vec::new()), |it| job.recorded(it, SINK))?);
+        self.recorded.store(recorded.len(), SeqCst);
+        self.sent.store(if record.is_none() { 0 } else { SOURCES }, SeqCst);
+        let inputs = Arc::new(UnalignedInputs::new(SOURCES, 20, Duration::ZERO, recorded)?);
+        *self.tasks.lock().unwrap() = Tasks { inputs: Some(inputs.clone()), barriers: vec![VecDeque::new(); SOURCES] };
+        for source in 0..SOURCES {
+            let next = numbers(&state((0, source as u16))?.unwrap_or_default()).first().copied().unwrap_or(0);
+            let inputs = inputs.clone();
+            job.spawn(move |job| Self::read(job, &inputs, source, next));
+        }
+        job.spawn(move |job| Self::write(job, &inputs));
+        Ok(())
+    }
+
+    fn barrier(&self, barrier: Barrier) -> Told {
+        self.tasks.lock().unwrap().barriers.iter_mut().for_each(|it| it.push_back(barrier));
+        Ok(())
+    }
+
+    fn complete(&self, id: u64) -> Told {
+        self.sink.publish(id)?;
+        println!("checkpoint {id}");
+        Ok(())
+    }
+
+    fn end(&self) -> Told {
+        self.tasks.lock().unwrap().inputs.iter().for_each(|it| it.close());
+        Ok(())
+    }
+}
+
+/// A checkpoint comes each 30 ms, or only if it is asked for.
+fn opened(place: &Place, interval: u64) -> Store {
+    let mut how = new_job(&SHAPE);
+    how.settings = Settings { interval, ..SETTINGS };
+    how.storage = Some(place.state());
+    Store::open(&place.job(), &how).unwrap()
+}
+
+const QUICK: u64 = 30;
+const IDLE: u64 = 1 << 40;
+
+fn runner(place: &Place, interval: u64) -> Job {
+    let store = opened(place, interval);
+    let slow = Slow::new(place, &store);
+    Runner::new(store, slow)
+}
+
+/// Tasks that are about to end have it too.
+fn closed(job: Job) {
+    while Arc::strong_count(&job) > 1 {
+        thread::sleep(Duration::from_millis(1));
+    }
+}
+
+/// Of one record alone.
+fn with_record(place: &Place, of: impl FnOnce(&Job) -> u64) -> u64 {
+    let job = runner(place, IDLE);
+    let runs = job.clone();
+    let run = thread::spawn(move || runs.run());
+    let id = of(&job);
+    job.close();
+    assert_eq!(run.join().unwrap().unwrap(), Ended::Closed);
+    closed(job);
+    id
+}
+
+/// How many elements were on the way in the record from which the job begins.
+fn recorded(place: &Place, id: u64) -> u64 {
+    let job = runner(place, IDLE);
+    job.close_after(id); // it has begun from it
+    assert_eq!(job.run().unwrap(), Ended::Closed);
+    let recorded = job.engine().recorded.load(SeqCst) as u64;
+    closed(job);
+    recorded
+}
+
+/// Each element was published once, in the order of its source. How many there are.
+fn published(place: &Place) -> u64 {
+    let mut files: Vec<_> = fs::read_dir(place.0.join("target")).unwrap().map(|it| it.unwrap().path()).collect();
+    files.retain(|it| it.extension().is_some_and(|it| it == "jsonl"));
+    files.sort(); // by their records
+    let all: String = files.iter().map(|it| fs::read_to_string(it).unwrap()).collect();
+    let mut following = BTreeMap::new();
+    for (source, element) in all.lines().filter_map(|it| it.split_once(' ')) {
+        let next = following.entry(source).or_insert(0u64);
+        assert_eq!(element.parse(), Ok(*next), "{source}");
+        *next += 1;
+    }
+    following.values().sum()
+}
+
+#[test]
+fn an_unaligned_checkpoint_is_restored_and_not_rescaled() {
+    let place = Place::new("unaligned-shape");
+    let id = with_record(&place, |job| {
+        let id = job.checkpoint(false).unwrap();
+        while job.store().load(None).unwrap().is_none() {
+            thread::sleep(Duration::from_millis(1));
+        }
+        id
+    });
+    let rescale =
+        |count| JobOf::restore(&opened(&place, IDLE), None, Some(&[SOURCES as u64, count])).map(drop).unwrap();
+    assert_eq!(recorded(&place, id), FIRST * SOURCES as u64);
+    rescale(2);
+    let told = runner(&place, IDLE).run();
+    assert!(matches!(told, Err(RunFault::NotRescalable(NotRescalable { id: refused })) if refused == id), "{told:?}");
+    rescale(1);
+    assert_eq!(recorded(&place, id), FIRST * SOURCES as u64); // nothing was swept
+}
+
+#[test]
+fn a_savepoint_is_rescaled() {
+    let place = Place::new("unaligned-savepoint");
+    let saved = with_record(&place, |job| job.savepoint().unwrap());
+    JobOf::restore(&opened(&place, IDLE), saved.try_into().ok(), Some(&[SOURCES as u64, 2])).unwrap();
+    assert_eq!(recorded(&place, saved), 0);
+}
+
+/// A process that is killed.
+#[test]
+#[ignore = "it is started by another test"]
+fn an_engine_that_is_killed() {
+    let place = ManuallyDrop::new(Place(std::env::var_os("RELKVANU_PLACE").unwrap().into())); // its folder stays
+    runner(&place, QUICK).run().unwrap();
+}
+
+#[test]
+fn kills() {
+    let place = Place::new("unaligned-kills");
+    for kill in 0..KILLS {
+        let mut child = Command::new(std::env::current_exe().unwrap());
+        child.args(["--exact", "an_engine_that_is_killed", "--ignored", "--nocapture"]).env("RELKVANU_PLACE", &place.0);
+        let mut process = child.stdout(Stdio::piped()).spawn().unwrap();
+        let mut lines = BufReader::new(process.stdout.take().unwrap()).lines().map(Result::unwrap);
+        assert!(lines.any(|it| it.starts_with("checkpoint "))); // of this process
+        thread::sleep(Duration::from_millis(7 * kill));
+        process.kill().unwrap();
+        process.wait().unwrap();
+    }
+    assert!(published(&place) > 0);
+}
