@@ -30,6 +30,10 @@ relkvanu_store *opens(const relkvanu_store_options *options, int status) {
     return store;
 }
 
+relkvanu_store *opens_with(relkvanu_store_options options) {
+    return opens(&options, RELKVANU_STORE_OK);
+}
+
 relkvanu_store_options storage_options(uint32_t flags, uint64_t image_calls) {
     static char storage[PATHS];
     relkvanu_store_options options = job_options(flags, image_calls);
@@ -56,6 +60,11 @@ void lose_job(void) {
     }
 }
 
+void lose_job_of(relkvanu_store *store) {
+    relkvanu_store_close(store);
+    lose_job();
+}
+
 uint64_t wait_of(relkvanu_store *store) {
     uint64_t wait;
     CHECK(relkvanu_store_next_tick(store, &wait) == RELKVANU_STORE_OK, "next_tick");
@@ -66,6 +75,14 @@ relkvanu_store_job_phase phase_of(relkvanu_store *store) {
     relkvanu_store_job_phase phase;
     CHECK(relkvanu_store_phase(store, &phase) == RELKVANU_STORE_OK, "the phase");
     return phase;
+}
+
+uint64_t due_of(relkvanu_store *store) {
+    relkvanu *handle;
+    CHECK(relkvanu_store_read(store, &handle) == RELKVANU_STORE_OK, "no read");
+    uint64_t due = relkvanu_due(handle).a;
+    relkvanu_store_read_end(store);
+    return due;
 }
 
 relkvanu_counts counts_of(relkvanu_store *store) {
@@ -103,11 +120,7 @@ static uint64_t reserve_to(relkvanu_store *store, uint64_t last) {
 }
 
 uint64_t checkpoint(relkvanu_store *store, uint64_t file) {
-    relkvanu *handle;
-    uint64_t term = reserve_to(store, file + 2 * SUBTASKS - 1);
-    CHECK(relkvanu_store_read(store, &handle) == RELKVANU_STORE_OK, "no read");
-    uint64_t due = relkvanu_due(handle).a;
-    relkvanu_store_read_end(store);
+    uint64_t term = reserve_to(store, file + 2 * SUBTASKS - 1), due = due_of(store);
     relkvanu_answer ticked = done(store, RELKVANU_CALL_TICK, due, 0);
     CHECK(ticked.what == RELKVANU_TICK_TRIGGERED, "what %" PRIu32, ticked.what);
     for (uint16_t i = 0; i < SUBTASKS; i++) {
@@ -199,9 +212,10 @@ bool has_text(const char *name, const char *words) {
     return strstr(text, words) != NULL;
 }
 
-static bool passes(const char *within, const struct test *test) {
+/* The status of a case, in a folder of its own. */
+static int runs(const char *within, const struct test *test, const char *which) {
     int status;
-    snprintf(folder, sizeof folder, "%s/%s", within, test->name);
+    snprintf(folder, sizeof folder, "%s/%s%s", within, test->name, which);
     CHECK(mkdir(folder, 0700) == 0, "%s", folder);
     fflush(NULL);
     pid_t child = fork();
@@ -214,13 +228,24 @@ static bool passes(const char *within, const struct test *test) {
     if (status != 0) {
         printf("store: %s failed, status %x\n", test->name, (unsigned)status);
     }
+    return status;
+}
+
+/* A case whose check failed may have lost a race with a busy machine: two of them get a second try. What a sanitizer has ended has another status. */
+static bool passes(const char *within, const struct test *test) {
+    static unsigned again;
+    int status = runs(within, test, "");
+    if (status == SIGABRT && again++ < 2) {
+        status = runs(within, test, "-again");
+        printf("store: second try: the case %s failed, and %s then\n", test->name, status == 0 ? "passed" : "failed");
+    }
     return status == 0;
 }
 
 int main(int argc, char **argv) {
     const struct test *all[] = {open_cases, damage_cases, storage_cases, call_cases, queue_cases, discard_cases, file_cases, folder_cases,
-        name_cases, object_cases, backup_cases, log_cases, told_cases, look_cases, alone_cases, manifest_cases, keeper_cases, sum_cases,
-        verb_cases, beside_cases};
+        name_cases, object_cases, backup_cases, log_cases, answer_cases, look_cases, alone_cases, manifest_cases, keeper_cases,
+        known_file_cases, command_cases, ack_extra_cases, fence_cases};
     unsigned passed = 0, failed = 0;
     CHECK(argc >= 2, "cases FOLDER [NAME]");
     for (size_t i = 0; i < sizeof all / sizeof *all; i++) {

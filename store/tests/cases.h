@@ -8,6 +8,7 @@ const char *in(const char *name);
 
 /* Opens FOLDER/x.db with these options, and expects the status. Returns NULL unless it is RELKVANU_STORE_OK. */
 relkvanu_store *opens(const relkvanu_store_options *options, int status);
+relkvanu_store *opens_with(relkvanu_store_options options);
 extern relkvanu_store_report report; /* of the last opening */
 
 relkvanu_store_options storage_options(uint32_t flags, uint64_t image_calls);
@@ -15,9 +16,11 @@ relkvanu_store_options storage_options(uint32_t flags, uint64_t image_calls);
 bool exists(const char *name);     /* in the folder of the case */
 void make_empty(const char *name); /* a file, which is not there yet */
 void lose_job(void);               /* removes x.db and what SQLite has beside it */
+void lose_job_of(relkvanu_store *store);
 
-/* What a store says of itself: how long a timer waits, whether the job has stopped, and how many files there are. */
+/* What a store says of itself: how long a timer waits, when the next checkpoint is due, whether the job has stopped, and how many files there are. */
 uint64_t wait_of(relkvanu_store *store);
+uint64_t due_of(relkvanu_store *store);
 relkvanu_store_job_phase phase_of(relkvanu_store *store);
 relkvanu_counts counts_of(relkvanu_store *store);
 
@@ -55,9 +58,11 @@ struct test {
     const char *name;
     void (*run)(void);
 };
+#define CASE(name) \
+    { #name, name }
 extern const struct test open_cases[], damage_cases[], storage_cases[], call_cases[], queue_cases[], discard_cases[], file_cases[],
-    folder_cases[], name_cases[], object_cases[], backup_cases[], log_cases[], told_cases[], look_cases[], alone_cases[], manifest_cases[],
-    keeper_cases[], sum_cases[], verb_cases[], beside_cases[];
+    folder_cases[], name_cases[], object_cases[], backup_cases[], log_cases[], answer_cases[], look_cases[], alone_cases[],
+    manifest_cases[], keeper_cases[], known_file_cases[], command_cases[], ack_extra_cases[], fence_cases[];
 
 /* Whether a file of the case has these words. */
 bool has_text(const char *name, const char *words);

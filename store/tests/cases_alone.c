@@ -10,8 +10,7 @@
 
 /* Who waits by the descriptor alone is told of one completion, too. */
 static void lone_completion(void) {
-    relkvanu_store_options options = job_options(RELKVANU_STORE_CREATE, 0);
-    relkvanu_store *store = opens(&options, RELKVANU_STORE_OK);
+    relkvanu_store *store = opens_with(job_options(RELKVANU_STORE_CREATE, 0));
     relkvanu_store_call call = {.call = {.kind = RELKVANU_CALL_SAVEPOINT}};
     relkvanu_store_completion one;
     struct pollfd it = {.fd = relkvanu_store_descriptor(store), .events = POLLIN};
@@ -28,8 +27,7 @@ static void lone_completion(void) {
 static void most_calls_of_a_commit(void) {
     enum { MANY = RELKVANU_STORE_MOST_CALLS + 100 };
     static relkvanu_store_call calls[MANY];
-    relkvanu_store_options options = job_options(RELKVANU_STORE_CREATE, 0);
-    relkvanu_store *store = opens(&options, RELKVANU_STORE_OK);
+    relkvanu_store *store = opens_with(job_options(RELKVANU_STORE_CREATE, 0));
     relkvanu *handle;
     CHECK(relkvanu_store_read(store, &handle) == RELKVANU_STORE_OK, "no read");
     for (uint64_t i = 0; i < MANY; i++) {
@@ -105,8 +103,7 @@ static void check_unissued(relkvanu_store *store, const char *after) {
 
 /* A sweep that fails changes nothing of what the last whole one counted. */
 static void sweep_that_fails(void) {
-    relkvanu_store_options options = storage_options(RELKVANU_STORE_CREATE, 0);
-    relkvanu_store *store = opens(&options, RELKVANU_STORE_OK);
+    relkvanu_store *store = opens_with(storage_options(RELKVANU_STORE_CREATE, 0));
     relkvanu_storage storage = {.check = is_storage_there, .list = list_three, .delete_files = delete_none};
     relkvanu_answer answer;
     size_t left;
@@ -132,8 +129,7 @@ int clock_gettime(clockid_t clock, struct timespec *now) {
 
 /* The store's time goes on while the machine is suspended. */
 static void suspension(void) {
-    relkvanu_store_options options = job_options(RELKVANU_STORE_CREATE, 0);
-    relkvanu_store *store = opens(&options, RELKVANU_STORE_OK);
+    relkvanu_store *store = opens_with(job_options(RELKVANU_STORE_CREATE, 0));
     uint64_t before = relkvanu_store_now(store);
     suspended = 1000000;
     uint64_t after = relkvanu_store_now(store);
@@ -223,13 +219,5 @@ static void other_files_taken(void) {
     relkvanu_store_close(opens(&options, RELKVANU_STORE_OK));
 }
 
-const struct test alone_cases[] = {
-    {"lone_completion", lone_completion},
-    {"most_calls_of_a_commit", most_calls_of_a_commit},
-    {"killed_after_an_earlier_image", killed_after_an_earlier_image},
-    {"sweep_that_fails", sweep_that_fails},
-    {"suspension", suspension},
-    {"long_marker_names", long_marker_names},
-    {"other_files_taken", other_files_taken},
-    {NULL, NULL},
-};
+const struct test alone_cases[] = {CASE(lone_completion), CASE(most_calls_of_a_commit), CASE(killed_after_an_earlier_image),
+    CASE(sweep_that_fails), CASE(suspension), CASE(long_marker_names), CASE(other_files_taken), {NULL, NULL}};

@@ -107,9 +107,7 @@ static void a_backup(void) {
 
 /* With images, whose log is cut. */
 static void a_backup_with_images(void) {
-    relkvanu_store_options options = job_options(RELKVANU_STORE_CREATE, 7);
-    options.flags = RELKVANU_STORE_CREATE;
-    relkvanu_store *store = opens(&options, RELKVANU_STORE_OK);
+    relkvanu_store *store = opens_with(job_options(RELKVANU_STORE_CREATE, 7));
     relkvanu_answer answer = {0};
     for (uint64_t i = 0; i < 40; i++) {
         CHECK(relkvanu_store_reserve(store, 1, 1, &answer) == RELKVANU_STORE_OK && answer.a == i + 1, "name %" PRIu64, answer.a);
@@ -149,8 +147,7 @@ static void flags_of_a_backup(void) {
 
 /* What else has the target's names, and what fails. Each time the store goes on. */
 static void no_backup(void) {
-    relkvanu_store_options options = job_options(RELKVANU_STORE_CREATE, 0);
-    relkvanu_store *store = opens(&options, RELKVANU_STORE_OK);
+    relkvanu_store *store = opens_with(job_options(RELKVANU_STORE_CREATE, 0));
     checkpoint(store, 1);
     backs_up(store, "nowhere/b.db", RELKVANU_STORE_NOT_PUT);
     CHECK(errno == ENOENT && strstr(message, "nowhere/b.db") != NULL, "%d: %s", errno, message);
@@ -195,8 +192,7 @@ static void a_job_in_the_way(void) {
 
 /* What a process left that was killed is begun anew. */
 static void a_part_that_was_left(void) {
-    relkvanu_store_options options = job_options(RELKVANU_STORE_CREATE, 0);
-    relkvanu_store *store = opens(&options, RELKVANU_STORE_OK);
+    relkvanu_store *store = opens_with(job_options(RELKVANU_STORE_CREATE, 0));
     checkpoint(store, 1);
     write_file("b.db.part", "SQLite format 3 and other bytes that are no part of a backup");
     write_file("b.db.part-wal", "other");
@@ -212,8 +208,7 @@ static void a_part_that_was_left(void) {
 
 /* A failed commit closes the store: there is no backup of it. */
 static void of_a_closed_store(void) {
-    relkvanu_store_options options = job_options(RELKVANU_STORE_CREATE, 0);
-    relkvanu_store *store = opens(&options, RELKVANU_STORE_OK);
+    relkvanu_store *store = opens_with(job_options(RELKVANU_STORE_CREATE, 0));
     CHECK(rename(in("x.db"), in("y.db")) == 0, "rename");
     relkvanu_store_call call = {.call = {.kind = RELKVANU_CALL_SAVEPOINT}};
     CHECK(relkvanu_store_calls(store, &call, 1) == RELKVANU_STORE_FAILED, "a commit");
@@ -228,8 +223,7 @@ static int backs_up_forked(void *store) {
 }
 
 static void in_a_forked_child(void) {
-    relkvanu_store_options options = job_options(RELKVANU_STORE_CREATE, 0);
-    relkvanu_store *store = opens(&options, RELKVANU_STORE_OK);
+    relkvanu_store *store = opens_with(job_options(RELKVANU_STORE_CREATE, 0));
     CHECK(in_child(backs_up_forked, store) == RELKVANU_STORE_FORKED && !exists("b.db"), "a child");
     check_no_part();
     relkvanu_store_close(store);
@@ -342,12 +336,8 @@ static relkvanu_answer acked(relkvanu_store *store, uint64_t term, uint64_t id, 
 /* A record of this kind, whose files have names that are reserved for it. Returns its number. */
 static uint64_t record(relkvanu_store *store, uint64_t term, uint32_t kind) {
     relkvanu_answer names;
-    relkvanu *handle;
     CHECK(relkvanu_store_reserve(store, term, SUBTASKS, &names) == RELKVANU_STORE_OK && names.code == RELKVANU_DONE, "names");
-    CHECK(relkvanu_store_read(store, &handle) == RELKVANU_STORE_OK, "a read");
-    uint64_t due = relkvanu_due(handle).a;
-    relkvanu_store_read_end(store);
-    relkvanu_answer begun = done(store, kind, due, 0);
+    relkvanu_answer begun = done(store, kind, due_of(store), 0);
     uint64_t id = kind == RELKVANU_CALL_TICK ? begun.b : begun.a;
     for (uint16_t i = 0; i < SUBTASKS; i++) {
         acked(store, term, id, i, names.a + i);
@@ -419,7 +409,6 @@ static void put_back(void) {
 /* The opening of the backup is later than those that the job has had since. */
 static void put_back_after_openings(void) {
     relkvanu_store_options options = storage_options(RELKVANU_STORE_CREATE, 0);
-    options.flags = RELKVANU_STORE_CREATE;
     relkvanu_store *store = opens(&options, RELKVANU_STORE_OK);
     backs_up(store, "b.db", RELKVANU_STORE_OK);
     options.flags = RELKVANU_STORE_RECOVER;
@@ -439,7 +428,6 @@ static void put_back_after_openings(void) {
 /* Opened several times before its first opening has ended, since the process ended or there was a fault: no name comes twice. */
 static void put_back_again(void) {
     relkvanu_store_options options = storage_options(RELKVANU_STORE_CREATE, 0);
-    options.flags = RELKVANU_STORE_CREATE;
     relkvanu_store *store = opens(&options, RELKVANU_STORE_OK);
     backs_up(store, "b.db", RELKVANU_STORE_OK);
     record(store, 1, RELKVANU_CALL_TICK);
@@ -482,7 +470,6 @@ static void put_back_elsewhere(void) {
 /* After a cancel no names are given out. */
 static void of_a_cancelled_job(void) {
     relkvanu_store_options options = storage_options(RELKVANU_STORE_CREATE, 0);
-    options.flags = RELKVANU_STORE_CREATE;
     relkvanu_store *store = opens(&options, RELKVANU_STORE_OK);
     record(store, 1, RELKVANU_CALL_TICK);
     done(store, RELKVANU_CALL_CANCEL, RELKVANU_STORE_NOW, 0);
@@ -494,9 +481,6 @@ static void of_a_cancelled_job(void) {
     CHECK(report.mode.what == RELKVANU_MODE_CANCELLED && report.next_name == SUBTASKS + 1, "next name %" PRIu64, report.next_name);
 }
 
-const struct test backup_cases[] = {{"a_backup", a_backup}, {"a_backup_with_images", a_backup_with_images},
-    {"flags_of_a_backup", flags_of_a_backup}, {"no_backup", no_backup}, {"a_job_in_the_way", a_job_in_the_way},
-    {"a_part_that_was_left", a_part_that_was_left}, {"of_a_closed_store", of_a_closed_store}, {"in_a_forked_child", in_a_forked_child},
-    {"under_load", under_load}, {"at_once", at_once}, {"put_back", put_back}, {"put_back_after_openings", put_back_after_openings},
-    {"put_back_again", put_back_again}, {"put_back_elsewhere", put_back_elsewhere}, {"of_a_cancelled_job", of_a_cancelled_job},
-    {NULL, NULL}};
+const struct test backup_cases[] = {CASE(a_backup), CASE(a_backup_with_images), CASE(flags_of_a_backup), CASE(no_backup),
+    CASE(a_job_in_the_way), CASE(a_part_that_was_left), CASE(of_a_closed_store), CASE(in_a_forked_child), CASE(under_load), CASE(at_once),
+    CASE(put_back), CASE(put_back_after_openings), CASE(put_back_again), CASE(put_back_elsewhere), CASE(of_a_cancelled_job), {NULL, NULL}};

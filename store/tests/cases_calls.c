@@ -1,13 +1,12 @@
 /* Calls and reads of one thread: lists, moments, the timer, images and the cut of the log. */
 #include "cases.h"
 
-#include "../src/parts.h"
+#include "../src/store.h"
 
 #include <unistd.h>
 
 static relkvanu_store *new_job(uint64_t image_calls) {
-    relkvanu_store_options options = job_options(RELKVANU_STORE_CREATE, image_calls);
-    return opens(&options, RELKVANU_STORE_OK);
+    return opens_with(job_options(RELKVANU_STORE_CREATE, image_calls));
 }
 
 static void lists(void) {
@@ -163,18 +162,17 @@ static void a_moment_ahead(void) {
 
 /* A commit wakes timers and discarders only if what they wait for has changed: otherwise the version of it stays. */
 static void quiet_commits(void) {
-    relkvanu_store_options options = storage_options(RELKVANU_STORE_CREATE, RELKVANU_STORE_NO_IMAGES);
-    relkvanu_store *store = opens(&options, RELKVANU_STORE_OK);
+    relkvanu_store *store = opens_with(storage_options(RELKVANU_STORE_CREATE, RELKVANU_STORE_NO_IMAGES));
     checkpoint(store, 1);
-    uint64_t version = store->version;
+    uint64_t version = store->timers.version;
     checkpoint(store, 101); /* another tick is due, and the files of the first one wait */
-    CHECK(store->version > version && store->view.has_files, "%" PRIu64 " versions", store->version - version);
-    version = store->version;
+    CHECK(store->timers.version > version && store->timers.view.has_files, "%" PRIu64 " versions", store->timers.version - version);
+    version = store->timers.version;
     for (int i = 0; i < 50; i++) {
         done(store, RELKVANU_CALL_SAVEPOINT, 20, 0);
     }
-    CHECK(
-        store->version <= version + 1, "50 commits, %" PRIu64 " versions", store->version - version); /* the first one may move the clock */
+    CHECK(store->timers.version <= version + 1, "50 commits, %" PRIu64 " versions",
+        store->timers.version - version); /* the first one may move the clock */
     relkvanu_store_close(store);
 }
 
@@ -208,13 +206,11 @@ static void images_and_cuts(void) {
     struct told *rows = log_rows(in("x.db"), 0, &len);
     CHECK(len > 100 && len < 300 && rows[len - 1].place == calls, "%zu rows", len);
     free(rows);
-    relkvanu_store_options options = job_options(RELKVANU_STORE_RECOVER, 100);
-    store = opens(&options, RELKVANU_STORE_OK);
+    store = opens_with(job_options(RELKVANU_STORE_RECOVER, 100));
     CHECK(report.replayed == 0 && report.image_place == calls, "an image was made at the close");
     checkpoint(store, 1000000);
     relkvanu_store_close(store);
 }
 
-const struct test call_cases[] = {{"lists", lists}, {"bad_arguments", bad_arguments}, {"moments", moments},
-    {"the_next_tick", the_next_tick}, {"a_moment_ahead", a_moment_ahead}, {"quiet_commits", quiet_commits},
-    {"an_awaited_tick", an_awaited_tick}, {"images_and_cuts", images_and_cuts}, {NULL, NULL}};
+const struct test call_cases[] = {CASE(lists), CASE(bad_arguments), CASE(moments), CASE(the_next_tick), CASE(a_moment_ahead),
+    CASE(quiet_commits), CASE(an_awaited_tick), CASE(images_and_cuts), {NULL, NULL}};

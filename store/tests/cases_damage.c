@@ -1,7 +1,7 @@
 /* Files that are no job, or are damaged: an opening says so, and where. */
 #include "cases.h"
 
-#include "../src/parts.h"
+#include "../src/store.h"
 
 #include <fcntl.h>
 #include <sys/stat.h>
@@ -11,8 +11,7 @@ enum { CALLS = 2 * CHECKPOINT_CALLS, LAST = CALLS - 1, LEFT = 45, IMAGE_CALLS = 
 
 /* A job whose log has 20 calls, two checkpoints; closed. */
 static void make_job(uint64_t image_calls) {
-    relkvanu_store_options options = job_options(RELKVANU_STORE_CREATE, image_calls);
-    relkvanu_store *store = opens(&options, RELKVANU_STORE_OK);
+    relkvanu_store *store = opens_with(job_options(RELKVANU_STORE_CREATE, image_calls));
     checkpoint(store, 1);
     checkpoint(store, 100);
     relkvanu_store_close(store);
@@ -41,11 +40,9 @@ static void other_files(void) {
     unlink(in("x.db-wal"));
     make_job(RELKVANU_STORE_NO_IMAGES);
     run_sql(in("x.db"), "PRAGMA user_version=3");
-    refuses(RELKVANU_STORE_NOT_A_STORE, "later version");
-    run_sql(in("x.db"), "PRAGMA user_version=1");
-    refuses(RELKVANU_STORE_NOT_A_STORE, "a job without names");
+    refuses(RELKVANU_STORE_NOT_A_STORE, "another version");
     run_sql(in("x.db"), "PRAGMA user_version=101");
-    refuses(RELKVANU_STORE_NOT_A_STORE, "a job without names");
+    refuses(RELKVANU_STORE_NOT_A_STORE, "another version");
     run_sql(in("x.db"), "PRAGMA user_version=2");
     CHECK(link(in("x.db"), in("y.db")) == 0, "a second name");
     refuses(RELKVANU_STORE_FAILED, "several names");
@@ -91,8 +88,7 @@ static void other_answers(void) {
     replace_last("no line", RELKVANU_DISPOSED, 0, 0);
     refuses(RELKVANU_STORE_DIFFERS, "call 20");
     replace_last(rows[LAST].line, RELKVANU_ACK_COMPLETED, 1, 16);
-    relkvanu_store_options options = job_options(RELKVANU_STORE_RECOVER, 0);
-    relkvanu_store_close(opens(&options, RELKVANU_STORE_OK));
+    relkvanu_store_close(opens_with(job_options(RELKVANU_STORE_RECOVER, 0)));
     free(rows);
 }
 
@@ -168,8 +164,7 @@ static void an_earlier_image(void) {
 
 /* Reserves names one by one, with an image after each tenth call or so, and ends without a close. */
 static int leave_open(void *with) {
-    relkvanu_store_options options = job_options(RELKVANU_STORE_CREATE, IMAGE_CALLS);
-    relkvanu_store *store = opens(&options, RELKVANU_STORE_OK);
+    relkvanu_store *store = opens_with(job_options(RELKVANU_STORE_CREATE, IMAGE_CALLS));
     relkvanu_answer answer;
     (void)with;
     for (uint64_t name = 1; name <= LEFT; name++) {
@@ -180,10 +175,9 @@ static int leave_open(void *with) {
 
 /* The log is cut behind images, and stays whole behind the earlier one of the last two. */
 static void log_behind_both_images(void) {
-    relkvanu_store_options options = job_options(RELKVANU_STORE_EARLIER_IMAGE, IMAGE_CALLS);
     CHECK(in_child(leave_open, NULL) == 0, "the job");
     run_sql(in("x.db"), "UPDATE image SET sum = sum + 1 WHERE place = (SELECT max(place) FROM image)");
-    relkvanu_store *store = opens(&options, RELKVANU_STORE_OK);
+    relkvanu_store *store = opens_with(job_options(RELKVANU_STORE_EARLIER_IMAGE, IMAGE_CALLS));
     CHECK(report.image_place != 0 && report.image_place + report.replayed == LEFT, "%" PRIu64 ", %" PRIu64, report.image_place,
         report.replayed);
     CHECK(report.replayed > IMAGE_CALLS && report.next_name == LEFT + 1, "%" PRIu64 ", %" PRIu64, report.replayed, report.next_name);
@@ -227,8 +221,7 @@ static uint64_t images_of(relkvanu_store *store) {
 /* A large image waits until the log has several times its bytes, however many calls these are. */
 static void large_images(void) {
     static relkvanu_store_call calls[RELKVANU_STORE_MOST_CALLS];
-    relkvanu_store_options options = job_options(RELKVANU_STORE_CREATE, IMAGE_CALLS);
-    relkvanu_store *store = opens(&options, RELKVANU_STORE_OK);
+    relkvanu_store *store = opens_with(job_options(RELKVANU_STORE_CREATE, IMAGE_CALLS));
     save_many(store);
     uint64_t images = images_of(store), forfeits = 0;
     CHECK(images != 0, "no image has all these files");
@@ -243,7 +236,7 @@ static void large_images(void) {
     }
     CHECK(images_of(store) == images + 1 && forfeits != 8, "%" PRIu64 " images after %" PRIu64 " forfeits", images_of(store), forfeits);
     relkvanu_store_close(store);
-    relkvanu_store_close(opens(&options, RELKVANU_STORE_OK));
+    relkvanu_store_close(opens_with(job_options(RELKVANU_STORE_CREATE, IMAGE_CALLS)));
 }
 
 static void copy_file(const char *from, const char *to, long flip) {
@@ -315,6 +308,5 @@ static void replaced_files(void) {
     }
 }
 
-const struct test damage_cases[] = {{"other_files", other_files}, {"other_answers", other_answers}, {"other_names", other_names},
-    {"damaged_rows", damaged_rows}, {"an_earlier_image", an_earlier_image}, {"log_behind_both_images", log_behind_both_images},
-    {"large_images", large_images}, {"any_damaged_byte", any_damaged_byte}, {"replaced_files", replaced_files}, {NULL, NULL}};
+const struct test damage_cases[] = {CASE(other_files), CASE(other_answers), CASE(other_names), CASE(damaged_rows), CASE(an_earlier_image),
+    CASE(log_behind_both_images), CASE(large_images), CASE(any_damaged_byte), CASE(replaced_files), {NULL, NULL}};

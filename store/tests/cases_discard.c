@@ -86,8 +86,7 @@ static bool has_file(relkvanu_store *store, uint64_t file) {
 }
 
 static void deletes_and_reports(void) {
-    relkvanu_store_options options = storage_options(RELKVANU_STORE_CREATE, 0);
-    relkvanu_store *store = opens(&options, RELKVANU_STORE_OK);
+    relkvanu_store *store = opens_with(storage_options(RELKVANU_STORE_CREATE, 0));
     struct discarding d = {0}, second = {.store = store, .batch = 5};
     CHECK(relkvanu_store_discard(store, 4096, delete_files, &d) == RELKVANU_STORE_BAD_ARGUMENT, "a large batch");
     start(&d, store, 5);
@@ -106,8 +105,7 @@ static void deletes_and_reports(void) {
 }
 
 static void never_gives_up(void) {
-    relkvanu_store_options options = storage_options(RELKVANU_STORE_CREATE, 0);
-    relkvanu_store *store = opens(&options, RELKVANU_STORE_OK);
+    relkvanu_store *store = opens_with(storage_options(RELKVANU_STORE_CREATE, 0));
     struct discarding d = {0};
     d.stubborn = 7;
     start(&d, store, 4);
@@ -128,8 +126,7 @@ static void never_gives_up(void) {
 
 /* A process ended between a take and its reports: one file is deleted, the other is not. */
 static void settles(void) {
-    relkvanu_store_options options = storage_options(RELKVANU_STORE_CREATE, 0);
-    relkvanu_store *store = opens(&options, RELKVANU_STORE_OK);
+    relkvanu_store *store = opens_with(storage_options(RELKVANU_STORE_CREATE, 0));
     uint64_t files[16];
     relkvanu_store_call take = {.call = {.kind = RELKVANU_CALL_TAKE, .number = 16}, .files = files, .files_len = 16};
     checkpoint_with_files(store, 1);
@@ -137,8 +134,7 @@ static void settles(void) {
     CHECK(relkvanu_store_calls(store, &take, 1) == RELKVANU_STORE_OK && take.answer.a == 16, "a take");
     CHECK(unlinkat(relkvanu_store_folder(store), "3", 0) == 0, "file 3");
     relkvanu_store_close(store);
-    options.flags = RELKVANU_STORE_RECOVER;
-    store = opens(&options, RELKVANU_STORE_OK);
+    store = opens_with(storage_options(RELKVANU_STORE_RECOVER, 0));
     CHECK(report.taken == 16, "%" PRIu64 " taken", report.taken);
     struct discarding d = {0};
     start(&d, store, 3);
@@ -150,8 +146,7 @@ static void settles(void) {
 
 /* Without the marker a missing file is not gone. */
 static void without_marker(void) {
-    relkvanu_store_options options = storage_options(RELKVANU_STORE_CREATE, 0);
-    relkvanu_store *store = opens(&options, RELKVANU_STORE_OK);
+    relkvanu_store *store = opens_with(storage_options(RELKVANU_STORE_CREATE, 0));
     struct discarding d = {0};
     CHECK(renameat(relkvanu_store_folder(store), ".relkvanu-job", relkvanu_store_folder(store), "away") == 0, "marker");
     start(&d, store, 16);
@@ -175,8 +170,7 @@ static void write_marker(relkvanu_store *store, uint64_t job, uint64_t epoch) {
 
 /* Another host has opened a copy of the job, or has given the folder to another job: nothing of it is deleted any more. */
 static void another_opening(void) {
-    relkvanu_store_options options = storage_options(RELKVANU_STORE_CREATE, 0);
-    relkvanu_store *store = opens(&options, RELKVANU_STORE_OK);
+    relkvanu_store *store = opens_with(storage_options(RELKVANU_STORE_CREATE, 0));
     struct discarding d = {.store = store, .batch = 16};
     size_t left;
     checkpoint_with_files(store, 1);
@@ -243,8 +237,7 @@ static bool is_never_asked(void *with, const uint64_t *files, size_t len, uint8_
 
 /* Each of these would wait for what only the end of the read can bring: so the first one waits for a second at most. */
 static void in_a_read(void) {
-    relkvanu_store_options options = storage_options(RELKVANU_STORE_CREATE, 0);
-    relkvanu_store *store = opens(&options, RELKVANU_STORE_OK);
+    relkvanu_store *store = opens_with(storage_options(RELKVANU_STORE_CREATE, 0));
     struct discarding d = {.store = store, .batch = 5};
     relkvanu_store_call tick;
     relkvanu *handle;
@@ -268,6 +261,5 @@ static void in_a_read(void) {
     relkvanu_store_close(store);
 }
 
-const struct test discard_cases[] = {{"deletes_and_reports", deletes_and_reports}, {"never_gives_up", never_gives_up}, {"settles", settles},
-    {"without_marker", without_marker}, {"another_opening", another_opening}, {"an_end_without_a_cancel", an_end_without_a_cancel},
-    {"in_a_read", in_a_read}, {NULL, NULL}};
+const struct test discard_cases[] = {CASE(deletes_and_reports), CASE(never_gives_up), CASE(settles), CASE(without_marker),
+    CASE(another_opening), CASE(an_end_without_a_cancel), CASE(in_a_read), {NULL, NULL}};

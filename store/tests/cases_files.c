@@ -7,8 +7,7 @@
 #include <unistd.h>
 
 static relkvanu_store *opened(void) {
-    relkvanu_store_options options = storage_options(RELKVANU_STORE_CREATE, 0);
-    return opens(&options, RELKVANU_STORE_OK);
+    return opens_with(storage_options(RELKVANU_STORE_CREATE, 0));
 }
 
 static void put_and_read(void) {
@@ -60,8 +59,7 @@ static void no_marker(void) {
 }
 
 static void no_storage(void) {
-    relkvanu_store_options options = job_options(RELKVANU_STORE_CREATE, 0);
-    relkvanu_store *store = opens(&options, RELKVANU_STORE_OK);
+    relkvanu_store *store = opens_with(job_options(RELKVANU_STORE_CREATE, 0));
     uint64_t file = 7;
     uint8_t is_gone = 1;
     size_t left;
@@ -111,13 +109,5 @@ static void sweeps(void) {
     relkvanu_store_close(store);
 }
 
-const struct test file_cases[] = {
-    {"put_and_read", put_and_read},
-    {"a_number_is_put_once", a_number_is_put_once},
-    {"one_that_can_not_be_written", one_that_can_not_be_written},
-    {"puts_without_marker", no_marker},
-    {"puts_without_storage", no_storage},
-    {"deletes", deletes},
-    {"sweeps", sweeps},
-    {NULL, NULL},
-};
+const struct test file_cases[] = {CASE(put_and_read), CASE(a_number_is_put_once), CASE(one_that_can_not_be_written),
+    {"puts_without_marker", no_marker}, {"puts_without_storage", no_storage}, CASE(deletes), CASE(sweeps), {NULL, NULL}};

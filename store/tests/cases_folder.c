@@ -454,21 +454,8 @@ static void threads_share_a_folder(void) {
     relkvanu_storage_close_folder(&it);
 }
 
-const struct test folder_cases[] = {
-    {"a_marker_names_the_job", a_marker_names_the_job},
-    {"a_new_job_needs_an_empty_folder", a_new_job_needs_an_empty_folder},
-    {"bad_arguments_of_a_folder", bad_arguments},
-    {"files_of_a_folder", files_of_a_folder},
-    {"one_that_can_not_be_put", one_that_can_not_be_put},
-    {"syncs_that_fail", syncs_that_fail},
-    {"a_marker_that_is_not_synced", a_marker_that_is_not_synced},
-    {"killed_before_the_rename", killed_before_the_rename},
-    {"links_are_not_followed", links_are_not_followed},
-    {"the_marker_of_another_job", the_marker_of_another_job},
-    {"the_folder_is_removed", the_folder_is_removed},
-    {"names_with_unusual_bytes", names_with_unusual_bytes},
-    {"names_with_digits", names_with_digits},
-    {"pages_of_a_listing", pages_of_a_listing},
-    {"threads_share_a_folder", threads_share_a_folder},
-    {NULL, NULL},
-};
+const struct test folder_cases[] = {CASE(a_marker_names_the_job), CASE(a_new_job_needs_an_empty_folder),
+    {"bad_arguments_of_a_folder", bad_arguments}, CASE(files_of_a_folder), CASE(one_that_can_not_be_put), CASE(syncs_that_fail),
+    CASE(a_marker_that_is_not_synced), CASE(killed_before_the_rename), CASE(links_are_not_followed), CASE(the_marker_of_another_job),
+    CASE(the_folder_is_removed), CASE(names_with_unusual_bytes), CASE(names_with_digits), CASE(pages_of_a_listing),
+    CASE(threads_share_a_folder), {NULL, NULL}};

@@ -1,7 +1,7 @@
 /* The thread that writes a manifest while others call: who goes on meanwhile, who waits, and what becomes of a manifest that can't be written. */
 #include "cases.h"
 
-#include "../src/parts.h"
+#include "../src/store.h"
 
 #include <errno.h>
 #include <pthread.h>
@@ -83,15 +83,14 @@ static void begins_behind_a_read(relkvanu_store *store, struct caller *it) {
     for (bool is_queued = false; !is_queued;) { /* one that came later would be alone */
         usleep(1000);
         pthread_mutex_lock(&store->mutex);
-        is_queued = store->queued != 0;
+        is_queued = store->queue.queued != 0;
         pthread_mutex_unlock(&store->mutex);
     }
     relkvanu_store_read_end(store);
 }
 
 static relkvanu_store *opens_with_manifests(void) {
-    relkvanu_store_options options = storage_options(RELKVANU_STORE_CREATE | RELKVANU_STORE_MANIFESTS, 0);
-    return opens(&options, RELKVANU_STORE_OK);
+    return opens_with(storage_options(RELKVANU_STORE_CREATE | RELKVANU_STORE_MANIFESTS, 0));
 }
 
 /* Acknowledgements of other records and reservations are answered. Who completed the record, who reads and who begins a record is answered behind the manifest. */
@@ -109,6 +108,7 @@ static void others_go_on(void) {
     CHECK(makes(store, ack(other, 0)).what == RELKVANU_ACK_PENDING, "an acknowledgement");
     CHECK(makes(store, (relkvanu_store_call){.call = {.kind = RELKVANU_CALL_RESERVE, .number = 3, .term = 1}}).what == RELKVANU_RESERVED,
         "a reservation");
+    usleep(20000); /* longer than the interval, so that a tick is due */
     start(&begins);
     usleep(100000);
     start(&reads);
@@ -257,8 +257,7 @@ static void checksums_beside(void) {
     relkvanu_store *store = opens_with_manifests();
     relkvanu_answer names;
     relkvanu_store_close(store);
-    relkvanu_store_options options = storage_options(RELKVANU_STORE_MANIFESTS | RELKVANU_STORE_CHECKSUMS, 0);
-    store = opens(&options, RELKVANU_STORE_OK);
+    store = opens_with(storage_options(RELKVANU_STORE_MANIFESTS | RELKVANU_STORE_CHECKSUMS, 0));
     for (uint64_t id = 1; id <= 3; id++) {
         CHECK(relkvanu_store_reserve(store, report.term, 1, &names) == RELKVANU_STORE_OK && names.code == RELKVANU_DONE, "no name");
         CHECK(relkvanu_store_put(store, names.a, "123456789", 9) == RELKVANU_STORE_OK, "no file");
@@ -278,7 +277,5 @@ static void checksums_beside(void) {
     relkvanu_store_close(store);
 }
 
-const struct test keeper_cases[] = {{"others_go_on", others_go_on}, {"a_trigger_by_hand", a_trigger_by_hand},
-    {"submits_keep_their_order", submits_keep_their_order}, {"one_record_behind", one_record_behind},
-    {"manifests_that_fail_beside", manifests_that_fail_beside}, {"ended_manifests_go_beside", ended_manifests_go_beside},
-    {"checksums_beside", checksums_beside}, {NULL, NULL}};
+const struct test keeper_cases[] = {CASE(others_go_on), CASE(a_trigger_by_hand), CASE(submits_keep_their_order), CASE(one_record_behind),
+    CASE(manifests_that_fail_beside), CASE(ended_manifests_go_beside), CASE(checksums_beside), {NULL, NULL}};

@@ -50,8 +50,7 @@ static void reserve_list(relkvanu_store *store, size_t len) {
 /* Ends as if it was killed. */
 static int reserves(void *with) {
     (void)with;
-    relkvanu_store_options options = names_options(RELKVANU_STORE_CREATE, RELKVANU_STORE_NO_IMAGES);
-    relkvanu_store *store = opens(&options, RELKVANU_STORE_OK);
+    relkvanu_store *store = opens_with(names_options(RELKVANU_STORE_CREATE, RELKVANU_STORE_NO_IMAGES));
     for (int made = 0; made < CALLS; made += LIST) {
         reserve_list(store, LIST);
     }
@@ -122,8 +121,7 @@ static void any_bit_of_the_wal(void) {
 /* Each bit of the first 12 bytes of each page. Without a -wal: an opening that was killed has brought it into the file. */
 static int reopens(void *with) {
     (void)with;
-    relkvanu_store_options options = names_options(RELKVANU_STORE_RECOVER, RELKVANU_STORE_NO_IMAGES);
-    opens(&options, RELKVANU_STORE_OK);
+    opens_with(names_options(RELKVANU_STORE_RECOVER, RELKVANU_STORE_NO_IMAGES));
     _exit(7);
 }
 
@@ -166,8 +164,7 @@ static int fills_the_wal(void *with) {
     size_t begin, end;
     int made = 0;
     (void)with;
-    relkvanu_store_options options = names_options(RELKVANU_STORE_CREATE, RELKVANU_STORE_NO_IMAGES);
-    relkvanu_store *store = opens(&options, RELKVANU_STORE_OK);
+    relkvanu_store *store = opens_with(names_options(RELKVANU_STORE_CREATE, RELKVANU_STORE_NO_IMAGES));
     do {
         reserve_list(store, 1);
         made++;
@@ -201,8 +198,7 @@ enum { LAST_LIST = 200 };
 static int makes_torn(void *with) {
     struct kept lock;
     (void)with;
-    relkvanu_store_options options = names_options(RELKVANU_STORE_CREATE, RELKVANU_STORE_NO_IMAGES);
-    relkvanu_store *store = opens(&options, RELKVANU_STORE_OK);
+    relkvanu_store *store = opens_with(names_options(RELKVANU_STORE_CREATE, RELKVANU_STORE_NO_IMAGES));
     reserve_list(store, LIST);
     keep(&lock, "x.db.lock");
     reserve_list(store, LAST_LIST);
@@ -277,9 +273,8 @@ static void an_older_file(void) {
 
 /* A tail whose own sum does not fit says nothing. */
 static void a_damaged_tail(void) {
-    relkvanu_store_options options = names_options(RELKVANU_STORE_CREATE, RELKVANU_STORE_NO_IMAGES);
     struct kept lock;
-    relkvanu_store *store = opens(&options, RELKVANU_STORE_OK);
+    relkvanu_store *store = opens_with(names_options(RELKVANU_STORE_CREATE, RELKVANU_STORE_NO_IMAGES));
     reserve_list(store, LIST);
     relkvanu_store_close(store);
     keep(&lock, "x.db.lock");
@@ -287,11 +282,10 @@ static void a_damaged_tail(void) {
     CHECK(tail != NULL && strstr(tail, " 20 ") != NULL, "no tail of call 20");
     tail[10] = (char)(tail[10] ^ 1); /* its own sum is another one: it is no tail */
     put_back(&lock, lock.len);
-    relkvanu_store_close(opens(&options, RELKVANU_STORE_OK));
+    relkvanu_store_close(opens_with(names_options(RELKVANU_STORE_CREATE, RELKVANU_STORE_NO_IMAGES)));
     CHECK(report.next_name == LIST * 10 + 1, "next name %" PRIu64, report.next_name);
     free(lock.bytes);
 }
 
-const struct test log_cases[] = {{"any_bit_of_the_wal", any_bit_of_the_wal}, {"any_bit_of_a_page_header", any_bit_of_a_page_header},
-    {"damage_without_a_tail", damage_without_a_tail}, {"torn_last_commits", torn_last_commits}, {"an_older_file", an_older_file},
-    {"a_damaged_tail", a_damaged_tail}, {NULL, NULL}};
+const struct test log_cases[] = {CASE(any_bit_of_the_wal), CASE(any_bit_of_a_page_header), CASE(damage_without_a_tail),
+    CASE(torn_last_commits), CASE(an_older_file), CASE(a_damaged_tail), {NULL, NULL}};

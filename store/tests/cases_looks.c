@@ -49,8 +49,7 @@ static uint64_t left_in(relkvanu_store *store) {
 
 /* A discarder of a store with files that the second checkpoint has released. */
 static void start(struct discarding *d) {
-    relkvanu_store_options options = storage_options(RELKVANU_STORE_CREATE, 0);
-    d->store = opens(&options, RELKVANU_STORE_OK);
+    d->store = opens_with(storage_options(RELKVANU_STORE_CREATE, 0));
     checkpoint(d->store, 1);
     checkpoint(d->store, 101);
     CHECK(counts_of(d->store).waiting == RELEASED, "%" PRIu64 " wait", counts_of(d->store).waiting);
@@ -166,8 +165,7 @@ int sqlite3_exec(sqlite3 *db, const char *sql, int (*row)(void *, int, char **, 
 /* A copy that is damaged is no backup, and neither is one that is not synced. */
 static void bad_copies(void) {
     char words[RELKVANU_STORE_MESSAGE];
-    relkvanu_store_options options = job_options(RELKVANU_STORE_CREATE, 0);
-    relkvanu_store *store = opens(&options, RELKVANU_STORE_OK);
+    relkvanu_store *store = opens_with(job_options(RELKVANU_STORE_CREATE, 0));
     is_damaged = true;
     int got = relkvanu_store_backup(store, in("b.db"), words, sizeof words);
     CHECK(got == RELKVANU_STORE_NOT_PUT && !exists("b.db") && !exists("b.db.part"), "status %d: %s", got, words);
@@ -235,16 +233,10 @@ static void unsynced_commit(void) {
     relkvanu_store_call call = {.call = {.kind = RELKVANU_CALL_SAVEPOINT, .now = 2}};
     int got = relkvanu_store_calls(store, &call, 1);
     CHECK(failed_syncs == 1 && got == RELKVANU_STORE_FAILED, "status %d after %u syncs that failed", got, failed_syncs);
+    CHECK(call.answer.code == RELKVANU_STORE_NOT_MADE && call.place == 0, "code %" PRIu32, call.answer.code);
+    CHECK(relkvanu_store_calls(store, &call, 1) == RELKVANU_STORE_CLOSED, "it goes on");
     relkvanu_store_close(store);
 }
 
-const struct test look_cases[] = {
-    {"waits_grow", waits_grow},
-    {"unsynced_deletions", unsynced_deletions},
-    {"marker_goes_during_deletions", marker_goes_during_deletions},
-    {"marker_of_a_storage_goes", marker_of_a_storage_goes},
-    {"bad_copies", bad_copies},
-    {"unsynced_opening", unsynced_opening},
-    {"unsynced_commit", unsynced_commit},
-    {NULL, NULL},
-};
+const struct test look_cases[] = {CASE(waits_grow), CASE(unsynced_deletions), CASE(marker_goes_during_deletions),
+    CASE(marker_of_a_storage_goes), CASE(bad_copies), CASE(unsynced_opening), CASE(unsynced_commit), {NULL, NULL}};

@@ -4,6 +4,8 @@
 #include <dirent.h>
 #include <errno.h>
 #include <fcntl.h>
+#include <pthread.h>
+#include <stdatomic.h>
 #include <sys/stat.h>
 #include <time.h>
 #include <unistd.h>
@@ -113,8 +115,7 @@ static void check_manifest(uint64_t id, uint64_t file) {
 
 /* The manifest is there when a record is complete, and goes when it ends. */
 static void manifests_of_records(void) {
-    relkvanu_store_options options = manifests(RELKVANU_STORE_CREATE);
-    relkvanu_store *store = opens(&options, RELKVANU_STORE_OK);
+    relkvanu_store *store = opens_with(manifests(RELKVANU_STORE_CREATE));
     relkvanu_store_measures measures;
     uint64_t first = 0;
     CHECK(completes(store, 1, RELKVANU_CALL_TRIGGER, &first) == 1, "the number");
@@ -158,9 +159,8 @@ static void manifests_are_asked_for(void) {
 static void a_sweep_of_manifests(void) {
     static const char *const foreign[] = {"record-7", "record-07.manifest", "record-.manifest", "record-7.manifest.old", "manifest"};
     static const char *const stale[] = {"record-7.manifest", "record-7.manifest.part", "record-1.manifest.part"};
-    relkvanu_store_options options = manifests(RELKVANU_STORE_CREATE);
     size_t left = 1;
-    relkvanu_store *store = opens(&options, RELKVANU_STORE_OK);
+    relkvanu_store *store = opens_with(manifests(RELKVANU_STORE_CREATE));
     completes(store, 1, RELKVANU_CALL_TRIGGER, NULL);
     for (size_t i = 0; i < 8; i++) {
         char name[PATHS];
@@ -180,9 +180,8 @@ static void a_sweep_of_manifests(void) {
 
 /* A manifest that can't be written stops no call, and is written later. */
 static void manifests_that_fail(void) {
-    relkvanu_store_options options = manifests(RELKVANU_STORE_CREATE);
     relkvanu_store_measures measures;
-    relkvanu_store *store = opens(&options, RELKVANU_STORE_OK);
+    relkvanu_store *store = opens_with(manifests(RELKVANU_STORE_CREATE));
     completes(store, 1, RELKVANU_CALL_TRIGGER, NULL);
     fail_syncs("/record-2.manifest.part", EIO);
     completes(store, 1, RELKVANU_CALL_TRIGGER, NULL);
@@ -278,8 +277,7 @@ static void a_lost_job(void) {
     char left[PATHS];
     snprintf(left, sizeof left, "storage/%" PRIu64, late);
     CHECK(!exists(left) && list_records() == 1 && records[0].missing == 0, "what is left");
-    relkvanu_store_close(store);
-    lose_job();
+    lose_job_of(store);
     CHECK(rename(in("old.db"), in("x.db")) == 0, "the old file");
     options.flags = RELKVANU_STORE_MANIFESTS;
     opens(&options, RELKVANU_STORE_STORAGE);
@@ -305,22 +303,19 @@ static void a_folder_that_was_full(void) {
 
 /* A second loss, also before the recovered job was opened. */
 static void lost_again(void) {
-    relkvanu_store_options options = manifests(RELKVANU_STORE_CREATE);
-    relkvanu_store *store = opens(&options, RELKVANU_STORE_OK);
+    relkvanu_store *store = opens_with(manifests(RELKVANU_STORE_CREATE));
     uint64_t first = 0, id = completes(store, 1, RELKVANU_CALL_TRIGGER, &first);
-    relkvanu_store_close(store);
-    lose_job();
+    lose_job_of(store);
     recovers(0, RELKVANU_STORE_OK);
     lose_job();
     recovers(0, RELKVANU_STORE_OK);
-    store = opens(&options, RELKVANU_STORE_OK);
+    store = opens_with(manifests(RELKVANU_STORE_CREATE));
     CHECK(choice_of(store) == id && has_files(store, id, first), "the choice");
     uint64_t term = report.term, name = report.next_name, next = completes(store, term, RELKVANU_CALL_TRIGGER, &first);
-    relkvanu_store_close(store);
-    lose_job();
+    lose_job_of(store);
     recovers(0, RELKVANU_STORE_OK);
     CHECK(recovered.record == next && recovered.term > term && recovered.next_name > name + 7, "what is next");
-    store = opens(&options, RELKVANU_STORE_OK);
+    store = opens_with(manifests(RELKVANU_STORE_CREATE));
     CHECK(choice_of(store) == next && has_files(store, next, first), "the choice");
     goes_on(store, next, term, name + 8);
     relkvanu_store_close(store);
@@ -328,21 +323,19 @@ static void lost_again(void) {
 
 /* Why there is nothing to make a job of. Nothing changes then. */
 static void nothing_to_recover(void) {
-    relkvanu_store_options options = manifests(RELKVANU_STORE_CREATE);
     uint64_t first = 0;
     char name[PATHS];
     recovers(0, RELKVANU_STORE_STORAGE); /* no marker */
-    relkvanu_store *store = opens(&options, RELKVANU_STORE_OK);
+    relkvanu_store *store = opens_with(manifests(RELKVANU_STORE_CREATE));
     recovers(0, RELKVANU_STORE_IN_USE);
     relkvanu_store_close(store);
     recovers(0, RELKVANU_STORE_PRESENT);
     lose_job();
     recovers(0, RELKVANU_STORE_ABSENT); /* no record was complete */
     CHECK(unlink(in("storage/.relkvanu-job")) == 0, "the marker");
-    store = opens(&options, RELKVANU_STORE_OK);
+    store = opens_with(manifests(RELKVANU_STORE_CREATE));
     completes(store, 1, RELKVANU_CALL_TRIGGER, &first);
-    relkvanu_store_close(store);
-    lose_job();
+    lose_job_of(store);
     recovers(9, RELKVANU_STORE_ABSENT);
     snprintf(name, sizeof name, "storage/%" PRIu64, first + 3);
     CHECK(truncate(in(name), 3) == 0, "%s", name); /* it had 4 bytes */
@@ -362,13 +355,11 @@ static void nothing_to_recover(void) {
 
 /* Each byte of a manifest is looked at. */
 static void damaged_manifests(void) {
-    relkvanu_store_options options = manifests(RELKVANU_STORE_CREATE);
-    relkvanu_store *store = opens(&options, RELKVANU_STORE_OK);
+    relkvanu_store *store = opens_with(manifests(RELKVANU_STORE_CREATE));
     struct stat is;
     completes(store, 1, RELKVANU_CALL_SAVEPOINT, NULL);
     completes(store, 1, RELKVANU_CALL_TRIGGER, NULL);
-    relkvanu_store_close(store);
-    lose_job();
+    lose_job_of(store);
     int file = open(in("storage/record-2.manifest"), O_RDWR);
     CHECK(file >= 0 && fstat(file, &is) == 0 && is.st_size > 600, "the manifest");
     for (off_t at = 0; at < is.st_size; at += at < 100 || at > is.st_size - 30 ? 1 : 7) {
@@ -395,12 +386,10 @@ static void damaged_manifests(void) {
 
 /* A later version wrote the manifest, far above what the others say was told. One that is earlier than the choice says nothing of it. */
 static void manifests_that_cannot_be_read(void) {
-    relkvanu_store_options options = manifests(RELKVANU_STORE_CREATE);
-    relkvanu_store *store = opens(&options, RELKVANU_STORE_OK);
+    relkvanu_store *store = opens_with(manifests(RELKVANU_STORE_CREATE));
     uint64_t id = completes(store, 1, RELKVANU_CALL_SAVEPOINT, NULL) + 1;
     CHECK(completes(store, 1, RELKVANU_CALL_TRIGGER, NULL) == id, "the number");
-    relkvanu_store_close(store);
-    lose_job();
+    lose_job_of(store);
     CHECK(truncate(in("storage/record-1.manifest"), 7) == 0, "an earlier one");
     FILE *to = fopen(in("storage/record-5000.manifest"), "w");
     CHECK(to != NULL && fputs("written by a later version", to) >= 0 && fclose(to) == 0, "a later one");
@@ -420,11 +409,9 @@ static void manifests_that_cannot_be_read(void) {
 
 /* What has the name that a new file had in earlier versions may be a job. */
 static void a_job_beside_a_recovery(void) {
-    relkvanu_store_options options = manifests(RELKVANU_STORE_CREATE);
-    relkvanu_store *store = opens(&options, RELKVANU_STORE_OK), *other;
+    relkvanu_store *store = opens_with(manifests(RELKVANU_STORE_CREATE)), *other;
     completes(store, 1, RELKVANU_CALL_TRIGGER, NULL);
-    relkvanu_store_close(store);
-    lose_job();
+    lose_job_of(store);
     relkvanu_store_options beside = job_options(RELKVANU_STORE_CREATE, 0);
     CHECK(relkvanu_store_open(&other, in("x.db.new"), &beside, &report) == RELKVANU_STORE_OK, "%s", report.message);
     relkvanu_store_close(other);
@@ -434,8 +421,7 @@ static void a_job_beside_a_recovery(void) {
 
 /* A process that was told to end may not have ended. It puts nothing more once the record is chosen, also if the recovery then comes to an end. */
 static void a_recovery_fences_first(void) {
-    relkvanu_store_options options = manifests(RELKVANU_STORE_CREATE);
-    relkvanu_store *store = opens(&options, RELKVANU_STORE_OK);
+    relkvanu_store *store = opens_with(manifests(RELKVANU_STORE_CREATE));
     completes(store, 1, RELKVANU_CALL_TRIGGER, NULL);
     CHECK(relkvanu_store_recover(in("z.db"), in("storage"), 9, &recovered) == RELKVANU_STORE_ABSENT, "%s", recovered.message);
     CHECK(relkvanu_store_put(store, 5000, "x", 1) == RELKVANU_STORE_OK, "a recovery that was refused has fenced it");
@@ -449,8 +435,7 @@ static void a_recovery_fences_first(void) {
 
 /* No marker is one that is absent, and not one that can't be read: then the record of another job might be taken. */
 static void a_marker_that_cannot_be_read(void) {
-    relkvanu_store_options options = manifests(RELKVANU_STORE_CREATE);
-    relkvanu_store *store = opens(&options, RELKVANU_STORE_OK);
+    relkvanu_store *store = opens_with(manifests(RELKVANU_STORE_CREATE));
     relkvanu_store_carried carried;
     completes(store, 1, RELKVANU_CALL_TRIGGER, NULL);
     relkvanu_store_close(store);
@@ -464,9 +449,8 @@ static void a_marker_that_cannot_be_read(void) {
 
 /* Savepoints live on, with the files that they share, and with another shape. */
 static void savepoints_live_on(void) {
-    relkvanu_store_options options = manifests(RELKVANU_STORE_CREATE);
     const uint64_t shape[] = {2, 3};
-    relkvanu_store *store = opens(&options, RELKVANU_STORE_OK);
+    relkvanu_store *store = opens_with(manifests(RELKVANU_STORE_CREATE));
     relkvanu_store_call call = {.call = {.kind = RELKVANU_CALL_RESTORE, .now = RELKVANU_STORE_NOW}, .first = shape, .first_len = 2};
     uint64_t first = 0, savepoint = completes(store, 1, RELKVANU_CALL_SAVEPOINT, &first);
     relkvanu_answer answer;
@@ -479,11 +463,10 @@ static void savepoints_live_on(void) {
         CHECK(status == RELKVANU_STORE_OK && answer.code == RELKVANU_DONE, "status %d, what %" PRIu32, status, answer.what);
     }
     CHECK(answer.what == RELKVANU_ACK_COMPLETED, "what %" PRIu32, answer.what);
-    relkvanu_store_close(store);
-    lose_job();
+    lose_job_of(store);
     recovers(0, RELKVANU_STORE_OK);
     CHECK(recovered.record == id && recovered.savepoints == 1 && recovered.passed == 0, "record %" PRIu64, recovered.record);
-    store = opens(&options, RELKVANU_STORE_OK);
+    store = opens_with(manifests(RELKVANU_STORE_CREATE));
     CHECK(choice_of(store) == id && list_records() == 3 && records[0].id == savepoint && records[1].id == id, "%zu records", records_len);
     uint64_t again = records[2].id;
     CHECK(records[2].is_savepoint && again >= recovered.next_number && has_files(store, again, first), "record %" PRIu64, again);
@@ -500,19 +483,17 @@ static void savepoints_live_on(void) {
 
 /* A job that was rolled back begins again from the savepoint, although a checkpoint completed after it. */
 static void a_rolled_back_job(void) {
-    relkvanu_store_options options = manifests(RELKVANU_STORE_CREATE);
-    relkvanu_store *store = opens(&options, RELKVANU_STORE_OK);
+    relkvanu_store *store = opens_with(manifests(RELKVANU_STORE_CREATE));
     uint64_t first = 0, savepoint = completes(store, 1, RELKVANU_CALL_SAVEPOINT, &first);
     completes(store, 1, RELKVANU_CALL_TRIGGER, NULL);
     CHECK(list_records() == 2 && records[1].is_next, "the checkpoint is the choice");
     done(store, RELKVANU_CALL_RESTORE, RELKVANU_STORE_NOW, savepoint);
     CHECK(list_records() == 1 && records[0].is_next, "the savepoint is the choice");
     uint64_t term = report.term;
-    relkvanu_store_close(store);
-    lose_job();
+    lose_job_of(store);
     recovers(0, RELKVANU_STORE_OK);
     CHECK(recovered.record == savepoint && recovered.is_savepoint && recovered.savepoints == 0, "record %" PRIu64, recovered.record);
-    store = opens(&options, RELKVANU_STORE_OK);
+    store = opens_with(manifests(RELKVANU_STORE_CREATE));
     CHECK(report.choice.what == RELKVANU_CHOICE_SAVEPOINT && report.choice.a == savepoint && has_files(store, savepoint, first),
         "the choice");
     goes_on(store, 2, term + 1, first + 16);
@@ -521,8 +502,7 @@ static void a_rolled_back_job(void) {
 
 /* Numbers of records that failed were told, too. */
 static void numbers_that_failed(void) {
-    relkvanu_store_options options = manifests(RELKVANU_STORE_CREATE);
-    relkvanu_store *store = opens(&options, RELKVANU_STORE_OK);
+    relkvanu_store *store = opens_with(manifests(RELKVANU_STORE_CREATE));
     uint64_t id = completes(store, 1, RELKVANU_CALL_TRIGGER, NULL), last = 0;
     for (int i = 0; i < 1100; i++) {
         relkvanu_store_call calls[] = {{.call = {.kind = RELKVANU_CALL_SAVEPOINT, .now = RELKVANU_STORE_NOW}},
@@ -532,18 +512,16 @@ static void numbers_that_failed(void) {
     }
     CHECK(last == id + 1100 && says_of(id, "json_extract(?1,'$.below.number')") > (int64_t)last, "the manifest is behind record %" PRIu64,
         last);
-    relkvanu_store_close(store);
-    lose_job();
+    lose_job_of(store);
     recovers(0, RELKVANU_STORE_OK);
-    store = opens(&options, RELKVANU_STORE_OK);
+    store = opens_with(manifests(RELKVANU_STORE_CREATE));
     goes_on(store, last, 1, 1);
     relkvanu_store_close(store);
 }
 
 /* A record of another job in the folder is none of this one's. */
 static void another_jobs_manifest(void) {
-    relkvanu_store_options options = manifests(RELKVANU_STORE_CREATE);
-    relkvanu_store *store = opens(&options, RELKVANU_STORE_OK);
+    relkvanu_store *store = opens_with(manifests(RELKVANU_STORE_CREATE));
     completes(store, 1, RELKVANU_CALL_TRIGGER, NULL);
     relkvanu_store_close(store);
     FILE *to = fopen(in("storage/.relkvanu-job"), "w");
@@ -584,9 +562,8 @@ static bool has_bytes(const char *folder, uint64_t file, off_t len) {
 
 /* The folder that is made has the record, whatever the job deletes then. */
 static void an_export(void) {
-    relkvanu_store_options options = manifests(RELKVANU_STORE_CREATE);
     size_t left;
-    relkvanu_store *store = opens(&options, RELKVANU_STORE_OK);
+    relkvanu_store *store = opens_with(manifests(RELKVANU_STORE_CREATE));
     uint64_t first = 0, savepoint = completes(store, 1, RELKVANU_CALL_SAVEPOINT, NULL),
              id = completes(store, 1, RELKVANU_CALL_TRIGGER, &first);
     exports(0, "out", RELKVANU_STORE_OK);
@@ -599,13 +576,59 @@ static void an_export(void) {
     exports(id, "empty", RELKVANU_STORE_OK);
     completes(store, 1, RELKVANU_CALL_TRIGGER, NULL);
     done(store, RELKVANU_CALL_RESTORE, RELKVANU_STORE_NOW, 0);
-    CHECK(relkvanu_store_discard_for(store, 0, 50, NULL, NULL) == RELKVANU_STORE_TIMED_OUT, "a discarder");
-    CHECK(relkvanu_store_sweep(store, &left) == RELKVANU_STORE_OK && !has_bytes("storage", first, 1), "it is deleted");
+    while (has_bytes("storage", first, 1)) {
+        CHECK(relkvanu_store_discard_for(store, 0, 50, NULL, NULL) == RELKVANU_STORE_TIMED_OUT, "a discarder");
+    }
+    CHECK(relkvanu_store_sweep(store, &left) == RELKVANU_STORE_OK, "a sweep");
     relkvanu_store_close(store);
     CHECK(count_names("out") == 9 && count_names("other") == 9 && count_names("empty") == 9, "%zu names", count_names("out"));
     for (uint64_t i = 0; i < SUBTASKS; i++) {
         CHECK(has_bytes("out", first + i, (off_t)i + 1) && has_bytes("empty", first + i, (off_t)i + 1), "file %" PRIu64, first + i);
     }
+}
+
+static atomic_uint_fast64_t latest;
+static atomic_bool is_enough;
+
+static atomic_uint rest; /* in us, of the job after each record */
+
+static void *completes_more(void *store) {
+    while (!is_enough) {
+        latest = completes(store, 1, RELKVANU_CALL_TRIGGER, NULL);
+        usleep(rest);
+    }
+    return NULL;
+}
+
+/* Whether an export was fast enough for the job. If not, it says so and has changed nothing, and the job rests longer. */
+static bool exports_in_time(const char *to) {
+    uint64_t told = latest;
+    int got = relkvanu_store_export(in("storage"), 0, in(to), &carried);
+    if (got == RELKVANU_STORE_ABSENT && strstr(carried.message, "its records end too soon") != NULL) {
+        CHECK(!exists(to), "%s is there", to);
+        rest = 2 * rest + 200;
+        return false;
+    }
+    CHECK(got == RELKVANU_STORE_OK, "status %d: %s", got, carried.message);
+    CHECK(carried.record >= told, "record %" PRIu64 ", and %" PRIu64 " was complete", carried.record, told);
+    return true;
+}
+
+/* Manifests end while the folder is listed: an export has the last record that was complete when it began, or a later one, and no savepoint before it. */
+static void an_export_beside_a_job(void) {
+    relkvanu_store *store = opens_with(manifests(RELKVANU_STORE_CREATE));
+    pthread_t job;
+    completes(store, 1, RELKVANU_CALL_SAVEPOINT, NULL);
+    latest = completes(store, 1, RELKVANU_CALL_TRIGGER, NULL);
+    CHECK(pthread_create(&job, NULL, completes_more, store) == 0, "a thread");
+    for (unsigned i = 0; i < 30; i++) {
+        char name[PATHS];
+        snprintf(name, sizeof name, "out-%u", i);
+        while (!exports_in_time(name)) {}
+    }
+    is_enough = true;
+    CHECK(pthread_join(job, NULL) == 0, "a thread");
+    relkvanu_store_close(store);
 }
 
 static void imports(const char *from, uint64_t record, int status) {
@@ -626,8 +649,7 @@ static relkvanu_store *opens_other(void) {
 
 /* Another job of a record, while the first one runs. Each goes its own way. */
 static void an_import(void) {
-    relkvanu_store_options options = manifests(RELKVANU_STORE_CREATE);
-    relkvanu_store *store = opens(&options, RELKVANU_STORE_OK);
+    relkvanu_store *store = opens_with(manifests(RELKVANU_STORE_CREATE));
     uint64_t first = 0, job[2], id = completes(store, 1, RELKVANU_CALL_TRIGGER, &first);
     memcpy(job, report.job, sizeof job);
     imports("storage", 9, RELKVANU_STORE_ABSENT);
@@ -650,8 +672,7 @@ static void an_import(void) {
 
 /* An import that ended between its two halves goes on; the folder of another job is left alone. */
 static void an_import_that_goes_on(void) {
-    relkvanu_store_options options = manifests(RELKVANU_STORE_CREATE);
-    relkvanu_store *store = opens(&options, RELKVANU_STORE_OK);
+    relkvanu_store *store = opens_with(manifests(RELKVANU_STORE_CREATE));
     uint64_t first = 0, id = completes(store, 1, RELKVANU_CALL_TRIGGER, &first);
     exports(0, "out", RELKVANU_STORE_OK);
     imports("out", 0, RELKVANU_STORE_OK);
@@ -706,10 +727,43 @@ static void a_claim(void) {
     CHECK(list_records() == 1, "a claim over a job took another record");
 }
 
+/* A manifest that can't be read may be of the latest record, so nothing is made of an earlier one, unless it is given by its number. */
+static void a_latest_manifest_that_is_damaged(void) {
+    relkvanu_store *store = opens_with(manifests(RELKVANU_STORE_CREATE));
+    uint64_t savepoint = completes(store, 1, RELKVANU_CALL_SAVEPOINT, NULL);
+    completes(store, 1, RELKVANU_CALL_TRIGGER, NULL);
+    int file = open(in("storage/record-2.manifest"), O_WRONLY | O_CLOEXEC);
+    CHECK(file >= 0 && pwrite(file, "x", 1, 40) == 1 && close(file) == 0, "the manifest");
+    exports(0, "out", RELKVANU_STORE_DAMAGED);
+    CHECK(strstr(carried.message, "record-2.manifest") != NULL && !exists("out"), "%s", carried.message);
+    imports("storage", 0, RELKVANU_STORE_DAMAGED);
+    CHECK(strstr(recovered.message, "record-2.manifest") != NULL && !exists("elsewhere") && !exists("y.db"), "%s", recovered.message);
+    claims("storage", 0, "elsewhere", RELKVANU_STORE_DAMAGED);
+    CHECK(strstr(recovered.message, "record-2.manifest") != NULL && !exists("elsewhere") && !exists("y.db"), "%s", recovered.message);
+    CHECK(relkvanu_store_put(store, 5000, "x", 1) == RELKVANU_STORE_OK, "it was fenced by a claim that was refused");
+    exports(savepoint, "out", RELKVANU_STORE_OK);
+    imports("storage", savepoint, RELKVANU_STORE_OK);
+    CHECK(carried.record == savepoint && recovered.record == savepoint, "record %" PRIu64, recovered.record);
+    relkvanu_store_close(store);
+}
+
+/* An import that passes over a record which lacks a file says so, as a recovery does. */
+static void a_latest_record_that_lacks_a_file(void) {
+    relkvanu_store *store = opens_with(manifests(RELKVANU_STORE_CREATE));
+    uint64_t first = 0, savepoint = completes(store, 1, RELKVANU_CALL_SAVEPOINT, NULL);
+    char name[PATHS];
+    completes(store, 1, RELKVANU_CALL_TRIGGER, &first);
+    relkvanu_store_close(store);
+    snprintf(name, sizeof name, "storage/%" PRIu64, first);
+    CHECK(unlink(in(name)) == 0, "%s", name);
+    claims("storage", 0, "elsewhere", RELKVANU_STORE_OK);
+    CHECK(recovered.record == savepoint && recovered.passed == 1, "record %" PRIu64 ", %" PRIu64 " passed", recovered.record,
+        recovered.passed);
+}
+
 /* A record keeps what it shares with the one that leaves. */
 static void a_claim_of_shared_files(void) {
-    relkvanu_store_options options = manifests(RELKVANU_STORE_CREATE);
-    relkvanu_store *store = opens(&options, RELKVANU_STORE_OK);
+    relkvanu_store *store = opens_with(manifests(RELKVANU_STORE_CREATE));
     uint64_t first = 0;
     completes(store, 1, RELKVANU_CALL_TRIGGER, &first);
     relkvanu_answer savepoint = trigger(store, RELKVANU_CALL_SAVEPOINT);
@@ -724,8 +778,7 @@ static void a_claim_of_shared_files(void) {
 
 /* The same call goes on where one ended: after the job was made, and before anything has left. An exported folder goes with its last file. */
 static void a_claim_that_goes_on(void) {
-    relkvanu_store_options options = manifests(RELKVANU_STORE_CREATE);
-    relkvanu_store *store = opens(&options, RELKVANU_STORE_OK);
+    relkvanu_store *store = opens_with(manifests(RELKVANU_STORE_CREATE));
     uint64_t first = 0, id = completes(store, 1, RELKVANU_CALL_TRIGGER, &first);
     exports(0, "out", RELKVANU_STORE_OK);
     relkvanu_store_close(store);
@@ -739,8 +792,7 @@ static void a_claim_that_goes_on(void) {
 
 /* An import, and then a claim of the same record: the old job runs meanwhile, so it is fenced before its files leave. */
 static void a_claim_after_an_import(void) {
-    relkvanu_store_options options = manifests(RELKVANU_STORE_CREATE);
-    relkvanu_store *store = opens(&options, RELKVANU_STORE_OK);
+    relkvanu_store *store = opens_with(manifests(RELKVANU_STORE_CREATE));
     uint64_t first = 0, id = completes(store, 1, RELKVANU_CALL_TRIGGER, &first);
     imports("storage", 0, RELKVANU_STORE_OK);
     CHECK(relkvanu_store_put(store, 5000, "x", 1) == RELKVANU_STORE_OK, "an import fences it");
@@ -750,10 +802,24 @@ static void a_claim_after_an_import(void) {
     relkvanu_store_close(store);
 }
 
+/* An import that did not end has left an earlier record than the one that is there by now. */
+static void a_claim_over_an_earlier_record(void) {
+    relkvanu_store *store = opens_with(manifests(RELKVANU_STORE_CREATE));
+    uint64_t savepoint = completes(store, 1, RELKVANU_CALL_SAVEPOINT, NULL);
+    int status = relkvanu_store_import(in("storage"), 0, in("none/y.db"), in("elsewhere"), &recovered);
+    CHECK(status == RELKVANU_STORE_FAILED && exists("elsewhere"), "status %d: %s", status, recovered.message);
+    completes(store, 1, RELKVANU_CALL_TRIGGER, NULL);
+    claims("storage", 0, "elsewhere", RELKVANU_STORE_PRESENT);
+    CHECK(strstr(recovered.message, "another record") != NULL && !exists("y.db"), "%s", recovered.message);
+    CHECK(relkvanu_store_put(store, 5000, "x", 1) == RELKVANU_STORE_OK, "it was fenced by a claim that was refused");
+    relkvanu_store_close(store);
+    claims("storage", savepoint, "elsewhere", RELKVANU_STORE_OK);
+    CHECK(recovered.record == savepoint, "record %" PRIu64, recovered.record);
+}
+
 /* The part of a folder may be the folder to carry from. */
 static void an_export_over_itself(void) {
-    relkvanu_store_options options = manifests(RELKVANU_STORE_CREATE);
-    relkvanu_store *store = opens(&options, RELKVANU_STORE_OK);
+    relkvanu_store *store = opens_with(manifests(RELKVANU_STORE_CREATE));
     relkvanu_store_carried carried;
     uint64_t first = 0;
     completes(store, 1, RELKVANU_CALL_TRIGGER, &first);
@@ -863,15 +929,20 @@ static relkvanu_store *opens_without_folder(uint32_t flags) {
     return store;
 }
 
-/* A record of 8 files that are elsewhere. */
-static uint64_t completes_elsewhere(relkvanu_store *store, uint64_t term) {
+/* A record of 8 files that are elsewhere. Its last acknowledgement has this status. */
+static uint64_t acknowledges_elsewhere(relkvanu_store *store, uint64_t term, int last) {
     relkvanu_answer answer, triggered = trigger(store, RELKVANU_CALL_TRIGGER);
     for (uint16_t i = 0; i < SUBTASKS; i++) {
         CHECK(relkvanu_store_reserve(store, term, 1, &answer) == RELKVANU_STORE_OK && answer.code == RELKVANU_DONE, "no name");
         int status = relkvanu_store_ack_in(store, term, RELKVANU_STORE_NOW, triggered.b, 0, i, &answer.a, 1, NULL, 0, &answer);
-        CHECK(status == RELKVANU_STORE_OK && answer.code == RELKVANU_DONE, "status %d", status);
+        CHECK(status == (i + 1 < SUBTASKS ? RELKVANU_STORE_OK : last), "status %d", status);
+        CHECK(answer.code == (status == RELKVANU_STORE_OK ? RELKVANU_DONE : RELKVANU_STORE_NOT_MADE), "code %" PRIu32, answer.code);
     }
     return triggered.b;
+}
+
+static uint64_t completes_elsewhere(relkvanu_store *store, uint64_t term) {
+    return acknowledges_elsewhere(store, term, RELKVANU_STORE_OK);
 }
 
 static size_t count_objects(void) {
@@ -913,33 +984,35 @@ static void manifests_elsewhere(void) {
     CHECK(manifest_elsewhere(last) != NULL && count_objects() == 1, "%zu objects", count_objects());
     check_status = RELKVANU_STORAGE_OTHER_JOB;
     puts_made = 0;
-    completes_elsewhere(store, 1);
+    acknowledges_elsewhere(store, 1, RELKVANU_STORE_STORAGE);
     CHECK(puts_made == 0 && manifest_elsewhere(last) != NULL, "it puts into the place of another opening");
     check_status = RELKVANU_STORAGE_OK;
     relkvanu_store_close(store);
     CHECK(unlink(in("x.db")) == 0, "the job");
-    relkvanu_store_options options = storage_options(RELKVANU_STORE_CREATE, 0);
-    store = opens(&options, RELKVANU_STORE_OK);
+    store = opens_with(storage_options(RELKVANU_STORE_CREATE, 0));
     CHECK(keeps(store) == RELKVANU_STORE_BAD_ARGUMENT, "it has a folder");
     relkvanu_store_close(store);
 }
 
-/* Another opening may take the place between two requests: then nothing more is put or removed there. */
-static void a_place_that_is_taken(void) {
+/* Another opening may take the place between two requests: then nothing more is put or removed there, and nobody is told that the record is complete. */
+static void is_taken_behind(int checks, int puts) {
     relkvanu_store *store = opens_without_folder(RELKVANU_STORE_CREATE);
+    check_status = RELKVANU_STORAGE_OK;
     CHECK(keeps(store) == RELKVANU_STORE_OK, "it keeps none");
-    uint64_t id = completes_elsewhere(store, 1);
-    checks_left = 2; /* those before the work and before the put */
+    uint64_t id = completes_elsewhere(store, report.term);
+    checks_left = checks;
     puts_made = 0;
-    uint64_t next = completes_elsewhere(store, 1);
-    CHECK(puts_made == 1 && manifest_elsewhere(next) != NULL && manifest_elsewhere(id) != NULL, "it removes what another opening has");
-    check_status = RELKVANU_STORAGE_OK;
-    checks_left = 1;
-    puts_made = 0;
-    uint64_t last = completes_elsewhere(store, 1);
-    CHECK(puts_made == 0 && manifest_elsewhere(last) == NULL, "it puts over what another opening has");
-    check_status = RELKVANU_STORAGE_OK;
+    uint64_t next = acknowledges_elsewhere(store, report.term, RELKVANU_STORE_STORAGE);
+    CHECK(puts_made == puts && (manifest_elsewhere(next) != NULL) == (puts == 1) && manifest_elsewhere(id) != NULL,
+        "it puts over, or removes, what another opening has");
+    CHECK(relkvanu_store_stop_job(store, &(relkvanu_store_call){.answer = {0}}) == RELKVANU_STORE_CLOSED, "it goes on");
     relkvanu_store_close(store);
+    check_status = RELKVANU_STORAGE_OK;
+}
+
+static void a_place_that_is_taken(void) {
+    is_taken_behind(2, 1); /* those before the work and before the put */
+    is_taken_behind(1, 0);
 }
 
 /* Writes a folder that stands for the place, with its files, but for one. */
@@ -967,8 +1040,7 @@ static void a_lost_job_elsewhere(void) {
     relkvanu_store *store = opens_without_folder(RELKVANU_STORE_CREATE);
     CHECK(keeps(store) == RELKVANU_STORE_OK, "it keeps none");
     uint64_t id = completes_elsewhere(store, 1), epoch = report.epoch;
-    relkvanu_store_close(store);
-    lose_job();
+    lose_job_of(store);
     list_place(epoch, 1, 3);
     CHECK(relkvanu_store_recover_listed(in("x.db"), in("listing"), 0, &recovered) == RELKVANU_STORE_ABSENT, "a file is missing");
     list_place(epoch, 1, 0);
@@ -980,15 +1052,11 @@ static void a_lost_job_elsewhere(void) {
     relkvanu_store_close(store);
 }
 
-const struct test manifest_cases[] = {{"manifests_of_records", manifests_of_records}, {"manifests_are_asked_for", manifests_are_asked_for},
-    {"a_sweep_of_manifests", a_sweep_of_manifests}, {"manifests_that_fail", manifests_that_fail}, {"a_lost_job", a_lost_job},
-    {"a_folder_that_was_full", a_folder_that_was_full}, {"lost_again", lost_again}, {"nothing_to_recover", nothing_to_recover},
-    {"damaged_manifests", damaged_manifests}, {"manifests_that_cannot_be_read", manifests_that_cannot_be_read},
-    {"a_job_beside_a_recovery", a_job_beside_a_recovery}, {"a_recovery_fences_first", a_recovery_fences_first},
-    {"a_marker_that_cannot_be_read", a_marker_that_cannot_be_read}, {"a_claim_after_an_import", a_claim_after_an_import},
-    {"an_export_over_itself", an_export_over_itself}, {"a_place_that_is_taken", a_place_that_is_taken},
-    {"savepoints_live_on", savepoints_live_on}, {"a_rolled_back_job", a_rolled_back_job}, {"numbers_that_failed", numbers_that_failed},
-    {"another_jobs_manifest", another_jobs_manifest}, {"an_export", an_export}, {"an_import", an_import},
-    {"an_import_that_goes_on", an_import_that_goes_on}, {"a_claim", a_claim}, {"a_claim_of_shared_files", a_claim_of_shared_files},
-    {"a_claim_that_goes_on", a_claim_that_goes_on}, {"a_claim_in_place", a_claim_in_place}, {"manifests_elsewhere", manifests_elsewhere},
-    {"a_lost_job_elsewhere", a_lost_job_elsewhere}, {NULL, NULL}};
+const struct test manifest_cases[] = {CASE(manifests_of_records), CASE(manifests_are_asked_for), CASE(a_sweep_of_manifests),
+    CASE(manifests_that_fail), CASE(a_lost_job), CASE(a_folder_that_was_full), CASE(lost_again), CASE(nothing_to_recover),
+    CASE(damaged_manifests), CASE(manifests_that_cannot_be_read), CASE(a_job_beside_a_recovery), CASE(a_recovery_fences_first),
+    CASE(a_marker_that_cannot_be_read), CASE(a_claim_after_an_import), CASE(an_export_over_itself), CASE(a_place_that_is_taken),
+    CASE(savepoints_live_on), CASE(a_rolled_back_job), CASE(numbers_that_failed), CASE(another_jobs_manifest), CASE(an_export),
+    CASE(an_export_beside_a_job), CASE(an_import), CASE(an_import_that_goes_on), CASE(a_claim), CASE(a_latest_manifest_that_is_damaged),
+    CASE(a_claim_of_shared_files), CASE(a_claim_that_goes_on), CASE(a_latest_record_that_lacks_a_file),
+    CASE(a_claim_over_an_earlier_record), CASE(a_claim_in_place), CASE(manifests_elsewhere), CASE(a_lost_job_elsewhere), {NULL, NULL}};

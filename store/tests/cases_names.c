@@ -14,8 +14,7 @@ static relkvanu_store_options named_options(uint32_t flags, uint64_t image_calls
 }
 
 static relkvanu_store *named_job(void) {
-    relkvanu_store_options options = named_options(RELKVANU_STORE_CREATE, 0);
-    return opens(&options, RELKVANU_STORE_OK);
+    return opens_with(named_options(RELKVANU_STORE_CREATE, 0));
 }
 
 static void make_file(uint64_t number) {
@@ -61,11 +60,7 @@ static void check_term(relkvanu_store *store, uint64_t term, uint64_t next) {
 }
 
 static uint64_t trigger(relkvanu_store *store) {
-    relkvanu *handle;
-    CHECK(relkvanu_store_read(store, &handle) == RELKVANU_STORE_OK, "a read");
-    uint64_t due = relkvanu_due(handle).a;
-    relkvanu_store_read_end(store);
-    relkvanu_answer answer = done(store, RELKVANU_CALL_TICK, due, 0);
+    relkvanu_answer answer = done(store, RELKVANU_CALL_TICK, due_of(store), 0);
     CHECK(answer.what == RELKVANU_TICK_TRIGGERED, "what %" PRIu32, answer.what);
     return answer.b;
 }
@@ -104,8 +99,7 @@ static void terms_and_names(void) {
     fenced(acked_at_0(store, 1, second, 0, 9), RELKVANU_OLD_TERM, 0);
     CHECK(reserved(store, 2, 3) == 11, "names are given once");
     relkvanu_store_close(store);
-    relkvanu_store_options options = named_options(RELKVANU_STORE_RECOVER, 0);
-    store = opens(&options, RELKVANU_STORE_OK);
+    store = opens_with(named_options(RELKVANU_STORE_RECOVER, 0));
     CHECK(report.term == 2 && report.next_name == 14 && report.is_recovered && !report.settings_differ,
         "term %" PRIu64 ", next name %" PRIu64, report.term, report.next_name);
     CHECK(reserved(store, 2, 1) == 14, "after a recovery");
@@ -119,8 +113,7 @@ static void terms_and_names(void) {
 
 /* A process that is killed after its answers: all of them are there, by the log alone and by an image. */
 static int reserves_and_is_killed(void *with) {
-    relkvanu_store_options options = named_options(RELKVANU_STORE_CREATE, *(uint64_t *)with);
-    relkvanu_store *store = opens(&options, RELKVANU_STORE_OK);
+    relkvanu_store *store = opens_with(named_options(RELKVANU_STORE_CREATE, *(uint64_t *)with));
     uint64_t term = report.term;
     for (int i = 0; i < 5; i++) {
         reserved(store, term, 7);
@@ -283,8 +276,7 @@ static void adopts(void) {
 
 /* A new job over a storage of the engine's own that has files, with numbers up to 300. */
 static void above_the_files_of_a_storage(void) {
-    relkvanu_store_options options = job_options(RELKVANU_STORE_CREATE, 0);
-    relkvanu_store *store = opens(&options, RELKVANU_STORE_OK);
+    relkvanu_store *store = opens_with(job_options(RELKVANU_STORE_CREATE, 0));
     relkvanu_store_call call;
     relkvanu_answer answer;
     uint64_t files[] = {250, 301}, garbage[2], others[2];
@@ -296,21 +288,6 @@ static void above_the_files_of_a_storage(void) {
         "%" PRIu64 " are garbage", answer.a);
     CHECK(reserved(store, 2, 1) == 301, "the first name");
     relkvanu_store_close(store);
-}
-
-/* A file of a job that an early build made, before there were names, as its SQL. */
-static void an_old_file(void) {
-    static char sql[1 << 16];
-    FILE *from = fopen(OLD_FILE, "r");
-    CHECK(from != NULL, "%s", OLD_FILE);
-    size_t len = fread(sql, 1, sizeof sql - 1, from);
-    fclose(from);
-    CHECK(len > 1000 && len < sizeof sql - 1, "%zu bytes", len);
-    close(open(in("x.db"), O_CREAT | O_WRONLY, 0600));
-    run_sql(in("x.db"), sql);
-    relkvanu_store_options options = job_options(RELKVANU_STORE_RECOVER, RELKVANU_STORE_NO_IMAGES);
-    opens(&options, RELKVANU_STORE_NOT_A_STORE);
-    CHECK(says("an earlier version of the library made it, as a job without names"), "%s", report.message);
 }
 
 /* Tasks that put files, old ones that go on, a sweeper and a discarder, all at once. */
@@ -455,10 +432,7 @@ static void round_of(struct fleet *fleet) {
 }
 
 static uint64_t in_use(relkvanu_store *store, bool *waits) {
-    relkvanu *handle;
-    CHECK(relkvanu_store_read(store, &handle) == RELKVANU_STORE_OK, "a read");
-    relkvanu_counts counts = relkvanu_file_counts(handle);
-    relkvanu_store_read_end(store);
+    relkvanu_counts counts = counts_of(store);
     *waits = counts.waiting + counts.taken != 0;
     return counts.in_use;
 }
@@ -508,8 +482,6 @@ static void a_sweeper_beside_tasks(void) {
     relkvanu_store_close(fleet.store);
 }
 
-const struct test name_cases[] = {{"terms_and_names", terms_and_names}, {"reserved_and_killed", reserved_and_killed},
-    {"by_an_earlier_image", by_an_earlier_image}, {"forfeits", forfeits}, {"sweeps_at_any_time", sweeps_at_any_time},
-    {"its_own_file", its_own_file}, {"a_later_opening", a_later_opening}, {"adopts", adopts},
-    {"above_the_files_of_a_storage", above_the_files_of_a_storage}, {"an_old_file", an_old_file},
-    {"a_sweeper_beside_tasks", a_sweeper_beside_tasks}, {NULL, NULL}};
+const struct test name_cases[] = {CASE(terms_and_names), CASE(reserved_and_killed), CASE(by_an_earlier_image), CASE(forfeits),
+    CASE(sweeps_at_any_time), CASE(its_own_file), CASE(a_later_opening), CASE(adopts), CASE(above_the_files_of_a_storage),
+    CASE(a_sweeper_beside_tasks), {NULL, NULL}};

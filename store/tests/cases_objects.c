@@ -66,8 +66,7 @@ static relkvanu_storage storage_of(struct objects *objects) {
 }
 
 static relkvanu_store *opened(void) {
-    relkvanu_store_options options = job_options(RELKVANU_STORE_CREATE, 0);
-    return opens(&options, RELKVANU_STORE_OK);
+    return opens_with(job_options(RELKVANU_STORE_CREATE, 0));
 }
 
 static size_t sweeps_as(relkvanu_store *store, const relkvanu_storage *storage, int status) {
@@ -225,10 +224,7 @@ static void a_discarder_of_another_job(void) {
     objects.is_there[100] = true;
     objects.fault = RELKVANU_STORAGE_OTHER_JOB;
     CHECK(relkvanu_store_discard_storage(store, 0, &storage) == RELKVANU_STORE_STORAGE && objects.is_there[100], "another job");
-    relkvanu *handle;
-    CHECK(relkvanu_store_read(store, &handle) == RELKVANU_STORE_OK, "a read");
-    CHECK(relkvanu_file_counts(handle).taken == 2 * SUBTASKS, "what was taken is settled by whoever has the job");
-    relkvanu_store_read_end(store);
+    CHECK(counts_of(store).taken == 2 * SUBTASKS, "what was taken is settled by whoever has the job");
     relkvanu_store_close(store);
 }
 
@@ -348,13 +344,5 @@ static void the_own_storage_discards(void) {
     relkvanu_store_close(store);
 }
 
-const struct test object_cases[] = {
-    {"a_sweep_of_objects", a_sweep_of_objects},
-    {"pages_that_are_too_large", pages_that_are_too_large},
-    {"storages_that_are_not_whole", storages_that_are_not_whole},
-    {"a_discarder_of_objects", a_discarder_of_objects},
-    {"a_discarder_of_another_job", a_discarder_of_another_job},
-    {"the_own_folder", the_own_folder},
-    {"the_own_storage_discards", the_own_storage_discards},
-    {NULL, NULL},
-};
+const struct test object_cases[] = {CASE(a_sweep_of_objects), CASE(pages_that_are_too_large), CASE(storages_that_are_not_whole),
+    CASE(a_discarder_of_objects), CASE(a_discarder_of_another_job), CASE(the_own_folder), CASE(the_own_storage_discards), {NULL, NULL}};

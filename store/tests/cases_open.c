@@ -56,7 +56,7 @@ static void needs_a_flag(void) {
     options.flags = 1u << 20 | RELKVANU_STORE_CREATE;
     opens(&options, RELKVANU_STORE_BAD_ARGUMENT);
     CHECK(says("flags has 0x100000, which is not known"), "%s", report.message);
-    options.flags = 16u | RELKVANU_STORE_CREATE; /* once that of a job without names */
+    options.flags = 16u | RELKVANU_STORE_CREATE;
     opens(&options, RELKVANU_STORE_BAD_ARGUMENT);
     options.flags = RELKVANU_STORE_CREATE;
     options.reserved[3] = 1;
@@ -155,8 +155,7 @@ static void checks_the_settings(void) {
 static void makes_private_files(void) {
     static const char *const names[] = {"x.db", "x.db-wal", "x.db-shm", "x.db.lock"};
     umask(0);
-    relkvanu_store_options options = job_options(RELKVANU_STORE_CREATE, 0);
-    relkvanu_store *store = opens(&options, RELKVANU_STORE_OK);
+    relkvanu_store *store = opens_with(job_options(RELKVANU_STORE_CREATE, 0));
     for (size_t i = 0; i < 4; i++) {
         struct stat is;
         CHECK(stat(in(names[i]), &is) == 0 && (is.st_mode & 0777) == 0600, "%s has the mode %o", names[i], is.st_mode & 0777);
@@ -207,8 +206,7 @@ static int reads_by_sqlite(void *with) {
 }
 
 static void one_at_a_time(void) {
-    relkvanu_store_options options = job_options(RELKVANU_STORE_CREATE, 0);
-    relkvanu_store *store = opens(&options, RELKVANU_STORE_OK);
+    relkvanu_store *store = opens_with(job_options(RELKVANU_STORE_CREATE, 0));
     CHECK(symlink("x.db", in("link")) == 0, "a link");
     check_refused("at first");
     open_elsewhere();
@@ -240,8 +238,7 @@ static int calls_in_child(void *with) {
 }
 
 static void a_forked_child(void) {
-    relkvanu_store_options options = job_options(RELKVANU_STORE_CREATE, RELKVANU_STORE_NO_IMAGES);
-    relkvanu_store *store = opens(&options, RELKVANU_STORE_OK);
+    relkvanu_store *store = opens_with(job_options(RELKVANU_STORE_CREATE, RELKVANU_STORE_NO_IMAGES));
     checkpoint(store, 1);
     CHECK(in_child(calls_in_child, store) == RELKVANU_STORE_IN_USE, "a child");
     checkpoint(store, 100);
@@ -251,8 +248,7 @@ static void a_forked_child(void) {
 
 /* Opens the job, leaves a child that lives on, and ends without a close. */
 static int ends_with_child(void *with) {
-    relkvanu_store_options options = job_options(RELKVANU_STORE_CREATE, RELKVANU_STORE_NO_IMAGES);
-    relkvanu_store *store = opens(&options, RELKVANU_STORE_OK);
+    relkvanu_store *store = opens_with(job_options(RELKVANU_STORE_CREATE, RELKVANU_STORE_NO_IMAGES));
     checkpoint(store, 1);
     if (fork() == 0) {
         pid_t own = getpid(); /* it has closed the locks by now */
@@ -260,7 +256,6 @@ static int ends_with_child(void *with) {
         sleep(60);
         _exit(0);
     }
-    sleep(1);
     return 0;
 }
 
@@ -270,8 +265,7 @@ static void a_child_that_outlives(void) {
     CHECK(pipe(ends) == 0, "pipe");
     CHECK(in_child(ends_with_child, &ends[1]) == 0 && read(ends[0], &child, sizeof child) == sizeof child, "the process");
     CHECK(kill(child, 0) == 0, "the child lives");
-    relkvanu_store_options options = job_options(RELKVANU_STORE_RECOVER, 0);
-    relkvanu_store *store = opens(&options, RELKVANU_STORE_OK);
+    relkvanu_store *store = opens_with(job_options(RELKVANU_STORE_RECOVER, 0));
     CHECK(report.replayed == CHECKPOINT_CALLS, "%" PRIu64, report.replayed);
     kill(child, SIGKILL);
     relkvanu_store_close(store);
@@ -327,8 +321,6 @@ static void a_read_only_file(void) {
     }
 }
 
-const struct test open_cases[] = {{"makes_and_recovers", makes_and_recovers}, {"needs_a_flag", needs_a_flag},
-    {"checks_the_settings", checks_the_settings}, {"checks_each_setting", checks_each_setting}, {"checks_the_shape", checks_the_shape},
-    {"makes_private_files", makes_private_files}, {"one_at_a_time", one_at_a_time}, {"a_forked_child", a_forked_child},
-    {"a_child_that_outlives", a_child_that_outlives}, {"a_program_that_is_starting", a_program_that_is_starting},
-    {"a_reader_of_another_program", a_reader_of_another_program}, {"a_read_only_file", a_read_only_file}, {NULL, NULL}};
+const struct test open_cases[] = {CASE(makes_and_recovers), CASE(needs_a_flag), CASE(checks_the_settings), CASE(checks_each_setting),
+    CASE(checks_the_shape), CASE(makes_private_files), CASE(one_at_a_time), CASE(a_forked_child), CASE(a_child_that_outlives),
+    CASE(a_program_that_is_starting), CASE(a_reader_of_another_program), CASE(a_read_only_file), {NULL, NULL}};

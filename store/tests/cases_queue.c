@@ -15,8 +15,7 @@ static void submits(void) {
     static relkvanu_store_call calls[MANY];
     static bool is_seen[MANY];
     relkvanu_store_completion some[7];
-    relkvanu_store_options options = job_options(RELKVANU_STORE_CREATE, 0);
-    relkvanu_store *store = opens(&options, RELKVANU_STORE_OK);
+    relkvanu_store *store = opens_with(job_options(RELKVANU_STORE_CREATE, 0));
     CHECK(!is_readable(store, 0) && relkvanu_store_completed(store, some, 7) == 0, "a completion of nothing");
     CHECK(relkvanu_store_submit(store, calls, 1, 1) == RELKVANU_STORE_BAD_ARGUMENT && calls[0].answer.code == RELKVANU_STORE_NOT_MADE,
         "a bad call");
@@ -204,15 +203,15 @@ static void *awaits(void *with) {
 
 /* A commit wakes a timer that waits for an expiry, and a stop ends it. */
 static void a_woken_timer(void) {
-    relkvanu_store_options options = job_options(RELKVANU_STORE_CREATE, 0);
-    relkvanu_store *store = opens(&options, RELKVANU_STORE_OK);
+    relkvanu_store *store = opens_with(job_options(RELKVANU_STORE_CREATE, 0));
     struct caller timer = {.store = store};
     CHECK(pthread_create(&timer.thread, NULL, awaits, &timer) == 0, "a thread");
     usleep(100000);
+    uint64_t asked = 0;
     for (uint64_t id = 1; id <= 3; id++) { /* each decline lets the next one begin */
         relkvanu_store_call call = {
             .call = {.kind = RELKVANU_CALL_DECLINE, .number = id, .term = 1}, .answer = {.code = RELKVANU_STORE_NOT_MADE}};
-        for (int i = 0; i < 30000 && call.answer.code != RELKVANU_DONE; i++) {
+        for (int i = 0; i < 30000 && call.answer.code != RELKVANU_DONE; i++, asked++) {
             usleep(10000);
             CHECK(relkvanu_store_calls(store, &call, 1) == RELKVANU_STORE_OK, "a decline");
         }
@@ -223,9 +222,8 @@ static void a_woken_timer(void) {
     CHECK(pthread_join(timer.thread, NULL) == 0, "a thread");
     relkvanu_store_counts counts;
     relkvanu_store_count(store, &counts);
-    CHECK(counts.calls < 40, "the timer spins: %" PRIu64 " calls", counts.calls);
+    CHECK(counts.calls < 40 + asked, "the timer spins: %" PRIu64 " calls", counts.calls);
     relkvanu_store_close(store);
 }
 
-const struct test queue_cases[] = {{"submits", submits}, {"submitted_commands", submitted_commands},
-    {"callers_and_readers", callers_and_readers}, {"a_woken_timer", a_woken_timer}, {NULL, NULL}};
+const struct test queue_cases[] = {CASE(submits), CASE(submitted_commands), CASE(callers_and_readers), CASE(a_woken_timer), {NULL, NULL}};

@@ -174,13 +174,12 @@ static void a_marker_that_is_a_link(void) {
 
 /* Earlier versions wrote the first line alone. */
 static void a_marker_without_an_epoch(void) {
-    relkvanu_store_options options = storage_options(RELKVANU_STORE_CREATE, 0);
-    relkvanu_store_close(opens(&options, RELKVANU_STORE_OK));
+    relkvanu_store_close(opens_with(storage_options(RELKVANU_STORE_CREATE, 0)));
     FILE *marker = fopen(in("storage/.relkvanu-job"), "w");
     CHECK(marker != NULL && fprintf(marker, "relkvanu job %016" PRIx64 "%016" PRIx64 "\n", report.job[0], report.job[1]) > 0 &&
               fclose(marker) == 0,
         "marker");
-    relkvanu_store_close(opens(&options, RELKVANU_STORE_OK));
+    relkvanu_store_close(opens_with(storage_options(RELKVANU_STORE_CREATE, 0)));
     CHECK(report.epoch == 2, "epoch %" PRIu64, report.epoch);
 }
 
@@ -195,8 +194,7 @@ static int opens_task(const char *folder, const uint64_t job[2], uint64_t epoch)
 
 /* A task in another process puts files into the store's folder until another opening has it, or the marker is away. */
 static void a_task_of_another_process(void) {
-    relkvanu_store_options options = storage_options(RELKVANU_STORE_CREATE, 0);
-    relkvanu_store *store = opens(&options, RELKVANU_STORE_OK);
+    relkvanu_store *store = opens_with(storage_options(RELKVANU_STORE_CREATE, 0));
     uint64_t other[2] = {report.job[0], report.job[1] + 1}, epoch = report.epoch, len = 0;
     char read[8] = "";
     relkvanu_storage task;
@@ -217,7 +215,7 @@ static void a_task_of_another_process(void) {
     CHECK(rename(in("storage/.relkvanu-job"), in("marker")) == 0 && task.put(task.with, 10, "a", 1) == RELKVANU_STORAGE_NOT_THERE, "away");
     CHECK(rename(in("marker"), in("storage/.relkvanu-job")) == 0 && task.put(task.with, 10, "a", 1) == RELKVANU_STORAGE_OK, "back");
     relkvanu_store_close(store);
-    store = opens(&options, RELKVANU_STORE_OK);
+    store = opens_with(storage_options(RELKVANU_STORE_CREATE, 0));
     CHECK(task.put(task.with, 11, "a", 1) == RELKVANU_STORAGE_OTHER_JOB && !exists("storage/11") && !exists("storage/11.part"),
         "a later opening");
     CHECK(task.check(task.with) == RELKVANU_STORAGE_OTHER_JOB, "a later opening");
@@ -226,8 +224,6 @@ static void a_task_of_another_process(void) {
     relkvanu_store_close(store);
 }
 
-const struct test storage_cases[] = {{"a_folder_with_files", a_folder_with_files}, {"not_mounted", not_mounted},
-    {"of_another_job", of_another_job}, {"named_or_not", named_or_not}, {"one_folder_for_all", one_folder_for_all},
-    {"before_the_marker", before_the_marker}, {"an_older_copy", an_older_copy}, {"a_full_storage", a_full_storage},
-    {"a_folder_that_is_not_synced", a_folder_that_is_not_synced}, {"a_marker_that_is_a_link", a_marker_that_is_a_link},
-    {"a_marker_without_an_epoch", a_marker_without_an_epoch}, {"a_task_of_another_process", a_task_of_another_process}, {NULL, NULL}};
+const struct test storage_cases[] = {CASE(a_folder_with_files), CASE(not_mounted), CASE(of_another_job), CASE(named_or_not),
+    CASE(one_folder_for_all), CASE(before_the_marker), CASE(an_older_copy), CASE(a_full_storage), CASE(a_folder_that_is_not_synced),
+    CASE(a_marker_that_is_a_link), CASE(a_marker_without_an_epoch), CASE(a_task_of_another_process), {NULL, NULL}};

@@ -111,6 +111,20 @@ def main(kills, *command):
         print(f"{kills} kills, {exact + 1} recoveries to an exact folder, {last} checkpoints, {len(used)} files in use")
 
 
+def run_tests(tests, made):
+    """Runs each test over what `made` makes of a new folder. The last line has the counts."""
+    failed = 0
+    for test in tests:
+        with tempfile.TemporaryDirectory() as name:
+            try:
+                test(made(pathlib.Path(name)))
+            except AssertionError as wrong:
+                print(f"{test.__name__}: {wrong}")
+                failed += 1
+    print(f"{len(tests) - failed} passed, {failed} failed")
+    return failed != 0
+
+
 if __name__ == "__main__":
     try:
         main(*sys.argv[1:])

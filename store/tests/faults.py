@@ -95,12 +95,12 @@ class Run:
 
     def command(self, verb, **what):
         """Makes a command of an operator. Returns the exit status, and whether it was answered."""
-        ran = subprocess.run([self.bin / "verbs", self.folder, verb], env=self.environment(**what), stdout=subprocess.PIPE, stderr=subprocess.STDOUT, text=True, timeout=LONGEST)
+        ran = subprocess.run([self.bin / "commands", self.folder, verb], env=self.environment(**what), stdout=subprocess.PIPE, stderr=subprocess.STDOUT, text=True, timeout=LONGEST)
         assert ran.returncode in (0, -signal.SIGKILL), ran.stdout
         return ran.returncode, ran.stdout == "made\n"
 
     def state(self):
-        ran = subprocess.run([self.bin / "verbs", self.folder, "state"], stdout=subprocess.PIPE, stderr=subprocess.STDOUT, text=True, timeout=LONGEST)
+        ran = subprocess.run([self.bin / "commands", self.folder, "state"], stdout=subprocess.PIPE, stderr=subprocess.STDOUT, text=True, timeout=LONGEST)
         assert ran.returncode == 0, ran.stdout
         return ran.stdout
 

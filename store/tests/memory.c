@@ -4,7 +4,7 @@
  * has manifests, of which it is made again with each request refused. The last line has the counts. */
 #include "common.h"
 
-#include "../../bindings/c/refusing_heap.h"
+#include "../../bindings/c/tests/refusing_heap.h"
 
 #include <errno.h>
 #include <pthread.h>
@@ -13,6 +13,7 @@
 #include <unistd.h>
 
 enum kind { OWN, COORDINATOR, SQLITE, KINDS };
+enum { WAY_BACK_FILES = 4 * SUBTASKS }; /* with those of the first checkpoint */
 
 static const char *const names[] = {"the store and the coordinator", "the coordinator", "SQLite"};
 static unsigned long requests, refused_from, refused_to; /* of the kind that is refused */
@@ -247,12 +248,28 @@ static void remove_job(void) {
     for (int id = 1; id < 20; id++) {
         snprintf(name, sizeof name, "%s/record-%d.manifest", storage, id);
         unlink(name);
+        snprintf(name, sizeof name, "%s/record-%d.manifest.claimed", storage, id);
+        unlink(name);
     }
     for (int file = 1; file <= 2 * SUBTASKS; file++) {
         snprintf(name, sizeof name, "%s/%d", storage, file);
         unlink(name);
     }
     told_len = 0;
+}
+
+static relkvanu_store *opens(relkvanu_store_options options) {
+    relkvanu_store *store;
+    relkvanu_store_report report;
+    options.storage = storage;
+    CHECK(relkvanu_store_open(&store, path, &options, &report) == RELKVANU_STORE_OK, "%s", report.message);
+    term = report.term;
+    return store;
+}
+
+static relkvanu_store *new_job(relkvanu_store_options options) {
+    remove_job();
+    return opens(options);
 }
 
 /* Makes or removes the files of all names. */
@@ -327,15 +344,10 @@ static unsigned refuse_each(enum kind kind, bool is_for_good, bool is_recovery) 
 
 /* An image that has no memory stops no call, and a discarder goes on. */
 static void images_wait(enum kind kind) {
-    relkvanu_store *store;
-    relkvanu_store_report report;
     relkvanu_store_counts counts;
     relkvanu_store_options options = job_options(RELKVANU_STORE_CREATE, 10);
-    remove_job();
-    options.storage = storage;
     options.patience = 1000;
-    CHECK(relkvanu_store_open(&store, path, &options, &report) == RELKVANU_STORE_OK, "%s", report.message);
-    term = report.term;
+    relkvanu_store *store = new_job(options);
     for (uint64_t i = 0; i < 4; i++) {
         CHECK(work(store) == RELKVANU_STORE_OK, "work");
     }
@@ -366,13 +378,8 @@ static void *discards(void *store) {
 
 /* A discarder that gets no memory tries again and again, and hears a stop. */
 static void stops_without_memory(void) {
-    relkvanu_store *store;
-    relkvanu_store_report report;
     pthread_t discarder;
-    relkvanu_store_options options = job_options(RELKVANU_STORE_CREATE, 10);
-    remove_job();
-    options.storage = storage;
-    CHECK(relkvanu_store_open(&store, path, &options, &report) == RELKVANU_STORE_OK, "%s", report.message);
+    relkvanu_store *store = new_job(job_options(RELKVANU_STORE_CREATE, 10));
     set_refused(OWN, 1, true);
     bool was_own = is_own;
     is_own = false; /* the thread itself needs some */
@@ -387,17 +394,12 @@ static void stops_without_memory(void) {
 
 /* A job whose file is lost, with a file for each that it names. */
 static uint64_t lose_job(void) {
-    relkvanu_store *store;
-    relkvanu_store_report report;
     relkvanu_store_options options = job_options(RELKVANU_STORE_CREATE, RELKVANU_STORE_NO_IMAGES);
     static const char *const ends[] = {"", "-wal", "-shm", ".lock"};
     char name[PATHS + 20];
     uint64_t id = 0;
-    remove_job();
     options.flags = RELKVANU_STORE_CREATE | RELKVANU_STORE_MANIFESTS | RELKVANU_STORE_CHECKSUMS;
-    options.storage = storage;
-    CHECK(relkvanu_store_open(&store, path, &options, &report) == RELKVANU_STORE_OK, "%s", report.message);
-    term = report.term;
+    relkvanu_store *store = new_job(options);
     for (uint64_t file = 1; file <= 2 * SUBTASKS; file++) {
         CHECK(relkvanu_store_put(store, file, "state", 5) == RELKVANU_STORE_OK, "file %" PRIu64, file);
     }
@@ -432,13 +434,9 @@ static unsigned recovers_without_memory(enum kind kind, bool is_for_good) {
         id = status == RELKVANU_STORE_OK && is_reached ? lose_job() : id; /* it can do without that request */
     }
     CHECK(nth > 20 && recovered.record == id, "record %" PRIu64 " at request %lu", recovered.record, nth);
-    relkvanu_store *store;
-    relkvanu_store_report report;
     relkvanu_store_loaded loaded;
     size_t parts = 0;
-    relkvanu_store_options options = job_options(RELKVANU_STORE_RECOVER, 0);
-    options.storage = storage;
-    CHECK(relkvanu_store_open(&store, path, &options, &report) == RELKVANU_STORE_OK, "%s", report.message);
+    relkvanu_store *store = opens(job_options(RELKVANU_STORE_RECOVER, 0));
     CHECK(relkvanu_store_load(store, id, &loaded, note_part, &parts) == RELKVANU_STORE_OK && parts == SUBTASKS, "%zu parts", parts);
     relkvanu_store_close(store);
     return (unsigned)nth;
@@ -478,19 +476,16 @@ static unsigned claims_without_memory(enum kind kind, bool is_for_good) {
 
 /* A way back to an older checkpoint for which there is no memory changes nothing, and can be made later. */
 static void way_back_waits(enum kind kind) {
-    relkvanu_store *store;
-    relkvanu_store_report report;
     relkvanu_store_call call;
     relkvanu_store_counts before, after;
     relkvanu_store_options options = job_options(RELKVANU_STORE_CREATE, 0);
-    remove_job();
-    options.storage = storage;
-    options.flags = RELKVANU_STORE_CREATE;
     options.settings.retained = 3;
-    CHECK(relkvanu_store_open(&store, path, &options, &report) == RELKVANU_STORE_OK, "%s", report.message);
-    term = report.term;
+    relkvanu_store *store = new_job(options);
     for (uint64_t i = 0; i < 3; i++) {
         CHECK(work(store) == RELKVANU_STORE_OK, "work");
+    }
+    for (uint64_t file = 1; file <= WAY_BACK_FILES; file++) {
+        CHECK(relkvanu_store_put(store, file, "x", 1) == RELKVANU_STORE_OK, "file %" PRIu64, file);
     }
     int status = RELKVANU_STORE_NO_MEMORY;
     unsigned long nth = 0;
@@ -509,6 +504,11 @@ static void way_back_waits(enum kind kind) {
     term = call.term;
     CHECK(work(store) == RELKVANU_STORE_OK, "work");
     relkvanu_store_close(store);
+    for (int file = 1; file <= WAY_BACK_FILES; file++) {
+        char name[PATHS];
+        snprintf(name, sizeof name, "%s/%d", storage, file);
+        CHECK(unlink(name) == 0, "%s", name);
+    }
     printf("store: memory of a way back, of %s: up to request %lu\n", names[kind], nth);
 }
 
@@ -529,15 +529,10 @@ static int submit_stop(relkvanu_store *store, relkvanu_store_call *call) {
 
 /* A stop that is submitted, and for which there is no memory, changes nothing, and can be submitted later. */
 static void submits_wait(enum kind kind) {
-    relkvanu_store *store;
-    relkvanu_store_report report;
     relkvanu_store_call call;
     relkvanu_store_counts counts;
     relkvanu_store_job_phase phase;
-    relkvanu_store_options options = job_options(RELKVANU_STORE_CREATE, 0);
-    remove_job();
-    options.storage = storage;
-    CHECK(relkvanu_store_open(&store, path, &options, &report) == RELKVANU_STORE_OK, "%s", report.message);
+    relkvanu_store *store = new_job(job_options(RELKVANU_STORE_CREATE, 0));
     int status = RELKVANU_STORE_NO_MEMORY;
     unsigned long nth = 0;
     while (status == RELKVANU_STORE_NO_MEMORY) {
@@ -597,16 +592,12 @@ static void folder_waits(const char *folder) {
 
 /* A tick that has no memory is not tried again at once: the timer rests for a second. */
 static void rests_without_memory(void) {
-    relkvanu_store *store;
-    relkvanu_store_report report;
     relkvanu_store_call tick = {0};
     relkvanu_store_options options = job_options(RELKVANU_STORE_CREATE, RELKVANU_STORE_NO_IMAGES);
     uint64_t before = 0, wait = 0;
-    remove_job();
-    options.storage = storage;
     options.settings.interval = 10;
     options.settings.at_once = 64;
-    CHECK(relkvanu_store_open(&store, path, &options, &report) == RELKVANU_STORE_OK, "%s", report.message);
+    relkvanu_store *store = new_job(options);
     for (unsigned long nth = 1; nth < 100 && tick.answer.code != RELKVANU_NO_MEMORY; nth++) {
         before = relkvanu_store_now(store);
         set_refused(COORDINATOR, nth, false);
@@ -633,22 +624,17 @@ static uint64_t given_up(relkvanu_store *store, const uint64_t *names, size_t le
 static void gives_up_in_parts(void) {
     enum { GIVEN = 5000, OF_A_LINE = 4096 };
     static uint64_t names[GIVEN];
-    relkvanu_store *store;
-    relkvanu_store_report report;
     relkvanu_answer answer = {.code = RELKVANU_STORE_NOT_MADE};
-    relkvanu_store_options options = job_options(RELKVANU_STORE_CREATE, RELKVANU_STORE_NO_IMAGES);
     uint64_t parts = 0;
     bool is_done = false;
-    remove_job();
-    options.storage = storage;
-    CHECK(relkvanu_store_open(&store, path, &options, &report) == RELKVANU_STORE_OK, "%s", report.message);
+    relkvanu_store *store = new_job(job_options(RELKVANU_STORE_CREATE, RELKVANU_STORE_NO_IMAGES));
     for (unsigned long nth = 1; !is_done; nth++) {
-        CHECK(relkvanu_store_reserve(store, report.term, 2 * GIVEN, &answer) == RELKVANU_STORE_OK && answer.code == RELKVANU_DONE, "names");
+        CHECK(relkvanu_store_reserve(store, term, 2 * GIVEN, &answer) == RELKVANU_STORE_OK && answer.code == RELKVANU_DONE, "names");
         for (size_t i = 0; i < GIVEN; i++) {
             names[i] = answer.a + 2 * i; /* so that those which stay are many ranges, which need memory */
         }
         heap_refuse_from(nth); /* one that is refused room to spare asks for less */
-        int status = relkvanu_store_forfeit(store, report.term, names, GIVEN, &answer);
+        int status = relkvanu_store_forfeit(store, term, names, GIVEN, &answer);
         set_none();
         uint64_t given = given_up(store, names, GIVEN);
         is_done = status == RELKVANU_STORE_OK && answer.code == RELKVANU_DONE;

@@ -1,11 +1,13 @@
 #!/usr/bin/env python3
-"""operated.py ENGINE KILLS: starts the engine operated.py of the page, sends it commands, and kills it at a random moment, KILLS times.
+"""operated.py SAMPLES KILLS: starts the engine files.py of SAMPLES with a socket for commands, sends it requests, and kills it at a random moment, KILLS times.
 
 - After each kill the phase is one that was committed: stopping only while its savepoint is pending, and stopped only if it is the choice.
 - A job that is stopped is stopped for the next process, and has no checkpoint until it begins.
 - In the end it is stopped and begun, goes on, and its folder has what the coordinator knows, and nothing else."""
 import contextlib
 import http.client
+import json
+import os
 import pathlib
 import random
 import signal
@@ -15,11 +17,21 @@ import sys
 import tempfile
 import time
 
-from engines import LONGEST, NEW, SEED, known, listed
+from engines import LONGEST, SEED, known, listed
 from relkvanu import Kind, Settings, Standing
 from relkvanu.store import Phase, Store
 
-COMMANDS = ("checkpoint", "set?interval=50", "set?interval=70&retained=2", "stop", "begin", "back?checkpoint={}&accept_published=1", "phase")
+ENGINE = """
+import sys
+from files import Engine
+Engine(sys.argv[1], 1 << 62, True, commands=sys.argv[1] + "/commands", waits=True).runner.run()
+"""
+BACK = {"calls": [{"call": "restore", "from": {"checkpoint": 0}, "accept_published": True}]}
+COMMANDS = (
+    ("POST", "/checkpoints", {}), ("POST", "/checkpoints", {"full": True}), ("PATCH", "/settings", {"interval": 50}),
+    ("PATCH", "/settings", {"interval": 70, "retained": 2}), ("POST", "/stop", {}), ("POST", "/begin", {}), ("POST", "/calls", BACK), ("GET", "/records", None),
+    ("GET", "", None))
+STOP, BEGIN, LOOK = COMMANDS[4], COMMANDS[5], COMMANDS[-1]
 
 
 class Socket(http.client.HTTPConnection):
@@ -31,9 +43,10 @@ class Socket(http.client.HTTPConnection):
 
 def asks(folder, command):
     """Returns the status and the answer; None: the process has ended."""
+    method, path, body = command
     with contextlib.suppress(OSError, http.client.HTTPException):
         job = Socket(str(folder / "commands"))
-        job.request("POST", f"/{command}")
+        job.request(method, f"/v1/jobs/job{path}", json.dumps(body), {"Content-Type": "application/json"})
         answer = job.getresponse()
         return answer.status, answer.read().decode()
     return None
@@ -51,7 +64,7 @@ def await_answer(folder, command, words):
 
 def look(folder):
     """The phase, and the choice, of a job that nobody has open."""
-    with Store(folder / "job.db", Settings(interval=10), [3], storage=folder / "state") as job:
+    with Store(folder / "job.db", Settings(interval=10), [1]) as job:
         phase = job.report.phase
         with job.read() as reads:
             choice = reads.choice()
@@ -65,13 +78,14 @@ def look(folder):
 
 @contextlib.contextmanager
 def running(engine, folder):
-    with subprocess.Popen([sys.executable, engine, folder, NEW], stderr=subprocess.PIPE, text=True) as process:
-        await_answer(folder, "phase", "JobPhase")
+    known = {**os.environ, "PYTHONPATH": f"{os.environ['PYTHONPATH']}:{engine}"}
+    with subprocess.Popen([sys.executable, "-c", ENGINE, folder], stderr=subprocess.DEVNULL, env=known) as process:
+        await_answer(folder, LOOK, '"phase"')
         try:
             yield process
         finally:
             process.kill()
-            process.communicate()
+            process.wait()
     assert process.returncode == -signal.SIGKILL, process.returncode
 
 
@@ -84,26 +98,26 @@ def main(engine, kills):
         for nth in range(int(kills)):
             with running(engine, folder):
                 if before is not None and before.phase is Phase.STOPPED:
-                    assert "STOPPED" in asks(folder, "phase")[1], "it is stopped for the next process too"
+                    assert '"phase": "stopped"' in asks(folder, LOOK)[1], "it is stopped for the next process too"
                 for _ in range(chance.randrange(6)):
-                    told = asks(folder, chance.choice(COMMANDS).format(chance.randrange(1, 30)))
+                    BACK["calls"][0]["from"]["checkpoint"] = chance.randrange(1, 30)
+                    told = asks(folder, chance.choice(COMMANDS))
                     assert told is None or told[0] in (200, 409), told
                     time.sleep(chance.random() * 0.1)
                 if nth % 2 == 1:
-                    asks(folder, "stop")
+                    asks(folder, STOP)
                     time.sleep(chance.random() * 0.02)
             before, _ = look(folder)
             stops += before.phase is Phase.STOPPED
             assert known(folder)[0] <= listed(folder), "a file is missing"
         with running(engine, folder):
             # (a restore that the engine still has to make ends a stop)
-            await_answer(folder, "stop", "STOPPED")
-            begun = await_answer(folder, "begin", "RUNNING")
-            assert "RestoredSavepoint" in begun, begun
+            await_answer(folder, STOP, '"Stopped"')
+            assert '"restore": "savepoint"' in asks(folder, BEGIN)[1]
             for _ in range(3):
-                asks(folder, "checkpoint")
+                asks(folder, COMMANDS[0])
                 time.sleep(0.1)
-            await_answer(folder, "stop", "STOPPED")
+            await_answer(folder, STOP, '"Stopped"')
         used, waiting, taken, last = known(folder)
         assert listed(folder) - used - waiting - taken == garbage(folder), "a file is left"
         print(f"{kills} kills with commands, {stops} of them of a job that was stopped, {last} records")
@@ -111,7 +125,7 @@ def main(engine, kills):
 
 def garbage(folder):
     """What the next sweep deletes."""
-    with Store(folder / "job.db", Settings(interval=10), [3], storage=folder / "state") as job:
+    with Store(folder / "job.db", Settings(interval=10), [1]) as job:
         return set(job.garbage(sorted(listed(folder))).garbage)
 
 

@@ -1,5 +1,5 @@
 #!/usr/bin/env python3
-"""owners.py COMMAND: root recovers and imports jobs in the folder of another user.
+"""owners.py: root recovers and imports jobs in the folder of another user.
 
 - What it makes is that user's: the file, its lock, the marker, the manifests, and what is copied. An import into an empty folder gives all to the user of that one.
 - A link that the user has put where root writes is not followed, and the file to which it leads stays as it is. So is it with a second name of that file.
@@ -10,10 +10,9 @@ import os
 import pathlib
 import shutil
 import subprocess
-import sys
 import tempfile
 
-from recoveries import Recoveries, base_of, lose
+from recoveries import COMMAND, Recoveries, base_of, lose
 
 USER, GROUP, OTHER = 12345, 12346, 12347
 ROOTS = b"root's"
@@ -116,7 +115,7 @@ def in_a_namespace(it, base):
     for path in all_in(folder):
         path.chmod(0o777 if path.is_dir() else 0o666)
     it.work.chmod(0o755)
-    words = ["unshare", "--user", "--map-root-user", it.command, "recover", folder / "job.db", folder / "state"]
+    words = ["unshare", "--user", "--map-root-user", *COMMAND, "recover", folder / "job.db", folder / "state"]
     told = subprocess.run(words, stdout=subprocess.PIPE, stderr=subprocess.STDOUT, text=True)
     if "unshare" in told.stdout:
         return "no namespace of users"
@@ -124,9 +123,9 @@ def in_a_namespace(it, base):
     return "a namespace of users"
 
 
-def main(command):
+def main():
     with tempfile.TemporaryDirectory() as name:
-        it = Recoveries(pathlib.Path(command).resolve(), "", [], pathlib.Path(name))
+        it = Recoveries("", [], pathlib.Path(name))
         if os.geteuid() != 0 or not may_give(it.work):
             print("skipped: users: what root makes in the folder of another user")
             return
@@ -136,4 +135,4 @@ def main(command):
 
 
 if __name__ == "__main__":
-    main(*sys.argv[1:])
+    main()

@@ -102,7 +102,7 @@ class Engine:
 def main(folder: str, inputs: str) -> None:
     work = pathlib.Path(folder)
     (work / "state").mkdir(exist_ok=True)
-    settings = Settings(interval=10, timeout=600_000)
+    settings = Settings(interval=10, timeout=600_000, retained=2)
     with Store(work / "job.db", settings, [TASKS], storage=work / "state", create=not (work / "begun").exists(), manifests=True,
                checksums=True) as job:
         (work / "begun").touch()  # from now on there is a job: a missing file is a lost one

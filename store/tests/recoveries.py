@@ -1,5 +1,5 @@
 #!/usr/bin/env python3
-"""recoveries.py COMMAND SHIM [ENGINE..]: loses the file of a job, and makes it again by `COMMAND recover`.
+"""recoveries.py SHIM [ENGINE..]: loses the file of a job, and makes it again by `relkvanu recover`.
 
 - An engine (publishes.py) is killed at a random moment, LOSSES times. Each time its file is gone, and a job is made again. It goes on from the last
   record that was complete, and in the end each input was published once. So are the engines of the pages, whose folders are exact then.
@@ -15,11 +15,10 @@ import shutil
 import signal
 import subprocess
 import sys
-import tempfile
 import time
 
 sys.path.insert(0, str(pathlib.Path(__file__).resolve().parent.parent.parent / "faults"))
-from engines import NEW, recovers as runs_to
+from engines import NEW, run_tests, recovers as runs_to
 from power import Journal, Kind, Loss, read_tree, write_tree
 from relkvanu import Settings
 from relkvanu.manifest import files_in
@@ -28,17 +27,18 @@ from relkvanu.store import Store
 SEED = os.environ.get("SEED", str(time.time()))
 LOSSES, ROUNDS = int(os.environ.get("LOSSES", "10")), int(os.environ.get("ROUNDS", "1"))
 ENDS, LOST = 24, 8  # ends of a command, and ends of an export, an import and a claim where power is lost in two ways
+COMMAND = [sys.executable, "-m", "relkvanu"]
 ENGINE = [sys.executable, str(pathlib.Path(__file__).resolve().parent / "publishes.py")]
 LONGEST = 600  # seconds of a process, on a busy machine
 INPUTS = 10 ** 9
 
 
 class Recoveries:
-    def __init__(self, command, shim, engines, work):
-        self.command, self.shim, self.engines, self.work, self.chance = command, shim, engines, work, random.Random(SEED)
+    def __init__(self, shim, engines, work):
+        self.shim, self.engines, self.work, self.chance = shim, engines, work, random.Random(SEED)
 
     def runs(self, *words, **env):
-        return subprocess.run([self.command, *words], env={**os.environ, **env}, stdout=subprocess.PIPE, stderr=subprocess.STDOUT, text=True, timeout=LONGEST)
+        return subprocess.run([*COMMAND, *words], env={**os.environ, **env}, stdout=subprocess.PIPE, stderr=subprocess.STDOUT, text=True, timeout=LONGEST)
 
     def recovers(self, folder, **env):
         return self.runs("recover", folder / "job.db", folder / "state", **env)
@@ -144,7 +144,7 @@ def goes_on(it, folder, complete):
 
 def is_right(it, folder):
     """Each record has a checksum of each file, which is right."""
-    told = it.runs("show", "--whole", folder)
+    told = it.runs("records", "--whole", folder)
     assert told.returncode == 0 and told.stdout.count("; each checksum is right") == len(told.stdout.splitlines()) - 1 > 0, told.stdout
 
 
@@ -216,19 +216,19 @@ def is_exported(it, folder, complete):
     """The same command makes the folder, unless it is there. Its record is whole."""
     is_there, told = (folder / "out").exists(), it.runs(*export(folder))
     assert told.returncode == is_there and not (folder / "out.part").exists(), told.stdout
-    told = it.runs("show", folder / "out")
+    told = it.runs("records", folder / "out")
     assert told.stdout.count("whole; ") == 1 and int(told.stdout.split("\n")[1].split()[0]) in (complete, complete + 1), told.stdout
     is_right(it, folder / "out")
 
 
-def exports_at_each_end(it):
-    base, complete = base_of(it)
-    ends_of(it, base, ENDS // 2, export, lambda folder: is_exported(it, folder, complete))
-
-
-def exports_at_each_loss(it):
-    base, complete = base_of(it)
-    losses_of(it, base, LOST, export, lambda folder: is_exported(it, folder, complete))
+def used_by_made(it, folder, storage, complete, job="new.db"):
+    """The files of the record that the new job goes on from. Each is in its storage."""
+    with Store(folder / job, Settings(interval=10), [2], storage=storage, manifests=True, checksums=True) as job, job.read() as reads:
+        assert reads.choice().id in (complete, complete + 1), reads.choice()
+        used = [file for task in range(2) for file in reads.files_of(reads.choice().id, 0, task)]
+    assert len(used) == 2 and all((storage / str(file)).stat().st_size > 0 for file in used), used
+    is_right(it, storage)
+    return used
 
 
 def imports(folder):
@@ -240,53 +240,32 @@ def is_imported(it, folder, complete):
     is_there, told = (folder / "new.db").exists(), it.runs(*imports(folder))
     assert told.returncode == is_there and ("there is a job" in told.stdout) == is_there, told.stdout
     assert not list(folder.glob(".new.db.relkvanu-new*")) and not (folder / "new.part").exists(), list(folder.iterdir())
-    with Store(folder / "new.db", Settings(interval=10), [2], storage=folder / "new", manifests=True, checksums=True) as job, job.read() as reads:
-        assert reads.choice().id in (complete, complete + 1), reads.choice()
-        for task in range(2):
-            assert (folder / "new" / str(*reads.files_of(reads.choice().id, 0, task))).stat().st_size > 0
-    is_right(it, folder / "new")
+    used_by_made(it, folder, folder / "new", complete)
     assert it.recovers(folder).returncode == 0, "the first job"
 
 
-def imports_at_each_end(it):
-    base, complete = base_of(it)
-    ends_of(it, base, ENDS, imports, lambda folder: is_imported(it, folder, complete))
-
-
-def imports_at_each_loss(it):
-    base, complete = base_of(it)
-    losses_of(it, base, LOST, imports, lambda folder: is_imported(it, folder, complete))
-
-
-def claim(folder):
-    return "import", "--claim", folder / "state", folder / "new.db", folder / "new"
+def claim(folder, name="new"):
+    """The files leave the first job's folder once those of the second one are there, and not before. In the end that folder has none of them, and its job is
+    refused."""
+    return "import", "--claim", folder / "state", folder / f"{name}.db", folder / name
 
 
 def is_claimed(it, folder, complete):
-    """The same command goes on. The record is in the new folder, and nowhere else."""
-    ended, told = (folder / "new.db").exists(), it.runs(*claim(folder))
-    assert told.returncode == 0 or (ended and "there is a job" in told.stdout), told.stdout  # it had done all but say so
-    assert not list(folder.glob(".new.db.relkvanu-new*")) and not (folder / "new.part").exists(), list(folder.iterdir())
-    with Store(folder / "new.db", Settings(interval=10), [2], storage=folder / "new", manifests=True, checksums=True) as job, job.read() as reads:
-        assert reads.choice().id in (complete, complete + 1), reads.choice()
-        used = [file for task in range(2) for file in reads.files_of(reads.choice().id, 0, task)]
-    assert all((folder / "new" / str(file)).stat().st_size > 0 for file in used), used
+    """Another claim is refused, or has the record before there is a job of the first one, which is refused then. Otherwise the same command goes on. The record is in
+    one new folder, and nowhere else: no job begins from an earlier one that is still there."""
+    ended, rival = (folder / "new.db").exists(), it.runs(*claim(folder, "rival"))
+    told = it.runs(*claim(folder))
+    if rival.returncode == 0:
+        assert not ended and told.returncode == 1 and "was claimed for" in told.stdout and not (folder / "new.db").exists(), told.stdout
+        used = used_by_made(it, folder, folder / "rival", complete, "rival.db")
+    else:
+        assert "was claimed for" in rival.stdout, rival.stdout
+        assert told.returncode == 0 or (ended and "there is a job" in told.stdout), told.stdout  # it had done all but say so
+        assert not list(folder.glob(".new.db.relkvanu-new*")) and not (folder / "new.part").exists(), list(folder.iterdir())
+        used = used_by_made(it, folder, folder / "new", complete)
     assert not [file for file in used if (folder / "state" / str(file)).exists()], used
-    is_right(it, folder / "new")
     told = it.recovers(folder)
-    assert told.returncode == 1 and "no record" in told.stdout, told.stdout  # it has left
-
-
-def claims_at_each_end(it):
-    """The files leave the first job's folder once those of the second one are there, and not before. In the end that folder has none of them, and its job is
-    refused."""
-    base, complete = base_of(it)
-    ends_of(it, base, ENDS, claim, lambda folder: is_claimed(it, folder, complete))
-
-
-def claims_at_each_loss(it):
-    base, complete = base_of(it)
-    losses_of(it, base, LOST, claim, lambda folder: is_claimed(it, folder, complete))
+    assert told.returncode == 1 and "was claimed for" in told.stdout, told.stdout  # it has left
 
 
 def claim_in_place(folder):
@@ -297,27 +276,13 @@ def is_claimed_in_place(it, folder, complete):
     """The same command makes the job, unless it is there."""
     is_there, told = (folder / "new.db").exists(), it.runs(*claim_in_place(folder))
     assert told.returncode == is_there, told.stdout
-    with Store(folder / "new.db", Settings(interval=10), [2], storage=folder / "out", manifests=True, checksums=True) as job, job.read() as reads:
-        assert reads.choice().id in (complete, complete + 1), reads.choice()
-        for task in range(2):
-            assert (folder / "out" / str(*reads.files_of(reads.choice().id, 0, task))).stat().st_size > 0
-    is_right(it, folder / "out")
+    used_by_made(it, folder, folder / "out", complete)
 
 
 def exported_base(it):
     base, complete = base_of(it)
     assert it.runs("export", base / "state", base / "out").returncode == 0
     return base, complete
-
-
-def claims_in_place_at_each_end(it):
-    base, complete = exported_base(it)
-    ends_of(it, base, ENDS // 2, claim_in_place, lambda folder: is_claimed_in_place(it, folder, complete))
-
-
-def claims_in_place_at_each_loss(it):
-    base, complete = exported_base(it)
-    losses_of(it, base, ENDS // 2, claim_in_place, lambda folder: is_claimed_in_place(it, folder, complete))
 
 
 def the_old_job_of_a_claim(it):
@@ -372,7 +337,7 @@ def a_changed_file(it, folder):
     """One bit is another: who reads the file finds it, and says which one."""
     is_right(it, folder / "state")
     # (the folder may also have files that no record names, and an older record)
-    record = next(line.split()[0] for line in it.runs("show", folder / "state").stdout.splitlines() if "a recovery" in line)
+    record = next(line.split()[0] for line in it.runs("records", folder / "state").stdout.splitlines() if "a recovery" in line)
     file = folder / "state" / str(next(iter(files_in((folder / "state" / f"record-{record}.manifest").read_bytes()))))
     before = file.read_bytes()
     for contents, words in ((bytes([before[0] ^ 1]) + before[1:], "has another checksum"), (before[:-1], "has another length"), (None, "is missing")):
@@ -380,7 +345,7 @@ def a_changed_file(it, folder):
             file.unlink()
         else:
             file.write_bytes(contents)
-        told, plain = it.runs("show", "--whole", folder / "state"), it.runs("show", folder / "state")
+        told, plain = it.runs("records", "--whole", folder / "state"), it.runs("records", folder / "state")
         assert told.returncode == 1 and f"file {file.name} {words}\n" in told.stdout, told.stdout
         said = next(line for line in plain.stdout.splitlines() if line.split()[0] == record)
         assert plain.returncode == 0 and ("whole; a recovery" in said) == (words == "has another checksum"), plain.stdout
@@ -390,14 +355,14 @@ def a_changed_file(it, folder):
 
 def what_it_says(it):
     folder, complete = base_of(it)
-    told = it.runs("show", folder / "state")
+    told = it.runs("records", folder / "state")
     assert told.returncode == 0 and "whole; a recovery or an import begins from it" in told.stdout, told.stdout
     assert any(line.split()[0] == str(complete) or line.split()[0] == str(complete + 1) for line in told.stdout.splitlines()[1:]), told.stdout
-    for words, status, text in ((("show",), 2, "relkvanu-store show FOLDER"), (("show", folder / "nowhere"), 1, "No such file"),
-                                (("show", "--whole", folder / "nowhere"), 1, "No such file"), (("show", "--all", folder), 2, "show --whole FOLDER"),
-                                (("recover", folder / "job.db", folder / "state", "x"), 2, "recover JOB FOLDER"),
-                                (("recover", folder / "job.db", folder / "state", "999"), 1, "no record"),
-                                (("recover", folder / "job.db", folder), 1, "no marker"), (("--version",), 0, "relkvanu-store 0."), (("--help",), 0, "show FOLDER")):
+    for words, status, text in ((("records",), 2, "JOB"), (("records", folder / "nowhere"), 1, "No such file"),
+                                (("records", "--whole", folder / "nowhere"), 1, "No such file"), (("records", "--all", folder), 2, "--all"),
+                                (("recover", folder / "job.db"), 2, "its storage"), (("recover", folder / "job.db", folder / "state", "--record", "x"), 2, "--record"),
+                                (("recover", folder / "job.db", folder / "state", "--record", "999"), 1, "no record"),
+                                (("recover", folder / "job.db", folder), 1, "no marker"), (("--help",), 0, "put-back")):
         told = it.runs(*words)
         assert told.returncode == status and text in told.stdout, (words, told.returncode, told.stdout)
     a_changed_file(it, folder)
@@ -406,23 +371,30 @@ def what_it_says(it):
     assert told.returncode == 1 and "there is a job" in told.stdout, told.stdout
 
 
-TESTS = (what_it_says, after_a_whole_one, with_its_name_alone, at_each_end, at_each_loss, exports_at_each_end, exports_at_each_loss, imports_at_each_end,
-         imports_at_each_loss, claims_at_each_end, claims_at_each_loss, claims_in_place_at_each_end, claims_in_place_at_each_loss, the_old_job_of_a_claim,
-         lost_logs, lost_engines)
+def at_each(name, base_of, command, check, ends, losses):
+    """The tests in which a command ends at each call that writes, and in which power is lost there."""
+
+    def ended(it):
+        base, complete = base_of(it)
+        ends_of(it, base, ends, command, lambda folder: check(it, folder, complete))
+
+    def lost(it):
+        base, complete = base_of(it)
+        losses_of(it, base, losses, command, lambda folder: check(it, folder, complete))
+
+    ended.__name__, lost.__name__ = f"{name}_at_each_end", f"{name}_at_each_loss"
+    return ended, lost
 
 
-def main(command, shim, *engines):
-    failed, only = 0, os.environ.get("ONLY", "").split()
-    for test in [it for it in TESTS if not only or it.__name__ in only]:
-        with tempfile.TemporaryDirectory() as name:
-            try:
-                test(Recoveries(pathlib.Path(command).resolve(), str(pathlib.Path(shim).resolve()), [it.split() for it in engines], pathlib.Path(name)))
-            except AssertionError as wrong:
-                print(f"{test.__name__}: {wrong}")
-                failed += 1
+TESTS = (what_it_says, after_a_whole_one, with_its_name_alone, at_each_end, at_each_loss, *at_each("exports", base_of, export, is_exported, ENDS // 2, LOST),
+         *at_each("imports", base_of, imports, is_imported, ENDS, LOST), *at_each("claims", base_of, claim, is_claimed, ENDS, LOST),
+         *at_each("claims_in_place", exported_base, claim_in_place, is_claimed_in_place, ENDS // 2, ENDS // 2), the_old_job_of_a_claim, lost_logs, lost_engines)
+
+
+def main(shim, *engines):
     print(f"store: the recoveries have SEED={SEED}")
-    print(f"{len(only or TESTS) - failed} passed, {failed} failed")
-    return failed != 0
+    only, given = os.environ.get("ONLY", "").split(), (str(pathlib.Path(shim).resolve()), [it.split() for it in engines])
+    return run_tests([it for it in TESTS if not only or it.__name__ in only], lambda work: Recoveries(*given, work))
 
 
 if __name__ == "__main__":

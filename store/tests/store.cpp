@@ -41,6 +41,14 @@ static ckpt::Store opened(const std::string &path, std::uint32_t flags) {
     return std::move(std::get<ckpt::Store>(it));
 }
 
+/* With a storage folder of its own. */
+static ckpt::Store opened_over(const std::string &folder, const std::string &path) {
+    CHECK(mkdir(folder.c_str(), 0700) == 0);
+    relkvanu_store_options with = options(RELKVANU_STORE_CREATE);
+    with.storage = folder.c_str();
+    return std::move(std::get<ckpt::Store>(ckpt::Store::open(path, with)));
+}
+
 template <class Answer> static std::error_code why(const Answer &answer) {
     const auto *refused = std::get_if<ckpt::refused>(&answer);
     return refused ? refused->why : std::error_code();
@@ -204,11 +212,7 @@ static void discarder(const std::string &path) {
 /* State files: two checkpoints, a file that nobody knows, a discarder and a sweep. */
 static void files(const std::string &path) {
     const std::string folder = path + "-state";
-    CHECK(mkdir(folder.c_str(), 0700) == 0);
-    relkvanu_store_options with = options(RELKVANU_STORE_CREATE);
-    with.storage = folder.c_str();
-    auto opening = ckpt::Store::open(path + "5", with);
-    ckpt::Store job = std::move(std::get<ckpt::Store>(opening));
+    ckpt::Store job = opened_over(folder, path + "5");
     for (std::uint64_t file : {1, 2, 11, 12, 77}) {
         CHECK(!job.put(file, "state"));
     }
@@ -232,10 +236,7 @@ static void files(const std::string &path) {
 /* Files that come part by part, and those that are there; and what the job of an opening is. */
 static void puts(const std::string &path) {
     const std::string folder = path + "-puts";
-    CHECK(mkdir(folder.c_str(), 0700) == 0);
-    relkvanu_store_options with = options(RELKVANU_STORE_CREATE);
-    with.storage = folder.c_str();
-    ckpt::Store job = std::move(std::get<ckpt::Store>(ckpt::Store::open(path + "15", with)));
+    ckpt::Store job = opened_over(folder, path + "15");
     CHECK(std::get<ckpt::reserved>(job.reserve(1, 9)).first == 1);
     std::size_t left = 600000;
     auto source = [&left](char *to, std::size_t room) {
@@ -293,12 +294,7 @@ static void storage(const std::string &path) {
 }
 
 static void names(const std::string &path) {
-    const std::string folder = path + "-names";
-    CHECK(mkdir(folder.c_str(), 0700) == 0);
-    relkvanu_store_options with = options(RELKVANU_STORE_CREATE);
-    with.storage = folder.c_str();
-    auto opening = ckpt::Store::open(path + "6", with);
-    ckpt::Store job = std::move(std::get<ckpt::Store>(opening));
+    ckpt::Store job = opened_over(path + "-names", path + "6");
     CHECK(job.report().term == 1 && job.report().next_name == 1);
     auto held = std::get<ckpt::reserved>(job.reserve(1, 5));
     CHECK(held.first == 1 && held.count == 5);

@@ -1,0 +1,421 @@
+/* Carries a complete record from one storage folder to another, by its manifest: for a copy that needs no job, and for a job that begins elsewhere.
+ *
+ * The folder is made beside its name, and gets it once all is on the disk. A file that both folders can have is linked, so it stays although the
+ * first job deletes it. */
+#include "../files/files.h"
+#include "../job/job.h"
+#include "../log/log.h"
+#include "../manifests/manifest.h"
+#include "../manifests/manifests.h"
+#include "../store.h"
+#include "commands.h"
+
+#include <errno.h>
+#include <fcntl.h>
+#include <inttypes.h>
+#include <stdio.h>
+#include <stdlib.h>
+#include <string.h>
+#include <sys/file.h>
+#include <sys/random.h>
+#include <unistd.h>
+#include <zlib.h>
+
+enum { PIECE = 1 << 20, TRIES = 100 }; /* bytes; times that a record may end while it is carried */
+
+struct transfer {
+    relkvanu_store *from;            /* the folder with its marker, and what went wrong; it is not opened */
+    const char *from_name, *to_name; /* the folders */
+    char *part;                      /* the folder that is made */
+    int to;                          /* the same */
+    bool may_link;
+    uint64_t passed; /* manifests of the job that are damaged or lack files */
+    relkvanu_store_carried *told;
+};
+
+static int failed(struct transfer *t, const char *what, int error) {
+    return rks_file_fault(t->from, what, error);
+}
+
+static int set_fault(struct transfer *t, int status, const char *folder, const char *words) {
+    snprintf(t->from->fault, sizeof t->from->fault, "%.300s: %.200s", folder, words);
+    return status;
+}
+
+/* Copies what is in a file, and syncs it. *sum is its checksum. Returns 0, or what is wrong as errno. */
+static int copy_contents(int from, int to, uint32_t *sum) {
+    char *piece = malloc(PIECE);
+    off_t at = 0;
+    ssize_t len = 1;
+    int error = piece == NULL ? ENOMEM : 0;
+    *sum = 0;
+    while (error == 0 && len != 0) {
+        len = pread(from, piece, PIECE, at);
+        if (len < 0) {
+            error = errno == EINTR ? 0 : errno;
+        } else if (!rks_write_whole(to, piece, (size_t)len, at)) {
+            error = errno;
+        }
+        *sum = len > 0 ? (uint32_t)crc32_z(*sum, (const uint8_t *)piece, (size_t)len) : *sum;
+        at += len > 0 ? len : 0;
+    }
+    free(piece);
+    return error == 0 && fsync(to) != 0 ? errno : error;
+}
+
+static int copy_file(const struct transfer *t, const char *name, uint32_t *sum) {
+    int from = openat(t->from->storage.folder, name, O_RDONLY | O_NOFOLLOW | O_NONBLOCK | O_CLOEXEC);
+    if (from < 0) {
+        return errno;
+    }
+    int to = openat(t->to, name, O_WRONLY | O_CREAT | O_EXCL | O_NOFOLLOW | O_CLOEXEC, 0600);
+    int error = to < 0 ? errno : rks_give(to, t->to);
+    error = error == 0 ? copy_contents(from, to, sum) : error;
+    error = to >= 0 && close(to) != 0 && error == 0 ? errno : error;
+    close(from);
+    return error;
+}
+
+/* A link is on the disk with the folder, and is not read. File systems without links, or with too few of them, get a copy, of which *sum is the checksum. */
+static int carry_file(struct transfer *t, const char *name, bool *is_copy, uint32_t *sum) {
+    *is_copy = false;
+    if (t->may_link && linkat(t->from->storage.folder, name, t->to, name, 0) == 0) {
+        return 0;
+    }
+    int error = t->may_link ? errno : EXDEV;
+    *is_copy = error == EXDEV || error == EPERM || error == EMLINK || error == ENOTSUP || error == ENOSYS;
+    t->may_link = t->may_link && error == EMLINK;
+    return *is_copy ? copy_file(t, name, sum) : error;
+}
+
+/* Carries a file of the record. RELKVANU_STORE_NOT_NOW: it is not there any more. */
+static int carry(void *with, const struct rks_part *part) {
+    struct transfer *t = with;
+    char name[32];
+    struct stat found;
+    bool is_copy;
+    uint32_t sum = 0;
+    snprintf(name, sizeof name, "%" PRIu64, part->file);
+    if (!part->is_file || (fstatat(t->to, name, &found, AT_SYMLINK_NOFOLLOW) == 0)) {
+        return RELKVANU_STORE_OK; /* several subtasks may have it */
+    }
+    int error = carry_file(t, name, &is_copy, &sum);
+    if (error != 0) {
+        return error == ENOENT ? RELKVANU_STORE_NOT_NOW : failed(t, name, error);
+    }
+    bool is_there = fstatat(t->to, name, &found, AT_SYMLINK_NOFOLLOW) == 0 && S_ISREG(found.st_mode);
+    if (!is_there || (part->has_bytes && (uint64_t)found.st_size != part->bytes)) {
+        return set_fault(t, RELKVANU_STORE_DAMAGED, name, "it is not as long as its manifest says");
+    }
+    if (is_copy && part->has_sum && part->sum != sum) {
+        return set_fault(t, RELKVANU_STORE_DAMAGED, name, "it has another checksum than its manifest says");
+    }
+    t->told->files++;
+    t->told->bytes += (uint64_t)found.st_size;
+    return RELKVANU_STORE_OK;
+}
+
+/* Removes a folder of files. One that is not there is removed. */
+static int remove_folder(struct transfer *t, const char *name) {
+    int folder = open(name, O_RDONLY | O_DIRECTORY | O_NOFOLLOW | O_CLOEXEC), error = folder < 0 ? errno : 0;
+    DIR *entries = folder < 0 ? NULL : rks_entries(folder);
+    struct dirent *entry;
+    while (error == 0 && entries != NULL && (errno = 0, entry = readdir(entries)) != NULL) {
+        bool is_name = strcmp(entry->d_name, ".") != 0 && strcmp(entry->d_name, "..") != 0;
+        error = is_name && unlinkat(folder, entry->d_name, 0) != 0 && errno != ENOENT ? errno : 0;
+    }
+    error = error == 0 ? errno : error;
+    if (entries != NULL) {
+        closedir(entries);
+    }
+    if (folder >= 0) {
+        close(folder);
+    }
+    error = error == 0 && rmdir(name) != 0 ? errno : error;
+    return error == 0 || error == ENOENT ? RELKVANU_STORE_OK : failed(t, name, error);
+}
+
+static bool is_same(const struct stat *one, const struct stat *other) {
+    return one->st_ino == other->st_ino && one->st_dev == other->st_dev;
+}
+
+/* Whether the part that is open and locked still has its name: another call may have finished it, or removed it, before the lock was had. */
+static bool has_name(const struct transfer *t) {
+    struct stat held, named;
+    return fstat(t->to, &held) == 0 && lstat(t->part, &named) == 0 && is_same(&held, &named);
+}
+
+static bool is_from(const struct transfer *t) {
+    struct stat held, from;
+    return fstat(t->to, &held) == 0 && fstat(t->from->storage.folder, &from) == 0 && is_same(&held, &from);
+}
+
+/* Opens the part, and locks it. RELKVANU_STORE_NOT_NOW: it has lost its name meanwhile. */
+static int open_part(struct transfer *t) {
+    t->to = open(t->part, O_RDONLY | O_DIRECTORY | O_NOFOLLOW | O_CLOEXEC);
+    if (t->to < 0) {
+        return errno == ENOENT ? RELKVANU_STORE_OK : failed(t, t->part, errno);
+    }
+    int status = RELKVANU_STORE_OK;
+    if (is_from(t)) {
+        status = set_fault(t, RELKVANU_STORE_PRESENT, t->part, "it is the folder to carry from, and would be made anew");
+    } else if (flock(t->to, LOCK_EX | LOCK_NB) != 0) {
+        status = errno == EWOULDBLOCK ? set_fault(t, RELKVANU_STORE_IN_USE, t->part, "another export or import writes it")
+                                      : failed(t, t->part, errno);
+    } else if (!has_name(t)) {
+        status = RELKVANU_STORE_NOT_NOW;
+    }
+    if (status != RELKVANU_STORE_OK) {
+        close(t->to);
+        t->to = -1;
+    }
+    return status;
+}
+
+/* Opens the part, which nobody else removes or names while it is open here. */
+static int lock_part(struct transfer *t) {
+    int status = RELKVANU_STORE_NOT_NOW;
+    for (int tries = 0; tries < TRIES && status == RELKVANU_STORE_NOT_NOW; tries++) {
+        status = open_part(t);
+    }
+    return status == RELKVANU_STORE_NOT_NOW ? set_fault(t, RELKVANU_STORE_IN_USE, t->part, "other exports or imports write it") : status;
+}
+
+/* The part is that of the user of an empty folder whose name it gets, or else of the folder that it is in. */
+static int give_part(struct transfer *t) {
+    int empty = open(t->to_name, O_RDONLY | O_DIRECTORY | O_NOFOLLOW | O_CLOEXEC);
+    int error = empty >= 0 ? rks_give(t->to, empty) : rks_give_beside(t->to, t->part);
+    if (empty >= 0) {
+        close(empty);
+    }
+    return error == 0 ? RELKVANU_STORE_OK : failed(t, t->part, error);
+}
+
+/* Makes the part anew. */
+static int make_folder(struct transfer *t) {
+    int status = lock_part(t);
+    if (t->to >= 0) {
+        status = remove_folder(t, t->part);
+        close(t->to);
+        t->to = -1;
+    }
+    if (status == RELKVANU_STORE_OK && mkdir(t->part, 0700) != 0) {
+        status = failed(t, t->part, errno);
+    }
+    status = status == RELKVANU_STORE_OK ? lock_part(t) : status;
+    status = status == RELKVANU_STORE_OK && t->to < 0 ? failed(t, t->part, ENOENT) : status;
+    return status == RELKVANU_STORE_OK ? give_part(t) : status;
+}
+
+static void drop_folder(struct transfer *t) {
+    if (t->to >= 0) {
+        int error = errno;
+        char fault[RKS_MESSAGE];
+        memcpy(fault, t->from->fault, sizeof fault);
+        remove_folder(t, t->part);
+        close(t->to);
+        t->to = -1;
+        memcpy(t->from->fault, fault, sizeof fault);
+        errno = error;
+    }
+}
+
+static int write_manifest(struct transfer *t, uint64_t id, const struct rks_text *text) {
+    char name[RKS_MANIFEST_NAME];
+    rks_manifest_name(id, "", name);
+    int file = openat(t->to, name, O_WRONLY | O_CREAT | O_EXCL | O_NOFOLLOW | O_CLOEXEC, 0600);
+    int error = file < 0 ? errno : rks_give(file, t->to);
+    error = error == 0 && !(rks_write_whole(file, text->at, text->len, 0) && fsync(file) == 0) ? errno : error;
+    error = file >= 0 && close(file) != 0 && error == 0 ? errno : error;
+    return error == 0 ? RELKVANU_STORE_OK : failed(t, name, error);
+}
+
+/* Carries one record with its manifest. RELKVANU_STORE_NOT_NOW: it has ended meanwhile. */
+static int carry_record(struct transfer *t, struct rks_manifests *all, const struct rks_manifest *m, const char *job) {
+    struct rks_text text = {0};
+    t->told->record = m->id;
+    t->told->is_savepoint = m->is_savepoint;
+    t->told->files = t->told->bytes = 0;
+    int status = make_folder(t);
+    status = status == RELKVANU_STORE_OK ? rks_manifest_parts(all, t->from->storage.folder, m->id, carry, t) : status;
+    status = status == RELKVANU_STORE_OK ? rks_manifest_text(all, t->from->storage.folder, m->id, job, &text) : status;
+    status = status == RELKVANU_STORE_FAILED && errno == ENOENT ? RELKVANU_STORE_NOT_NOW : status;
+    status = status == RELKVANU_STORE_OK ? write_manifest(t, m->id, &text) : status;
+    free(text.at);
+    return status;
+}
+
+static uint64_t count_passed(const struct rks_manifests *all, const char *owner) {
+    uint64_t passed = 0;
+    for (size_t i = 0; i < all->len; i++) {
+        const struct rks_manifest *it = &all->at[i];
+        bool is_of_job = it->status == RELKVANU_STORE_OK && (owner == NULL || strcmp(it->job, owner) == 0);
+        passed += it->status != RELKVANU_STORE_OK || (is_of_job && it->missing != 0);
+    }
+    return passed;
+}
+
+/* Chooses a record of those that were listed. RELKVANU_STORE_NOT_NOW: list them again. */
+static int choose(struct transfer *t, struct rks_manifests *all, uint64_t record, struct rks_manifest **chosen) {
+    const char *owner = t->from->job.identity[0] != 0 ? t->from->job.identity : NULL;
+    char words[200];
+    *chosen = rks_choose_manifest(all, owner, record);
+    t->passed = count_passed(all, owner);
+    if (record == 0 && rks_has_missed(all, t->from->storage.folder, *chosen)) {
+        return RELKVANU_STORE_NOT_NOW;
+    }
+    if (*chosen == NULL) {
+        rks_say_none(all, owner, record, words, sizeof words);
+        return set_fault(t, RELKVANU_STORE_ABSENT, t->from_name, words);
+    }
+    bool is_unread = record == 0 && rks_is_later_unread(all, *chosen, words, sizeof words);
+    return is_unread ? set_fault(t, RELKVANU_STORE_DAMAGED, t->from_name, words) : RELKVANU_STORE_OK;
+}
+
+/* Chooses a record and carries it. While the job runs it may end meanwhile: then there is a later one. */
+static int carry_chosen(struct transfer *t, uint64_t record, const char *job) {
+    int status = RELKVANU_STORE_NOT_NOW;
+    for (int tries = 0; tries < TRIES && status == RELKVANU_STORE_NOT_NOW; tries++) {
+        struct rks_manifests all;
+        struct rks_manifest *chosen = NULL;
+        drop_folder(t);
+        status = rks_list_manifests(t->from->storage.folder, &all);
+        if (status != RELKVANU_STORE_OK) {
+            status = status == RELKVANU_STORE_NO_MEMORY ? status : failed(t, t->from_name, errno);
+        } else if ((status = choose(t, &all, record, &chosen)) == RELKVANU_STORE_OK) {
+            status = carry_record(t, &all, chosen, job);
+        }
+        rks_free_manifests(&all);
+    }
+    return status == RELKVANU_STORE_NOT_NOW ? set_fault(t, RELKVANU_STORE_ABSENT, t->from_name, "its records end too soon") : status;
+}
+
+/* Gives the folder its name, once all of it is on the disk. One of that name has to be empty, or not there. */
+static int name_folder(struct transfer *t) {
+    if (fsync(t->to) != 0) {
+        return failed(t, t->part, errno);
+    }
+    if (rename(t->part, t->to_name) != 0) {
+        bool is_there = errno == ENOTEMPTY || errno == EEXIST || errno == ENOTDIR;
+        return is_there ? set_fault(t, RELKVANU_STORE_PRESENT, t->to_name, "it is there, and is no empty folder")
+                        : failed(t, t->to_name, errno);
+    }
+    close(t->to);
+    t->to = -1;
+    return rks_sync_folder_of(t->from, t->to_name);
+}
+
+static int open_from(struct transfer *t) {
+    uint64_t marked = 0;
+    bool has_marker; /* an exported folder has none */
+    int status = rks_open_folder(t->from, t->from_name);
+    return status == RELKVANU_STORE_OK ? rks_find_owner(t->from, t->from_name, &marked, &has_marker) : status;
+}
+
+/* Makes the folder. With a job it is the storage of that one, and has its marker. */
+static int make(struct transfer *t, uint64_t record, const char *job) {
+    relkvanu_store marks = {.storage = {.folder = -1}};
+    int status = open_from(t);
+    status = status == RELKVANU_STORE_OK ? carry_chosen(t, record, job) : status;
+    if (status == RELKVANU_STORE_OK && job != NULL) {
+        marks.storage.folder = t->to;
+        memcpy(marks.job.identity, job, sizeof marks.job.identity);
+        status = rks_write_marker(&marks, t->part, 1);
+        memcpy(t->from->fault, marks.fault, sizeof marks.fault);
+    }
+    status = status == RELKVANU_STORE_OK ? name_folder(t) : status;
+    drop_folder(t);
+    return status;
+}
+
+static int transfer(const char *from, const char *to, uint64_t record, const char *job, relkvanu_store_carried *told_to, uint64_t *passed) {
+    *told_to = (relkvanu_store_carried){0};
+    relkvanu_store *store = calloc(1, sizeof *store);
+    int status = store == NULL ? RELKVANU_STORE_NO_MEMORY : rks_begin_store(store);
+    if (status != RELKVANU_STORE_OK) {
+        free(store);
+        return status;
+    }
+    rks_list(store);
+    char *name = rks_without_slashes(to);
+    struct transfer t = {.from = store, .from_name = from, .to_name = name, .to = -1, .may_link = true, .told = told_to};
+    if (name == NULL || asprintf(&t.part, "%s.part", name) < 0) {
+        t.part = NULL;
+    }
+    status = t.part == NULL ? RELKVANU_STORE_NO_MEMORY : make(&t, record, job);
+    int error = errno;
+    *passed = t.passed;
+    if (status != RELKVANU_STORE_OK) {
+        *told_to = (relkvanu_store_carried){0};
+        memcpy(told_to->message, store->fault, sizeof told_to->message);
+    }
+    free(t.part);
+    free(name);
+    rks_release_store(store);
+    errno = error;
+    return status;
+}
+
+int relkvanu_store_export(const char *folder, uint64_t record, const char *to, relkvanu_store_carried *carried) {
+    uint64_t passed;
+    return transfer(folder, to, record, NULL, carried, &passed);
+}
+
+/* Whether the folder has the record already: an import has ended between the two. Each has the marker of a job, and no file at the path. */
+static bool is_carried(const char *folder, const char *from, uint64_t record) {
+    struct rks_manifests there = {0}, here = {0};
+    relkvanu_store s = {.storage = {.folder = -1}};
+    uint64_t marked = 0;
+    int source = open(from, O_RDONLY | O_DIRECTORY | O_CLOEXEC);
+    bool is_owned = rks_open_folder(&s, folder) == RELKVANU_STORE_OK && rks_read_owner(&s, folder, &marked) == RELKVANU_STORE_OK;
+    bool is_carried = false;
+    if (source >= 0 && is_owned && rks_list_manifests(s.storage.folder, &there) == RELKVANU_STORE_OK) {
+        const struct rks_manifest *one = rks_choose_manifest(&there, s.job.identity, record);
+        if (rks_list_manifests(source, &here) == RELKVANU_STORE_OK && one != NULL) {
+            for (size_t i = 0; i < here.len; i++) {
+                is_carried = is_carried || (here.at[i].job[0] != 0 && strcmp(here.at[i].job, one->origin) == 0);
+            }
+        }
+    }
+    rks_free_manifests(&here);
+    rks_free_manifests(&there);
+    if (source >= 0) {
+        close(source);
+    }
+    if (s.storage.folder >= 0) {
+        close(s.storage.folder);
+    }
+    return is_carried;
+}
+
+int rks_carry(const char *from, uint64_t record, const char *folder, relkvanu_store_carried *carried, uint64_t *passed) {
+    char job[RKS_IDENTITY + 1];
+    uint64_t words[2];
+    *carried = (relkvanu_store_carried){0};
+    *passed = 0;
+    if (getentropy(words, sizeof words) != 0) {
+        snprintf(carried->message, sizeof carried->message, "%.400s: no random numbers", folder);
+        return RELKVANU_STORE_FAILED;
+    }
+    snprintf(job, sizeof job, "%016" PRIx64 "%016" PRIx64, words[0], words[1]);
+    return is_carried(folder, from, record) ? RELKVANU_STORE_OK : transfer(from, folder, record, job, carried, passed);
+}
+
+int relkvanu_store_import(const char *from, uint64_t record, const char *path, const char *folder, relkvanu_store_recovered *recovered) {
+    uint64_t passed;
+    struct stat found;
+    relkvanu_store_carried carried;
+    *recovered = (relkvanu_store_recovered){0};
+    if (stat(path, &found) == 0 && found.st_size != 0) {
+        snprintf(recovered->message, sizeof recovered->message, "%.400s: there is a job", path);
+        return RELKVANU_STORE_PRESENT;
+    }
+    int status = rks_carry(from, record, folder, &carried, &passed);
+    if (status != RELKVANU_STORE_OK) {
+        memcpy(recovered->message, carried.message, sizeof recovered->message);
+        return status;
+    }
+    status = relkvanu_store_recover(path, folder, 0, recovered);
+    recovered->passed = status == RELKVANU_STORE_OK ? passed : 0; /* the folder has one manifest */
+    return status;
+}

@@ -1,0 +1,81 @@
+/* What a call has beside its numbers: whether it is well-formed, and the calls that have it. */
+#include "../store.h"
+#include "job.h"
+
+#include <stdio.h>
+#include <string.h>
+
+static bool refuse(const char *words) {
+    rks_why_words(words);
+    return false;
+}
+
+static bool is_buffer(const void *at, size_t len) {
+    return at != NULL || len == 0;
+}
+
+static bool check_figures(uint32_t kind, const relkvanu_store_more *more) {
+    bool is_none = more->payload_len == 0 && more->bytes == 0 && more->millis == 0;
+    if (kind != RELKVANU_CALL_ACK && !is_none) {
+        return refuse("a payload, bytes or millis of a call that is no acknowledgement");
+    }
+    if (more->payload_len > RELKVANU_STORE_MOST_PAYLOAD) {
+        return refuse("the payload of an acknowledgement has more than 4096 bytes");
+    }
+    return more->bytes <= INT64_MAX && more->millis <= INT64_MAX ? true : refuse("bytes or millis is above 2^63 - 1");
+}
+
+static bool check_reason(uint32_t kind, const relkvanu_store_more *more) {
+    if (kind != RELKVANU_CALL_DECLINE && more->reason_len != 0) {
+        return refuse("a reason of a call that is no decline");
+    }
+    if (more->reason_len > RELKVANU_STORE_MOST_REASON) {
+        return refuse("the reason of a decline has more than 200 bytes");
+    }
+    bool has_zero = more->reason_len != 0 && more->reason != NULL && memchr(more->reason, 0, more->reason_len) != NULL;
+    return !has_zero || refuse("the reason of a decline has a zero");
+}
+
+bool rks_check_more(const relkvanu_store_call *call) {
+    const relkvanu_store_more *more = call->more;
+    uint32_t kind = call->call.kind;
+    if (more == NULL) {
+        return true;
+    }
+    for (size_t i = 0; i < sizeof more->reserved / sizeof *more->reserved; i++) {
+        if (more->reserved[i] != 0) {
+            return refuse("a reserved field is not 0");
+        }
+    }
+    bool has_buffers = is_buffer(more->payload, more->payload_len) && is_buffer(more->reason, more->reason_len) &&
+                       is_buffer(more->ended, more->ended_room);
+    return check_figures(kind, more) && check_reason(kind, more) && (has_buffers || refuse("a buffer is NULL, and its length is not 0"));
+}
+
+void rks_clear_more(const relkvanu_store_call *call) {
+    if (call->more != NULL) {
+        call->more->kind = 0;
+        call->more->ended_len = 0;
+    }
+}
+
+static int make_one(relkvanu_store *s, relkvanu_store_call call, relkvanu_answer *answer) {
+    int status = relkvanu_store_calls(s, &call, 1);
+    *answer = call.answer;
+    return status;
+}
+
+int relkvanu_store_ack_with(relkvanu_store *s, uint64_t term, uint64_t now, uint64_t id, uint16_t vertex, uint16_t index,
+    const uint64_t *fresh, size_t fresh_len, const uint64_t *reused, size_t reused_len, relkvanu_store_more *more,
+    relkvanu_answer *answer) {
+    relkvanu_call call = {.kind = RELKVANU_CALL_ACK, .vertex = vertex, .index = index, .now = now, .number = id, .term = term};
+    relkvanu_store_call made = {
+        .call = call, .first = fresh, .first_len = fresh_len, .second = reused, .second_len = reused_len, .more = more};
+    return make_one(s, made, answer);
+}
+
+int relkvanu_store_decline_with(relkvanu_store *s, uint64_t term, uint64_t now, uint64_t id, uint16_t vertex, uint16_t index,
+    relkvanu_store_more *more, relkvanu_answer *answer) {
+    relkvanu_call call = {.kind = RELKVANU_CALL_DECLINE, .vertex = vertex, .index = index, .now = now, .number = id, .term = term};
+    return make_one(s, (relkvanu_store_call){.call = call, .more = more}, answer);
+}

@@ -1,0 +1,741 @@
+/* What an operator wants of a job: a checkpoint now, other settings, a stop and a new begin, and the way back to an older checkpoint. */
+#include "cases.h"
+
+#include <pthread.h>
+#include <stdatomic.h>
+#include <sys/stat.h>
+#include <unistd.h>
+
+enum { HOUR = 3600000, MINUTE = 60000, LONG = 600000, SHORT = 30 };
+
+/* A job with names that triggers each minute, and keeps three checkpoints. */
+static relkvanu_store_options options_of(uint32_t flags) {
+    relkvanu_store_options options = storage_options(flags, 0);
+    options.flags = flags;
+    options.settings = (relkvanu_settings){.interval = MINUTE, .at_once = 2, .timeout = HOUR, .tolerable = 0, .retained = 3};
+    return options;
+}
+
+static relkvanu_store *new_job(void) {
+    return opens_with(options_of(RELKVANU_STORE_CREATE));
+}
+
+static relkvanu_store *reopened(relkvanu_store *store) {
+    relkvanu_store_close(store);
+    return opens_with(options_of(RELKVANU_STORE_RECOVER));
+}
+
+static void is_in(relkvanu_store *store, uint32_t phase, uint32_t failed, uint64_t savepoint, uint64_t term) {
+    relkvanu_store_job_phase is = phase_of(store);
+    CHECK(is.phase == phase && is.stop_failed == failed && is.savepoint == savepoint && is.term == term,
+        "phase %" PRIu32 " %" PRIu32 ", savepoint %" PRIu64 ", term %" PRIu64, is.phase, is.stop_failed, is.savepoint, is.term);
+}
+
+/* Acknowledges a record for the first subtasks, with a new file each. */
+static relkvanu_answer acks(relkvanu_store *store, uint64_t term, uint64_t id, uint16_t subtasks) {
+    relkvanu_answer names, answer = {0};
+    CHECK(relkvanu_store_reserve(store, term, subtasks, &names) == RELKVANU_STORE_OK && names.code == RELKVANU_DONE, "names");
+    for (uint16_t i = 0; i < subtasks; i++) {
+        CHECK(relkvanu_store_put(store, names.a + i, "x", 1) == RELKVANU_STORE_OK, "a file");
+        answer = acked_at_0(store, term, id, i, names.a + i);
+        CHECK(answer.code == RELKVANU_DONE, "subtask %u: code %" PRIu32 ", what %" PRIu32, i, answer.code, answer.what);
+    }
+    return answer;
+}
+
+static uint64_t triggered(relkvanu_store *store) {
+    relkvanu_store_call call;
+    CHECK(relkvanu_store_trigger(store, &call) == RELKVANU_STORE_OK && call.answer.what == RELKVANU_TICK_TRIGGERED && call.answer.a == 0,
+        "code %" PRIu32 ", what %" PRIu32, call.answer.code, call.answer.what);
+    return call.answer.b;
+}
+
+static uint64_t completed(relkvanu_store *store, uint64_t term) {
+    uint64_t id = triggered(store);
+    CHECK(acks(store, term, id, SUBTASKS).what == RELKVANU_ACK_COMPLETED, "a checkpoint");
+    return id;
+}
+
+static uint64_t stopping(relkvanu_store *store) {
+    relkvanu_store_call call;
+    CHECK(relkvanu_store_stop_job(store, &call) == RELKVANU_STORE_OK && call.answer.what == RELKVANU_SAVEPOINT_TRIGGERED,
+        "code %" PRIu32 ", what %" PRIu32, call.answer.code, call.answer.what);
+    is_in(store, RELKVANU_STORE_PHASE_STOPPING, 0, call.answer.a, 0);
+    return call.answer.a;
+}
+
+/* A job that is stopped, of the tasks of this term. Returns its savepoint. */
+static uint64_t stopped(relkvanu_store *store, uint64_t term) {
+    uint64_t id = stopping(store);
+    CHECK(acks(store, term, id, SUBTASKS).what == RELKVANU_ACK_COMPLETED, "the savepoint");
+    is_in(store, RELKVANU_STORE_PHASE_STOPPED, 0, id, term + 1);
+    return id;
+}
+
+static int awaits(relkvanu_store *store, uint64_t longest, relkvanu_store_call *tick) {
+    return relkvanu_store_await_tick(store, longest, tick);
+}
+
+static void refused(relkvanu_answer answer, uint32_t what) {
+    CHECK(answer.code == RELKVANU_REFUSED && answer.what == what, "code %" PRIu32 ", what %" PRIu32, answer.code, answer.what);
+}
+
+static relkvanu_answer asks(relkvanu_store *store, uint32_t kind, uint64_t now) {
+    relkvanu_store_call call = {.call = {.kind = kind, .now = now}};
+    CHECK(relkvanu_store_calls(store, &call, 1) == RELKVANU_STORE_OK, "kind %" PRIu32, kind);
+    return call.answer;
+}
+
+/* The log and the state are those of a second coordinator. */
+static void is_as_logged(relkvanu_store **store) {
+    struct shadow shadow;
+    size_t len;
+    relkvanu_store_options options = options_of(RELKVANU_STORE_RECOVER);
+    options.image_calls = RELKVANU_STORE_NO_IMAGES;
+    relkvanu_store_close(*store);
+    struct told *rows = log_rows(in("x.db"), 0, &len);
+    shadow_open_as(&shadow, in("x.db"));
+    for (size_t i = 0; i < len; i++) {
+        shadow_make(&shadow, &rows[i]);
+    }
+    *store = opens(&options, RELKVANU_STORE_OK);
+    CHECK(shadow_equals(&shadow, *store), "another state");
+    relkvanu_close(&shadow.handle);
+    free(rows);
+}
+
+static void a_checkpoint_now(void) {
+    relkvanu_store *store = new_job();
+    relkvanu_store_call tick, call;
+    uint64_t id = triggered(store);
+    CHECK(awaits(store, 0, &tick) == RELKVANU_STORE_OK && tick.answer.what == RELKVANU_TICK_TRIGGERED && tick.answer.b == id &&
+              tick.choice.what == RELKVANU_CHOICE_FRESH && tick.place == 1,
+        "it is handed over");
+    CHECK(awaits(store, SHORT, &tick) == RELKVANU_STORE_TIMED_OUT, "twice");
+    uint64_t wait = wait_of(store);
+    CHECK(wait > MINUTE / 2 && wait <= MINUTE, "the next one is due after %" PRIu64, wait);
+    acks(store, 1, id, SUBTASKS);
+    id = completed(store, 1); /* it has ended before a timer asks */
+    uint64_t pending[] = {triggered(store), triggered(store)};
+    CHECK(relkvanu_store_trigger(store, &call) == RELKVANU_STORE_OK, "a third");
+    refused(call.answer, RELKVANU_AT_ONCE);
+    for (size_t i = 0; i < 2; i++) {
+        CHECK(
+            awaits(store, 0, &tick) == RELKVANU_STORE_OK && tick.answer.b == pending[i] && tick.choice.a == id, "%" PRIu64, tick.answer.b);
+    }
+    CHECK(awaits(store, 0, &tick) == RELKVANU_STORE_TIMED_OUT, "more");
+    CHECK(asks(store, RELKVANU_CALL_DECLINE, 0).code == RELKVANU_FENCED, "a decline of no term");
+    relkvanu_store_close(store);
+}
+
+static relkvanu_store *awaited;
+
+static void *awaits_long(void *tick) {
+    CHECK(awaits(awaited, LONG, tick) == RELKVANU_STORE_OK, "a timer");
+    return tick;
+}
+
+/* What another thread has triggered wakes the timer, and so does a shorter interval: within one tick. */
+static void timers_wake(void) {
+    relkvanu_store_call tick = {.place = 0}, call;
+    relkvanu_settings settings = options_of(0).settings;
+    pthread_t timer;
+    awaited = new_job();
+    CHECK(pthread_create(&timer, NULL, awaits_long, &tick) == 0, "a timer");
+    uint64_t id = triggered(awaited);
+    pthread_join(timer, NULL);
+    CHECK(tick.answer.what == RELKVANU_TICK_TRIGGERED && tick.answer.b == id, "what %" PRIu32, tick.answer.what);
+    uint64_t before = relkvanu_store_now(awaited);
+    CHECK(pthread_create(&timer, NULL, awaits_long, &tick) == 0, "a timer");
+    settings.interval = 200;
+    CHECK(relkvanu_store_configure(awaited, &settings, &call) == RELKVANU_STORE_OK && call.answer.what == RELKVANU_CONFIGURED, "settings");
+    pthread_join(timer, NULL);
+    CHECK(tick.answer.what == RELKVANU_TICK_TRIGGERED && tick.answer.b == id + 1, "what %" PRIu32, tick.answer.what);
+    CHECK(relkvanu_store_now(awaited) < before + MINUTE / 2, "it waited for the old interval");
+    relkvanu_store_close(awaited);
+}
+
+static void has_settings(relkvanu_store *store, const relkvanu_settings *settings) {
+    relkvanu_settings found;
+    uint64_t shape[4];
+    size_t len = 4;
+    CHECK(relkvanu_store_job(store, &found, shape, &len) == RELKVANU_STORE_OK && len == 1 && shape[0] == SUBTASKS, "the job");
+    CHECK(found.interval == settings->interval && found.pause == settings->pause && found.at_once == settings->at_once &&
+              found.timeout == settings->timeout && found.tolerable == settings->tolerable && found.retained == settings->retained &&
+              found.keep_on_cancel == settings->keep_on_cancel,
+        "interval %" PRIu64 ", retained %" PRIu64, found.interval, found.retained);
+}
+
+/* Ends without closing the store: its log is replayed then. */
+static int configures(void *settings) {
+    relkvanu_store_call call;
+    relkvanu_store *store = new_job();
+    for (int i = 0; i < 3; i++) {
+        completed(store, 1);
+    }
+    CHECK(relkvanu_store_configure(store, settings, &call) == RELKVANU_STORE_OK && call.answer.what == RELKVANU_CONFIGURED, "settings");
+    CHECK(call.answer.a == 2 && call.answer.b == 2 * SUBTASKS, "%" PRIu64 " checkpoints and %" PRIu64 " files go", call.answer.a,
+        call.answer.b);
+    has_settings(store, settings);
+    return 7;
+}
+
+static void settings_stay(void) {
+    relkvanu_settings settings = {
+        .interval = 700, .pause = 20, .at_once = 1, .timeout = 5000, .tolerable = 2, .retained = 1, .keep_on_cancel = true};
+    relkvanu_store_options options = options_of(RELKVANU_STORE_RECOVER);
+    CHECK(in_child(configures, &settings) == 7, "a child");
+    for (int i = 0; i < 2; i++) { /* from the log, and then from the image */
+        relkvanu_store *store = opens(&options, RELKVANU_STORE_OK);
+        CHECK(report.settings_differ && (report.replayed != 0) == (i == 0), "%" PRIu64 " calls", report.replayed);
+        has_settings(store, &settings);
+        relkvanu_store_close(store);
+    }
+    options.settings = settings;
+    relkvanu_store *store = opens(&options, RELKVANU_STORE_OK);
+    CHECK(!report.settings_differ, "they are the same");
+    is_as_logged(&store);
+    relkvanu_store_close(store);
+}
+
+static void bad_settings(void) {
+    relkvanu_store *store = new_job();
+    relkvanu_settings settings = options_of(0).settings, before = settings;
+    relkvanu_store_call call;
+    char why[200];
+    settings.interval = 5;
+    CHECK(relkvanu_store_configure(store, &settings, &call) == RELKVANU_STORE_BAD_ARGUMENT, "an interval of 5 ms");
+    CHECK(
+        relkvanu_store_why(why, sizeof why) != 0 && strstr(why, "settings.interval is 5, and has to be 10 to 2^40 ms") != NULL, "%s", why);
+    CHECK(call.answer.code == RELKVANU_STORE_NOT_MADE, "code %" PRIu32, call.answer.code);
+    triggered(store);
+    triggered(store);
+    settings.interval = MINUTE;
+    settings.at_once = 1;
+    CHECK(relkvanu_store_configure(store, &settings, &call) == RELKVANU_STORE_OK, "one at once");
+    refused(call.answer, RELKVANU_AT_ONCE);
+    has_settings(store, &before);
+    CHECK(relkvanu_store_why(why, sizeof why) == 0, "%s", why);
+    asks(store, RELKVANU_CALL_CANCEL, 0);
+    CHECK(relkvanu_store_configure(store, &before, &call) == RELKVANU_STORE_OK, "after the cancel");
+    refused(call.answer, RELKVANU_NOT_RUNNING);
+    relkvanu_store_close(store);
+}
+
+/* A timer that is held goes on once more may be pending. */
+static void more_at_once(void) {
+    relkvanu_store *store = new_job();
+    relkvanu_settings settings = options_of(0).settings;
+    relkvanu_store_call call, tick;
+    triggered(store);
+    triggered(store);
+    for (int i = 0; i < 2; i++) {
+        CHECK(awaits(store, 0, &tick) == RELKVANU_STORE_OK, "handed over");
+    }
+    CHECK(asks(store, RELKVANU_CALL_TICK, 2 * MINUTE).what == RELKVANU_TICK_HELD_AT_ONCE, "held");
+    CHECK(wait_of(store) > MINUTE, "it spins");
+    settings.at_once = 3;
+    CHECK(relkvanu_store_configure(store, &settings, &call) == RELKVANU_STORE_OK && call.answer.code == RELKVANU_DONE, "settings");
+    CHECK(awaits(store, MINUTE, &tick) == RELKVANU_STORE_OK && tick.answer.what == RELKVANU_TICK_TRIGGERED, "what %" PRIu32,
+        tick.answer.what);
+    relkvanu_store_close(store);
+}
+
+/* What a caller may begin while the job is being stopped, or is stopped: nothing. */
+static void nothing_begins(relkvanu_store *store) {
+    const uint32_t kinds[] = {RELKVANU_CALL_TICK, RELKVANU_CALL_TRIGGER, RELKVANU_CALL_SAVEPOINT};
+    relkvanu_store_call call;
+    char why[200];
+    for (size_t i = 0; i < 3; i++) {
+        refused(asks(store, kinds[i], RELKVANU_STORE_NOW), RELKVANU_NOT_RUNNING);
+        refused(asks(store, kinds[i], 0), RELKVANU_NOT_RUNNING);
+    }
+    CHECK(relkvanu_store_stop_job(store, &call) == RELKVANU_STORE_NOT_NOW && call.answer.code == RELKVANU_STORE_NOT_MADE, "a second stop");
+    CHECK(relkvanu_store_why(why, sizeof why) != 0 && strstr(why, "is stopped") != NULL, "%s", why);
+}
+
+static void a_stop(void) {
+    relkvanu_store *store = new_job();
+    relkvanu_store_call tick, call;
+    relkvanu_store_counts before, after;
+    completed(store, 1);
+    CHECK(relkvanu_store_begin_job(store, &call) == RELKVANU_STORE_NOT_NOW, "a job that runs can't begin");
+    uint64_t id = stopping(store), wait = wait_of(store);
+    CHECK(wait > HOUR / 2 && wait <= HOUR, "the next tick is that of the expiry, and not after %" PRIu64, wait);
+    CHECK(awaits(store, LONG, &tick) == RELKVANU_STORE_OK && tick.answer.what == RELKVANU_SAVEPOINT_TRIGGERED && tick.answer.a == id &&
+              tick.choice.what == RELKVANU_CHOICE_CHECKPOINT,
+        "its barrier is handed over");
+    nothing_begins(store);
+    CHECK(relkvanu_store_begin_job(store, &call) == RELKVANU_STORE_NOT_NOW, "a job that is being stopped can't begin");
+    acks(store, 1, id, SUBTASKS - 1);
+    is_in(store, RELKVANU_STORE_PHASE_STOPPING, 0, id, 0);
+    relkvanu_answer name;
+    CHECK(relkvanu_store_reserve(store, 1, 1, &name) == RELKVANU_STORE_OK, "a name");
+    relkvanu_store_count(store, &before);
+    CHECK(acked_at_0(store, 1, id, SUBTASKS - 1, name.a).what == RELKVANU_ACK_COMPLETED, "the last acknowledgement");
+    relkvanu_store_count(store, &after);
+    CHECK(after.commits == before.commits + 1 && after.calls == before.calls + 2, "one commit has both");
+    is_in(store, RELKVANU_STORE_PHASE_STOPPED, 0, id, 2);
+    for (int i = 0; i < 2; i++) {
+        CHECK(awaits(store, i == 0 ? LONG : SHORT, &tick) == RELKVANU_STORE_JOB_STOPPED && tick.answer.a == (i == 0), "%" PRIu64,
+            tick.answer.a);
+    }
+    CHECK(acked_at_0(store, 1, id, 0, 1).code == RELKVANU_FENCED, "the term of the tasks has ended");
+    nothing_begins(store);
+    CHECK(wait_of(store) == UINT64_MAX, "a tick");
+    is_as_logged(&store);
+    relkvanu_store_close(store);
+}
+
+/* A stop of an hour: nothing expires, and the job goes on from its savepoint. */
+static void an_hour(void) {
+    relkvanu_store *store = new_job();
+    relkvanu_store_call tick, call = {.call = {.kind = RELKVANU_CALL_CONFIGURE, .now = 2 * HOUR}};
+    uint64_t numbers[] = {MINUTE, 0, 2, HOUR, 0, 3, 0};
+    completed(store, 1);
+    uint64_t id = stopped(store, 1);
+    call.first = numbers;
+    call.first_len = 7;
+    CHECK(relkvanu_store_calls(store, &call, 1) == RELKVANU_STORE_OK && call.answer.code == RELKVANU_DONE, "the clock, two hours ahead");
+    CHECK(awaits(store, SHORT, &tick) == RELKVANU_STORE_JOB_STOPPED, "a tick");
+    CHECK(awaits(store, SHORT, &tick) == RELKVANU_STORE_JOB_STOPPED, "a tick");
+    store = reopened(store);
+    CHECK(report.phase == RELKVANU_STORE_PHASE_STOPPED && report.savepoint == id && report.term == 2 && report.steps_len == 2 &&
+              report.steps[0] == RELKVANU_STORE_END_TASKS && report.steps[1] == RELKVANU_STORE_DISCARD,
+        "phase %" PRIu32 ", %zu steps", report.phase, report.steps_len);
+    CHECK(report.choice.what == RELKVANU_CHOICE_SAVEPOINT && report.choice.a == id, "the choice");
+    CHECK(awaits(store, LONG, &tick) == RELKVANU_STORE_JOB_STOPPED && tick.answer.a == 1, "it is told at once");
+    CHECK(relkvanu_store_begin_job(store, &call) == RELKVANU_STORE_OK && call.answer.what == RELKVANU_RESTORED_SAVEPOINT &&
+              call.answer.b == id && call.term == 3,
+        "what %" PRIu32 ", term %" PRIu64, call.answer.what, call.term);
+    is_in(store, RELKVANU_STORE_PHASE_RUNNING, 0, 0, 0);
+    CHECK(awaits(store, LONG, &tick) == RELKVANU_STORE_OK && tick.answer.what == RELKVANU_RESTORED_SAVEPOINT && tick.answer.b == id &&
+              tick.term == 3,
+        "what %" PRIu32, tick.answer.what);
+    uint64_t wait = wait_of(store);
+    CHECK(wait > MINUTE / 2 && wait <= MINUTE, "the next one is due after %" PRIu64, wait);
+    relkvanu_answer ticked = asks(store, RELKVANU_CALL_TICK, 2 * HOUR + 2 * MINUTE);
+    CHECK(ticked.what == RELKVANU_TICK_TRIGGERED && ticked.a == 0, "nothing has expired: what %" PRIu32 " %" PRIu64, ticked.what, ticked.a);
+    acks(store, 3, ticked.b, SUBTASKS);
+    is_as_logged(&store);
+    CHECK(report.phase == RELKVANU_STORE_PHASE_RUNNING && report.steps_len == 4, "phase %" PRIu32, report.phase);
+    relkvanu_store_close(store);
+}
+
+/* A stop that fails in this way, and is told of once. The job runs, and can be stopped again. */
+static void fails(void (*end)(relkvanu_store *store, uint64_t id), uint32_t why, bool is_told) {
+    relkvanu_store_call tick;
+    relkvanu_store *store = new_job();
+    completed(store, 1);
+    uint64_t id = stopping(store);
+    acks(store, 1, id, 2);
+    CHECK(awaits(store, LONG, &tick) == RELKVANU_STORE_OK && tick.answer.a == id, "the barrier");
+    end(store, id);
+    is_in(store, RELKVANU_STORE_PHASE_RUNNING, why, id, 0);
+    CHECK(!is_told || awaits(store, LONG, &tick) == RELKVANU_STORE_NOT_STOPPED, "it is told");
+    store = reopened(store);
+    CHECK(report.phase == RELKVANU_STORE_PHASE_RUNNING && report.stop_failed == why && report.savepoint == id, "why %" PRIu32,
+        report.stop_failed);
+    is_in(store, RELKVANU_STORE_PHASE_RUNNING, why, id, 0);
+    if (report.mode.what == RELKVANU_MODE_RUNNING) {
+        stopping(store);
+    }
+    relkvanu_store_close(store);
+}
+
+static void expires(relkvanu_store *store, uint64_t id) {
+    (void)id;
+    relkvanu_answer ticked = asks(store, RELKVANU_CALL_TICK, 2 * HOUR);
+    CHECK(ticked.what == RELKVANU_TICK_TRIGGERED && ticked.a == 1, "what %" PRIu32 " %" PRIu64, ticked.what, ticked.a);
+}
+
+static void declines(relkvanu_store *store, uint64_t id) {
+    relkvanu_store_call call = {.call = {.kind = RELKVANU_CALL_DECLINE, .index = 5, .number = id, .term = 1}};
+    CHECK(relkvanu_store_calls(store, &call, 1) == RELKVANU_STORE_OK && call.answer.what == RELKVANU_DECLINE_ABORTED, "a decline");
+}
+
+static void restores(relkvanu_store *store, uint64_t id) {
+    (void)id;
+    done(store, RELKVANU_CALL_RESTORE, 0, 0);
+}
+
+static void cancels(relkvanu_store *store, uint64_t id) {
+    (void)id;
+    done(store, RELKVANU_CALL_CANCEL, 0, 0);
+}
+
+static void a_stop_that_expires(void) {
+    fails(expires, RELKVANU_STORE_STOP_EXPIRED, true);
+}
+
+static void a_stop_that_is_declined(void) {
+    fails(declines, RELKVANU_STORE_STOP_DECLINED, true);
+}
+
+static void a_stop_that_is_restored(void) {
+    fails(restores, RELKVANU_STORE_STOP_RESTORED, true);
+}
+
+static void a_stop_that_is_cancelled(void) {
+    fails(cancels, RELKVANU_STORE_STOP_CANCELLED, true);
+}
+
+/* A checkpoint that was pending before the stop fails the job. */
+static void a_stop_of_a_job_that_fails(void) {
+    relkvanu_store *store = new_job();
+    relkvanu_store_call tick, call;
+    uint64_t pending = triggered(store), id = stopping(store);
+    call = (relkvanu_store_call){.call = {.kind = RELKVANU_CALL_DECLINE, .number = pending, .term = 1}};
+    CHECK(relkvanu_store_calls(store, &call, 1) == RELKVANU_STORE_OK && call.answer.what == RELKVANU_DECLINE_FAILED, "a decline");
+    is_in(store, RELKVANU_STORE_PHASE_RUNNING, RELKVANU_STORE_STOP_FAILED, id, 0);
+    CHECK(awaits(store, LONG, &tick) == RELKVANU_STORE_NOT_STOPPED, "it is told");
+    CHECK(awaits(store, LONG, &tick) == RELKVANU_STORE_NOT_RUNNING && tick.answer.a == 1, "and so is the failure");
+    CHECK(relkvanu_store_stop_job(store, &call) == RELKVANU_STORE_OK, "a stop of a failed job");
+    refused(call.answer, RELKVANU_NOT_RUNNING);
+    relkvanu_store_close(store);
+}
+
+/* A process that ends while the job is being stopped: it goes on from its last checkpoint. */
+static int stops_and_ends(void *with) {
+    (void)with;
+    relkvanu_store *store = new_job();
+    completed(store, 1);
+    acks(store, 1, stopping(store), SUBTASKS - 1);
+    return 7;
+}
+
+static void a_crash_while_it_stops(void) {
+    CHECK(in_child(stops_and_ends, NULL) == 7, "a child");
+    relkvanu_store *store = opens_with(options_of(RELKVANU_STORE_RECOVER));
+    CHECK(report.phase == RELKVANU_STORE_PHASE_STOPPING && report.savepoint == 2 && report.steps_len == 4, "phase %" PRIu32, report.phase);
+    relkvanu_answer restored = done(store, RELKVANU_CALL_RESTORE, RELKVANU_STORE_NOW, 0);
+    CHECK(restored.what == RELKVANU_RESTORED_CHECKPOINT && restored.b == 1, "what %" PRIu32, restored.what);
+    is_in(store, RELKVANU_STORE_PHASE_RUNNING, RELKVANU_STORE_STOP_RESTORED, 2, 0);
+    relkvanu_store_close(store);
+}
+
+/* Other calls of a job that is stopped leave it so: another savepoint, another shape, a cancel alone ends it. */
+static void calls_while_it_is_stopped(void) {
+    relkvanu_store *store = new_job();
+    uint64_t shape[] = {3}, first, id;
+    relkvanu_store_call call = {.call = {.kind = RELKVANU_CALL_RESTORE}, .first = shape, .first_len = 1}, tick;
+    completed(store, 1);
+    first = done(store, RELKVANU_CALL_SAVEPOINT, 0, 0).a;
+    acks(store, 1, first, SUBTASKS);
+    id = stopped(store, 1);
+    CHECK(relkvanu_store_calls(store, &call, 1) == RELKVANU_STORE_OK && call.answer.b == id && call.term == 3, "another shape");
+    is_in(store, RELKVANU_STORE_PHASE_STOPPED, 0, id, 3);
+    CHECK(done(store, RELKVANU_CALL_RESTORE, 0, first).b == first, "the first savepoint");
+    done(store, RELKVANU_CALL_DISPOSE, 0, id);
+    store = reopened(store);
+    is_in(store, RELKVANU_STORE_PHASE_STOPPED, 0, id, 4);
+    CHECK(relkvanu_store_begin_job(store, &call) == RELKVANU_STORE_OK && call.answer.b == first && call.term == 5, "from %" PRIu64,
+        call.answer.b);
+    CHECK(awaits(store, 0, &tick) == RELKVANU_STORE_OK && tick.term == 5, "handed over");
+    id = stopping(store);
+    acks(store, 5, id, 3);
+    is_in(store, RELKVANU_STORE_PHASE_STOPPED, 0, id, 6);
+    done(store, RELKVANU_CALL_CANCEL, 0, 0);
+    is_in(store, RELKVANU_STORE_PHASE_RUNNING, RELKVANU_STORE_STOP_CANCELLED, id, 0);
+    relkvanu_store_close(store);
+}
+
+/* The phase is in the row of the file: one that is damaged, one that an earlier version of the library has left behind, and none. */
+static void rows_of_the_phase(void) {
+    relkvanu_store_options options = options_of(RELKVANU_STORE_RECOVER);
+    relkvanu_store *store = new_job();
+    completed(store, 1);
+    uint64_t id = stopped(store, 1);
+    relkvanu_store_close(store);
+    run_sql(in("x.db"), "UPDATE phase SET phase = 0");
+    opens(&options, RELKVANU_STORE_DAMAGED);
+    CHECK(says("the row of the phase is damaged"), "%s", report.message);
+    run_sql(in("x.db"), "UPDATE phase SET phase = 2; CREATE TABLE kept AS SELECT * FROM phase; DROP TABLE phase");
+    store = opens(&options, RELKVANU_STORE_OK);
+    CHECK(report.phase == RELKVANU_STORE_PHASE_RUNNING && report.steps_len == 4, "a file without a row");
+    done(store, RELKVANU_CALL_RESTORE, 0, 0); /* as an earlier version does */
+    relkvanu_store_close(store);
+    run_sql(in("x.db"), "CREATE TABLE phase AS SELECT * FROM kept");
+    store = opens(&options, RELKVANU_STORE_OK);
+    CHECK(report.phase == RELKVANU_STORE_PHASE_RUNNING && report.stop_failed == RELKVANU_STORE_STOP_RESTORED && report.savepoint == id,
+        "phase %" PRIu32, report.phase);
+    relkvanu_store_close(store);
+}
+
+static void goes_back(relkvanu_store *store, uint64_t id, relkvanu_store_call *call) {
+    CHECK(relkvanu_store_go_back(store, id, RELKVANU_STORE_ACCEPT_PUBLISHED, call) == RELKVANU_STORE_OK, "status");
+}
+
+static void an_older_checkpoint(void) {
+    relkvanu_store *store = new_job();
+    relkvanu_store_call call, tick;
+    relkvanu_store_counts before, after;
+    for (int i = 0; i < 3; i++) {
+        completed(store, 1);
+    }
+    triggered(store); /* it is dropped */
+    relkvanu_store_count(store, &before);
+    goes_back(store, 1, &call);
+    relkvanu_store_count(store, &after);
+    CHECK(call.answer.what == RELKVANU_RESTORED_SAVEPOINT && call.answer.b == 5 && call.term == 2, "what %" PRIu32 " %" PRIu64,
+        call.answer.what, call.answer.b);
+    CHECK(after.commits == before.commits + 1 && after.calls == before.calls + SUBTASKS + 2, "one commit");
+    CHECK(counts_of(store).in_use == SUBTASKS, "%" PRIu64 " files", counts_of(store).in_use);
+    CHECK(awaits(store, LONG, &tick) == RELKVANU_STORE_OK && tick.answer.what == RELKVANU_RESTORED_SAVEPOINT && tick.term == 2,
+        "it is handed over");
+    CHECK(acked_at_0(store, 1, 4, 0, 1).code == RELKVANU_FENCED, "the term has ended");
+    is_as_logged(&store);
+    CHECK(report.choice.what == RELKVANU_CHOICE_SAVEPOINT && report.choice.a == 5, "the choice");
+    completed(store, 2);
+    done(store, RELKVANU_CALL_DISPOSE, 0, 5);
+    uint64_t latest = completed(store, 2);
+    goes_back(store, latest, &call); /* which needs no savepoint */
+    CHECK(call.answer.what == RELKVANU_RESTORED_CHECKPOINT && call.answer.b == latest && call.term == 3, "what %" PRIu32, call.answer.what);
+    done(store, RELKVANU_CALL_RESTORE, 0, 0); /* of the engine itself: its term has ended the other one's */
+    CHECK(awaits(store, 0, &tick) == RELKVANU_STORE_TIMED_OUT, "the way back of an ended term is handed over");
+    relkvanu_store_close(store);
+}
+
+static void no_way_back(void) {
+    relkvanu_store *store = new_job();
+    relkvanu_store_call call;
+    uint64_t shape[] = {3};
+    char why[200];
+    completed(store, 1);
+    completed(store, 1);
+    uint64_t pending = triggered(store), ids[] = {0, pending, pending + 1, UINT64_MAX};
+    CHECK(
+        relkvanu_store_go_back(store, 1, 0, &call) == RELKVANU_STORE_BAD_ARGUMENT && call.answer.code == RELKVANU_STORE_NOT_MADE, "flags");
+    CHECK(relkvanu_store_why(why, sizeof why) != 0 && strstr(why, "RELKVANU_STORE_ACCEPT_PUBLISHED") != NULL, "%s", why);
+    relkvanu_store_counts before, after;
+    relkvanu_store_count(store, &before);
+    for (size_t i = 0; i < 4; i++) {
+        goes_back(store, ids[i], &call);
+        refused(call.answer, RELKVANU_NO_SUCH_RECORD);
+    }
+    relkvanu_store_count(store, &after);
+    CHECK(before.commits == after.commits, "a commit");
+    call = (relkvanu_store_call){.call = {.kind = RELKVANU_CALL_RESTORE}, .first = shape, .first_len = 1};
+    CHECK(relkvanu_store_calls(store, &call, 1) == RELKVANU_STORE_OK && call.term == 2, "another shape");
+    goes_back(store, 1, &call);
+    CHECK(call.answer.code == RELKVANU_BAD_ARGUMENT && call.answer.what == RELKVANU_BAD_SHAPE && call.place == 0, "code %" PRIu32,
+        call.answer.code);
+    uint64_t own = triggered(store); /* the job goes on as if nobody had asked */
+    CHECK(acks(store, 2, own, 3).what == RELKVANU_ACK_COMPLETED, "a checkpoint");
+    is_as_logged(&store);
+    relkvanu_store_close(store);
+}
+
+/* The files of each record in use, by what the core counts. */
+static uint64_t live_records(relkvanu_store *store) {
+    relkvanu_reads *reads;
+    uint64_t found = 0;
+    CHECK(relkvanu_store_look(store, &reads) == RELKVANU_STORE_OK, "a look");
+    for (relkvanu_answer it = relkvanu_reads_live_from(reads, 0); it.what != RELKVANU_LIVE_NONE;
+         it = relkvanu_reads_live_from(reads, it.a + 1)) {
+        found++;
+    }
+    relkvanu_store_read_end(store);
+    return found;
+}
+
+/* A submit of one call, and the status of its completion. */
+static int submitted(relkvanu_store *store, relkvanu_store_call *call) {
+    relkvanu_store_completion completion = {0};
+    CHECK(relkvanu_store_submit(store, call, 1, 7) == RELKVANU_STORE_OK, "a submit");
+    while (relkvanu_store_completed(store, &completion, 1) == 0) {
+        usleep(1000);
+    }
+    return completion.status;
+}
+
+/* A checkpoint or a savepoint that lacks a file: the ways back to it drop no other record, and say which file it is. */
+static void a_way_back_looks_first(void) {
+    relkvanu_store *store = new_job();
+    relkvanu_store_call call, tick, list[2];
+    relkvanu_store_counts before, after;
+    relkvanu_counts files;
+    char why[200];
+    uint64_t oldest = completed(store, 1), savepoint = done(store, RELKVANU_CALL_SAVEPOINT, 0, 0).a;
+    acks(store, 1, savepoint, SUBTASKS);
+    completed(store, 1);
+    uint64_t latest = completed(store, 1);
+    CHECK(unlink(in("storage/1")) == 0 && unlink(in("storage/12")) == 0, "the files");
+    relkvanu_store_count(store, &before);
+    files = counts_of(store);
+    CHECK(relkvanu_store_go_back(store, oldest, RELKVANU_STORE_ACCEPT_PUBLISHED, &call) == RELKVANU_STORE_FILE_LOST, "it goes back");
+    CHECK(call.answer.code == RELKVANU_STORE_NOT_MADE && relkvanu_store_why(why, sizeof why) != 0 &&
+              strcmp(why, "file 1 of record 1 is missing") == 0,
+        "%s", why);
+    list[0] = (relkvanu_store_call){.call = {.kind = RELKVANU_CALL_TRIGGER}};
+    list[1] = (relkvanu_store_call){.call = {.kind = RELKVANU_CALL_RESTORE, .number = savepoint}};
+    CHECK(relkvanu_store_calls(store, list, 2) == RELKVANU_STORE_FILE_LOST && list[0].answer.code == RELKVANU_STORE_NOT_MADE, "a list");
+    CHECK(relkvanu_store_why(why, sizeof why) != 0 && strcmp(why, "file 12 of record 2 is missing") == 0, "%s", why);
+    call = (relkvanu_store_call){.call = {.kind = RELKVANU_CALL_RESTORE, .number = savepoint}};
+    CHECK(submitted(store, &call) == RELKVANU_STORE_FILE_LOST && call.answer.code == RELKVANU_STORE_NOT_MADE, "a submit");
+    relkvanu_store_count(store, &after);
+    CHECK(before.commits == after.commits && live_records(store) == 4 && counts_of(store).in_use == files.in_use && files.waiting == 0,
+        "something has changed");
+    CHECK(awaits(store, 0, &tick) == RELKVANU_STORE_TIMED_OUT, "something is handed over");
+    is_as_logged(&store);
+    make_empty("storage/1");
+    make_empty("storage/12");
+    CHECK(submitted(store, &call) == RELKVANU_STORE_OK && call.answer.b == savepoint && call.term == 2, "the savepoint is whole");
+    CHECK(latest == 4 && live_records(store) == 1, "%" PRIu64 " records", live_records(store));
+    relkvanu_store_close(store);
+}
+
+/* In the last term the savepoint is made, and the restore to it is refused: so none of the calls is made. */
+static void a_way_back_is_given_up(void) {
+    relkvanu_store *store = new_job();
+    relkvanu_store_call call, tick;
+    uint64_t last = UINT64_C(1) << 62;
+    CHECK(relkvanu_store_advance(store, last - 1, 10, &call) == RELKVANU_STORE_OK && call.term == last, "term %" PRIu64, call.term);
+    uint64_t older = completed(store, last), files = counts_of(store).in_use;
+    completed(store, last);
+    goes_back(store, older, &call);
+    CHECK(call.answer.code == RELKVANU_FENCED && call.answer.what == RELKVANU_TERMS_USED_UP && call.place == 0,
+        "code %" PRIu32 ", what %" PRIu32, call.answer.code, call.answer.what);
+    CHECK(live_records(store) == 2 && counts_of(store).in_use == 2 * files, "%" PRIu64 " records", live_records(store));
+    CHECK(awaits(store, 0, &tick) == RELKVANU_STORE_TIMED_OUT, "it is handed over");
+    is_as_logged(&store);
+    CHECK(completed(store, last) == older + 2, "a number was given out");
+    is_as_logged(&store);
+    relkvanu_store_close(store);
+}
+
+/* A job that has failed runs again; one that is stopped stays so; a stop under way is dropped; a cancelled one stays cancelled. */
+static void ways_back_in_each_mode(void) {
+    relkvanu_store *store = new_job();
+    relkvanu_store_call call = {.call = {.kind = RELKVANU_CALL_DECLINE, .term = 1}}, tick;
+    completed(store, 1);
+    completed(store, 1);
+    call.call.number = triggered(store);
+    CHECK(relkvanu_store_calls(store, &call, 1) == RELKVANU_STORE_OK && call.answer.what == RELKVANU_DECLINE_FAILED, "it fails");
+    goes_back(store, 1, &call);
+    CHECK(call.answer.what == RELKVANU_RESTORED_SAVEPOINT && call.term == 3, "term %" PRIu64, call.term);
+    CHECK(awaits(store, LONG, &tick) == RELKVANU_STORE_OK && tick.term == 3, "it runs");
+    uint64_t older = completed(store, 3);
+    completed(store, 3);
+    uint64_t id = stopping(store);
+    goes_back(store, older, &call);
+    is_in(store, RELKVANU_STORE_PHASE_RUNNING, RELKVANU_STORE_STOP_RESTORED, id, 0);
+    CHECK(call.term == 4 && awaits(store, LONG, &tick) == RELKVANU_STORE_OK && tick.term == 4, "term %" PRIu64, call.term);
+    is_as_logged(&store);
+    asks(store, RELKVANU_CALL_CANCEL, 0);
+    goes_back(store, 1, &call);
+    refused(call.answer, RELKVANU_NO_SUCH_RECORD);
+    relkvanu_store_close(store);
+}
+
+static void an_advance(void) {
+    relkvanu_store *store = new_job();
+    relkvanu_store_call call, tick;
+    relkvanu_answer names;
+    completed(store, 1);
+    CHECK(relkvanu_store_advance(store, 40, 5000, &call) == RELKVANU_STORE_OK && call.answer.what == RELKVANU_RESTORED_CHECKPOINT &&
+              call.answer.b == 1 && call.term == 41,
+        "what %" PRIu32 ", term %" PRIu64, call.answer.what, call.term);
+    CHECK(relkvanu_store_reserve(store, 41, 1, &names) == RELKVANU_STORE_OK && names.a == 5000, "name %" PRIu64, names.a);
+    CHECK(awaits(store, 0, &tick) == RELKVANU_STORE_TIMED_OUT, "it is not handed over");
+    CHECK(relkvanu_store_advance(store, 1, 0, &call) == RELKVANU_STORE_OK && call.answer.code == RELKVANU_BAD_ARGUMENT &&
+              call.answer.what == RELKVANU_BAD_NAME,
+        "code %" PRIu32, call.answer.code);
+    is_as_logged(&store);
+    relkvanu_store_close(store);
+}
+
+/* Tasks, an operator and a timer at once. */
+static struct {
+    relkvanu_store *store;
+    atomic_uint_fast64_t term;
+    atomic_bool has_ended;
+} crowd;
+
+/* The number of a record that is pending; 0: none is. */
+static uint64_t pending(relkvanu_store *store) {
+    relkvanu_reads *reads;
+    uint64_t found = 0;
+    CHECK(relkvanu_store_look(store, &reads) == RELKVANU_STORE_OK, "a look");
+    for (relkvanu_answer it = relkvanu_reads_live_from(reads, 0); it.what != RELKVANU_LIVE_NONE;
+         it = relkvanu_reads_live_from(reads, it.a + 1)) {
+        found = it.b == 0 ? it.a : found;
+    }
+    relkvanu_store_read_end(store);
+    return found;
+}
+
+/* Acknowledges what is pending, without files. What came too late is refused. */
+static void *tasks(void *with) {
+    while (!crowd.has_ended) {
+        uint64_t id = pending(crowd.store);
+        for (uint16_t i = 0; i < SUBTASKS && id != 0; i++) {
+            relkvanu_answer answer;
+            int status = relkvanu_store_ack_in(crowd.store, crowd.term, RELKVANU_STORE_NOW, id, 0, i, NULL, 0, NULL, 0, &answer);
+            CHECK(status == RELKVANU_STORE_OK, "status %d", status);
+        }
+    }
+    return with;
+}
+
+static int command(unsigned nth, relkvanu_store_call *call) {
+    relkvanu_settings settings = options_of(0).settings;
+    settings.retained = 2 + nth % 3;
+    switch (nth % 6) {
+    case 0: return relkvanu_store_stop_job(crowd.store, call);
+    case 1: return relkvanu_store_configure(crowd.store, &settings, call);
+    case 2: return relkvanu_store_begin_job(crowd.store, call);
+    case 3: return relkvanu_store_go_back(crowd.store, nth / 2, RELKVANU_STORE_ACCEPT_PUBLISHED, call);
+    default: return relkvanu_store_trigger(crowd.store, call);
+    }
+}
+
+/* Until some stops had an end: on a busy machine the tasks may take part late. */
+static void *operates(void *with) {
+    unsigned *done = with;
+    for (unsigned i = 0; i < 240 || (i < 24000 && (done[0] < 3 || done[2] < 2)); i++) {
+        relkvanu_store_call call;
+        relkvanu_store_job_phase phase = phase_of(crowd.store);
+        int status = command(i, &call);
+        CHECK(status == RELKVANU_STORE_OK || (status == RELKVANU_STORE_NOT_NOW && (i % 6 == 0 || i % 6 == 2)), "status %d", status);
+        done[i % 6] += status == RELKVANU_STORE_OK && call.answer.code == RELKVANU_DONE;
+        CHECK(phase.phase <= RELKVANU_STORE_PHASE_STOPPED, "phase %" PRIu32, phase.phase);
+        usleep(1000);
+    }
+    crowd.has_ended = true;
+    return with;
+}
+
+static void commands_of_a_crowd(void) {
+    unsigned done[6] = {0};
+    pthread_t threads[3];
+    crowd.store = new_job();
+    crowd.term = 1;
+    CHECK(pthread_create(&threads[0], NULL, tasks, done) == 0 && pthread_create(&threads[1], NULL, tasks, done) == 0 &&
+              pthread_create(&threads[2], NULL, operates, done) == 0,
+        "threads");
+    while (!crowd.has_ended) {
+        relkvanu_store_call tick;
+        int status = awaits(crowd.store, SHORT, &tick);
+        CHECK(status == RELKVANU_STORE_OK || status == RELKVANU_STORE_TIMED_OUT || status == RELKVANU_STORE_JOB_STOPPED ||
+                  status == RELKVANU_STORE_NOT_STOPPED,
+            "status %d", status);
+        if (status == RELKVANU_STORE_OK && tick.term != 0) {
+            CHECK(tick.term > crowd.term, "term %" PRIu64, tick.term);
+            crowd.term = tick.term;
+        }
+    }
+    for (size_t i = 0; i < 3; i++) {
+        pthread_join(threads[i], NULL);
+    }
+    CHECK(done[0] > 2 && done[1] > 2 && done[2] > 1 && done[4] > 2, "%u stops, %u settings, %u begins, %u ways back, %u triggers", done[0],
+        done[1], done[2], done[3], done[4]);
+    is_as_logged(&crowd.store);
+    relkvanu_store_close(crowd.store);
+}
+
+const struct test command_cases[] = {CASE(a_checkpoint_now), CASE(timers_wake), CASE(settings_stay), CASE(bad_settings), CASE(more_at_once),
+    CASE(a_stop), CASE(an_hour), CASE(a_stop_that_expires), CASE(a_stop_that_is_declined), CASE(a_stop_that_is_restored),
+    CASE(a_stop_that_is_cancelled), CASE(a_stop_of_a_job_that_fails), CASE(a_crash_while_it_stops), CASE(calls_while_it_is_stopped),
+    CASE(rows_of_the_phase), CASE(an_older_checkpoint), CASE(no_way_back), CASE(a_way_back_looks_first), CASE(a_way_back_is_given_up),
+    CASE(ways_back_in_each_mode), CASE(an_advance), CASE(commands_of_a_crowd), {NULL, NULL}};

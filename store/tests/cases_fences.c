@@ -1,0 +1,353 @@
+/* Fences: what a claim, a recovery and an opening do to each other while one of them is under way. */
+#include "cases.h"
+
+#include <pthread.h>
+#include <sys/stat.h>
+#include <unistd.h>
+
+enum { MOMENT = 1000000 }; /* microseconds, in which a call that waits for nothing has ended */
+
+static relkvanu_store_options options_of(uint32_t flags) {
+    return storage_options(flags | RELKVANU_STORE_MANIFESTS, 0);
+}
+
+static void fill_in(relkvanu_store *store, uint64_t first) {
+    for (uint64_t file = first; file < first + 2 * SUBTASKS; file++) {
+        CHECK(relkvanu_store_put(store, file, "state", 5) == RELKVANU_STORE_OK, "file %" PRIu64, file);
+    }
+}
+
+/* A job with one record, whose files are there. */
+static relkvanu_store *new_job(void) {
+    relkvanu_store_options options = options_of(RELKVANU_STORE_CREATE);
+    options.settings.retained = 2;
+    relkvanu_store *store = opens(&options, RELKVANU_STORE_OK);
+    fill_in(store, 1);
+    CHECK(checkpoint(store, 1) == 1, "the number");
+    return store;
+}
+
+/* A call in a thread of its own. */
+struct call {
+    pthread_t thread;
+    char storage[PATHS], path[PATHS], folder[PATHS];
+    relkvanu_store_options options;
+    relkvanu_store_recovered recovered;
+    int status;
+};
+
+static void *opens_it(void *with) {
+    struct call *call = with;
+    relkvanu_store_report told;
+    relkvanu_store *store;
+    call->status = relkvanu_store_open(&store, call->path, &call->options, &told);
+    memcpy(call->recovered.message, told.message, sizeof call->recovered.message);
+    relkvanu_store_close(store);
+    return NULL;
+}
+
+static void *claims(void *with) {
+    struct call *call = with;
+    call->status = relkvanu_store_claim(call->storage, 0, call->path, call->folder, &call->recovered);
+    return NULL;
+}
+
+static void *recovers(void *with) {
+    struct call *call = with;
+    call->status = relkvanu_store_recover(call->path, call->storage, 0, &call->recovered);
+    return NULL;
+}
+
+static void begins(struct call *call, void *(*run)(void *), const char *path, const char *folder) {
+    call->options = options_of(RELKVANU_STORE_RECOVER);
+    snprintf(call->storage, sizeof call->storage, "%s", in("storage"));
+    snprintf(call->path, sizeof call->path, "%s", in(path));
+    snprintf(call->folder, sizeof call->folder, "%s", in(folder));
+    CHECK(pthread_create(&call->thread, NULL, run, call) == 0, "a thread");
+}
+
+static void ends_with(struct call *call, int status, const char *words) {
+    CHECK(pthread_join(call->thread, NULL) == 0 && call->status == status && strstr(call->recovered.message, words) != NULL,
+        "status %d, not %d: %s", call->status, status, call->recovered.message);
+}
+
+/* Whether the job of a claim has the record. */
+static void has_record(const char *path, const char *folder, uint64_t record) {
+    relkvanu_store_options options = options_of(RELKVANU_STORE_RECOVER);
+    relkvanu_store_loaded loaded;
+    relkvanu_store *store;
+    options.storage = in(folder);
+    CHECK(relkvanu_store_open(&store, in(path), &options, &report) == RELKVANU_STORE_OK, "%s", report.message);
+    CHECK(relkvanu_store_load(store, 0, &loaded, NULL, NULL) == RELKVANU_STORE_OK && loaded.id == record, "the record");
+    relkvanu_store_close(store);
+}
+
+/* An opening that has looked at the marker, and not written it yet, when a claim or a recovery fences the folder. */
+static void holds_an_opening(struct call *opening, const char *name) {
+    relkvanu_store_close(new_job());
+    CHECK(mkdir(in("apart"), 0700) == 0, "a folder");
+    hold_syncs(name); /* that of the folder of x.db */
+    begins(opening, opens_it, "x.db", "storage");
+    CHECK(awaits_a_held_sync(), "the opening");
+}
+
+static void is_refused(struct call *opening) {
+    relkvanu_store_options options = options_of(RELKVANU_STORE_RECOVER);
+    hold_syncs(NULL);
+    ends_with(opening, RELKVANU_STORE_STORAGE, "a later opening of the job has used it");
+    opens(&options, RELKVANU_STORE_STORAGE);
+}
+
+static void a_claim_beside_an_opening(void) {
+    struct call opening = {.status = 0};
+    relkvanu_store_recovered recovered;
+    holds_an_opening(&opening, "/a_claim_beside_an_opening");
+    int status = relkvanu_store_claim(in("storage"), 0, in("apart/y.db"), in("apart/state"), &recovered);
+    CHECK(status == RELKVANU_STORE_OK && recovered.record == 1, "status %d: %s", status, recovered.message);
+    is_refused(&opening);
+    has_record("apart/y.db", "apart/state", 1);
+}
+
+static void a_recovery_beside_an_opening(void) {
+    struct call opening = {.status = 0};
+    relkvanu_store_recovered recovered;
+    holds_an_opening(&opening, "/a_recovery_beside_an_opening");
+    int status = relkvanu_store_recover(in("apart/y.db"), in("storage"), 0, &recovered);
+    CHECK(status == RELKVANU_STORE_OK && recovered.record == 1, "status %d: %s", status, recovered.message);
+    is_refused(&opening);
+    has_record("apart/y.db", "storage", 1);
+}
+
+/* A claim in a thread of its own, when its folder has the record and there is no job of it yet. */
+static void holds_a_claim(struct call *claim) {
+    relkvanu_store *store = new_job();
+    fill_in(store, 17);
+    CHECK(checkpoint(store, 17) == 2 && mkdir(in("apart"), 0700) == 0, "an earlier record, and a later one");
+    relkvanu_store_close(store);
+    hold_syncs("/apart/one.part");
+    begins(claim, claims, "apart/one.db", "apart/one");
+    CHECK(awaits_a_held_sync(), "the first claim");
+}
+
+static const char WORDS[] = "/apart/one: repeat that command or start its job, or give the number of an earlier record";
+
+/* Nothing is made of an earlier record that is still there, unless somebody gives its number. */
+static void is_claimed(void) {
+    relkvanu_store_recovered recovered;
+    relkvanu_store_carried carried;
+    CHECK(relkvanu_store_recover(in("y.db"), in("storage"), 0, &recovered) == RELKVANU_STORE_ABSENT, "a recovery");
+    CHECK(strstr(recovered.message, "record 2 was claimed for ") != NULL && strstr(recovered.message, WORDS) != NULL, "%s",
+        recovered.message);
+    CHECK(relkvanu_store_import(in("storage"), 0, in("y.db"), in("elsewhere"), &recovered) == RELKVANU_STORE_ABSENT &&
+              strstr(recovered.message, WORDS) != NULL,
+        "%s", recovered.message);
+    CHECK(relkvanu_store_export(in("storage"), 0, in("out"), &carried) == RELKVANU_STORE_ABSENT && strstr(carried.message, WORDS) != NULL,
+        "%s", carried.message);
+    CHECK(!exists("y.db") && !exists("elsewhere") && !exists("out"), "something was made");
+}
+
+/* Who gives the number of the earlier record makes the job again, above all that it told. Then its sweep takes the mark away. */
+static void goes_back_to_earlier(void) {
+    relkvanu_store_options options = options_of(RELKVANU_STORE_RECOVER);
+    relkvanu_store_recovered recovered;
+    relkvanu_store *store;
+    size_t left;
+    int status = relkvanu_store_recover(in("y.db"), in("storage"), 1, &recovered);
+    CHECK(status == RELKVANU_STORE_OK && recovered.next_number > 2, "status %d: %s", status, recovered.message);
+    CHECK(relkvanu_store_open(&store, in("y.db"), &options, &report) == RELKVANU_STORE_OK, "%s", report.message);
+    CHECK(exists("storage/record-2.manifest.claimed") && relkvanu_store_sweep(store, &left) == RELKVANU_STORE_OK && left == 0, "a sweep");
+    relkvanu_store_close(store);
+    CHECK(!exists("storage/record-2.manifest.claimed") &&
+              relkvanu_store_recover(in("z.db"), in("storage"), 0, &recovered) == RELKVANU_STORE_OK,
+        "%s", recovered.message);
+}
+
+/* The second claim waits for the first, and does not take the earlier record then. */
+static void two_claims_at_once(void) {
+    struct call one = {.status = 0}, other = {.status = 0};
+    holds_a_claim(&one);
+    begins(&other, claims, "apart/other.db", "apart/other");
+    usleep(MOMENT);
+    hold_syncs(NULL);
+    ends_with(&one, RELKVANU_STORE_OK, "");
+    ends_with(&other, RELKVANU_STORE_ABSENT, WORDS);
+    has_record("apart/one.db", "apart/one", 2);
+    CHECK(!exists("apart/other") && !exists("apart/other.db"), "what the second claim has made");
+    is_claimed();
+    relkvanu_store_recovered recovered;
+    int status = relkvanu_store_claim(in("storage"), 2, in("y.db"), in("elsewhere"), &recovered);
+    CHECK(status == RELKVANU_STORE_ABSENT && strstr(recovered.message, WORDS) != NULL, "status %d: %s", status, recovered.message);
+    goes_back_to_earlier();
+}
+
+/* The recovery that has fenced the folder last has the records. */
+static void two_recoveries_at_once(void) {
+    struct call one = {.status = 0};
+    relkvanu_store_recovered recovered;
+    relkvanu_store_close(new_job());
+    CHECK(mkdir(in("one"), 0700) == 0 && mkdir(in("other"), 0700) == 0, "folders");
+    hold_syncs("/one");
+    begins(&one, recovers, "one/x.db", "storage");
+    CHECK(awaits_a_held_sync(), "the first recovery");
+    int status = relkvanu_store_recover(in("other/x.db"), in("storage"), 0, &recovered);
+    CHECK(status == RELKVANU_STORE_OK && recovered.record == 1, "status %d: %s", status, recovered.message);
+    hold_syncs(NULL);
+    ends_with(&one, RELKVANU_STORE_STORAGE, "has taken the storage folder meanwhile");
+    CHECK(!exists("one/x.db"), "a second job");
+    has_record("other/x.db", "storage", 1);
+}
+
+/* The acknowledgement of a subtask whose state is its payload. */
+static int acks(relkvanu_store *store, uint64_t id, uint16_t index, relkvanu_answer *answer) {
+    relkvanu_store_more more = {.payload = "state", .payload_len = 5};
+    return relkvanu_store_ack_with(store, report.term, RELKVANU_STORE_NOW, id, 0, index, NULL, 0, NULL, 0, &more, answer);
+}
+
+static uint64_t acks_all_but_one(relkvanu_store *store) {
+    relkvanu_answer answer;
+    uint64_t id = done(store, RELKVANU_CALL_TRIGGER, RELKVANU_STORE_NOW, 0).b;
+    for (uint16_t i = 1; i < SUBTASKS; i++) {
+        CHECK(acks(store, id, i, &answer) == RELKVANU_STORE_OK && answer.what == RELKVANU_ACK_PENDING, "what %" PRIu32, answer.what);
+    }
+    return id;
+}
+
+/* A job without state files, whose record is claimed while its engine runs. */
+static relkvanu_store *claimed(void) {
+    relkvanu_store_recovered recovered;
+    relkvanu_answer answer;
+    relkvanu_store *store = opens_with(options_of(RELKVANU_STORE_CREATE));
+    CHECK(acks(store, acks_all_but_one(store), 0, &answer) == RELKVANU_STORE_OK && answer.what == RELKVANU_ACK_COMPLETED, "a record");
+    acks_all_but_one(store);
+    CHECK(mkdir(in("apart"), 0700) == 0, "a folder");
+    int status = relkvanu_store_claim(in("storage"), 0, in("apart/y.db"), in("apart/state"), &recovered);
+    CHECK(status == RELKVANU_STORE_OK && recovered.record == 1, "status %d: %s", status, recovered.message);
+    return store;
+}
+
+static void is_closed(relkvanu_store *store) {
+    char message[200];
+    relkvanu_answer answer;
+    CHECK(relkvanu_store_message(store, message, sizeof message) != 0 && strstr(message, "a later opening") != NULL, "%s", message);
+    CHECK(relkvanu_store_term(store, &answer) == RELKVANU_STORE_CLOSED, "it goes on");
+    relkvanu_store_close(store);
+}
+
+/* Its engine hears of it with the next record, which is complete for nobody. */
+static void a_claim_beside_payloads(void) {
+    relkvanu_answer answer;
+    relkvanu_store *store = claimed();
+    CHECK(acks(store, 2, 0, &answer) == RELKVANU_STORE_STORAGE && answer.code == RELKVANU_STORE_NOT_MADE, "what %" PRIu32, answer.what);
+    CHECK(!exists("storage/record-2.manifest"), "a manifest");
+    is_closed(store);
+    has_record("apart/y.db", "apart/state", 1);
+}
+
+struct ack {
+    relkvanu_store *store;
+    relkvanu_answer answer;
+    int status;
+};
+
+static void *acks_last(void *with) {
+    struct ack *ack = with;
+    ack->status = acks(ack->store, 2, 0, &ack->answer);
+    return NULL;
+}
+
+/* The same of a caller who is not alone: another thread writes the manifest. */
+static void a_claim_beside_a_crowd(void) {
+    pthread_t thread;
+    relkvanu *handle;
+    relkvanu_store *store = claimed();
+    struct ack ack = {.store = store};
+    CHECK(relkvanu_store_read(store, &handle) == RELKVANU_STORE_OK, "a read");
+    CHECK(pthread_create(&thread, NULL, acks_last, &ack) == 0, "a thread");
+    usleep(MOMENT / 2);
+    relkvanu_store_read_end(store);
+    CHECK(pthread_join(thread, NULL) == 0, "a thread");
+    CHECK(ack.status == RELKVANU_STORE_STORAGE && ack.answer.code == RELKVANU_STORE_NOT_MADE, "status %d", ack.status);
+    is_closed(store);
+}
+
+/* A claim that fences the folder while a manifest is written, and has listed the others before: the record is complete for nobody. */
+static void a_claim_beside_a_manifest(void) {
+    pthread_t thread;
+    relkvanu_store_recovered recovered;
+    relkvanu_answer answer;
+    struct ack ack = {.store = opens_with(options_of(RELKVANU_STORE_CREATE))};
+    CHECK(acks(ack.store, acks_all_but_one(ack.store), 0, &answer) == RELKVANU_STORE_OK, "a record");
+    acks_all_but_one(ack.store);
+    CHECK(mkdir(in("apart"), 0700) == 0, "a folder");
+    hold_syncs("/record-2.manifest.part");
+    CHECK(pthread_create(&thread, NULL, acks_last, &ack) == 0 && awaits_a_held_sync(), "a manifest");
+    int status = relkvanu_store_claim(in("storage"), 0, in("apart/y.db"), in("apart/state"), &recovered);
+    CHECK(status == RELKVANU_STORE_OK && recovered.record == 1, "status %d: %s", status, recovered.message);
+    hold_syncs(NULL);
+    CHECK(pthread_join(thread, NULL) == 0 && ack.status == RELKVANU_STORE_STORAGE, "status %d", ack.status);
+    is_closed(ack.store);
+}
+
+/* Copies the job's file as it is on the disk, or moves it. */
+static void puts_aside(const char *command, const char *from, const char *to) {
+    static const char *const ends[] = {"", "-wal"};
+    for (size_t i = 0; i < 2; i++) {
+        char words[2 * PATHS + 40], name[PATHS], other[PATHS];
+        snprintf(name, sizeof name, "%s%s", in(from), ends[i]);
+        snprintf(other, sizeof other, "%s%s", in(to), ends[i]);
+        snprintf(words, sizeof words, "%s %s %s", command, name, other);
+        CHECK(access(name, F_OK) != 0 || system(words) == 0, "%s", words);
+    }
+}
+
+/* Takes a copy of the file while the job is open, and completes one more record. */
+static int copies_and_goes_on(void *with) {
+    (void)with;
+    relkvanu_store *store = new_job();
+    puts_aside("cp", "x.db", "old.db");
+    fill_in(store, 17);
+    return checkpoint(store, 17) == 2 ? 7 : 1; /* it is killed */
+}
+
+/* A copy from the last opening has the number of that opening. The manifest of a later call proves that it is older, and the newer file stays the job. */
+static void a_copy_of_the_last_opening(void) {
+    CHECK(in_child(copies_and_goes_on, NULL) == 7, "a child");
+    relkvanu_store_options options = options_of(RELKVANU_STORE_RECOVER);
+    puts_aside("mv", "x.db", "new.db");
+    puts_aside("cp", "old.db", "x.db");
+    opens(&options, RELKVANU_STORE_STORAGE);
+    CHECK(says("x.db: it is an older copy") && says("record-2.manifest"), "%s", report.message);
+    lose_job();
+    puts_aside("mv", "new.db", "x.db");
+    relkvanu_store *store = opens(&options, RELKVANU_STORE_OK);
+    CHECK(report.choice.a == 2 && report.epoch == 2, "record %" PRIu64 ", opening %" PRIu64, report.choice.a, report.epoch);
+    relkvanu_store_close(store);
+    puts_aside("mv", "x.db", "new.db");
+    puts_aside("mv", "old.db", "x.db");
+    opens(&options, RELKVANU_STORE_STORAGE);
+    CHECK(says("a later opening of the job has used it (2)") && says("of opening 1: ") && says("x.db"), "%s", report.message);
+}
+
+/* One digit of the identity in the marker is another one: the message says whose the records are. */
+static void a_marker_of_another_job(void) {
+    char job[40], words[120], marker[200] = "";
+    relkvanu_store_recovered recovered;
+    relkvanu_store_close(new_job());
+    snprintf(job, sizeof job, "%016" PRIx64 "%016" PRIx64, report.job[0], report.job[1]);
+    lose_job();
+    FILE *file = fopen(in("storage/.relkvanu-job"), "r+");
+    CHECK(file != NULL && fread(marker, 1, sizeof marker - 1, file) != 0, "the marker");
+    char *digit = strstr(marker, job);
+    CHECK(digit != NULL && fseek(file, digit - marker, SEEK_SET) == 0 && fputc(*digit == '0' ? '1' : '0', file) > 0, "the marker");
+    CHECK(fclose(file) == 0, "the marker");
+    CHECK(relkvanu_store_recover(in("x.db"), in("storage"), 0, &recovered) == RELKVANU_STORE_ABSENT, "%s", recovered.message);
+    snprintf(words, sizeof words, "1 whole records there are of another job, %s: the marker, which names ", job);
+    CHECK(strstr(recovered.message, words) != NULL, "%s", recovered.message);
+    CHECK(relkvanu_store_claim(in("storage"), 0, in("y.db"), in("elsewhere"), &recovered) == RELKVANU_STORE_ABSENT &&
+              strstr(recovered.message, words) != NULL,
+        "%s", recovered.message);
+}
+
+const struct test fence_cases[] = {CASE(a_claim_beside_an_opening), CASE(a_recovery_beside_an_opening), CASE(two_claims_at_once),
+    CASE(two_recoveries_at_once), CASE(a_claim_beside_payloads), CASE(a_claim_beside_a_crowd), CASE(a_claim_beside_a_manifest),
+    CASE(a_copy_of_the_last_opening), CASE(a_marker_of_another_job), {NULL, NULL}};

@@ -1,0 +1,331 @@
+/* Checksums of files in manifests: how they come there, what they find, and that they go along wherever a record goes. */
+#include "cases.h"
+
+#include <errno.h>
+#include <fcntl.h>
+#include <sys/stat.h>
+#include <sys/syscall.h>
+#include <unistd.h>
+
+/* The check value of CRC-32, as its published descriptions have it: of these nine bytes. */
+static const char CONTENTS[] = "123456789", SUM[] = "cbf43926";
+enum { LENGTH = 9, MOST_FAULTS = 32, MOST_RECORDS = 8 };
+
+static char message[RELKVANU_STORE_MESSAGE];
+static struct fault {
+    uint64_t record, file;
+    uint32_t fault;
+} faults[MOST_FAULTS];
+static relkvanu_store_record records[MOST_RECORDS];
+static size_t faults_len, records_len;
+
+static int link_error;
+
+/* In place of that of the C library: 0, or what each link fails with. */
+int linkat(int from, const char *name, int to, const char *other, int flags) {
+    if (link_error != 0) {
+        errno = link_error;
+        return -1;
+    }
+    return (int)syscall(SYS_linkat, from, name, to, other, flags);
+}
+
+static bool note_record(void *with, const relkvanu_store_record *record) {
+    CHECK(with == faults && records_len < MOST_RECORDS, "a record");
+    records[records_len++] = *record;
+    return true;
+}
+
+static bool note_fault(void *with, uint64_t record, uint64_t file, uint32_t fault) {
+    CHECK(with == faults && faults_len < MOST_FAULTS, "a fault");
+    faults[faults_len++] = (struct fault){.record = record, .file = file, .fault = fault};
+    return true;
+}
+
+/* Reads all. Returns how many files are not as they should be. */
+static size_t checks(const char *folder) {
+    faults_len = records_len = 0;
+    int status = relkvanu_store_check_records(in(folder), note_record, note_fault, faults, message, sizeof message);
+    CHECK(status == RELKVANU_STORE_OK && message[0] == 0, "status %d: %s", status, message);
+    return faults_len;
+}
+
+static relkvanu_store_record lists(const char *folder) {
+    records_len = 0;
+    int status = relkvanu_store_records(in(folder), note_record, faults, message, sizeof message);
+    CHECK(status == RELKVANU_STORE_OK && records_len != 0, "status %d: %s", status, message);
+    return records[records_len - 1];
+}
+
+static relkvanu_store *opens_new(void) {
+    return opens_with(storage_options(RELKVANU_STORE_CREATE | RELKVANU_STORE_MANIFESTS | RELKVANU_STORE_CHECKSUMS, 0));
+}
+
+static relkvanu_store *opens_again(void) {
+    return opens_with(storage_options(RELKVANU_STORE_MANIFESTS | RELKVANU_STORE_CHECKSUMS, 0));
+}
+
+/* A record in which each subtask has a fresh file, and the first one also a file from before, unless that is 0. *first is the first fresh file. */
+static uint64_t completes(relkvanu_store *store, uint32_t kind, uint64_t reused, uint64_t *first) {
+    relkvanu_answer term, names, answer = done(store, kind, RELKVANU_STORE_NOW, 0);
+    uint64_t id = kind == RELKVANU_CALL_SAVEPOINT ? answer.a : answer.b;
+    CHECK(relkvanu_store_term(store, &term) == RELKVANU_STORE_OK, "no term");
+    CHECK(relkvanu_store_reserve(store, term.a, SUBTASKS, &names) == RELKVANU_STORE_OK && names.code == RELKVANU_DONE, "no names");
+    for (uint16_t i = 0; i < SUBTASKS; i++) {
+        uint64_t file = names.a + i;
+        CHECK(relkvanu_store_put(store, file, CONTENTS, LENGTH) == RELKVANU_STORE_OK, "no file");
+        int status = relkvanu_store_ack_in(store, term.a, RELKVANU_STORE_NOW, id, 0, i, &file, 1, &reused, i == 0 && reused != 0, &answer);
+        CHECK(status == RELKVANU_STORE_OK && answer.code == RELKVANU_DONE, "status %d, what %" PRIu32, status, answer.what);
+    }
+    *first = names.a;
+    return id;
+}
+
+static const char *file_in(const char *folder, uint64_t file) {
+    char name[PATHS];
+    snprintf(name, sizeof name, "%s/%" PRIu64, folder, file);
+    return in(name);
+}
+
+/* One bit of the file changes, and its length does not. */
+static void flips(const char *folder, uint64_t file) {
+    char byte;
+    int it = open(file_in(folder, file), O_RDWR);
+    CHECK(it >= 0 && pread(it, &byte, 1, 4) == 1, "file %" PRIu64, file);
+    byte ^= 1;
+    CHECK(pwrite(it, &byte, 1, 4) == 1 && close(it) == 0, "file %" PRIu64, file);
+}
+
+static void is_fault(size_t nth, uint64_t record, uint64_t file, uint32_t fault) {
+    const struct fault *it = &faults[nth];
+    CHECK(nth < faults_len && it->record == record && it->file == file && it->fault == fault,
+        "%zu faults; record %" PRIu64 ", file %" PRIu64 ": %" PRIu32, faults_len, it->record, it->file, it->fault);
+}
+
+/* They are in manifests if the engine asks for them, and not without manifests. */
+static void checksums_of_files(void) {
+    uint64_t first;
+    char words[64];
+    relkvanu_store_options options = storage_options(RELKVANU_STORE_CREATE | RELKVANU_STORE_CHECKSUMS, 0);
+    opens(&options, RELKVANU_STORE_BAD_ARGUMENT);
+    CHECK(says("RELKVANU_STORE_MANIFESTS"), "%s", report.message);
+    relkvanu_store *store = opens_new();
+    CHECK(completes(store, RELKVANU_CALL_TRIGGER, 0, &first) == 1, "the number");
+    snprintf(words, sizeof words, "\"files\":{\"%" PRIu64 "\":9},\"sums\":[\"%s\"]}", first + 3, SUM);
+    CHECK(has_text("storage/record-1.manifest", words), "%s", words);
+    CHECK(
+        checks("storage") == 0 && records_len == 1 && records[0].unknown == 0 && records[0].is_next && records[0].files == 8, "the record");
+    relkvanu_store_close(store);
+}
+
+/* What is wrong with a file is told by its number. Without reading it only another length is seen. */
+static void files_that_changed(void) {
+    uint64_t first;
+    relkvanu_store *store = opens_new();
+    completes(store, RELKVANU_CALL_TRIGGER, 0, &first);
+    flips("storage", first + 1);
+    CHECK(lists("storage").missing == 0 && records[0].is_next, "it was not read");
+    CHECK(checks("storage") == 1 && records[0].missing == 0 && records[0].changed == 1, "%zu faults", faults_len);
+    is_fault(0, 1, first + 1, RELKVANU_STORE_FILE_CHANGED);
+    CHECK(truncate(file_in("storage", first + 2), 4) == 0 && unlink(file_in("storage", first + 4)) == 0, "the files");
+    CHECK(unlink(file_in("storage", first + 6)) == 0 && symlink(file_in("storage", first), file_in("storage", first + 6)) == 0, "a link");
+    CHECK(checks("storage") == 4 && records[0].missing == 3 && records[0].changed == 1 && !records[0].is_next, "%zu faults", faults_len);
+    is_fault(0, 1, first + 1, RELKVANU_STORE_FILE_CHANGED);
+    is_fault(1, 1, first + 2, RELKVANU_STORE_FILE_LENGTH);
+    is_fault(2, 1, first + 4, RELKVANU_STORE_FILE_MISSING);
+    is_fault(3, 1, first + 6, RELKVANU_STORE_FILE_MISSING);
+    relkvanu_store_close(store);
+}
+
+/* A file is read once: a later record, a later opening, and a job that is made again keep the checksum from before. */
+static void kept_checksums(void) {
+    uint64_t first, later, saved;
+    relkvanu_store_recovered recovered;
+    relkvanu_store *store = opens_new();
+    completes(store, RELKVANU_CALL_TRIGGER, 0, &first);
+    uint64_t savepoint = completes(store, RELKVANU_CALL_SAVEPOINT, 0, &saved);
+    flips("storage", first);
+    flips("storage", saved);
+    uint64_t id = completes(store, RELKVANU_CALL_TRIGGER, first, &later);
+    for (int opening = 0; opening < 2; opening++) {
+        CHECK(checks("storage") == 2 && records_len == 2, "%zu faults", faults_len);
+        is_fault(0, savepoint, saved, RELKVANU_STORE_FILE_CHANGED);
+        is_fault(1, id, first, RELKVANU_STORE_FILE_CHANGED);
+        relkvanu_store_close(store);
+        store = opens_again();
+    }
+    lose_job_of(store);
+    int status = relkvanu_store_recover(in("x.db"), in("storage"), 0, &recovered);
+    CHECK(status == RELKVANU_STORE_OK && recovered.record == id && recovered.savepoints == 1, "status %d: %s", status, recovered.message);
+    relkvanu_store_close(opens_again());
+    CHECK(checks("storage") == 3 && records_len == 3 && records[0].unknown == 0, "%zu faults",
+        faults_len); /* that of the old savepoint is left */
+    is_fault(1, id, first, RELKVANU_STORE_FILE_CHANGED);
+    is_fault(2, records[2].id, saved, RELKVANU_STORE_FILE_CHANGED);
+}
+
+/* The choice is lost: a file of it has another length than when it was complete. */
+static void is_lost(relkvanu_store *store, uint64_t file, const char *words) {
+    char why[200];
+    relkvanu_store_loaded loaded;
+    CHECK(relkvanu_store_load(store, 0, &loaded, NULL, NULL) == RELKVANU_STORE_FILE_LOST && loaded.lost == file, "file %" PRIu64,
+        loaded.lost);
+    CHECK(relkvanu_store_why(why, sizeof why) != 0 && strstr(why, words) != NULL, "%s", why);
+    relkvanu_store_record last = lists("storage");
+    CHECK(last.missing == 1 && !last.is_next && last.bytes == last.files * LENGTH, "%" PRIu64 " files of %" PRIu64 " bytes", last.missing,
+        last.bytes);
+}
+
+/* A file that was cut, or lost and cut, stays lost: no opening and no later record that reuses it takes its length anew. */
+static void kept_lengths(void) {
+    uint64_t first, later;
+    relkvanu_store_recovered recovered;
+    relkvanu_store *store = opens_with(storage_options(RELKVANU_STORE_CREATE | RELKVANU_STORE_MANIFESTS, 0));
+    completes(store, RELKVANU_CALL_TRIGGER, 0, &first);
+    CHECK(truncate(file_in("storage", first), 4) == 0, "it is cut");
+    for (int opening = 0; opening < 2; opening++) {
+        is_lost(store, first, "has 4 bytes, and its manifest says 9");
+        relkvanu_store_close(store);
+        store = opens_with(storage_options(RELKVANU_STORE_MANIFESTS, 0));
+    }
+    completes(store, RELKVANU_CALL_TRIGGER, first, &later);
+    is_lost(store, first, "has 4 bytes");
+    CHECK(unlink(file_in("storage", first)) == 0, "it is lost");
+    relkvanu_store_close(store);
+    store = opens_with(storage_options(RELKVANU_STORE_MANIFESTS, 0));
+    is_lost(store, first, "is missing");
+    int cut = open(file_in("storage", first), O_CREAT | O_WRONLY, 0600);
+    CHECK(cut >= 0 && write(cut, "12", 2) == 2 && close(cut) == 0, "a part of it comes back");
+    is_lost(store, first, "has 2 bytes");
+    lose_job_of(store);
+    CHECK(relkvanu_store_recover(in("x.db"), in("storage"), 0, &recovered) == RELKVANU_STORE_ABSENT, "a recovery goes on from it");
+    CHECK(unlink(file_in("storage", first)) == 0 && link(file_in("storage", later), file_in("storage", first)) == 0, "it is whole");
+    CHECK(relkvanu_store_recover(in("x.db"), in("storage"), 0, &recovered) == RELKVANU_STORE_OK, "%s", recovered.message);
+}
+
+/* A backup whose choice has a file that was cut since begins from a savepoint that is whole. */
+static void a_backup_of_a_cut_file(void) {
+    uint64_t first, saved;
+    relkvanu_store_recovered recovered;
+    relkvanu_store *store = opens_with(storage_options(RELKVANU_STORE_CREATE | RELKVANU_STORE_MANIFESTS, 0));
+    uint64_t savepoint = completes(store, RELKVANU_CALL_SAVEPOINT, 0, &saved);
+    completes(store, RELKVANU_CALL_TRIGGER, 0, &first);
+    CHECK(relkvanu_store_backup(store, in("b.db"), message, sizeof message) == RELKVANU_STORE_OK, "%s", message);
+    relkvanu_store_close(store);
+    CHECK(truncate(file_in("storage", first + 3), 4) == 0, "it is cut");
+    int status = relkvanu_store_put_back(in("b.db"), in("x.db"), in("storage"), &recovered);
+    CHECK(status == RELKVANU_STORE_OK && recovered.record == savepoint && recovered.is_savepoint, "status %d: record %" PRIu64 ", %s",
+        status, recovered.record, recovered.message);
+    store = opens_with(storage_options(RELKVANU_STORE_MANIFESTS, 0));
+    CHECK(report.choice.a == savepoint, "record %" PRIu64, report.choice.a);
+    relkvanu_store_close(store);
+}
+
+/* Manifests from before have none. They get them at the next opening that asks for them. */
+static void manifests_without_checksums(void) {
+    uint64_t first;
+    relkvanu_store *store = opens_with(storage_options(RELKVANU_STORE_CREATE | RELKVANU_STORE_MANIFESTS, 0));
+    completes(store, RELKVANU_CALL_SAVEPOINT, 0, &first);
+    completes(store, RELKVANU_CALL_TRIGGER, 0, &first);
+    relkvanu_store_close(store);
+    flips("storage", first);
+    CHECK(checks("storage") == 0 && records_len == 2 && records[0].unknown == 8 && records[1].unknown == 8, "they are not known");
+    CHECK(unlink(file_in("storage", first + 1)) == 0 && checks("storage") == 1, "%zu faults", faults_len);
+    is_fault(0, 2, first + 1, RELKVANU_STORE_FILE_MISSING);
+    CHECK(link(file_in("storage", first), file_in("storage", first + 1)) == 0, "a file");
+    relkvanu_store_close(opens_again());
+    CHECK(checks("storage") == 0 && records_len == 2 && records[0].unknown == 0 && records[1].unknown == 0, "they are known");
+}
+
+/* A file that can't be read has none, and the calls go on. */
+static void a_file_that_is_not_there(void) {
+    uint64_t first;
+    relkvanu_store_measures measures;
+    relkvanu_store *store = opens_new();
+    relkvanu_answer names, answer, triggered = done(store, RELKVANU_CALL_TRIGGER, RELKVANU_STORE_NOW, 0);
+    CHECK(relkvanu_store_reserve(store, report.term, SUBTASKS, &names) == RELKVANU_STORE_OK, "no names");
+    for (uint16_t i = 0; i < SUBTASKS; i++) {
+        uint64_t file = names.a + i;
+        CHECK(relkvanu_store_ack_in(store, report.term, RELKVANU_STORE_NOW, triggered.b, 0, i, &file, 1, NULL, 0, &answer) ==
+                  RELKVANU_STORE_OK,
+            "no answer");
+    }
+    CHECK(answer.what == RELKVANU_ACK_COMPLETED, "what %" PRIu32, answer.what);
+    relkvanu_store_measure(store, &measures, sizeof measures);
+    CHECK(measures.manifests == 1 && measures.failed_manifests == 0, "%" PRIu64 " manifests", measures.manifests);
+    CHECK(
+        !has_text("storage/record-1.manifest", "sums\":[\"") && has_text("storage/record-1.manifest", "\"sums\":[null]"), "the checksums");
+    CHECK(lists("storage").missing == 8 && lists("storage").unknown == 8, "the record");
+    completes(store, RELKVANU_CALL_TRIGGER, 0, &first);
+    relkvanu_store_close(store);
+}
+
+/* A copy is compared, a link is not read. What is made has the checksums. */
+static void carried_checksums(void) {
+    uint64_t first;
+    char words[64];
+    relkvanu_store_carried carried;
+    relkvanu_store_recovered recovered;
+    relkvanu_store *store = opens_new();
+    uint64_t id = completes(store, RELKVANU_CALL_TRIGGER, 0, &first);
+    link_error = EXDEV;
+    CHECK(relkvanu_store_export(in("storage"), 0, in("copied"), &carried) == RELKVANU_STORE_OK, "%s", carried.message);
+    CHECK(checks("copied") == 0 && records[0].unknown == 0 && records[0].files == 8, "the copy");
+    int status = relkvanu_store_claim(in("copied"), 0, in("y.db"), in("other"), &recovered);
+    CHECK(status == RELKVANU_STORE_OK && recovered.record == id && access(in("copied"), F_OK) != 0, "status %d: %s", status,
+        recovered.message);
+    CHECK(checks("other") == 0 && records[0].unknown == 0 && records[0].files == 8, "what was claimed");
+    flips("storage", first + 7);
+    status = relkvanu_store_export(in("storage"), 0, in("damaged"), &carried);
+    CHECK(
+        status == RELKVANU_STORE_DAMAGED && access(in("damaged"), F_OK) != 0 && access(in("damaged.part"), F_OK) != 0, "status %d", status);
+    snprintf(words, sizeof words, "%" PRIu64 ": it has another checksum", first + 7);
+    CHECK(strstr(carried.message, words) != NULL, "%s", carried.message);
+    status = relkvanu_store_import(in("storage"), 0, in("z.db"), in("third"), &recovered);
+    CHECK(status == RELKVANU_STORE_DAMAGED && access(in("z.db"), F_OK) != 0 && access(in("third"), F_OK) != 0, "status %d", status);
+    link_error = 0;
+    CHECK(relkvanu_store_import(in("storage"), 0, in("z.db"), in("third"), &recovered) == RELKVANU_STORE_OK, "%s", recovered.message);
+    CHECK(checks("third") == 1, "%zu faults", faults_len);
+    is_fault(0, id, first + 7, RELKVANU_STORE_FILE_CHANGED);
+    relkvanu_store_close(store);
+}
+
+/* More files than are remembered at first, most of which are gone later. */
+static void many_checksums(void) {
+    uint64_t first = 0, kept = 0;
+    relkvanu_store *store = opens_new();
+    for (int nth = 0; nth < 300; nth++) {
+        completes(store, RELKVANU_CALL_TRIGGER, kept, &first);
+        CHECK(relkvanu_store_discard_for(store, 0, 1, NULL, NULL) == RELKVANU_STORE_TIMED_OUT, "a discarder");
+        kept = kept == 0 ? first : kept;
+    }
+    flips("storage", kept);
+    flips("storage", first + 1);
+    uint64_t id = completes(store, RELKVANU_CALL_TRIGGER, kept, &first);
+    CHECK(checks("storage") == 1 && records_len == 1 && records[0].unknown == 0 && records[0].files == 9, "%zu faults", faults_len);
+    is_fault(0, id, kept, RELKVANU_STORE_FILE_CHANGED);
+    relkvanu_store_close(store);
+}
+
+/* Who is told may end the look. */
+static bool ends_at_once(void *with, uint64_t record, uint64_t file, uint32_t fault) {
+    note_fault(with, record, file, fault);
+    return false;
+}
+
+static void a_look_that_ends(void) {
+    uint64_t first;
+    relkvanu_store *store = opens_new();
+    completes(store, RELKVANU_CALL_TRIGGER, 0, &first);
+    flips("storage", first);
+    flips("storage", first + 1);
+    int status = relkvanu_store_check_records(in("storage"), note_record, ends_at_once, faults, message, sizeof message);
+    CHECK(status == RELKVANU_STORE_OK && faults_len == 1 && records_len == 0, "status %d, %zu faults", status, faults_len);
+    CHECK(relkvanu_store_check_records(in("none"), note_record, note_fault, faults, message, sizeof message) == RELKVANU_STORE_STORAGE,
+        "no folder");
+    relkvanu_store_close(store);
+}
+
+const struct test known_file_cases[] = {CASE(checksums_of_files), CASE(files_that_changed), CASE(kept_checksums), CASE(kept_lengths),
+    CASE(a_backup_of_a_cut_file), CASE(manifests_without_checksums), CASE(a_file_that_is_not_there), CASE(carried_checksums),
+    CASE(many_checksums), CASE(a_look_that_ends), {NULL, NULL}};
