@@ -1,4 +1,4 @@
--- The tables of a PostgreSQL database of the service, version 1. lite.sql says what those are that SQLite has too.
+-- The tables of a PostgreSQL database of the service, version 1. sqlite.sql says what those are that SQLite has too.
 create table if not exists schema_version(one boolean primary key check (one), number bigint not null);
 create table if not exists job(
     job bigint primary key, name text not null unique, config text not null, shape text not null,
@@ -37,16 +37,11 @@ create table if not exists figure(
 create table if not exists subtask_state(
     job bigint not null, record bigint not null, vertex bigint not null, place bigint not null, files text not null,
     payload text not null, bytes bigint not null, millis bigint not null, primary key(job, record, vertex, place));
--- Jobs are spread over the processes of one database. A process that leads is a member. Each of its commits counts its beat up; a member
--- whose beat stays the same for the length of its lease is deleted, and its shards are free.
-create table if not exists member(
-    name text primary key, address text not null, spreads boolean not null, beat bigint not null, lease double precision not null,
-    until timestamptz not null);
--- The jobs whose numbers have this rest, and which member may write them. A change of the owner begins a new epoch.
-create table if not exists shard(
-    number bigint primary key check (number between 0 and 63), owner text references member on delete set null, epoch bigint not null);
-insert into shard select it, null, 0 from generate_series(0, 63) it on conflict do nothing;
--- Each time a process got a shard: the log's identity since, and how many calls each of its jobs had. The number is the epoch. Those of
--- a log that was moved here from SQLite are of all shards.
-create table if not exists log_start(
-    shard bigint not null default -1, number bigint not null, name text not null, lengths text not null, primary key(shard, number))
+-- The process that leads; an empty name: none. Each time it renews its lease it counts its beat up. If the beat stays the same for the length
+-- of the lease, another process takes its place and begins a new epoch.
+create table if not exists leader(
+    one boolean primary key check (one), name text not null, address text not null, epoch bigint not null, beat bigint not null,
+    lease double precision not null, until timestamptz not null);
+insert into leader values(true, '', '', 0, 0, 0, '-infinity') on conflict do nothing;
+-- Each time a process began to lead: the log's identity since, and how many calls each job had. The number is the epoch.
+create table if not exists log_start(number bigint primary key, name text not null, lengths text not null)

@@ -3,8 +3,8 @@
 -- parameters, columns as arrays. Rows of `j`, `c`, `r` and `i` are counted.
 -- part jobs
 j as (
-    insert into job select u.job, u.name, u.config, u.shape, u.started, 1, u.library from l, unnest(
-        {1}::bigint[], {2}::text[], {3}::text[], {4}::text[], {5}::bigint[], {6}::text[]) u(job, name, config, shape, started, library)
+    insert into job select u.job, u.name, u.config, u.shape, u.started, u.first, u.library from l, unnest(
+        {1}::bigint[], {2}::text[], {3}::text[], {4}::text[], {5}::bigint[], {6}::bigint[], {7}::text[]) u(job, name, config, shape, started, first, library)
     returning 1
 )
 -- part calls
@@ -115,4 +115,9 @@ k as (
 n as (
     insert into figure select u.job, u.seq, u.bytes, u.millis, u.reason from l, unnest(
         {1}::bigint[], {2}::bigint[], {3}::bigint[], {4}::bigint[], {5}::text[]) u(job, seq, bytes, millis, reason)
+)
+-- part storages of jobs
+v as (
+    insert into storage select u.job, u.text from l, unnest({1}::bigint[], {2}::text[]) u(job, text)
+    on conflict (job) do update set text = excluded.text
 )

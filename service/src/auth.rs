@@ -122,6 +122,13 @@ impl Tokens {
         self.0.len() > 1
     }
 
+    /// A token that may change something of all jobs, if there is one.
+    pub fn for_all_jobs(&self) -> Option<String> {
+        let fits =
+            |token: &&Token| token.caller.may_write && token.caller.may_see_all() && token.caller.until.is_none();
+        self.0.iter().find(fits).and_then(|token| String::from_utf8(token.text.clone()).ok())
+    }
+
     /// When the last token for this access ends, if all of them do.
     pub fn until(&self, access: Access) -> Option<SystemTime> {
         let ends = self.0.iter().filter(|token| token.access == access).map(|token| token.caller.until);

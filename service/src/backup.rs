@@ -1,15 +1,16 @@
-//! `relkvanu backup`: copies an SQLite database while a service commits to it.
-use crate::cli;
+//! `relkvanu backup`: copies a database while a service commits to it.
+use crate::cli::{self, Ended};
+use crate::config::{database_of, BadConfig};
 use crate::database::{Database, NoDatabase};
 use crate::log;
-use crate::store::{refusal, DbError};
+use crate::nightly;
 use rusqlite::{Connection, OpenFlags};
 use std::ffi::OsString;
 use std::fs::{self, File, OpenOptions};
 use std::io;
 use std::os::unix::fs::OpenOptionsExt;
 use std::path::{Path, PathBuf};
-use std::process::ExitCode;
+use std::process::{Command, ExitCode, Stdio};
 use std::time::{Duration, Instant};
 use thiserror::Error;
 
@@ -17,11 +18,17 @@ const BUSY: Duration = Duration::from_secs(10);
 
 /// Why there is no copy.
 #[derive(Debug, Error)]
-enum NoBackup {
+pub enum NoBackup {
     #[error(transparent)]
     Database(#[from] NoDatabase),
-    #[error("a PostgreSQL database is copied by pg_dump")]
-    Postgres,
+    #[error(transparent)]
+    Config(#[from] BadConfig),
+    #[error(transparent)]
+    Service(#[from] Ended),
+    #[error("pg_dump: {0}")]
+    Dump(String),
+    #[error("{0} is made, and not all that goes with it: {1}")]
+    NotAll(String, String),
     #[error("{} is there already", .0.display())]
     Exists(PathBuf),
     #[error("{}: another backup writes it", .0.display())]
@@ -30,9 +37,6 @@ enum NoBackup {
     Name(PathBuf),
     #[error("{} is no database of a service", .0.display())]
     Foreign(PathBuf),
-    /// Its log is elsewhere.
-    #[error("{}: {why}", .path.display())]
-    Moved { path: PathBuf, why: DbError },
     /// What the system says of a file.
     #[error("{}: {why}", .path.display())]
     File { path: PathBuf, why: io::Error },
@@ -47,29 +51,36 @@ enum NoBackup {
 
 pub fn run(given: &cli::Backup) -> ExitCode {
     let started = Instant::now();
-    match copied(given) {
+    match made(given) {
         Ok(bytes) => {
             let took = started.elapsed().as_millis();
             log::info(&format!("backup {} bytes={bytes} took_ms={took}", given.to.display()));
             ExitCode::SUCCESS
         }
         Err(why) => {
-            log::error(&format!("there is no backup: {why}"));
+            let is_made = matches!(why, NoBackup::NotAll(..));
+            log::error(&if is_made { why.to_string() } else { format!("there is no backup: {why}") });
             ExitCode::FAILURE
         }
     }
 }
 
+fn made(given: &cli::Backup) -> Result<u64, NoBackup> {
+    let database = given.config.as_deref().map_or_else(|| Ok(Database::of(&given.database)?), database_of)?;
+    given.keep.map_or_else(|| copy(&database, &given.to), |keep| nightly::run(given, &database, keep))
+}
+
 /// Makes the copy under another name, and renames it once it is whole and on the disk. Returns its length.
-fn copied(given: &cli::Backup) -> Result<u64, NoBackup> {
-    let Database::Sqlite(database) = Database::of(&given.database)? else {
-        return Err(NoBackup::Postgres);
-    };
-    if given.to.exists() {
-        return Err(NoBackup::Exists(given.to.clone()));
+pub fn copy(database: &Database, to: &Path) -> Result<u64, NoBackup> {
+    if to.exists() {
+        return Err(NoBackup::Exists(to.to_path_buf()));
     }
-    let unfinished = Unfinished::new(&given.to)?;
-    unfinished.fill(&database).and_then(|()| unfinished.finish(&given.to)).inspect_err(|_| {
+    let unfinished = Unfinished::new(to)?;
+    let filled = match database {
+        Database::Sqlite(path) => unfinished.fill(path),
+        Database::Postgres(url) => unfinished.dump(url),
+    };
+    filled.and_then(|()| unfinished.finish(to)).inspect_err(|_| {
         // what it was is in the error that is returned
         let _ = fs::remove_file(&unfinished.path);
     })
@@ -116,11 +127,18 @@ impl Unfinished {
         if version == 0 {
             return Err(NoBackup::Foreign(database.to_path_buf()));
         }
-        if let Some(why) = refusal(&source).map_err(failed)? {
-            return Err(NoBackup::Moved { path: database.to_path_buf(), why });
-        }
         source.execute("vacuum into ?", [self.name()?]).map_err(failed)?;
         self.check(version)
+    }
+
+    fn dump(&self, url: &str) -> Result<(), NoBackup> {
+        let words = ["--format=custom", "--no-password", "--file", self.name()?, url];
+        let told = Command::new("pg_dump").args(words).stdin(Stdio::null()).output();
+        match told {
+            Err(why) => Err(NoBackup::Dump(why.to_string())),
+            Ok(told) if told.status.success() => Ok(()),
+            Ok(told) => Err(NoBackup::Dump(String::from_utf8_lossy(&told.stderr).trim().to_string())),
+        }
     }
 
     /// Reads all of the copy.

@@ -1,155 +1,66 @@
-//! `relkvanu keep`, `export`, `import`, `recover` and `records`: manifests of a job's records. The Python package does the work, in this process's place: it
-//! has the format, the client of S3, and what makes a job of a manifest.
-use crate::cli::job_name;
+//! Verbs of which the Python package has the options and the work: manifests of jobs of the service, and what lies on a disk or in a bucket of a job of the
+//! durable coordinator. It runs in this process's place.
 use crate::exit::NOT_TO_START;
 use crate::log;
-use clap::Args;
+use clap::{Arg, Args, Command, Subcommand};
+use std::ffi::OsString;
 use std::os::unix::process::CommandExt;
-use std::path::PathBuf;
-use std::process::{Command, ExitCode};
+use std::process::{Command as Program, ExitCode};
 
-const MODULE: &str = "relkvanu.service_moves";
-const LATEST: &str = "latest";
+const MODULE: &str = "relkvanu";
 
-/// Hands over the words of the command line, which are sound.
-pub fn run() -> ExitCode {
-    let error = Command::new("python3").args(["-m", MODULE]).args(std::env::args_os().skip(1)).exec();
+#[derive(Subcommand)]
+pub enum Carry {
+    /// Write the manifests of a job's complete records beside its files, of which `recover` makes the job again
+    #[command(disable_help_flag = true)]
+    Keep(Words),
+    /// Carry a complete record out of a job, which may run
+    #[command(disable_help_flag = true)]
+    Export(Words),
+    /// Begin another job from a record of an export, or of the storage of a durable job
+    #[command(disable_help_flag = true)]
+    Import(Words),
+    /// Make a job again that was lost, of the manifests beside its files
+    #[command(disable_help_flag = true)]
+    Recover(Words),
+    /// List the records that have manifests, without a service
+    #[command(disable_help_flag = true)]
+    Records(Words),
+}
+
+#[derive(Args)]
+pub struct Words {
+    #[arg(hide = true, trailing_var_arg = true, allow_hyphen_values = true)]
+    #[allow(dead_code, reason = "the Python package reads the words")]
+    words: Vec<OsString>,
+}
+
+fn python() -> Program {
+    let mut python = Program::new("python3");
+    python.args(["-m", MODULE]);
+    python
+}
+
+/// Hands over the words of the command line, the verb first.
+pub fn run(words: &[OsString]) -> ExitCode {
+    let error = python().args(&words[1..]).exec();
     log::error(&format!("python3: {error}"));
     ExitCode::from(NOT_TO_START)
 }
 
-/// Where the files of the job are.
-#[derive(Args)]
-#[allow(dead_code, reason = "the Python package reads the words")]
-pub struct Files {
-    /// The folder of the job's files
-    #[arg(long, value_name = "DIR", required_unless_present = "bucket", conflicts_with = "bucket")]
-    folder: Option<PathBuf>,
-    /// The bucket of the job's files
-    #[arg(long, value_name = "NAME")]
-    bucket: Option<String>,
-    /// The part of a file's name before its number; in a bucket of its key
-    #[arg(long, default_value = "")]
-    prefix: String,
-    /// The part of a file's name after its number
-    #[arg(long, default_value = "")]
-    suffix: String,
-    /// Another S3 server than that of AWS
-    #[arg(long, value_name = "URL")]
-    endpoint: Option<String>,
-    /// The region of the S3 server
-    #[arg(long)]
-    region: Option<String>,
+/// The command with the options that the Python package says to have, for completions. Without the package it has none.
+pub fn with_options(all: Command) -> Command {
+    let verbs = Carry::augment_subcommands(Command::new("carry"));
+    let names: Vec<String> = verbs.get_subcommands().map(|verb| verb.get_name().to_string()).collect();
+    names.iter().fold(all, |all, name| all.mut_subcommand(name, |verb| verb.args(options(name))))
 }
 
-/// Where the files of the job are, and the service.
-#[derive(Args)]
-#[allow(dead_code, reason = "the Python package reads the words")]
-pub struct FilesAndService {
-    #[command(flatten)]
-    files: Files,
-    /// The service; given again, its next address
-    #[arg(long = "url", value_name = "URL", default_value = "http://127.0.0.1:7780")]
-    urls: Vec<String>,
-    /// A file whose first line is a write token
-    #[arg(long, value_name = "FILE")]
-    token_file: Option<PathBuf>,
-    /// Certificates that https trusts [default: the system's]
-    #[arg(long, value_name = "FILE")]
-    ca: Option<PathBuf>,
-    /// For how long a request that is not answered is made again
-    #[arg(long, value_name = "SECONDS", default_value_t = 60)]
-    within: u64,
-}
-
-#[derive(Args)]
-#[allow(dead_code, reason = "the Python package reads the words")]
-pub struct Keep {
-    /// The job
-    #[arg(value_parser = job_name)]
-    job: String,
-    /// Manifests have a checksum of each file, which is read once
-    #[arg(long)]
-    checksums: bool,
-    #[command(flatten)]
-    at: FilesAndService,
-}
-
-#[derive(Args)]
-#[allow(dead_code, reason = "the Python package reads the words")]
-pub struct Export {
-    /// The job
-    #[arg(value_parser = job_name)]
-    job: String,
-    /// The number of a complete record, or `latest`
-    #[arg(value_parser = record)]
-    id: String,
-    /// A folder that is not there yet or is empty, or s3://BUCKET/PREFIX
-    to: String,
-    #[command(flatten)]
-    at: FilesAndService,
-}
-
-#[derive(Args)]
-#[allow(dead_code, reason = "the Python package reads the words")]
-pub struct Import {
-    /// What an export has made, or the storage of a durable coordinator: a folder, or s3://BUCKET/PREFIX
-    from: String,
-    /// The new job
-    #[arg(value_parser = job_name)]
-    job: String,
-    /// Another record than the last one
-    #[arg(long, value_name = "ID")]
-    record: Option<u64>,
-    /// The files leave FROM, whose job is refused from then on
-    #[arg(long)]
-    claim: bool,
-    #[command(flatten)]
-    at: FilesAndService,
-}
-
-#[derive(Args)]
-#[allow(dead_code, reason = "the Python package reads the words")]
-pub struct Recover {
-    /// The job
-    #[arg(value_parser = job_name)]
-    job: String,
-    /// Another record than the last one
-    #[arg(long, value_name = "ID")]
-    record: Option<u64>,
-    #[command(flatten)]
-    at: FilesAndService,
-}
-
-#[derive(Args)]
-#[allow(dead_code, reason = "the Python package reads the words")]
-pub struct Records {
-    /// The job
-    #[arg(value_parser = job_name)]
-    job: String,
-    /// Read the files, and compare them with the checksums of the manifests
-    #[arg(long)]
-    whole: bool,
-    #[command(flatten)]
-    at: Files,
-}
-
-/// The number of a record, or the word for the last one.
-fn record(text: &str) -> Result<String, &'static str> {
-    if text == LATEST || text.parse().is_ok_and(|number: u64| number > 0) {
-        Ok(text.to_string())
-    } else {
-        Err("is neither the number of a record nor `latest`")
-    }
-}
-
-#[cfg(test)]
-mod tests {
-    use super::record;
-
-    #[test]
-    fn a_record_has_a_number_or_is_the_last_one() {
-        assert!(["1", "18446744073709551615", "latest"].into_iter().all(|text| record(text).is_ok()));
-        assert!(["", "0", "-1", "1.0", "last"].into_iter().all(|text| record(text).is_err()));
-    }
+fn options(verb: &str) -> Vec<Arg> {
+    let told = python().args([verb, "--help"]).output().map(|told| told.stdout).unwrap_or_default();
+    let text = String::from_utf8_lossy(&told).into_owned();
+    let lines = text.lines().filter_map(|line| line.trim_start().strip_prefix("--"));
+    lines
+        .filter_map(|line| line.split(' ').next())
+        .map(|name| Arg::new(name.to_string()).long(name.to_string()))
+        .collect()
 }

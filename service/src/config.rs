@@ -5,7 +5,6 @@ use crate::http::TlsFiles;
 use crate::log;
 use crate::model::Keeping;
 use clap::ValueEnum;
-use hyper::Uri;
 use serde::Deserialize;
 use std::io;
 use std::net::SocketAddr;
@@ -15,7 +14,7 @@ use thiserror::Error;
 
 const LISTEN: &str = "127.0.0.1:7780";
 const DATABASE: &str = "relkvanu.db";
-const IMAGE_CALLS: u64 = 10_000;
+const IMAGE_CALLS: u64 = 2_500;
 const KEEP_CALLS: u64 = 1_000_000;
 /// How many records a job keeps by default: one for so many calls that it keeps, and some in any case.
 const CALLS_OF_RECORD: u64 = 10;
@@ -34,12 +33,6 @@ pub enum BadConfig {
     NoTokens(SocketAddr),
     #[error("tls_certificate and tls_key: there is only one of them")]
     HalfTls,
-    #[error("spread: one process alone uses an SQLite file; the jobs of a database of PostgreSQL can be spread")]
-    SpreadOverSqlite,
-    #[error("spread: advertise is missing, the address at which the other processes reach this one")]
-    NoAdvertised,
-    #[error("advertise: {0:?} is no address such as http://10.0.0.5:7780")]
-    Advertised(String),
     #[error("{name}: {value} is not within {least} to {most}")]
     Number { name: &'static str, value: u64, least: u64, most: u64 },
     #[error(transparent)]
@@ -55,9 +48,7 @@ struct FileConfig {
     history: Option<PathBuf>,
     token_file: Option<PathBuf>,
     advertise: Option<String>,
-    spread: bool,
     lease_seconds: Option<u64>,
-    names: Option<bool>,
     image_calls: Option<u64>,
     keep_calls: Option<u64>,
     keep_bytes: Option<u64>,
@@ -67,15 +58,16 @@ struct FileConfig {
     tls_certificate: Option<PathBuf>,
     tls_key: Option<PathBuf>,
     limits: Limits,
+    clean: CleanConfig,
 }
 
-/// Which of the processes of a database serves jobs.
-#[derive(Clone, Copy, Debug, PartialEq, Eq)]
-pub enum Leading {
-    /// One of them serves all, and the others stand by.
-    One,
-    /// Each serves a part of them.
-    Each,
+/// The cleaner that the service runs.
+#[derive(Deserialize, Clone, Debug, Default)]
+#[serde(deny_unknown_fields, default)]
+pub struct CleanConfig {
+    pub run: bool,
+    /// Options of `relkvanu clean`.
+    pub options: Vec<String>,
 }
 
 /// How lines of the service's log are written.
@@ -158,7 +150,6 @@ pub struct Config {
     pub history: PathBuf,
     pub token_file: Option<PathBuf>,
     pub advertise: String,
-    pub leading: Leading,
     pub lease: Duration,
     /// Whether a new job gives out names if its creation does not say.
     pub names: bool,
@@ -170,6 +161,12 @@ pub struct Config {
     pub log: LogForm,
     pub log_requests: bool,
     pub tls: Option<TlsFiles>,
+    pub clean: CleanConfig,
+}
+
+/// The database that these settings name.
+pub fn database_of(path: &Path) -> Result<Database, BadConfig> {
+    Ok(Database::of(&read(path)?.database.unwrap_or_else(|| DATABASE.to_string()))?)
 }
 
 impl Config {
@@ -188,22 +185,14 @@ impl Config {
             (None, None) => None,
             _ => return Err(BadConfig::HalfTls),
         };
-        let (spread, advertise) = (given.spread || file.spread, given.advertise.clone().or(file.advertise));
-        match (&database, &advertise) {
-            (Database::Sqlite(_), _) if spread => return Err(BadConfig::SpreadOverSqlite),
-            (_, None) if spread => return Err(BadConfig::NoAdvertised),
-            (_, Some(address)) if spread && !is_address(address) => return Err(BadConfig::Advertised(address.clone())),
-            _ => {}
-        }
         let keep_calls = given.keep_calls.or(file.keep_calls).unwrap_or(KEEP_CALLS);
         let config = Config {
-            leading: if spread { Leading::Each } else { Leading::One },
             history: given.history.clone().or(file.history).unwrap_or_else(|| database.history(&listen)),
             token_file: given.token_file.clone().or(file.token_file),
-            advertise: advertise
+            advertise: (given.advertise.clone().or(file.advertise))
                 .unwrap_or_else(|| format!("{}://{listen}", if tls.is_some() { "https" } else { "http" })),
             lease: Duration::from_secs(file.lease_seconds.unwrap_or(5)),
-            names: given.names.or(file.names).unwrap_or(true),
+            names: given.names.unwrap_or(true),
             keeping: Keeping {
                 image_calls: given.image_calls.or(file.image_calls).unwrap_or(IMAGE_CALLS),
                 keep_calls,
@@ -216,6 +205,7 @@ impl Config {
             log: given.log.or(file.log).unwrap_or(LogForm::Text),
             log_requests: file.log_requests,
             tls,
+            clean: file.clean,
             listen,
             database,
         };
@@ -251,15 +241,6 @@ impl Config {
         }
         Ok(self)
     }
-}
-
-/// Whether requests can be sent there.
-fn is_address(address: &str) -> bool {
-    let uri: Option<Uri> = address.trim_end_matches('/').parse().ok();
-    uri.is_some_and(|uri| {
-        let is_whole = uri.path() == "/" && uri.query().is_none();
-        matches!(uri.scheme_str(), Some("http" | "https")) && uri.host().is_some() && is_whole
-    })
 }
 
 fn read(path: &Path) -> Result<FileConfig, BadConfig> {

@@ -2,12 +2,10 @@
 use crate::exit;
 use crate::log;
 use crate::metrics::Metrics;
-use crate::model::{check_clock, shown, wall, Clock, Held, Keeping, Moment, Shards};
-use crate::process;
-use crate::sharing::Sharer;
+use crate::model::{check_clock, shown, wall, Clock, Keeping, Moment};
 use crate::stop::Stop;
-use crate::store::{Lead, Reader, Store};
-use crate::writer::{Board, Imager, Inbox, Jobs, Lease, Messages, StartError, Writer};
+use crate::store::{DbError, Lead, Reader, Store};
+use crate::writer::{Board, Imager, Inbox, Jobs, Lease, Messages, OpenReader, Pool, StartError, Writer};
 use std::sync::Arc;
 use std::time::Duration;
 
@@ -19,6 +17,8 @@ const FOLLOW_EACH: Duration = Duration::from_secs(10);
 pub struct Leader {
     pub store: Box<dyn Store>,
     pub reader: Box<dyn Reader>,
+    /// Opens other readers, for the replay.
+    pub open: OpenReader,
     pub board: Arc<Board>,
     pub metrics: Arc<Metrics>,
     pub messages: Messages,
@@ -27,22 +27,27 @@ pub struct Leader {
     pub keeping: Keeping,
     /// Whether the clock may be far ahead of the log.
     pub accept_clock: bool,
-    /// The thread that shares the jobs with other processes, if this one does.
-    pub sharer: Option<Sharer>,
 }
 
-/// What a take-over has so far.
+/// The jobs of a process that does not lead yet, as far as it has read the log.
+#[derive(Default)]
 struct Followed {
     jobs: Jobs,
-    calls: u64,
+    /// When it began to read the log last, and whether there were commits meanwhile.
+    read: Option<Moment>,
+    misses: bool,
+}
+
+/// What the store answered when it was asked to lead, and when.
+struct Asked {
+    at: Moment,
+    lead: Lead,
 }
 
 impl Leader {
     /// Ends the process if it can't lead.
     pub fn run(mut self) {
-        let sharer = self.sharer.take();
-        let led = if sharer.is_some() { self.join().map(Some) } else { self.lead() };
-        let led = led.unwrap_or_else(|stop| {
+        let led = self.lead().unwrap_or_else(|stop| {
             log::error(&stop.to_string());
             exit::now(stop.status())
         });
@@ -50,40 +55,31 @@ impl Leader {
             return self.store.release();
         };
         let clock = Clock::starting_after(jobs.last_moment());
-        let writer = Writer::new(self.store, jobs, clock, lease, Arc::clone(&self.board), self.metrics, self.keeping);
-        // the writer has published all jobs, so the first request finds them
-        self.board.open();
-        match sharer {
-            None => self.board.settle(),
-            Some(sharer) => drop(process::thread("sharer", move || sharer.run())),
-        }
+        let (board, keeping, inbox) = (self.board, self.keeping, self.inbox);
+        let writer = Writer::new(self.store, jobs, clock, lease, Arc::clone(&board), self.metrics, keeping);
+        // a request for a job that is not replayed waits for it
+        board.open();
         log::info(&format!("serves on {}", self.listen));
-        writer.run(&self.messages, &Imager::start(self.inbox));
+        Pool { open: self.open, board, inbox: inbox.clone(), keeping }.start();
+        writer.run(&self.messages, &Imager::start(inbox));
     }
 
-    /// Follows the log until this process may write. So a take-over has little to read. `None` if the process was told to stop first.
+    /// Follows the log while another process leads. So a take-over has little to replay. `None` if the process was told to stop first.
     fn lead(&mut self) -> Result<Option<(Jobs, Lease)>, Stop> {
-        let (mut followed, started) = (Followed { jobs: Jobs::of(Shards::ALL), calls: 0 }, Moment::now());
-        let mut read = self.follow(&mut followed)?;
-        self.check_clock(followed.jobs.last_moment())?;
-        let mut waits = false;
+        let (mut followed, started) = (Followed::default(), Moment::now());
         while !self.board.is_stopping() {
             self.board.beat();
-            let asked = Moment::now();
-            match self.store.lead()? {
-                Lead::Here { held } => {
-                    let lease = self.take_over(&mut followed, asked, &held)?;
-                    followed.tell(&format!("leads epoch={}", self.board.epoch()), started, asked);
-                    return Ok(Some((followed.jobs, lease)));
-                }
-                // between two renewals of a lease there may be commits
-                Lead::Elsewhere { committed } if committed || read.elapsed() >= FOLLOW_EACH => {
-                    read = self.follow(&mut followed)?;
-                }
-                Lead::Elsewhere { .. } => {}
+            let mut asked = Asked::now(self.store.as_mut())?;
+            let is_first = followed.read.is_none();
+            if asked.wants_follow(&followed) {
+                asked = self.follow(&mut followed)?.unwrap_or(asked);
             }
-            if !std::mem::replace(&mut waits, true) {
-                let (jobs, calls) = (followed.jobs.len(), followed.calls);
+            if let Lead::Here { epoch } = asked.lead {
+                return Ok(Some(self.take_over(followed, started, asked.at, epoch)?));
+            }
+            if is_first {
+                self.check_clock(followed.jobs.last_moment())?;
+                let (jobs, calls) = (followed.jobs.len(), followed.jobs.made);
                 log::info(&format!("another process leads; follows jobs={jobs} calls={calls}"));
             }
             std::thread::sleep(LOOK_EACH);
@@ -91,53 +87,67 @@ impl Leader {
         Ok(None)
     }
 
-    /// Joins the processes that share the jobs. It has none at first.
-    fn join(&mut self) -> Result<(Jobs, Lease), Stop> {
-        let last = self.reader.last_moment()?;
-        self.check_clock(last)?;
-        let asked = Moment::now();
-        self.store.join()?;
-        let now = wall().max(last);
-        self.store.note(now).unwrap_or_else(|why| log::warn(&format!("the moment is not written down: {why}")));
-        self.board.lead(relkvanu_client::new_key());
-        log::info("shares the jobs with the other processes of the database");
-        Ok((Jobs::of(Shards::default()), Lease::of(self.store.as_ref(), asked)))
-    }
-
-    /// Reads what was committed until now. Returns when it began to.
-    fn follow(&mut self, followed: &mut Followed) -> Result<Moment, Stop> {
-        let (board, since) = (&self.board, Moment::now());
-        followed.catch_up(self.reader.as_mut(), &mut || {
+    /// Reads what was committed until now. It may take long the first time: it ends at once if this process leads meanwhile, and returns that.
+    fn follow(&mut self, followed: &mut Followed) -> Result<Option<Asked>, Stop> {
+        let (board, store, mut asked, mut misses) = (&self.board, self.store.as_mut(), None, false);
+        let (since, mut looked) = (Moment::now(), Moment::now());
+        let mut beat = || {
             board.beat();
-            Ok(())
-        })?;
+            if looked.elapsed() < LOOK_EACH {
+                return Ok(());
+            }
+            let told = Asked::now(store)?;
+            looked = Moment::now();
+            if let Lead::Elsewhere { committed } = told.lead {
+                misses |= committed;
+                return Ok(());
+            }
+            asked = Some(told);
+            Err(StartError::Leads)
+        };
+        match followed.jobs.catch_up(self.reader.as_mut(), &mut beat) {
+            Err(StartError::Leads) => return Ok(asked),
+            told => told?,
+        }
+        (followed.read, followed.misses) = (Some(since), misses);
+        has_hope(&mut followed.jobs)?;
         self.metrics.queue.followed();
-        Ok(since)
+        Ok(None)
     }
 
-    /// Reads what the last leader wrote since this process read the log. It keeps its lease meanwhile.
-    fn take_over(&mut self, followed: &mut Followed, asked: Moment, held: &[Held]) -> Result<Lease, Stop> {
+    /// Says in the database that this process leads, and hands all jobs over to be replayed, one by one. It keeps its lease meanwhile.
+    fn take_over(
+        &mut self,
+        followed: Followed,
+        started: Moment,
+        asked: Moment,
+        epoch: u64,
+    ) -> Result<(Jobs, Lease), Stop> {
+        let mut jobs = followed.jobs;
         let mut lease = Lease::of(self.store.as_ref(), asked);
         let (store, board) = (self.store.as_mut(), &self.board);
         let mut keep = || {
             board.beat();
             lease.keep(store).map_err(StartError::NotLeading)
         };
-        followed.jobs.look_at_all();
-        followed.catch_up(self.reader.as_mut(), &mut keep)?;
+        let pending = jobs.take_over(self.reader.as_mut(), &mut keep)?;
+        if pending.is_empty() {
+            has_hope(&mut jobs)?;
+        }
+        let lengths = self.reader.lengths()?;
         keep()?;
-        followed.jobs.take_stock(self.reader.as_mut(), self.keeping, &mut keep)?;
-        followed.has_hope()?;
-        keep()?;
-        self.check_clock(followed.jobs.last_moment()).inspect_err(|_| self.store.release())?;
-        let now = wall().max(followed.jobs.last_moment());
+        self.check_clock(jobs.last_moment()).inspect_err(|_| self.store.release())?;
+        let now = wall().max(jobs.last_moment());
         self.store.note(now).unwrap_or_else(|why| log::warn(&format!("the moment is not written down: {why}")));
         let log = relkvanu_client::new_key();
-        self.store.begin(&log, held, &followed.jobs.lengths())?;
-        self.board.lead(log);
-        self.board.hold(held);
+        self.store.begin(&log, &lengths)?;
+        self.board.lead(epoch, log);
         lease.renew(self.store.as_mut())?;
-        Ok(lease)
+        let (took, over) = (started.elapsed().as_millis(), asked.elapsed().as_millis());
+        let (there, calls) = (pending.len(), jobs.made);
+        log::info(&format!("leads epoch={epoch} jobs={there} calls={calls} start_ms={took} take_over_ms={over}"));
+        self.board.replay.begin(pending, calls);
+        Ok((jobs, lease))
     }
 
     /// Refuses a clock that is far ahead of the log. If it is behind, the moments count on from the log's last one.
@@ -155,24 +165,20 @@ impl Leader {
     }
 }
 
-impl Followed {
-    fn tell(&self, what: &str, started: Moment, asked: Moment) {
-        let (took, over) = (started.elapsed().as_millis(), asked.elapsed().as_millis());
-        let (calls, jobs) = (self.calls, self.jobs.len());
-        log::info(&format!("{what} jobs={jobs} calls={calls} start_ms={took} take_over_ms={over}"));
+impl Asked {
+    fn now(store: &mut dyn Store) -> Result<Asked, DbError> {
+        let at = Moment::now();
+        Ok(Asked { at, lead: store.lead()? })
     }
 
-    fn catch_up(
-        &mut self,
-        reader: &mut dyn Reader,
-        beat: &mut dyn FnMut() -> Result<(), StartError>,
-    ) -> Result<(), Stop> {
-        self.calls += self.jobs.catch_up(reader, beat)?;
-        self.has_hope()
+    /// Whether the log is to be read: between two renewals of a lease there may be commits.
+    fn wants_follow(&self, followed: &Followed) -> bool {
+        let is_old = followed.read.is_none_or(|read| read.elapsed() >= FOLLOW_EACH);
+        matches!(self.lead, Lead::Elsewhere { committed } if committed || followed.misses || is_old)
     }
+}
 
-    /// Fails if not one job can be replayed: then this program, or the database, is the wrong one.
-    fn has_hope(&mut self) -> Result<(), Stop> {
-        self.jobs.take_hopeless().map_or(Ok(()), |why| Err(why.into()))
-    }
+/// Fails if not one job can be replayed: then this program, or the database, is the wrong one.
+fn has_hope(jobs: &mut Jobs) -> Result<(), StartError> {
+    jobs.take_hopeless().map_or(Ok(()), Err)
 }

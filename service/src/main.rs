@@ -1,14 +1,13 @@
 //! `relkvanu`: serves checkpoint coordinators over HTTP, asks a service, deletes the files that jobs hand out, carries records, and copies,
 //! checks and moves a database.
-mod ask;
 mod auth;
 mod backup;
 mod carry;
 mod check;
+mod clean;
 mod cli;
 mod config;
 mod database;
-mod discard;
 mod exit;
 mod files;
 mod history;
@@ -18,17 +17,16 @@ mod log;
 mod metrics;
 mod metrics_server;
 mod model;
-mod moving;
+mod nightly;
 mod process;
 mod put_back;
+mod put_back_pg;
 mod remote;
 mod renew_tls;
 mod serve;
 mod setup_tls;
-mod sharing;
 mod stop;
 mod store;
-mod sweep;
 mod systemd_start;
 mod writer;
 
@@ -39,22 +37,21 @@ use std::process::ExitCode;
 
 fn main() -> ExitCode {
     abort_on_panic();
-    match Cli::parse().command {
+    let words = cli::words(std::env::args_os(), std::env::var_os("RELKVANU_URL"));
+    match Cli::parse_from(&words).command {
         Command::Serve(given) => serve::run(&given),
-        Command::Discard(given) => discard::run(&given),
-        Command::Sweep(given) => sweep::run(&given),
+        Command::Clean(given) => clean::run(&given),
         Command::Backup(given) => backup::run(&given),
+        Command::PutBack(given) if given.job.is_some() => carry::run(&words),
         Command::PutBack(given) => put_back::run(&given),
         Command::Check(given) => check::run(&given),
-        Command::Move(given) => moving::run(&given),
-        Command::Keep(_) | Command::Export(_) | Command::Import(_) | Command::Recover(_) | Command::Records(_) => {
-            carry::run()
-        }
+        Command::Carry(_) => carry::run(&words),
         Command::SetupTls(given) => setup_tls::run(&given),
-        Command::Ask(given) => ask::run(&given),
+        Command::Ask(given) => cli::run(given),
         Command::Completions { shell } => {
             let mut script = Vec::new();
-            clap_complete::generate(shell, &mut Cli::command(), "relkvanu", &mut script);
+            let mut all = carry::with_options(Cli::command());
+            clap_complete::generate(shell, &mut all, "relkvanu", &mut script);
             // whoever reads it may have read enough
             std::io::stdout().write_all(&script).map_or(ExitCode::FAILURE, |()| ExitCode::SUCCESS)
         }

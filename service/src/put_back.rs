@@ -1,9 +1,10 @@
 //! `relkvanu put-back`: puts a copy of an SQLite database in its place, or nothing, and sets the files that are there aside. An end at any moment loses
-//! none of them: the same command goes on.
+//! none of them: the same command goes on. `put_back_pg` has the same of PostgreSQL.
 use crate::check;
 use crate::cli;
 use crate::database::{Database, NoDatabase};
 use crate::log;
+use crate::put_back_pg;
 use crate::store::{beside, locked, sync_folder, DbError};
 use std::ffi::{OsStr, OsString};
 use std::fs::{self, DirBuilder, File, OpenOptions};
@@ -25,11 +26,11 @@ const PIECE: usize = 1 << 20;
 
 /// Why a copy is not in its place.
 #[derive(Debug, Error)]
-enum NotPut {
+pub enum NotPut {
     #[error(transparent)]
     Database(#[from] NoDatabase),
-    #[error("a PostgreSQL database is restored by pg_restore")]
-    Postgres,
+    #[error("{0}")]
+    Postgres(String),
     #[error("{}: the name is no UTF-8", .0.display())]
     Name(PathBuf),
     #[error("{}: no service can run over this copy", .0.display())]
@@ -46,15 +47,17 @@ enum NotPut {
 }
 
 /// What the system says of this file.
-fn of(path: &Path) -> impl Fn(io::Error) -> NotPut + '_ {
+pub fn of(path: &Path) -> impl Fn(io::Error) -> NotPut + '_ {
     |why| NotPut::File { path: path.to_path_buf(), why }
 }
 
 pub fn run(given: &cli::PutBack) -> ExitCode {
-    let done = match given.copy.as_deref() {
-        Some(copy) => put(given, copy),
-        None if given.none => put_none(given),
-        None => put_aside_back(given),
+    let done = match (Database::of(&given.database), given.copy.as_deref()) {
+        (Err(why), _) => Err(why.into()),
+        (Ok(Database::Postgres(url)), _) => put_back_pg::run(given, &url),
+        (Ok(Database::Sqlite(path)), Some(copy)) => put(given, &path, copy),
+        (Ok(Database::Sqlite(path)), None) if given.none => put_none(given, &path),
+        (Ok(Database::Sqlite(path)), None) => put_aside_back(given, &path),
     };
     match done {
         Ok(text) => {
@@ -78,12 +81,9 @@ struct Replaced {
 }
 
 impl Replaced {
-    fn open(given: &cli::PutBack) -> Result<Replaced, NotPut> {
-        let Database::Sqlite(named) = Database::of(&given.database)? else {
-            return Err(NotPut::Postgres);
-        };
+    fn open(given: &cli::PutBack, named: &Path) -> Result<Replaced, NotPut> {
         let parent = named.parent().filter(|it| !it.as_os_str().is_empty()).unwrap_or(Path::new("."));
-        let folder = fs::canonicalize(parent).map_err(of(parent))?;
+        let folder = made(parent).map_err(of(parent))?;
         let database = folder.join(named.file_name().unwrap_or(OsStr::new("relkvanu.db")));
         let lock = locked(&database)?;
         let place = Replaced {
@@ -130,6 +130,15 @@ impl Replaced {
     }
 }
 
+/// Makes the folder, whose disk may be lost. systemd has the folder of a unit behind a link.
+fn made(folder: &Path) -> io::Result<PathBuf> {
+    let behind = fs::read_link(folder).map_or(folder.to_path_buf(), |to| folder.with_file_name(to));
+    match DirBuilder::new().mode(0o700).create(&behind) {
+        Err(why) if why.kind() != ErrorKind::AlreadyExists => Err(why),
+        _ => fs::canonicalize(folder),
+    }
+}
+
 fn begins(name: &OsStr, with: &OsStr) -> bool {
     name.as_bytes().starts_with(with.as_bytes())
 }
@@ -147,7 +156,7 @@ fn make_folder(path: &Path) -> Result<(), NotPut> {
 }
 
 /// Reads a file in pieces, which the function gets.
-fn read(path: &Path, mut each: impl FnMut(&[u8]) -> io::Result<bool>) -> io::Result<bool> {
+pub fn read(path: &Path, mut each: impl FnMut(&[u8]) -> io::Result<bool>) -> io::Result<bool> {
     let (mut file, mut piece) = (File::open(path)?, vec![0; PIECE]);
     loop {
         let len = file.read(&mut piece)?;
@@ -184,8 +193,8 @@ fn write_new(place: &Replaced, copy: &Path) -> Result<PathBuf, NotPut> {
 }
 
 /// Puts the copy in the place of the database. Returns what was done.
-fn put(given: &cli::PutBack, copy: &Path) -> Result<String, NotPut> {
-    let place = Replaced::open(given)?;
+fn put(given: &cli::PutBack, database: &Path, copy: &Path) -> Result<String, NotPut> {
+    let place = Replaced::open(given, database)?;
     let name = copy.to_str().ok_or_else(|| NotPut::Name(copy.to_path_buf()))?;
     if !given.checked && !check::is_sound(name) {
         return Err(NotPut::Unsound(copy.to_path_buf()));
@@ -206,8 +215,8 @@ fn put(given: &cli::PutBack, copy: &Path) -> Result<String, NotPut> {
 }
 
 /// Sets the files aside, of a database that is lost. Returns what was done.
-fn put_none(given: &cli::PutBack) -> Result<String, NotPut> {
-    let place = Replaced::open(given)?;
+fn put_none(given: &cli::PutBack, database: &Path) -> Result<String, NotPut> {
+    let place = Replaced::open(given, database)?;
     make_folder(&place.aside)?;
     place.move_all(&place.folder, &place.aside)?;
     Ok(format!("{} is not there, and what was there is in {}", place.database.display(), place.aside.display()))
@@ -215,8 +224,8 @@ fn put_none(given: &cli::PutBack) -> Result<String, NotPut> {
 
 /// Puts the files back that were set aside. Those that are there go into another folder, and then the name of the first folder says that all that is in the place
 /// was set aside before.
-fn put_aside_back(given: &cli::PutBack) -> Result<String, NotPut> {
-    let place = Replaced::open(given)?;
+fn put_aside_back(given: &cli::PutBack, database: &Path) -> Result<String, NotPut> {
+    let place = Replaced::open(given, database)?;
     let (back, unused) = (beside(&place.aside, GOES_BACK), beside(&place.aside, UNUSED));
     if !back.exists() {
         if !place.aside.exists() {

@@ -1,18 +1,18 @@
-//! `relkvanu serve`: opens the database, replays the jobs from the log, and serves them until it is stopped.
+//! `relkvanu serve`: opens the database, and serves its jobs until it is stopped, each as soon as it is replayed from the log.
+use crate::clean::Inside;
 use crate::cli;
-use crate::config::{Config, Leading, LogForm};
+use crate::config::{Config, LogForm};
 use crate::database::Database;
 use crate::exit;
 use crate::history::{Door, Historian, HistoryFile};
-use crate::http::{self, App, Audit, Bodies, Forwarder, Keys, Tls};
+use crate::http::{self, App, Audit, Bodies, Keys, Tls};
 use crate::leader::Leader;
 use crate::log;
 use crate::metrics::Metrics;
 use crate::model::wall;
 use crate::process;
-use crate::sharing::{Owners, Sharer, State};
 use crate::stop::Stop;
-use crate::store::{count_no_memory, DbError, Lite, LiteReader, Pg, PgReader, Reader, Shares, Store, Unusable};
+use crate::store::{count_no_memory, DbError, Pg, PgReader, Reader, Sqlite, SqliteReader, Store, Unusable};
 use crate::systemd_start::Starting;
 use crate::writer::{queue, Board, Inbox, Message, Messages};
 use sd_notify::NotifyState;
@@ -59,16 +59,18 @@ fn serve(mut config: Config) -> Result<(), Stop> {
     // before the lease is taken, so a second process at this address never leads
     let listener = listening(&config)?;
     let starting = Starting::begin();
-    let (store, member) = open_store(&config)?;
+    let store = open_store(&config)?;
     drop(starting);
-    let owners = member.as_ref().map(|member| Arc::new(Owners::new(member.name())));
     let (shared, messages) = Shared::new(&config)?;
     keys.tell(&shared.metrics);
-    let app = shared.app(&config, keys, owners.clone())?;
+    let app = shared.app(&config, Arc::clone(&keys))?;
     let historian = shared.historian(&config)?;
-    let thread = member.zip(owners).map(|(member, owners)| shared.sharer(&config, member, owners)).transpose()?;
-    let leader = shared.leader(&config, store, messages, thread)?;
+    let leader = shared.leader(&config, store, messages)?;
     historian.start();
+    if config.clean.run {
+        let (url, options, board) = (config.advertise.clone(), config.clean.options.clone(), Arc::clone(&shared.board));
+        Inside { url, options, keys, board }.start();
+    }
     let working = process::thread("writer", move || leader.run());
     if answer_requests(app, listener)? {
         stop_writer(&shared, &working);
@@ -97,14 +99,13 @@ impl Shared {
     }
 
     /// What answers requests.
-    fn app(&self, config: &Config, keys: Arc<Keys>, owners: Option<Arc<Owners>>) -> Result<App, Stop> {
+    fn app(&self, config: &Config, keys: Arc<Keys>) -> Result<App, Stop> {
         Ok(App {
-            others: owners.map(Forwarder::new).transpose()?,
             board: Arc::clone(&self.board),
             metrics: Arc::clone(&self.metrics),
             inbox: self.inbox.clone(),
-            reader: Arc::new(Mutex::new(open_reader(config)?)),
-            events: Arc::new(Mutex::new(open_reader(config)?)),
+            reader: Arc::new(Mutex::new(open_reader(&config.database)?)),
+            events: Arc::new(Mutex::new(open_reader(&config.database)?)),
             history: Arc::new(Mutex::new(Door::new(Arc::clone(&self.history)))),
             history_file: Arc::clone(&self.history),
             keys,
@@ -119,7 +120,7 @@ impl Shared {
     fn historian(&self, config: &Config) -> Result<Historian, Stop> {
         Ok(Historian {
             file: Arc::clone(&self.history),
-            reader: open_reader(config)?,
+            reader: open_reader(&config.database)?,
             board: Arc::clone(&self.board),
             metrics: Arc::clone(&self.metrics),
             inbox: self.inbox.clone(),
@@ -131,30 +132,14 @@ impl Shared {
         })
     }
 
-    fn sharer(&self, config: &Config, shares: Shares, owners: Arc<Owners>) -> Result<Sharer, Stop> {
-        Ok(Sharer {
-            shares,
-            reader: open_reader(config)?,
-            board: Arc::clone(&self.board),
-            metrics: Arc::clone(&self.metrics),
-            inbox: self.inbox.clone(),
-            keeping: config.keeping,
-            owners,
-            state: State::default(),
-        })
-    }
-
-    fn leader(
-        &self,
-        config: &Config,
-        store: Box<dyn Store>,
-        messages: Messages,
-        sharer: Option<Sharer>,
-    ) -> Result<Leader, Stop> {
+    fn leader(&self, config: &Config, store: Box<dyn Store>, messages: Messages) -> Result<Leader, Stop> {
         Ok(Leader {
-            sharer,
             store,
-            reader: open_reader(config)?,
+            reader: open_reader(&config.database)?,
+            open: Box::new({
+                let database = config.database.clone();
+                move || open_reader(&database)
+            }),
             board: Arc::clone(&self.board),
             metrics: Arc::clone(&self.metrics),
             messages,
@@ -166,21 +151,16 @@ impl Shared {
     }
 }
 
-/// The writer's connection, and that by which the process shares the jobs with others, if it does.
-fn open_store(config: &Config) -> Result<(Box<dyn Store>, Option<Shares>), Unusable> {
+fn open_store(config: &Config) -> Result<Box<dyn Store>, Unusable> {
     match &config.database {
-        Database::Sqlite(path) => Ok((Box::new(Lite::open(path)?), None)),
-        Database::Postgres(url) => {
-            let store = Pg::open(url, &config.advertise, config.lease)?;
-            let shares = (config.leading == Leading::Each).then(|| store.shares(url)).transpose()?;
-            Ok((Box::new(store), shares))
-        }
+        Database::Sqlite(path) => Ok(Box::new(Sqlite::open(path)?)),
+        Database::Postgres(url) => Ok(Box::new(Pg::open(url, &config.advertise, config.lease)?)),
     }
 }
 
-fn open_reader(config: &Config) -> Result<Box<dyn Reader>, DbError> {
-    match &config.database {
-        Database::Sqlite(path) => Ok(Box::new(LiteReader::open(path)?)),
+fn open_reader(database: &Database) -> Result<Box<dyn Reader>, DbError> {
+    match database {
+        Database::Sqlite(path) => Ok(Box::new(SqliteReader::open(path)?)),
         Database::Postgres(url) => Ok(Box::new(PgReader::open(url)?)),
     }
 }

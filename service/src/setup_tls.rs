@@ -21,6 +21,8 @@ const NEW: &str = "setup-tls.new";
 const WHOLE: &str = "setup-tls";
 const DONE: &str = "setup-tls.done";
 const SETTINGS: &str = "service.toml";
+/// What they are if nobody has installed them.
+const INSTALLED: &str = include_str!("../deploy/service.toml");
 /// The settings as they were.
 const BEFORE: &str = "service.toml.before";
 pub const CERTIFICATE: &str = "certificate.pem";
@@ -160,6 +162,7 @@ struct Setup<'a> {
 
 impl Setup<'_> {
     fn open(given: &cli::SetupTls) -> Result<Setup<'_>, NotSet> {
+        fs::create_dir_all(&given.settings).map_err(of(&given.settings))?;
         let (new, whole) = (given.settings.join(NEW), given.settings.join(WHOLE));
         Ok(Setup { given, new, whole, _lock: locked(&given.settings)? })
     }
@@ -207,7 +210,10 @@ impl Setup<'_> {
 
     fn make_settings(&self) -> Result<(), NotSet> {
         let path = self.given.settings.join(SETTINGS);
-        let before = fs::read_to_string(&path).map_err(of(&path))?;
+        let before = match fs::read_to_string(&path) {
+            Err(why) if why.kind() == ErrorKind::NotFound => INSTALLED.to_string(),
+            text => text.map_err(of(&path))?,
+        };
         let listen = self.given.listen.to_string();
         let settings = with_tls(&before, &listen).ok_or(NotSet::OtherSettings(path))?;
         self.write(BEFORE, &before)?;
@@ -246,11 +252,11 @@ impl Setup<'_> {
         sync_folder(&target).map_err(of(folder))
     }
 
-    /// The settings that are replaced are those that were read.
+    /// The settings that are replaced are those that were read, if there were some.
     fn check_settings(&self, path: &Path) -> Result<(), NotSet> {
         let before = self.whole.join(BEFORE);
-        let is_same = fs::read(&before).map_err(of(&before))? == fs::read(path).map_err(of(path))?;
-        if is_same {
+        let is_there = path.symlink_metadata().is_ok();
+        if !is_there || fs::read(&before).map_err(of(&before))? == fs::read(path).map_err(of(path))? {
             Ok(())
         } else {
             Err(NotSet::Taken(path.to_path_buf()))
@@ -351,7 +357,7 @@ mod tests {
 
     #[test]
     fn the_settings_that_are_installed_get_tls() {
-        let installed = include_str!("../deploy/service.toml");
+        let installed = INSTALLED;
         let changed = with_tls(installed, "0.0.0.0:7780").unwrap_or_default();
         let lines: Vec<(&str, &str)> =
             installed.lines().zip(changed.lines()).filter(|(before, after)| before != after).collect();

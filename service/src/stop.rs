@@ -18,9 +18,6 @@ pub enum Stop {
     Tokens(#[from] NoTokens),
     #[error(transparent)]
     Tls(#[from] NoTls),
-    /// No connection by TLS to other processes can be made.
-    #[error("TLS to other processes: {0}")]
-    Others(native_tls::Error),
     #[error(transparent)]
     Clock(#[from] FarAhead),
     #[error(transparent)]
@@ -55,9 +52,7 @@ impl Stop {
     /// Whether another start may succeed, without anybody's doing.
     fn may_pass(&self) -> bool {
         match self {
-            Stop::Config(_) | Stop::Tokens(_) | Stop::Tls(_) | Stop::Others(_) | Stop::Clock(_) | Stop::Metrics(_) => {
-                false
-            }
+            Stop::Config(_) | Stop::Tokens(_) | Stop::Tls(_) | Stop::Clock(_) | Stop::Metrics(_) => false,
             Stop::Listen { .. } | Stop::System(_) | Stop::Lease(_) => true,
             Stop::Unusable(error) => error.may_pass(),
             Stop::Database(error) => !error.is_damage(),

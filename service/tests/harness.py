@@ -32,6 +32,10 @@ PROGRAM = os.environ.get("RELKVANU_PROGRAM", f"{SERVICE}/target/debug/relkvanu")
 ORACLE = os.environ.get("RELKVANU_ORACLE", f"{TOP}/crates/ckpt_job/out/ckpt_job")
 # The same of a job that gives out names.
 LOG_ORACLE = os.environ.get("RELKVANU_LOG_ORACLE", f"{TOP}/crates/ckpt_log/out/ckpt_log")
+ENGINE = f"{os.path.dirname(PROGRAM)}/examples/engine"  # in Rust
+ENVIRONMENT = {**os.environ, "PYTHONPATH": f"{TOP}/bindings/python:{SERVICE}/client/python"}  # where verbs are that Python has
+# No checkpoint comes due while a test runs, however busy the machine: its calls name the numbers of records.
+SETTINGS = {"interval": 1 << 40}
 
 
 # The ports that tests listen on are below those that the system gives to connections, and each is one process's of the tests, of
@@ -63,6 +67,16 @@ def free_port():
         return port
 
 
+def content(path):
+    with open(path, encoding="utf-8", errors="replace") as it:
+        return it.read()
+
+
+def save(path, text):
+    with open(path, "w", encoding="utf-8") as it:
+        it.write(text)
+
+
 # The folder of a run (run.py) with what its tests make once, if they are tests of such a run.
 TEMPLATES = os.environ.get("RELKVANU_TEMPLATES")
 
@@ -87,6 +101,9 @@ BUSY = 8
 LOCKED, COMMAND = BUSY * 20, BUSY * 60
 
 
+_servers = []
+
+
 class Server:
     """A service in a folder of its own, or over the database of another one. Most tests are of engines that number their files themselves;
     with `names` a new job gives them out, as by default. At another address than that of this machine requests have its token."""
@@ -99,6 +116,7 @@ class Server:
         self.database = database or f"{folder}/relkvanu.db"
         self.log_path = f"{folder}/log-{self.port}"
         self.process = None
+        _servers.append(self)
 
     def start(self, ready=True):
         words = [PROGRAM, "serve", "--listen", f"{self.host}:{self.port}", "--database", self.database, *self.args]
@@ -119,11 +137,11 @@ class Server:
         return self
 
     def wait_ready(self, seconds=30, kept=False):
-        """Waits until it answers. It may end meanwhile if somebody starts it again."""
+        """Waits until it answers for each job. It may end meanwhile if somebody starts it again."""
         for _ in looks(seconds, 0.01):
             if self.process.poll() is not None and not kept:
                 raise AssertionError(f"the service ended with {self.process.returncode}: {self.log()[-600:]}")
-            if self.get("/readyz")[0] == 200:
+            if self.get("/readyz")[0] == 200 and self.has_replayed():
                 return
         raise AssertionError(f"the service is not ready: {self.log()[-600:]}")
 
@@ -131,6 +149,11 @@ class Server:
         process = self.process  # somebody may start it again at once (`kept`)
         process.send_signal(signal.SIGKILL)
         process.wait()
+
+    def again(self):
+        """It is killed, and starts again."""
+        self.kill()
+        self.start()
 
     def stop(self):
         process = self.process
@@ -153,12 +176,22 @@ class Server:
             raise AssertionError(f"the service has not ended: {self.log()[-600:]}") from None
 
     def log(self):
-        with open(self.log_path, encoding="utf-8", errors="replace") as it:
-            return it.read()
+        return content(self.log_path)
+
+    def has_replayed(self):
+        """Whether it has replayed all jobs since it leads."""
+        text = self.log()
+        return text.rfind("all jobs are replayed ") > text.rfind("leads epoch=")
 
     def replayed(self):
-        """How many calls each start made again."""
-        return [int(count) for count in re.findall(r" leads epoch=\d+ jobs=\d+ calls=(\d+)", self.log())]
+        """How many calls each start made again, once the last one has done so."""
+        until(self.has_replayed, 600)
+        return [int(count) for count in re.findall(r" all jobs are replayed jobs=\d+ calls=(\d+)", self.log())]
+
+    def metric(self, name):
+        """The value of a metric; None: it has none."""
+        found = re.search(rf"^{re.escape(name)} (\S+)$", self.get("/metrics")[2], re.M)
+        return found and float(found[1])
 
     def get(self, path, token=None):
         return self.request("GET", path, token=token)
@@ -221,6 +254,7 @@ def tell_logs(at):
 
 @contextmanager
 def folder():
+    """At its end the services in it are killed."""
     # a process that was killed a moment ago may still make a file in it, as one of PostgreSQL's
     with tempfile.TemporaryDirectory(prefix="relkvanu-", ignore_cleanup_errors=True) as it:
         try:
@@ -230,6 +264,9 @@ def folder():
         except Exception:
             tell_logs(it)
             raise
+        finally:
+            for server in (one for one in _servers if one.process and f"{one.folder}".startswith(it)):
+                server.kill()
 
 
 @contextmanager
@@ -248,20 +285,25 @@ def small_disk(at, size):
 
 
 @contextmanager
-def served(**given):
+def served(config=None, args=(), **given):
+    """A service in a folder of its own, with the text of a configuration or none."""
     with folder() as at:
-        server = Server(at, **given).start()
-        try:
-            yield server
-        finally:
-            server.stop()
+        yield Server(at, args=[*args, *(configured(at, config) if config else ())], **given).start()
+
+
+@contextmanager
+def served_job(name, settings, shape, **given):
+    """The same with a job."""
+    from relkvanu_service import Service
+
+    with served(**given) as server:
+        yield server, Service(server.url).open(name, settings, shape)
 
 
 def configured(at, text):
     """The words of a service with this configuration, in a file of the folder."""
     path = f"{at}/service-{random.randrange(1 << 30)}.toml"
-    with open(path, "w", encoding="utf-8") as it:
-        it.write(text)
+    save(path, text)
     return ["--config", path]
 
 
@@ -280,6 +322,12 @@ def lose_history(server):
 def caught_up(job):
     """Waits until the history has read all calls."""
     until(lambda: job.files()["upto"] == job.state()["seq"])
+
+
+def counts(job):
+    """How many files wait for deletion, and how many are taken."""
+    files = job.state()["files"]
+    return files["waiting"], files["taken"]
 
 
 @contextmanager
@@ -383,33 +431,25 @@ class Archive:
     def __init__(self, path):
         self.path = path
         old = ", ".join(f"old.{name}" for name in CALL.split(", "))
-        with self.base() as base:
-            base.executescript(f"""create table archive as select {CALL} from call where 0;
-                create trigger archived before delete on call begin insert into archive values({old}); end;""")
+        self.rows(f"create table archive as select {CALL} from call where 0")
+        self.rows(f"create trigger archived before delete on call begin insert into archive values({old}); end")
 
-    @contextmanager
-    def base(self):
-        """It is closed at the end. By itself Python closes it whenever it collects, and SQLite's files beside the log then go while others read them."""
-        with closing(sqlite3.connect(self.path, timeout=LOCKED)) as base, base:
-            yield base
+    def rows(self, query):
+        return sqlite(self.path, query)
 
     def log(self, job):
-        with self.base() as base:
-            rows = base.execute(f"select seq, at, line, what, a, b, files from {WHOLE} where job = (select job from job where name = ?) order by seq", (job,))
-            return [entry_of(*row) for row in rows]
+        rows = self.rows(f"select seq, at, line, what, a, b, files from {WHOLE} it where job = (select job from job where name = '{job}') order by seq")
+        return [entry_of(*row) for row in rows]
 
     def cut(self, job):
         """The last call that was cut."""
-        with self.base() as base:
-            return base.execute("select coalesce(max(seq), 0) from archive where job = (select job from job where name = ?)", (job,)).fetchone()[0]
+        return self.rows(f"select coalesce(max(seq), 0) from archive where job = (select job from job where name = '{job}')")[0][0]
 
     def images(self, job):
-        with self.base() as base:
-            rows = base.execute("select seq from image where job = (select job from job where name = ?) order by seq", (job,))
-            return [seq for (seq,) in rows]
+        return [seq for (seq,) in self.rows(f"select seq from image where job = (select job from job where name = '{job}') order by seq")]
 
 
-class PgArchive:
+class PgArchive(Archive):
     """The same of a log in PostgreSQL."""
 
     def __init__(self, database):
@@ -418,16 +458,30 @@ class PgArchive:
             create function archived() returns trigger language plpgsql as 'begin insert into archive select old.*; return old; end';
             create trigger archived before delete on call for each row execute function archived()""")
 
-    def log(self, job):
-        rows = f"select seq, at, line, what, a, b, files from {WHOLE} it where job = (select job from job where name = '{job}') order by seq"
-        return [entry_of(*row.values()) for row in json.loads(self.database.sql(f"select coalesce(json_agg(it), '[]') from ({rows}) it"))]
+    def rows(self, query):
+        return [tuple(row.values()) for row in json.loads(self.database.sql(f"select coalesce(json_agg(it), '[]') from ({query}) it"))]
 
-    def cut(self, job):
-        return int(self.database.sql(f"select coalesce(max(seq), 0) from archive where job = (select job from job where name = '{job}')"))
 
-    def images(self, job):
-        rows = f"select seq from image where job = (select job from job where name = '{job}') order by seq"
-        return json.loads(self.database.sql(f"select coalesce(json_agg(seq), '[]') from ({rows}) it"))
+def sqlite(path, statement, *given):
+    """The rows of a statement that is made in an SQLite database. (The connection is closed by itself only when Python collects.)"""
+    with closing(sqlite3.connect(path, timeout=LOCKED)) as base, base:
+        return base.execute(statement, given).fetchall()
+
+
+def beside(work, *given):
+    """A thread that has begun to do this."""
+    thread = threading.Thread(target=work, args=given)
+    thread.start()
+    return thread
+
+
+def raised(kind, call, *words):
+    """The error of this kind that a call raises."""
+    try:
+        call(*words)
+    except kind as error:
+        return error
+    raise AssertionError(f"it raised no {kind}: {call}")
 
 
 def looks(seconds, each):

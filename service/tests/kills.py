@@ -4,7 +4,7 @@ import sys
 import time
 from contextlib import contextmanager
 
-from harness import Archive, PgArchive, Server, configured, folder, until
+from harness import Archive, PgArchive, served, until
 from relkvanu_service import Service
 from writers import SETTINGS, NamedWriter, Writer, check, end, made_by
 
@@ -52,8 +52,7 @@ def check_images(server, archive):
 def run(kills, database=None, config=KEEPING, seed=1, names=False):
     chance = random.Random(seed)
     told = []
-    with folder() as at:
-        server = Server(at, database and database.url, configured(at, config)).start()
+    with served(config, database=database and database.url) as server:
         archive = PgArchive(database) if database else Archive(server.database)
         with writers_at([server.url], told, archive, names) as writers:
             for _ in range(kills):
@@ -61,8 +60,7 @@ def run(kills, database=None, config=KEEPING, seed=1, names=False):
                 before = made_by(writers)
                 until(lambda: made_by(writers) > before + EACH, 60)
                 time.sleep(chance.uniform(0.05, 0.4))
-                server.kill()
-                server.start()
+                server.again()
             until(lambda: any(archive.cut(job) for job in JOBS) and all(archive.images(job) for job in JOBS), 60)
             until(lambda: not names or all(Service(server.url).job(job).term()["term"] > 1 for job in JOBS), 60)
         server.kill()

@@ -1,17 +1,16 @@
 """Two services and their PostgreSQL on three machines: network namespaces with an address each. Meanwhile wires are cut, in both directions or
 in one, lose, delay and reorder packets, and are unplugged, a process is killed, and the clock of one machine is an hour ahead of the others.
-machines.py [SECONDS] does it for 10 minutes with a leader and a standby, and for 10 with two that share the jobs."""
+One leads and the other stands by. machines.py [SECONDS] does it for 10 minutes."""
 import random
 import sys
 import time
 
-from harness import PgArchive, Server, configured, folder, kept
+from harness import PgArchive, Server, configured, folder, kept, save
 from network import Network
 from partition import HOUR, Client, Faults, Floor, NamedClient
 from postgres import Postgres
 from preloaded import Clocks
 from relkvanu_service import Service
-from spread import even
 from writers import SETTINGS, check
 
 JOBS = ["orders", "users"]
@@ -90,26 +89,26 @@ class FaultsOfMachines(Faults):
         self.clocks[place].set(day=HOUR if place else 0)
 
 
-def served(at, network, database, spreads, clocks):
+def served(at, network, database, clocks):
     """A service on each of the machines."""
     servers = []
     for place, number in enumerate(SERVICES):
         machine = network.machines[number]
         text = CONFIG + f'token_file = "{at}/tokens"\n'
         server = Server(at, database.url, configured(at, text), [*machine.prefix, *clocks[place].prefix], host=machine.address, token=TOKEN)
-        server.args += ["--advertise", server.url, *(["--spread"] if spreads else [])]
+        server.args += ["--advertise", server.url]
         servers.append(server)
     servers[0].start()
     return servers
 
 
-def run(seconds, spreads, seed=1):
+def run(seconds, seed=1):
     with folder() as at:
         network = Network(at, len(SERVICES) + 1)
         machine = network.machines[DATABASE]
         database = Postgres(at, within=machine.prefix, host=machine.address)
         try:
-            said = worked(at, network, database, seconds, spreads, random.Random(seed))
+            said = worked(at, network, database, seconds, random.Random(seed))
         finally:
             database.stop()
         passed, lost, late = network.end()
@@ -117,26 +116,20 @@ def run(seconds, spreads, seed=1):
         return f"{said}; {passed} packets, {lost} lost and {late} late"
 
 
-def worked(at, network, database, seconds, spreads, chance):
-    with open(f"{at}/tokens", "w", encoding="utf-8") as it:
-        it.write(f"write {TOKEN}\n")
+def worked(at, network, database, seconds, chance):
+    save(f"{at}/tokens", f"write {TOKEN}\n")
     clocks = [Clocks(at, f"clocks-{place}") for place in range(2)]
     clocks[1].set(day=HOUR)
-    servers = served(at, network, database, spreads, clocks)
+    servers = served(at, network, database, clocks)
     archive = PgArchive(database)
-    if spreads:
-        servers[1].start(ready=False)
-    else:
-        servers[1].stand_by()
+    servers[1].stand_by()
     addresses, floor = [server.url for server in servers], Floor()
     service = Service(*addresses, token=TOKEN)
     clients = [(MachineClient, NamedMachineClient)[number % 2](addresses, JOBS[number % 2], number, floor) for number in range(CLIENTS)]
     faults = FaultsOfMachines(network, chance, database, servers, None, clocks)
     with kept(*servers) as ended:
-        if spreads:
-            even(servers)
-        for place, (job, names) in enumerate(zip(JOBS, (False, True))):
-            Service(*(addresses[place:] + addresses[:place] if spreads else addresses), token=TOKEN).open(job, SETTINGS, SHAPE, names=names)
+        for job, names in zip(JOBS, (False, True)):
+            service.open(job, SETTINGS, SHAPE, names=names)
         faults.go_on(clients, seconds)
         found = [check(clients, service, job, SHAPE, archive) for job in JOBS]
     for server in servers:
@@ -145,12 +138,10 @@ def worked(at, network, database, seconds, spreads, chance):
     wrong = [status for status in ended if status not in (75, -9)]
     assert not wrong, (wrong, [server.log()[-600:] for server in servers])
     assert made >= CLIENTS * MachineClient.LEAST, made
-    how = "two that share the jobs" if spreads else "a leader and a standby"
     calls = f"{made} calls answered, {logged} in the log, {oracle} as the proved programs answer them"
     reads = sum(client.reads for client in clients)
-    return f"{how}, {seconds} s with faults ({faults.said()}): {calls}; {reads} reads, none old"
+    return f"a leader and a standby, {seconds} s with faults ({faults.said()}): {calls}; {reads} reads, none old"
 
 
 if __name__ == "__main__":
-    for is_shared in (False, True):
-        print(run(int((sys.argv[1:] or ["600"])[0]), is_shared))
+    print(run(int((sys.argv[1:] or ["600"])[0])))

@@ -8,7 +8,7 @@ import sys
 import threading
 import time
 
-from harness import PgArchive, Server, configured, folder, kept
+from harness import PgArchive, Server, configured, content, folder, kept
 from postgres import postgres
 from preloaded import Clocks
 from relkvanu_service import Service
@@ -103,8 +103,7 @@ def family(database):
     """The processes of the database."""
     with open(f"{database.data}/postmaster.pid", encoding="utf-8") as it:
         parent = int(it.readline())
-    with open(f"/proc/{parent}/task/{parent}/children", encoding="utf-8") as it:
-        return [parent, *map(int, it.read().split())]
+    return [parent, *map(int, content(f"/proc/{parent}/task/{parent}/children").split())]
 
 
 def send_signal(processes, what):
@@ -153,7 +152,7 @@ class Faults:
         return 0 in self.made.values() or any(len(client.made) < client.LEAST for client in clients)
 
     def epoch(self):
-        return int(self.database.sql("select max(epoch) from shard"))
+        return int(self.database.sql("select epoch from leader"))
 
     def said(self):
         return ", ".join(f"{count} {fault}" for fault, count in self.made.items())

@@ -9,11 +9,10 @@ import tempfile
 import uuid
 from contextlib import contextmanager
 
-from harness import COMMAND, PROGRAM, TOP, served
+from harness import COMMAND, PROGRAM, SETTINGS, TOP, content, served
 from relkvanu_service import Service
 from run import Skipped
 
-SETTINGS = {"interval": 1 << 40}
 S3 = f"{TOP}/bindings/s3"
 
 
@@ -27,6 +26,10 @@ class Folder:
     def words(self, prefix, suffix):
         return ["--folder", self.path, "--prefix", prefix, "--suffix", suffix]
 
+    def storage(self, prefix):
+        """What a job says of it."""
+        return {"folder": self.path, "prefix": prefix}
+
     def shown(self, name):
         return name
 
@@ -36,6 +39,10 @@ class Folder:
 
     def remove(self, name):
         os.remove(f"{self.path}/{name}")
+
+    def names(self):
+        """The names of what is there, though somebody deletes it."""
+        return os.listdir(self.path)
 
     def all(self):
         """What is there, with its contents."""
@@ -75,6 +82,9 @@ class Bucket:
         return ["--bucket", self.bucket, "--prefix", f"orders/{prefix}", "--suffix", suffix, "--endpoint", self.said["S3_ENDPOINT"],
                 "--region", self.said["S3_REGION"]]
 
+    def storage(self, prefix):
+        return {"bucket": self.bucket, "prefix": f"orders/{prefix}", "endpoint": self.said["S3_ENDPOINT"], "region": self.said["S3_REGION"]}
+
     def shown(self, name):
         return f"orders/{name}"
 
@@ -84,10 +94,13 @@ class Bucket:
     def remove(self, name):
         self.s3.delete_object(Bucket=self.bucket, Key=f"orders/{name}")
 
-    def all(self):
+    def names(self):
         keys = [it["Key"] for page in self.s3.get_paginator("list_objects_v2").paginate(Bucket=self.bucket) for it in page.get("Contents", [])]
         assert all(key.startswith("orders/") for key in keys), keys
-        return {key.partition("/")[2]: self.s3.get_object(Bucket=self.bucket, Key=key)["Body"].read() for key in keys}
+        return [key.partition("/")[2] for key in keys]
+
+    def all(self):
+        return {name: self.s3.get_object(Bucket=self.bucket, Key=f"orders/{name}")["Body"].read() for name in self.names()}
 
     @contextmanager
     def keeping(self, name):
@@ -112,8 +125,7 @@ def s3_server():
     if subprocess.run([f"{S3}/start", server], check=False).returncode:
         subprocess.run([f"{S3}/stop", server], check=False)
         subprocess.run([f"{S3}/start", server], check=True)
-    with open(f"{server}/env", encoding="utf-8") as it:
-        return dict(line.split("=", 1) for line in it.read().splitlines())
+    return dict(line.split("=", 1) for line in content(f"{server}/env").splitlines())
 
 
 def around(place):
@@ -123,13 +135,19 @@ def around(place):
     return {**os.environ, **keys, "PATH": f"/usr/bin:{os.environ['PATH']}", "PYTHONPATH": f"{TOP}/bindings/python"}
 
 
+# What a cleaner does of one kind alone: delete the files that a job hands out, or its garbage; or look at the garbage.
+KINDS = {"released": ["--only", "released"], "garbage": ["--only", "garbage"], "look": ["--look"]}
+
+
 def words_of(command, server, place, *more, job="a", prefix="s-", suffix=""):
-    named = ["--job", job] if command == "discard" else [job]
-    return [PROGRAM, command, *named, "--url", server.url, *place.words(prefix, suffix), *more]
+    """A command over a place, by its name or by the kind of a cleaner."""
+    named = ["clean", *KINDS[command], "--job", job] if command in KINDS else [command, job]
+    return [PROGRAM, *named, "--url", server.url, *place.words(prefix, suffix), *more]
 
 
 def ran(command, server, place, *more, **given):
-    """The status of a command over a place, its lines and its errors."""
+    """The status of a command over a place, its lines and its errors. A cleaner ends once it has nothing to do."""
+    more = ["--once", *more] if command in KINDS else more
     told = subprocess.run(words_of(command, server, place, *more, **given), env=around(place), capture_output=True, text=True, timeout=COMMAND, check=False)
     return told.returncode, told.stdout.splitlines(), told.stderr
 
@@ -155,6 +173,6 @@ def over_both(test):
         for kind in (Folder, Bucket):
             with a_job(kind) as given:
                 told = test(*given)
-        return f"in a folder and in a bucket: {told}"
+        return told
 
     return both

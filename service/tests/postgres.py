@@ -2,6 +2,7 @@
 import glob
 import os
 import pwd
+import random
 import shutil
 import subprocess
 import time
@@ -99,6 +100,21 @@ class Postgres:
 
     def sql(self, text):
         return self.run("psql", "-XAtq", self.url, "-c", text).strip()
+
+    @contextmanager
+    def locked(self, table):
+        """Nobody reads or writes a table meanwhile."""
+        name = f"lock-{random.randrange(1 << 30)}"
+        words = f"set application_name = '{name}'; begin; lock table {table} in access exclusive mode; select pg_sleep(86400)"
+        programs = [*self.user, f"{self.bin}/psql", "-XAtq", self.url, "-c", words]
+        holder = subprocess.Popen(programs, stdout=subprocess.DEVNULL, stderr=subprocess.DEVNULL, cwd="/")
+        of_it = f"from pg_stat_activity join pg_locks using (pid) where application_name = '{name}' and relation = '{table}'::regclass and granted"
+        try:
+            until(lambda: self.sql(f"select count(*) {of_it}") == "1")
+            yield
+        finally:
+            self.sql(f"select pg_terminate_backend(pid) from pg_stat_activity where application_name = '{name}'")
+            holder.wait()
 
     def quiet(self):
         """Waits until no service is connected. What one that was killed had sent is done then."""

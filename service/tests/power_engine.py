@@ -1,4 +1,4 @@
-"""power_engine.py URL FOLDER TOLD: an engine over the service, as docs/SERVICE-API.md has it, until it is killed. Its job `orders` has three
+"""power_engine.py URL FOLDER TOLD: an engine over the service, as docs/SERVICE-ENGINE.md has it, until it is killed. Its job `orders` has three
 subtasks, which write their files into FOLDER, sync them, and acknowledge them with files of the record before. It takes savepoints and
 disposes of them. The file TOLD gets a line for each request that was answered, with its calls and their answers."""
 import json

@@ -28,14 +28,15 @@ SECOND_TRIES = 2
 LANES = 5 if processors() >= 4 else 2
 # The longest first, as they were measured. Of the two that boot systemd one waits for the other, so they begin at different times.
 MODULES = [
-    "test_unit", "test_spread", "test_places", "test_procedures", "test_portable", "test_move", "test_dask", "test_postgres", "test_lease", "test_stop_begin",
+    "test_unit", "test_places", "test_clean", "test_portable", "test_dask", "test_postgres", "test_lease", "test_stop_begin",
     "test_lease_lengths", "test_put_back", "test_names", "test_limits", "test_machines", "test_long_reads", "test_stop_rows", "test_partition",
     "test_setup_tls", "test_images", "test_power", "test_long_images", "test_damaged", "test_clocks", "test_events", "test_end_units", "test_end",
-    "test_page_acts", "test_page_state", "test_put_off", "test_disks", "test_stuck", "test_failover", "test_herd", "test_bytes", "test_connections",
+    "test_page_acts", "test_page_state", "test_put_off", "test_disks", "test_stuck", "test_failover", "test_tls_clients", "test_bytes", "test_connections",
     "test_promotion", "test_replay", "test_sweep", "test_operate", "test_history", "test_restore", "test_commands", "test_jobs_end",
-    "test_memory", "test_dumps", "test_metrics", "test_discard_folder", "test_discard", "test_discard_names", "test_payloads", "test_sizes", "test_stop",
-    "test_loop", "test_backup", "test_upkeep", "test_summaries", "test_security", "test_seen", "test_moves", "test_start", "test_wal", "test_page",
-    "test_stream", "test_load", "test_api", "test_clients", "test_kills", "test_bounds", "test_tries", "test_disk_order", "test_tables",
+    "test_memory", "test_nights", "test_metrics", "test_discard_folder", "test_discard", "test_discard_names", "test_payloads", "test_sizes", "test_stop",
+    "test_backup", "test_upkeep", "test_summaries", "test_security", "test_observability", "test_moves", "test_start", "test_wal", "test_page",
+    "test_stream", "test_load", "test_week", "test_api", "test_clients", "test_kills", "test_bounds", "test_tries", "test_disk_order", "test_tables",
+    "test_kit", "test_runner", "test_laws",
 ]
 
 
@@ -86,7 +87,7 @@ def run_module(name, words):
         try:
             told = with_threads(test)
             passed += 1
-            print(f"ok   {title} ({time.monotonic() - started:.1f} s, {processor_seconds() - before:.1f} of a processor): {told}")
+            print(f"ok   {title} ({time.monotonic() - started:.1f} s, {processor_seconds() - before:.1f} of a processor){f': {told}' if told else ''}")
         except Skipped as why:
             skipped += 1
             print(f"skipped: {why.tool}: {title}: {why.why}")

@@ -1,4 +1,4 @@
-"""Proxies: a line to a server, and a slow one, which holds each answer and counts what is asked."""
+"""Proxies: a line to a server, and a slow one, which holds answers and counts what is asked."""
 import asyncio
 import threading
 
@@ -24,10 +24,11 @@ class Proxy(threading.Thread):
 
 
 class Slow(Proxy):
-    """Holds each answer of the server at a port of this machine for `delay` seconds, which may be set at any time."""
+    """Holds each answer of the server at a port of this machine for `delay` seconds, and one to what has the text `holds` as long as that is set. Both may
+    be set at any time."""
 
     def __init__(self, to, delay):
-        self.to, self.delay, self.asked = to, delay, 0
+        self.to, self.delay, self.holds, self.asked = to, delay, None, 0
         self.sent = {}  # how often each of these texts is sent
         super().__init__()
 
@@ -36,14 +37,17 @@ class Slow(Proxy):
             other_reader, other_writer = await asyncio.open_connection("127.0.0.1", self.to)
         except OSError:
             return writer.close()
-        await asyncio.gather(self.pipe(reader, other_writer, False), self.pipe(other_reader, writer, True))
+        line = [b""]  # what was asked last
+        await asyncio.gather(self.pipe(reader, other_writer, line, False), self.pipe(other_reader, writer, line, True))
 
-    async def pipe(self, reader, writer, answers):
+    async def pipe(self, reader, writer, line, answers):
         try:
             while data := await reader.read(1 << 20):
                 if answers:
                     await asyncio.sleep(self.delay)
+                    await self.let_go(line)
                 else:
+                    line[0] = data
                     self.asked += 1
                     for text in self.sent:
                         self.sent[text] += text in data
@@ -52,3 +56,7 @@ class Slow(Proxy):
         except OSError:
             pass
         writer.close()
+
+    async def let_go(self, line):
+        while self.holds and self.holds in line[0]:
+            await asyncio.sleep(0.01)

@@ -6,7 +6,7 @@ import shutil
 import signal
 import subprocess
 
-from harness import COMMAND
+from harness import COMMAND, save
 
 KILLED = -signal.SIGKILL
 EACH = min(3, int(os.environ.get("RELKVANU_EACH", "3")))
@@ -58,6 +58,5 @@ class Steps:
 
 
 def write(path, text, mode=0o644):
-    with open(path, "w", encoding="utf-8") as it:
-        it.write(text)
+    save(path, text)
     os.chmod(path, mode)

@@ -7,11 +7,9 @@ import signal
 import sys
 import time
 
-from harness import Server, folder
+from harness import SETTINGS, Server, folder
 from postgres import postgres
 from relkvanu_service import Service
-
-SETTINGS = {"interval": 1 << 40}
 
 
 def waited(leader, other, number):

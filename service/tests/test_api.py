@@ -4,9 +4,15 @@ import random
 import socket
 import time
 
-from harness import BUSY, COMMAND, check_log, lease_of, served, slowed, until
+from harness import BUSY, COMMAND, check_log, folder, leader_and_standby, lease_of, served, served_job, slowed, sqlite, until
+from postgres import postgres
+from relkvanu_service import Service, cancel
 
 JOB = {"name": "orders", "settings": {"interval": 1000000}, "shape": [2, 1]}
+# The settings of a job that has not said more than its interval.
+DEFAULTS = {"pause": 0, "at_once": 1, "timeout": 600_000, "tolerable": 0, "retained": 1, "keep_on_cancel": False}
+# Those of a job that a recovery has not made whole: bindings/python/relkvanu/service_moves.py.
+MAKING = {"interval": (1 << 40) - 77, "pause": (1 << 40) - 77, "at_once": 1, "timeout": (1 << 40) - 77, "tolerable": 1000, "retained": 1, "keep_on_cancel": True}
 ACK = {"call": "ack", "id": 1, "subtask": "0.0"}
 
 # method, path, body, status, field
@@ -29,7 +35,15 @@ BAD = [
     ("POST", "/v1/jobs", {**JOB, "name": "b", "shape": [4097]}, 400, "shape"),
     ("POST", "/v1/jobs", {**JOB, "name": "b", "shape": [1.5]}, 400, "shape"),
     ("POST", "/v1/jobs", {**JOB, "name": "b", "shape": [1] * 257}, 400, "shape"),
-    ("POST", "/v1/jobs", {**JOB, "shape": [3]}, 409, "name"),
+    ("POST", "/v1/jobs", {**JOB, "name": "b", "storage": "/srv"}, 400, "storage"),
+    ("POST", "/v1/jobs", {**JOB, "name": "b", "storage": {}}, 400, "storage.folder"),
+    ("POST", "/v1/jobs", {**JOB, "name": "b", "storage": {"folder": "srv"}}, 400, "storage.folder"),
+    ("POST", "/v1/jobs", {**JOB, "name": "b", "storage": {"folder": "/srv", "bucket": "b"}}, 400, "storage.folder"),
+    ("POST", "/v1/jobs", {**JOB, "name": "b", "storage": {"folder": "/srv", "prefix": "a/"}}, 400, "storage.prefix"),
+    ("POST", "/v1/jobs", {**JOB, "name": "b", "storage": {"bucket": "b", "endpoint": "b"}}, 400, "storage.endpoint"),
+    ("POST", "/v1/jobs", {**JOB, "name": "b", "storage": {"folder": "/srv", "more": 1}}, 400, "storage.more"),
+    ("PUT", "/v1/jobs/orders/storage", {"folder": "/srv", "suffix": 7}, 400, "suffix"),
+    ("PUT", "/v1/jobs/none/storage", {"folder": "/srv"}, 404, None),
     ("POST", "/v1/jobs/none/calls", {"calls": [ACK]}, 404, None),
     ("POST", "/v1/jobs/orders/calls", {"calls": []}, 400, "calls"),
     ("POST", "/v1/jobs/orders/calls", {"calls": [ACK] * 1001}, 400, "calls"),
@@ -145,8 +159,7 @@ def test_a_key_makes_calls_once():
         first = server.request("POST", path, body, headers=key)
         assert first[2]["answers"] == [{"seq": 1, "savepoint": "triggered", "id": 1}], first
         assert server.request("POST", path, body, headers=key)[2] == first[2]
-        server.kill()
-        server.start()
+        server.again()
         assert server.request("POST", path, body, headers=key)[2] == first[2]
         other = server.request("POST", path, {"calls": [{"call": "savepoint"}, {"call": "tick"}]}, headers=key)
         assert (other[0], other[2]["field"]) == (422, "Idempotency-Key"), other
@@ -155,10 +168,79 @@ def test_a_key_makes_calls_once():
         for bad in ("", "x" * 256):
             told = server.request("POST", path, body, headers=[("Idempotency-Key", bad)])
             assert (told[0], told[2]["field"]) == (400, "Idempotency-Key"), told
-        return "1 key, answered 3 times, once after a kill"
 
 
-def test_a_job_that_was_rescaled_is_opened_with_its_first_shape_or_its_last():
+def test_a_job_is_found_as_it_is():
+    """After creation its settings and its shape are the operator's. An engine that gives others is told those of now."""
+    with served_job("orders", {"interval": 60_000}, [2]) as (server, job):
+        assert job.opened == ({**DEFAULTS, "interval": 60_000}, [2], False), job.opened
+        job.set(interval=1000, timeout=8000)
+        job.begin(shape=[4])
+        for _ in range(2):
+            for settings, shape, differ in (({"interval": 60_000}, [2], True), ({"interval": 1000, "timeout": 8000}, [4], False), ({"interval": 1000, "timeout": 8000}, [2], True)):
+                found = Service(server.url).open("orders", settings, shape)
+                assert found.opened == ({**DEFAULTS, "interval": 1000, "timeout": 8000}, [4], differ), found.opened
+            server.again()
+
+
+def test_a_job_that_a_recovery_makes_is_found_by_none():
+    """Its settings are such that only the recovery has them."""
+    with served() as server:
+        service = Service(server.url)
+        service.open("orders", MAKING, [2])
+        status, _, told = server.request("POST", "/v1/jobs", {**JOB, "shape": [2]})
+        assert status == 409 and told["field"] == "name" and "not whole" in told["error"], told
+        assert service.open("orders", MAKING, [2]).opened.settings == MAKING
+        service.job("orders").set(**{**DEFAULTS, "interval": 60_000})
+        assert service.open("orders", {"interval": 60_000}, [2]).opened.settings_differ is False
+
+
+FOLDER = {"folder": "/srv/orders", "prefix": "state-", "suffix": ".bin"}
+BUCKET = {"bucket": "states", "prefix": "orders/s-", "suffix": "", "endpoint": "http://127.0.0.1:9", "region": "eu", "keeps_versions": True}
+
+
+def told_where(service):
+    """Opens jobs that say where their files are, and some that do not. Returns what is known then."""
+    said = service.open("said", {"interval": 60_000}, [1], storage=FOLDER)
+    assert said.storage == FOLDER
+    later = service.open("later", {"interval": 60_000}, [1])
+    assert later.storage is None and later.state()["storage"] is None
+    assert later.open({"interval": 60_000}, [1], storage=BUCKET).storage == BUCKET
+    moved = service.open("moved", {"interval": 60_000}, [1], storage=FOLDER)
+    assert moved.set_storage(BUCKET)["storage"] == BUCKET
+    # what an operator has said stays
+    assert moved.open({"interval": 60_000}, [1], storage=FOLDER).storage == BUCKET
+    service.open("none", {"interval": 60_000}, [1])
+    short = service.open("short", {"interval": 60_000}, [1], storage={"folder": "/srv"})
+    assert short.state()["storage"] == {"folder": "/srv", "prefix": "", "suffix": ""}
+    return {job["name"]: job["storage"] for job in service.jobs()}
+
+
+def test_a_job_says_where_its_files_are():
+    with served() as server:
+        service = Service(server.url)
+        known = told_where(service)
+        assert (known["said"], known["later"], known["moved"], known["none"]) == (FOLDER, BUCKET, BUCKET, None), known
+        server.again()
+        assert {job["name"]: job["storage"] for job in service.jobs()} == known
+        service.job("said").call(cancel())
+        assert service.job("said").set_storage(BUCKET)["storage"] == BUCKET  # for who deletes what is left
+        assert service.delete("said") and service.open("said", {"interval": 60_000}, [1]).storage is None
+        server.stop()
+        sqlite(server.database, "update storage set text = '{' where job = 2")  # a row that can't be read takes no job along
+        server.start()
+        assert service.job("later").state()["storage"] is None and "a row of storage has" in server.log()
+    with postgres() as database, folder() as at:
+        first, second = leader_and_standby(at, database.url, f"lease_seconds = {lease_of(4)}\n")
+        service = Service(first.url, second.url)
+        known = told_where(service)
+        first.kill()
+        second.wait_ready(60)
+        assert {job["name"]: job["storage"] for job in service.jobs()} == known
+        return f"{len(known)} jobs, over both databases"
+
+
+def test_a_job_that_was_rescaled_is_opened_with_any_shape():
     with served() as server:
         def opened(*shape):
             return server.request("POST", "/v1/jobs", {**JOB, "shape": shape})[0]
@@ -168,15 +250,13 @@ def test_a_job_that_was_rescaled_is_opened_with_its_first_shape_or_its_last():
             told = server.request("POST", "/v1/jobs/orders/calls", body)[2]["answers"]
             assert told[0].get("restore") == "fresh", told
 
-        assert (opened(2), opened(2), opened(2, 1)) == (201, 200, 409)
+        assert (opened(2), opened(2), opened(2, 1)) == (201, 200, 200)
         rescaled(2, 1)
         rescaled(4)
         for _ in range(2):
-            assert (opened(2), opened(4), opened(2, 1), opened(3)) == (200, 200, 409, 409)
+            assert (opened(2), opened(4), opened(3)) == (200, 200, 200)
             assert server.get("/v1/jobs/orders")[2]["shape"] == [4]
-            server.kill()
-            server.start()
-        return "two shapes are its own, and two are not"
+            server.again()
 
 
 def test_refusals_and_large_files():
@@ -243,13 +323,11 @@ def test_the_timer_triggers_and_expires():
         assert server.get("/v1/jobs/t")[2]["seq"] == 5, "a failed job is ticked"
         server.request("POST", "/v1/jobs/t/calls", {"calls": [{"call": "restore", "from": "latest"}]})
         until(lambda: server.get("/v1/jobs/t")[2]["seq"] >= 7, 5)
-        return "7 calls, 5 of them the timer's"
 
 
 def test_a_slow_client_and_many_connections():
-    slow = ["--config"]
     idle_seconds = lease_of(1)
-    with served_with(f"[limits]\nconnections = 20\nidle_seconds = {idle_seconds}\nbody_seconds = 2\n", slow) as server:
+    with served(f"[limits]\nconnections = 20\nidle_seconds = {idle_seconds}\nbody_seconds = 2\n") as server:
         until(lambda: server.request("POST", "/v1/jobs", JOB)[0] in (200, 201))
         head = b"POST /v1/jobs/orders/calls HTTP/1.1\r\nHost: localhost\r\nContent-Type: application/json\r\nContent-Length: 100\r\n\r\n"
         started = time.monotonic()
@@ -273,24 +351,3 @@ def test_a_slow_client_and_many_connections():
         until(lambda: server.get("/healthz")[0] == 200, 20)
         for it in idle:
             it.close()
-        return "a byte each quarter of a second ended with 408; 60 idle connections of 20 places kept nobody out"
-
-
-def served_with(text, args):
-    """A service with a configuration file of this text."""
-    from contextlib import contextmanager
-
-    from harness import Server, folder
-
-    @contextmanager
-    def it():
-        with folder() as at:
-            with open(f"{at}/service.toml", "w", encoding="utf-8") as file:
-                file.write(text)
-            server = Server(at, args=[*args, f"{at}/service.toml"]).start()
-            try:
-                yield server
-            finally:
-                server.stop()
-
-    return it()

@@ -6,7 +6,7 @@ import subprocess
 import threading
 import time
 
-from harness import COMMAND, PROGRAM, Archive, Server, check_log, folder, over_copy, served
+from harness import COMMAND, PROGRAM, Archive, Server, check_log, content, folder, over_copy, save, served
 from relkvanu_service import Service
 from writers import check_kept
 
@@ -103,8 +103,7 @@ def suspended_backup(database, copy):
 def test_what_is_no_backup():
     with served() as server:
         job, copy = filled(server), f"{server.folder}/copy.db"
-        with open(f"{server.folder}/there", "w", encoding="utf-8") as it:
-            it.write("mine")
+        save(f"{server.folder}/there", "mine")
         assert "is there already" in backup(server.database, f"{server.folder}/there", 1)
         assert "pg_dump" in backup("postgres://x@127.0.0.1/x", copy, 1)
         assert "none.db" in backup(f"{server.folder}/none.db", copy, 1)
@@ -119,6 +118,4 @@ def test_what_is_no_backup():
         assert not os.path.exists(copy), "the backup ended before it was killed"
         backup(server.database, copy)
         assert os.path.getsize(copy) > MEGABYTES * 1_000_000 and job.state()["seq"] == 0
-        with open(f"{server.folder}/there", encoding="utf-8") as it:
-            assert it.read() == "mine"
-        return "5 refusals, and one that was killed"
+        assert content(f"{server.folder}/there") == "mine"

@@ -5,12 +5,11 @@ import socket
 import sqlite3
 import threading
 
-from harness import COMMAND, LOCKED, Server, configured, folder, served, until
+from harness import COMMAND, LOCKED, SETTINGS, Server, configured, folder, served, until
 from relkvanu_service import Service
 from test_bytes import filled
 from test_limits import has_bodies, takes_all_room
 
-SETTINGS = {"interval": 1 << 40}
 PATH = "/v1/jobs/a/calls"
 JSON = {"Content-Type": "application/json"}
 CALL = {"calls": [{"call": "savepoint"}]}
@@ -51,7 +50,6 @@ def test_bodies_in_chunks_take_room():
         until(lambda: busy(server, part) is None)
         server.stop()
         assert "the bodies of other requests take all room" in said, said
-        return "700 kB beside a body that takes most of 1 MiB"
 
 
 def test_an_answer_larger_than_all_room():
@@ -90,7 +88,6 @@ def test_other_large_answers_take_all_room():
         server.stop()
         assert (status, told) == (503, {"error": "other large answers take all room"}) and head["retry-after"] == "1", (status, head, told)
         assert small == 200, small
-        return "503 beside an answer that nobody reads, and 200 for a small one"
 
 
 def test_more_requests_than_may_wait():
@@ -132,7 +129,6 @@ def test_connections_leave_room_for_files():
         server = Server(at, prefix=["prlimit", "--nofile=600:600"], args=limits).start()
         server.stop()
         assert "allows 236 connections, 118 that wait for events and 118 new ones" in server.log(), server.log()[-400:]
-        return "of 2000 that the settings allow"
 
 
 def test_one_key_twice_at_once():
@@ -160,7 +156,6 @@ def test_one_key_twice_at_once():
         same = [it for key, it in told if key == "same"]
         assert [it[0] for it in same] == [200, 200] and same[0][2] == same[1][2], told
         assert server.process.poll() is None and job.state()["seq"] == 2, job.state()
-        return "two requests of one key behind another one"
 
 
 def commit_under_way(server):

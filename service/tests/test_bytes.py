@@ -4,7 +4,7 @@ import json
 import os
 import threading
 
-from harness import COMMAND, Server, folder, served, until
+from harness import COMMAND, Server, beside, folder, served, until
 from test_connections import memory
 
 FILES, SUBTASKS, ROUNDS = 4096, 32, 4
@@ -110,9 +110,7 @@ def test_bodies_without_a_length_share_the_room():
 
     with served() as server:
         server.request("POST", "/v1/jobs", LARGE)
-        senders = [threading.Thread(target=send, args=(server,)) for _ in range(32)]
-        for it in senders:
-            it.start()
+        senders = [beside(send, server) for _ in range(32)]
         for it in senders:
             it.join()
         assert statuses == [200] * 320, {status: statuses.count(status) for status in set(statuses)}

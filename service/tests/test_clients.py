@@ -1,17 +1,13 @@
 """The clients, and the API's description against the service's real answers."""
 import json
 import os
+import shutil
 import subprocess
-import threading
 import time
 
-from harness import COMMAND, PROGRAM, SERVICE, check_log, served, until
+from harness import COMMAND, ENGINE, SERVICE, SETTINGS, beside, check_log, folder, raised, served, until
 from relkvanu_service import Failed, Refused, Service, ack, decline, deleted, dispose, restore, savepoint, take
 from run import Skipped
-
-ENGINE = f"{os.path.dirname(PROGRAM)}/examples/engine"
-# No checkpoint comes due while a test runs, however busy the machine: its calls name the numbers of records.
-SETTINGS = {"interval": 1 << 40}
 
 
 def as_json_schema(node):
@@ -69,7 +65,8 @@ def test_answers_fit_the_description():
         ]
         told = fits("POST", "/v1/jobs/p/calls", f"{job}/calls", {"calls": more[:7], "ended": True}, "k")[2]["answers"]
         assert fits("GET", "/v1/jobs/p/records/1/states", f"{job}/records/{{id}}/states")[2]["subtasks"] == [
-            {"subtask": "0.0", "files": ["2", "1"], "payload": "eA==", "bytes": 7, "millis": 3}, {"subtask": "0.1", "files": [], "payload": "", "bytes": 0, "millis": 0},
+            {"subtask": "0.0", "files": ["2", "1"], "sizes": [None, None], "payload": "eA==", "bytes": 7, "millis": 3},
+            {"subtask": "0.1", "files": [], "sizes": [], "payload": "", "bytes": 0, "millis": 0},
         ]
         told += fits("POST", "/v1/jobs/p/calls", f"{job}/calls", {"calls": more[7:], "ended": True}, "k2")[2]["answers"]
         assert [(answer.get("kind"), answer.get("ended")) for answer in told] == [
@@ -130,23 +127,16 @@ def test_the_client_in_python():
         job = service.open("orders", SETTINGS, [1])
         assert job.call(savepoint()) == {"seq": 1, "savepoint": "triggered", "id": 1}
         assert job.call(ack(1, "0.0", [2**64 - 1]))["ack"] == "completed"
-        try:
-            job.call(ack(1, "9.9", reused=[5]))
-            job.call(dispose(7))
-            raise AssertionError("it was not refused")
-        except Refused as refused:
-            assert (refused.name, refused.file) == ("NoSuchSavepoint", None)
-        try:
-            job.calls([{"call": "ack", "id": -1, "subtask": "0.0"}])
-            raise AssertionError("it was no error")
-        except Failed as failed:
-            assert (failed.status, failed.field) == (400, "calls[0].id")
+        job.call(ack(1, "9.9", reused=[5]))
+        refused = raised(Refused, lambda: job.call(dispose(7)))
+        assert (refused.name, refused.file) == ("NoSuchSavepoint", None)
+        failed = raised(Failed, lambda: job.calls([{"call": "ack", "id": -1, "subtask": "0.0"}]))
+        assert (failed.status, failed.field) == (400, "calls[0].id")
         # a take whose answer is lost: the service is killed meanwhile, and the files come all the same
         job.call(dispose(1))
         server.kill()
         found = []
-        taking = threading.Thread(target=lambda: found.extend(job.take()))
-        taking.start()
+        taking = beside(lambda: found.extend(job.take()))
         time.sleep(0.3)
         server.start()
         taking.join(COMMAND)
@@ -159,7 +149,25 @@ def test_the_client_in_python():
             if event["event"] == "restored":
                 break
         assert seen == ["triggered", "completed", "disposed", "restored"], seen
-        return "calls, refusals, events, and a take over a kill"
+
+
+def test_a_job_claims_its_folder():
+    """And none that has files of somebody else, that is not mounted, or whose marker is of another opening."""
+    with folder() as at, served(names=True) as server:
+        job, other = (Service(server.url).open(name, SETTINGS, [1]) for name in "ab")
+        files, empty, strange = (f"{at}/{name}" for name in ("files", "empty", "strange"))
+        for it in (files, empty, strange):
+            os.mkdir(it)
+        job.claim(files)
+        task, record = job.begin().session(block=5), job.call(savepoint())["id"]
+        task.ack(record, "0.0", [task.name()])
+        job.claim(files)
+        os.mkdir(f"{strange}/1")
+        shutil.copy(f"{files}/.relkvanu-a", f"{files}/.relkvanu-b")
+        for claims, place, why in ((job, empty, "is its disk not mounted"), (other, strange, "not known whose they are"), (other, files, "names another job")):
+            there = os.listdir(place)
+            failed = raised(Failed, lambda: claims.claim(place))
+            assert why in str(failed) and os.listdir(place) == there, failed
 
 
 def test_the_client_in_rust():

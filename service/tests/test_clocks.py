@@ -1,5 +1,4 @@
 """Clocks that are wrong, that are set while the service runs, and that stop while its machine is suspended."""
-import re
 import time
 
 from harness import Server, folder, leader_and_standby, lease_of, until
@@ -31,12 +30,6 @@ def gain(job, seconds):
     time.sleep(seconds)
     last, ended = seen(job, seconds / 80)
     return (last - first) / (ended - began) - 1
-
-
-def metric(server, name):
-    found = re.search(rf"^{name} (\S+)$", server.get("/metrics")[2], re.M)
-    assert found, f"there is no {name}"
-    return float(found[1])
 
 
 def test_a_start_with_a_clock_that_is_far_ahead():
@@ -74,9 +67,7 @@ def test_a_start_with_a_clock_that_is_far_ahead():
         clocks.set()
         server.start()
         assert "has not reached" in server.log(), server.log()[-300:]
-        until(lambda: metric(server, "relkvanu_clock_ahead_seconds") > 6 * DAY)
-        server.stop()
-        return "refused when 3650 days ahead, accepted after a day and with the option"
+        until(lambda: server.metric("relkvanu_clock_ahead_seconds") > 6 * DAY)
 
 
 def test_steps_of_the_clock():
@@ -89,12 +80,12 @@ def test_steps_of_the_clock():
         gains, seconds = [], lease_of(4)
         for step in (HOUR, -HOUR):
             clocks.set(day=step)
-            until(lambda: abs(metric(server, "relkvanu_clock_ahead_seconds") + step) < 60)
+            until(lambda: abs(server.metric("relkvanu_clock_ahead_seconds") + step) < 60)
             gains.append(gain(job, seconds))
         assert 0.05 < gains[0] < 0.15 and -0.15 < gains[1] < -0.05, gains
         # far away it is not followed
         clocks.set(day=400 * DAY)
-        until(lambda: metric(server, "relkvanu_clock_ahead_seconds") < -399 * DAY)
+        until(lambda: server.metric("relkvanu_clock_ahead_seconds") < -399 * DAY)
         gains.append(gain(job, seconds))
         assert abs(gains[2]) < 0.04, gains
         # the record of ten minutes is still pending
@@ -103,7 +94,6 @@ def test_steps_of_the_clock():
         except Refused as refused:
             raise AssertionError("a step expired the record") from refused
         assert told["ack"] == "completed", told
-        server.stop()
         return f"moments went by {', '.join(f'{gain:+.1%}' for gain in gains)} after steps of an hour, back, and of 400 days"
 
 
@@ -121,7 +111,6 @@ def test_a_suspended_machine_keeps_no_lease():
         assert not any(status == 200 for status, _, _ in told), told
         assert first.ended() == 75, first.log()[-300:]
         assert job.name == "orders"
-        second.stop()
         return f"after {slept} s it answered nothing and ended with 75"
 
 
@@ -139,7 +128,7 @@ def test_the_clock_of_the_database_may_be_set():
                     both += second.get("/readyz")[0] == 200
                     time.sleep(0.05)
                 job.call(savepoint())
-            assert both == 0 and int(database.sql("select max(epoch) from shard")) == 1, both
+            assert both == 0 and int(database.sql("select epoch from leader")) == 1, both
             # set back by a day while nobody renews the lease
             first.kill()
             clocks.set(day=0)
@@ -160,6 +149,3 @@ def test_threads_that_have_nothing_to_do():
         for one in clocks:
             one.set(start=30)
         until(lambda: all(server.get("/healthz")[0] == 200 for server in servers), 10)
-        for server in servers:
-            server.stop()
-        return "both are healthy"

@@ -1,27 +1,30 @@
 """The commands that ask a service, and `relkvanu check`: what they print, for people and as JSON, and their exit statuses."""
+import contextlib
 import glob
 import hashlib
 import json
 import os
+import re
 import shutil
 import signal
 import sqlite3
 import subprocess
-import threading
+import sys
 import time
 
-from harness import ACK_COMPLETED, COMMAND, PROGRAM, SERVICE, TOP, Server, caught_up, folder, free_port, served, until
+from harness import ACK_COMPLETED, COMMAND, ENVIRONMENT, HERE, PROGRAM, SETTINGS, TOP, Server, beside, caught_up, content, folder, free_port, save, served, served_job, sqlite, until
+from places import Bucket, around
 from postgres import postgres
 from relkvanu_service import Service, ack, deleted, dispose, savepoint
 from run import Skipped
+from test_runner import Lines
 
-SETTINGS = {"interval": 1 << 40}
 KEEPING = ["--image-calls", "20", "--keep-calls", "40"]
 
 
 def ran(*words, status=0):
     """What the program prints on standard output, and after it on standard error, where it says nothing if it has done its work."""
-    told = subprocess.run([PROGRAM, *map(str, words)], stdout=subprocess.PIPE, stderr=subprocess.PIPE, text=True, timeout=COMMAND, check=False)
+    told = subprocess.run([PROGRAM, *map(str, words)], env=ENVIRONMENT, stdout=subprocess.PIPE, stderr=subprocess.PIPE, text=True, timeout=COMMAND, check=False)
     assert told.returncode == status and (status or not told.stderr), (words, told)
     return told.stdout + told.stderr
 
@@ -68,7 +71,23 @@ def test_what_a_job_is():
         text = ask("files", "orders", 21)
         assert "savepoint 1 was disposed of" in text and "by call 3: ack" in text, text
         assert "record 2, subtask 0.0" in ask("files", "orders", 11)
-        return "jobs, a job, records and files"
+
+
+def test_a_record_that_expired_names_who_was_missing():
+    """And not the slowest of those that came, which did nothing wrong."""
+    with served() as server:
+        ask, job = Asked(server), Service(server.url).open("orders", {**SETTINGS, "tolerable": 1}, [1, 3])
+        job.calls([savepoint(), ack(1, "0.0"), ack(1, "1.0"), ack(1, "1.1")])
+        for how, timeout in (("pending", 1 << 40), ("expired", 1)):
+            job.set(timeout=timeout)
+            caught_up(job)
+            until(lambda wanted=how: job.record(1)["history"]["how"] == wanted)
+            words = [line.split() for line in ask("show", "orders", 1).splitlines()]
+            assert ["missing", "1", "of", "4:", "1.2"] in words and not [it for it in words if it[0] == "slowest"], (how, words)
+        job.set(timeout=1 << 40)
+        job.calls([savepoint(), *(ack(2, subtask) for subtask in ("0.0", "1.1", "1.2", "1.0"))])
+        caught_up(job)
+        assert ["slowest", "1.0"] in [line.split() for line in ask("show", "orders", 2).splitlines()], ask("show", "orders", 2)
 
 
 def test_the_log():
@@ -100,8 +119,7 @@ def test_calls_of_a_user():
             time.sleep(0.3)
             job.call(ack(2, "0.0", [12]))
 
-        engine = threading.Thread(target=complete)
-        engine.start()
+        engine = beside(complete)
         told = [json.loads(line) for line in ask("savepoint", "orders", "--wait", COMMAND // 2, "--json").splitlines()]
         engine.join()
         assert [told[0]["savepoint"], told[0]["id"], told[1]] == ["triggered", 2, {"completed": 2}], told
@@ -110,27 +128,23 @@ def test_calls_of_a_user():
         assert told.startswith("savepoint 3 is triggered\n") and "savepoint 3 is not complete yet" in told and time.monotonic() - began > 0.9, told
         assert ask("dispose", "orders", 1) == "the savepoint is disposed of; files that wait for deletion now: 1 more\n"
         assert "the coordinator refuses it: NoSuchSavepoint" in ask("dispose", "orders", 1, status=1)
-        assert ask("restore", "orders", "--savepoint", 2, "--shape", "2,1") == "the job begins again, from savepoint 2; files that wait for deletion now: 0 more\n"
+        assert ask("restore", "orders", "--savepoint", 2, "--shape", "2,1", "--without-look") == "the job begins again, from savepoint 2; files that wait for deletion now: 0 more\n"
         assert job.state()["shape"] == [2, 1]
         assert ask.json("restore", "orders")["restore"] == "savepoint"
         assert "NoSuchSavepoint" in ask("restore", "orders", "--savepoint", 9, status=1)
         # one that ends before it is complete
-        ending = threading.Thread(target=lambda: until(lambda: (live := job.state()["live"]) and live[-1]["id"] == 4) and ask("cancel", "orders"))
-        ending.start()
+        ending = beside(lambda: until(lambda: (live := job.state()["live"]) and live[-1]["id"] == 4) and ask("cancel", "orders"))
         told = ask("savepoint", "orders", "--wait", COMMAND // 2, status=1)
         ending.join()
         assert "savepoint 4 ended before it was complete" in told, told
         assert "NotRunning" in ask("cancel", "orders", status=1) and job.state()["mode"] == "cancelled"
-        return "12 calls"
 
 
 def test_statuses():
     with folder() as at:
         for name, text in ("write", "w" * 20), ("read", "r" * 20), ("bad", "x" * 20):
-            with open(f"{at}/{name}", "w", encoding="utf-8") as it:
-                it.write(f"{text}\n")
-        with open(f"{at}/tokens", "w", encoding="utf-8") as it:
-            it.write(f"write {'w' * 20}\nread {'r' * 20}\n")
+            save(f"{at}/{name}", f"{text}\n")
+        save(f"{at}/tokens", f"write {'w' * 20}\nread {'r' * 20}\n")
         server = Server(at, args=["--token-file", f"{at}/tokens"]).start()
         Service(server.url, token="w" * 20).open("orders", SETTINGS, [1])
         ask = {name: Asked(server, "--token-file", f"{at}/{name}") for name in ("write", "read", "bad")}
@@ -153,22 +167,6 @@ def test_statuses():
         server.start()
         gone = f"http://127.0.0.1:{free_port()}"
         assert "orders" in ran("jobs", "--url", gone, *ask["read"].more)
-        server.stop()
-        return "1, 2, 75 and 78"
-
-
-def changed(database, sql, given=()):
-    base = sqlite3.connect(database)
-    base.execute(sql, given)
-    base.commit()
-    base.close()
-
-
-def one(database, sql):
-    base = sqlite3.connect(database)
-    row = base.execute(sql).fetchone()
-    base.close()
-    return row
 
 
 def worked(job, rounds, first=1):
@@ -178,14 +176,13 @@ def worked(job, rounds, first=1):
 
 
 def test_check():
-    with served(args=KEEPING) as server:
-        job = Service(server.url).open("orders", SETTINGS, [1])
+    with served_job("orders", SETTINGS, [1], args=KEEPING) as (server, job):
         Service(server.url).open("users", SETTINGS, [1]).call(savepoint())
         worked(job, 8)
         database, check = server.database, ["check", "--database", server.database]
         seq = job.state()["seq"]
         images = 1 if seq < 40 else 2
-        until(lambda: one(database, "select count(*) from image where job = 1") == (images,))
+        until(lambda: sqlite(database, "select count(*) from image where job = 1")[0] == (images,))
         told = [json.loads(line) for line in ran(*check, "--json").splitlines()]
         assert told == [
             {"job": "orders", "alike": True, "calls": seq, "images": images}, {"job": "users", "alike": True, "calls": 1, "images": 0},
@@ -193,8 +190,7 @@ def test_check():
         # while a service commits, and cuts
         worked(job, 60, 9)
         until(lambda: job.state()["first"] > 100)
-        working = threading.Thread(target=worked, args=(job, 60, 69))
-        working.start()
+        working = beside(worked, job, 60, 69)
         for _ in range(10):
             told = ran(*check, "--job", "orders")
             assert told.startswith("job orders: ") and "are as this program has them" in told, told
@@ -203,38 +199,38 @@ def test_check():
         last, first = job_rows(database)
         assert first > 1
         # an answer, an image that its digest fits, an image that it does not, a gap, and a row that can't be read
-        base = one(database, f"select min(seq) from image where job = 1 and seq >= {first - 1}")[0]
-        place, *was = one(database, f"select seq, a, b from call where job = 1 and seq > {base} and what = {ACK_COMPLETED} order by seq limit 1")
-        changed(database, "update call set a = 7, b = 7 where job = 1 and seq = ?", (place,))
+        base = sqlite(database, f"select min(seq) from image where job = 1 and seq >= {first - 1}")[0][0]
+        place, *was = sqlite(database, f"select seq, a, b from call where job = 1 and seq > {base} and what = {ACK_COMPLETED} order by seq limit 1")[0]
+        sqlite(database, "update call set a = 7, b = 7 where job = 1 and seq = ?", place)
         told = ran(*check, status=1)
         assert f'job orders, call {place} ' in told and f'the log says "ack completed 7 7", and this program answers "ack completed {was[0]} {was[1]}"' in told, told
         assert "job users: 1 calls" in told and json.loads(ran(*check, "--json", "--job", "orders", status=1))["alike"] is False
         ran(*check, "--job", "users")
-        changed(database, "update call set a = ?, b = ? where job = 1 and seq = ?", (*was, place))
-        row = one(database, "select job, seq, at, shape, completed, event, text, digest from image where job = 1 order by seq desc limit 1")
+        sqlite(database, "update call set a = ?, b = ? where job = 1 and seq = ?", *was, place)
+        row = sqlite(database, "select job, seq, at, shape, completed, event, text, digest from image where job = 1 order by seq desc limit 1")[0]
         moved = (*row[:5], row[5] - 1, row[6])
         completed = "None" if row[4] is None else f"Some({row[4]})"
         digest = hashlib.sha256(f"{row[0]} {row[1]} {row[2]} {row[3]} {completed} {moved[5]} {row[6]}".encode()).hexdigest()
-        changed(database, "update image set event = ?, digest = ? where job = 1 and seq = ?", (moved[5], digest, row[1]))
+        sqlite(database, "update image set event = ?, digest = ? where job = 1 and seq = ?", moved[5], digest, row[1])
         assert f"the image after call {row[1]}: it is not what the calls before it give" in ran(*check, status=1)
-        changed(database, "update image set digest = 'x' where job = 1 and seq = ?", (row[1],))
+        sqlite(database, "update image set digest = 'x' where job = 1 and seq = ?", row[1])
         assert "its digest is not that of what it says" in ran(*check, status=1)
-        changed(database, "update image set event = ?, digest = ? where job = 1 and seq = ?", (row[5], row[7], row[1]))
+        sqlite(database, "update image set event = ?, digest = ? where job = 1 and seq = ?", row[5], row[7], row[1])
         ran(*check)
-        changed(database, "update call set waiting = -1 where job = 1 and seq = ?", (last,))
+        sqlite(database, "update call set waiting = -1 where job = 1 and seq = ?", last)
         assert "a row of call has Number(-1) in column 11" in ran(*check, status=1)
-        changed(database, "delete from call where job = 1 and seq = ?", (last - 1,))
-        changed(database, "update call set waiting = 0 where job = 1 and seq = ?", (last,))
+        sqlite(database, "delete from call where job = 1 and seq = ?", last - 1)
+        sqlite(database, "update call set waiting = 0 where job = 1 and seq = ?", last)
         assert f"call {last - 1} is missing" in ran(*check, status=1)
         # the log ends before the last image
-        changed(database, "delete from call where job = 1 and seq >= ?", (row[1],))
+        sqlite(database, "delete from call where job = 1 and seq >= ?", row[1])
         assert f"call {row[1]} is missing" in ran(*check, status=1)
         return f"{last - first + 1} calls of {last}, with 10 checks beside a service"
 
 
 def job_rows(database):
     """The last and the first call that the log of the first job has."""
-    return one(database, "select max(seq), min(seq) from call where job = 1")
+    return sqlite(database, "select max(seq), min(seq) from call where job = 1")[0]
 
 
 def test_check_of_other_databases():
@@ -256,44 +252,120 @@ def test_check_of_other_databases():
         server.kill()
         database.stop()
         ran(*check, status=75)
-        with open(f"{at}/text", "w", encoding="utf-8") as it:
-            it.write("no database, and long enough " * 100)
+        save(f"{at}/text", "no database, and long enough " * 100)
         assert "file is not a database" in ran("check", "--database", f"{at}/text", status=78)
         sqlite3.connect(f"{at}/other").executescript("create table t(x)")
         assert "no tables of a service" in ran("check", "--database", f"{at}/other", status=78)
         assert "neither postgres nor postgresql" in ran("check", "--database", "mysql://x", status=78)
         ran("check", "--database", f"{at}/none", status=75)
         assert not os.path.exists(f"{at}/none")
-        return "PostgreSQL, a text, another database, and none"
 
 
-def test_the_lines_that_give_each_command_the_address():
-    """Those of the page, in a shell: a command gets the address if the program knows it as an option of this command, and the words stay."""
-    with open(f"{TOP}/docs/SERVICE-COMMANDS.md", encoding="utf-8") as it:
-        lines = it.read().partition("**The address.**")[2].split("```")[1]
-    names = [os.path.basename(path)[len("relkvanu-"):-len(".1")] for path in glob.glob(f"{SERVICE}/deploy/man/relkvanu-*.1")]
-    assert len(names) > 15, names
+def test_the_environment_gives_the_address_and_the_token():
+    """An option goes first. Each command that has the option `--url` takes both."""
+    helps = {name: ran(name, "--help") for name in verbs()}
+    asking = {name: text for name, text in helps.items() if "--url" in text}
+    assert len(asking) > 15 and all("RELKVANU_URL" in text and "RELKVANU_TOKEN_FILE" in text for text in asking.values()), asking
     with folder() as at:
-        environment = {**os.environ, "PATH": f"{at}:{os.environ['PATH']}"}
+        for name, token in ("tokens", "write 0123456789abcdef0123"), ("token", "0123456789abcdef0123"):
+            save(f"{at}/{name}", token + "\n")
+        server = Server(at, args=["--token-file", f"{at}/tokens"], token="0123456789abcdef0123").start()
+        environment = {**ENVIRONMENT, "RELKVANU_URL": f"http://127.0.0.1:{free_port()} {server.url}", "RELKVANU_TOKEN_FILE": f"{at}/token"}
 
-        def pasted(shell, *words):
-            run = [shell, "-euc", f'{lines}\nrelkvanu "$@"', shell, *words]
-            return subprocess.run(run, env=environment, stdout=subprocess.PIPE, stderr=subprocess.STDOUT, text=True, check=True).stdout
+        def asked(*words, **more):
+            told = subprocess.run([PROGRAM, *words], env={**environment, **more}, stdout=subprocess.PIPE, stderr=subprocess.STDOUT, text=True, timeout=COMMAND, check=False)
+            return told.returncode, told.stdout
 
-        os.symlink(PROGRAM, f"{at}/relkvanu")
-        assert "--wait" in pasted("bash", "help", "savepoint") and pasted("bash", "--version").startswith("relkvanu ")
-        os.remove(f"{at}/relkvanu")
-        with open(f"{at}/relkvanu", "w", encoding="utf-8") as it:
-            it.write("#!/bin/sh\nprintf '%s\\n' \"$@\"\n")
-        os.chmod(f"{at}/relkvanu", 0o755)
-        for name in names:
-            more = ["--url", "https://relkvanu.example:7780"] if "--url" in ran(name, "--help") else []
-            for shell in ("bash", "sh"):
-                assert pasted(shell, name, "two words", "--x").splitlines() == [name, "two words", "--x", *more], (shell, name)
-    return f"{len(names)} commands in two shells"
+        assert asked("jobs", "--json") == (0, "[]\n")
+        # what Python does
+        for words in ("keep", "none", "--folder", at), ("--url", server.url, "--token-file", f"{at}/token", "keep", "none", "--folder", at):
+            status, told = asked(*words)
+            assert status == 1 and "there is no job none" in told, (status, told)
+        assert asked("jobs", "--url", f"http://127.0.0.1:{free_port()}", "--within", "1")[0] == 75
+        assert asked("jobs", RELKVANU_TOKEN_FILE=f"{at}/none")[0] == 78
+        server.stop()
+    return f"{len(asking)} commands"
 
 
-def test_completions_and_the_manual_page():
+@contextlib.contextmanager
+def running_job(at, files):
+    """That of examples/python/count.py, which listens. It has put out lines."""
+    for it in ("out", "state"):
+        os.mkdir(f"{at}/{it}")
+    words = [sys.executable, f"{HERE}/runner_engine.py", f"{at}/count.db", files, f"{at}/out", f"{at}/job.sock"]
+    around = {**os.environ, "PYTHONPATH": f"{ENVIRONMENT['PYTHONPATH']}:{TOP}/examples/python"}
+    with subprocess.Popen(words, stdout=subprocess.PIPE, text=True, env=around) as run:
+        try:
+            until(lambda: glob.glob(f"{at}/out/*.jsonl"))
+            yield run
+        finally:
+            run.kill()
+
+
+def over_socket(at):
+    """Verbs for a running job, of which no checkpoint comes due any more. Nobody says its name, and options may come before the verb."""
+    def asked(*words, status=0):
+        return ran("--url", f"unix:{at}/job.sock", *words, status=status)
+
+    def rests():
+        state = json.loads(asked("show", "--json"))
+        return state["due"] > state["now"] + 60000 and all(it["done"] for it in state["live"]) and state["name"] == "count"
+
+    assert "interval 3000000" in asked("set", "interval=3000000")
+    until(rests)
+    return asked
+
+
+def test_a_running_job_is_asked_over_its_socket():
+    with folder() as at, running_job(at, f"{at}/state") as run:
+        asked = over_socket(at)
+        told = asked("checkpoint", "--full", "--wait")
+        id = int(told.split()[1])
+        assert "count" in asked("jobs") and told == f"checkpoint {id} is triggered\ncheckpoint {id} is complete\n", told
+        assert asked("show", id).split()[:4] == ["record", str(id), "kind", "checkpoint"]
+        assert asked("savepoint", "--wait").endswith(f"savepoint {id + 1} is complete\n")
+        assert re.search(rf"^{id + 1} +savepoint.* none$", asked("savepoints", "--folder", f"{at}/state"), re.MULTILINE)
+        assert "NotStopped" in asked("begin", status=1)
+        for words in (["log"], ["term"], ["advance"], ["delete"], ["end", "--folder", at], ["set", "--folder", at], ["restore", "--from-backup", "--folder", at]):
+            assert "asks a service" in asked(*words, status=2), words
+        assert asked("stop", "--wait").endswith(f"the job has stopped at savepoint {id + 2}\n")
+        assert asked("restore").startswith(f"the job stays stopped, and begins from savepoint {id + 2}")
+        assert asked("begin").startswith(f"the job begins again, from savepoint {id + 2}")
+        assert "disposed" in asked("dispose", id + 1) and "InUse" in asked("dispose", id + 2, status=1)
+        ended = [line.split()[:2] for line in asked("history").splitlines()[1:4]]
+        assert ended == [[str(id + 2), "savepoint"], [str(id + 1), "savepoint"], [str(id), "checkpoint"]], ended
+        assert "wasn't expected" in asked("begin", "orders", status=2)
+        assert "not reached" in ran("jobs", "--url", f"unix:{at}/none", "--within", 1, status=75)
+        assert "the job is cancelled" in asked("cancel") and run.communicate(timeout=COMMAND)[0] == "CANCELLED\n"
+        return f"11 verbs, {Lines(f'{at}/out').check()} lines"
+
+
+def test_a_running_job_has_its_files_in_a_bucket():
+    """A record is whole as long as the bucket has its objects: otherwise it is not restored."""
+    bucket = Bucket("")
+    os.environ.update(bucket.said)  # of the engine, and of what looks for objects
+    ENVIRONMENT.update(around(bucket), PYTHONPATH=ENVIRONMENT["PYTHONPATH"])
+    with folder() as at, running_job(at, f"s3://{bucket.bucket}/orders") as run:
+        asked, place = over_socket(at), bucket.words("", "")
+        id = int(asked("savepoint", "--wait").split()[1])
+        assert re.search(rf"^{id} +savepoint.* none$", asked("savepoints", *place), re.MULTILINE)
+        assert "--bucket says where" in asked("restore", "--savepoint", id, status=2)
+        assert asked("restore", "--savepoint", id, *place).startswith(f"the job begins again, from savepoint {id};")
+        file = json.loads(asked("show", id, "--json"))["live"]["acks"][1]["files"][0]
+        bucket.remove(file)
+        told = asked("savepoints", *place, status=1)
+        assert re.search(rf"^{id} +savepoint.* 1: {file}$", told, re.MULTILINE), told
+        assert f"record {id} lacks files in s3://{bucket.bucket}/orders" in asked("restore", "--savepoint", id, *place, status=1)
+        assert "the job is cancelled" in asked("cancel") and run.communicate(timeout=COMMAND)[0] == "CANCELLED\n"
+        return f"savepoint {id}, {Lines(f'{at}/out').check()} lines"
+
+
+def verbs():
+    listed = ran("--help").partition("Commands:\n")[2].partition("\n\n")[0]
+    return [line.split()[0] for line in listed.splitlines()]
+
+
+def test_completions_and_the_manual_pages():
     script = ran("completions", "bash")
     ask = 'source /dev/stdin; COMP_WORDS=(relkvanu "$@"); COMP_CWORD=$#; _relkvanu relkvanu; echo "${COMPREPLY[@]}"'
 
@@ -302,11 +374,18 @@ def test_completions_and_the_manual_page():
 
     assert sorted(completed("sav")) == ["savepoint", "savepoints"] and completed("sho") == ["show"], (completed("sav"), completed("sho"))
     assert completed("savepoint", "--wa") == ["--wait"] and "--image-calls" in completed("serve", "--i")
+    # those of the verbs that Python has come from it
+    assert completed("import", "--cl") == ["--claim"], completed("import", "--cl")
     for shell in ("zsh", "fish"):
         assert "savepoint" in ran("completions", shell)
-    if not shutil.which("mandoc"):
-        raise Skipped("mandoc", "it is not here")
-    pages = sorted(glob.glob(f"{SERVICE}/deploy/man/*.1"))
-    told = subprocess.run(["mandoc", "-T", "lint", "-W", "warning", *pages], stdout=subprocess.PIPE, text=True, check=False)
-    assert told.returncode == 0, told.stdout
-    return "bash completes commands and options"
+    if not shutil.which("mandoc") or not shutil.which("help2man"):
+        raise Skipped("mandoc, help2man", "one of them is not here")
+    with folder() as at:
+        subprocess.run([f"{TOP}/packaging/write_command_pages", PROGRAM, at], check=True)
+        pages = sorted(glob.glob(f"{at}/*.1"))
+        assert [os.path.basename(it) for it in pages] == sorted(["relkvanu.1", *(f"relkvanu-{it}.1" for it in verbs())]), pages
+        told = subprocess.run(["mandoc", "-T", "lint", "-W", "warning", *pages], stdout=subprocess.PIPE, text=True, check=False)
+        assert told.returncode == 0, told.stdout
+        for verb in verbs():
+            assert f"relkvanu {verb}" in content(f"{at}/relkvanu-{verb}.1").replace("\\-", "-"), verb
+    return f"bash completes commands and options, and {len(pages)} pages"

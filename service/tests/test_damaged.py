@@ -1,12 +1,10 @@
-"""A job whose log can't be replayed is kept out, and the others are served: over SQLite and PostgreSQL, at a start, a take-over and a move of shards."""
+"""A job whose log can't be replayed is kept out, and the others are served: over SQLite and PostgreSQL, at a start and a take-over."""
 import json
-import sqlite3
 import subprocess
 
-from harness import CALL, COMMAND, LOCKED, PROGRAM, SERVICE, Server, configured, folder, lease_of, until
+from harness import CALL, COMMAND, PROGRAM, SERVICE, Server, configured, folder, lease_of, served, sqlite, until
 from postgres import postgres
 from relkvanu_service import Service, ack, savepoint
-from spread import CONFIG, even
 from test_clients import as_json_schema
 from test_metrics import scraped
 
@@ -31,22 +29,20 @@ ROWS = ("job", "call", "request", "image", "image_part", "size", "ack_size", "ph
 REQUESTS = (
     ("GET", "", None), ("DELETE", "", None), ("POST", "/calls", {"calls": [{"call": "tick"}]}), ("POST", "/fence", {"first_name": "9"}),
     ("POST", "/advance", {"term": 9, "first_name": "9"}), ("POST", "/garbage", {"files": []}), ("POST", "/checkpoints", {}), ("POST", "/stop", {}),
-    ("POST", "/begin", {}), ("PATCH", "/settings", {"interval": 5000}), ("GET", "/records", None), ("GET", "/records/1", None), ("GET", "/history", None),
+    ("POST", "/begin", {}), ("PATCH", "/settings", {"interval": 5000}), ("PUT", "/storage", {"folder": "/srv"}), ("GET", "/records", None), ("GET", "/records/1", None), ("GET", "/history", None),
     ("GET", "/records/1/acks", None), ("GET", "/files", None), ("GET", "/files/1", None), ("GET", "/log", None), ("GET", "/events", None),
     ("GET", "/stream", None), ("GET", "/samples", None), ("GET", "/term", None),
 )
 
 
-class Lite:
+class Sqlite:
     """The rows of an SQLite file whose service may run."""
 
     def __init__(self, path):
         self.path = path
 
     def sql(self, text):
-        with sqlite3.connect(self.path, timeout=LOCKED) as base:
-            rows = base.execute(text).fetchall()
-        return "\n".join("|".join("" if cell is None else str(cell) for cell in row) for row in rows)
+        return "\n".join("|".join("" if cell is None else str(cell) for cell in row) for row in sqlite(self.path, text))
 
 
 def rows_of(database, jobs):
@@ -142,7 +138,7 @@ def looked_at(server, database, sound):
     told = subprocess.run([PROGRAM, "jobs", "--url", server.url], stdout=subprocess.PIPE, stderr=subprocess.PIPE, text=True, check=True, timeout=COMMAND)
     assert all(f"job {name} is damaged" in told.stderr and name not in told.stdout for name in DAMAGES), told
     fit_the_description(server)
-    address = server.database if isinstance(database, Lite) else database.url
+    address = server.database if isinstance(database, Sqlite) else database.url
     told = subprocess.run([PROGRAM, "check", "--database", address], stdout=subprocess.PIPE, stderr=subprocess.PIPE, text=True, check=False, timeout=COMMAND)
     lines = told.stdout.splitlines()
     for name, (_, said) in DAMAGES.items():
@@ -216,40 +212,24 @@ def damaged_key(server, database, damage):
 
 
 def test_a_key_that_is_damaged_over_sqlite():
-    with folder() as at:
-        server = Server(at).start()
-        try:
-            return damaged_key(server, Lite(server.database), "update request set answers = cast(x'ff' as text) where key = 'first'")
-        finally:
-            server.stop()
+    with served() as server:
+        return damaged_key(server, Sqlite(server.database), "update request set answers = cast(x'ff' as text) where key = 'first'")
 
 
 def test_a_key_that_is_damaged_over_postgres():
-    with postgres() as database, folder() as at:
-        server = Server(at, database.url).start()
-        try:
-            database.sql("alter table request alter column answers drop not null")
-            return damaged_key(server, database, "update request set answers = null where key = 'first'")
-        finally:
-            server.stop()
+    with postgres() as database, served(database=database.url) as server:
+        database.sql("alter table request alter column answers drop not null")
+        return damaged_key(server, database, "update request set answers = null where key = 'first'")
 
 
 def test_over_sqlite():
-    with folder() as at:
-        server = Server(at, args=["--image-calls", "5"]).start()
-        try:
-            return damaged_and_mended(server, Lite(server.database), server.start, server.stop)
-        finally:
-            server.stop()
+    with served(args=["--image-calls", "5"]) as server:
+        return damaged_and_mended(server, Sqlite(server.database), server.start, server.stop)
 
 
 def test_over_postgres():
-    with postgres() as database, folder() as at:
-        server = Server(at, database.url, ["--image-calls", "5"]).start()
-        try:
-            return damaged_and_mended(server, database, server.start, server.stop)
-        finally:
-            server.stop()
+    with postgres() as database, served(database=database.url, args=["--image-calls", "5"]) as server:
+        return damaged_and_mended(server, database, server.start, server.stop)
 
 
 def test_a_take_over():
@@ -257,65 +237,24 @@ def test_a_take_over():
     with postgres() as database, folder() as at:
         words = configured(at, f"lease_seconds = {lease_of(2)}\n")
         first, second = Server(at, database.url, words).start(), Server(at, database.url, words)
-        try:
-            service = Service(first.url)
-            filled(service, ["good", "differs"])
-            before = seen(service.job("good"))
-            put_damage(database, ["differs"])
-            second.stand_by()
-            assert service.damaged() == {} and service.job("differs").state()["seq"] == 5
-            first.kill()
-            second.wait_ready()
-            service = Service(second.url)
-            assert list(service.damaged()) == ["differs"] and seen(service.job("good")) == before
-            is_kept_out(second, "differs", DAMAGES["differs"][1])
-            return "a standby serves the other job"
-        finally:
-            first.stop()
-            second.stop()
-
-
-def test_shards_that_move():
-    """Two processes share the jobs. That which gets the shard of a damaged job serves the others of it, and both tell of it."""
-    with postgres() as database, folder() as at:
-        servers = [Server(at, database.url, configured(at, CONFIG)) for _ in range(2)]
-        for server in servers:
-            server.args += ["--spread", "--advertise", server.url]
-        try:
-            service = Service(servers[0].start().url)
-            names = [f"job-{number}" for number in range(65)]
-            filled(service, names)
-            numbers = {name: number_of(database, name) for name in names}
-            # there are 64 shards, so one has two of them
-            shards = [number % 64 for number in numbers.values()]
-            bad, good = [name for name in names if shards.count(numbers[name] % 64) > 1][:2]
-            servers[0].stop()
-            database.sql(DAMAGES["differs"][0].format(job=numbers[bad]))
-            for server in servers:
-                server.start(ready=False)
-            for server in servers:
-                server.wait_ready()
-            # the first one may have had all of them, and be ready, before the second one came
-            even(servers)
-            for server in servers:
-                service = Service(server.url)
-                until(lambda one=service: len(one.jobs()) == len(names) - 1)
-                assert list(service.damaged()) == [bad], service.damaged()
-                is_kept_out(server, bad, DAMAGES["differs"][1])
-                assert service.job(good).state()["seq"] == 5
-            return f"{len(names) - 1} of {len(names)} jobs are served"
-        finally:
-            for server in servers:
-                server.stop()
+        service = Service(first.url)
+        filled(service, ["good", "differs"])
+        before = seen(service.job("good"))
+        put_damage(database, ["differs"])
+        second.stand_by()
+        assert service.damaged() == {} and service.job("differs").state()["seq"] == 5
+        first.kill()
+        second.wait_ready()
+        service = Service(second.url)
+        assert list(service.damaged()) == ["differs"] and seen(service.job("good")) == before
+        is_kept_out(second, "differs", DAMAGES["differs"][1])
 
 
 def test_no_job_that_can_be_replayed():
     """If not one job can be replayed, the start ends: the program or the database is the wrong one."""
-    with folder() as at:
-        server = Server(at).start()
+    with served() as server:
         filled(Service(server.url), ["differs"])
         server.stop()
-        put_damage(Lite(server.database), ["differs"])
+        put_damage(Sqlite(server.database), ["differs"])
         server.start(ready=False)
         assert server.ended() == 78 and DAMAGES["differs"][1] in server.log(), server.log()[-600:]
-        return "status 78"

@@ -1,4 +1,4 @@
-"""Dask over the service: the fault test of engines/dask, whose tasks are killed in the middle of checkpoints, and the service again and again; and
+"""Dask over the service: the fault test of engines/zombie_tasks, whose tasks are killed in the middle of checkpoints, and the service again and again; and
 checkpoints of relkvanu.daskstream, whose drivers are lost with all that they have."""
 import json
 import os
@@ -8,14 +8,14 @@ import subprocess
 import sys
 import time
 
-from harness import PROGRAM, TOP, Server, check_log, folder, until
+from harness import PROGRAM, TOP, Server, check_log, folder, raised, until
 from relkvanu_service import Service, savepoint
 from run import Skipped
 from test_events import Copy
 from test_operate import ran
 from writers import check_made
 
-FAULT_TEST = f"{TOP}/engines/dask/run"
+FAULT_TEST = f"{TOP}/engines/zombie_tasks/run"
 SHAPE = [2, 6, 3]
 LONGEST = 1800  # seconds, on a busy machine
 MOST = 10  # kills; on a busy machine the engine may not get on between two of them
@@ -28,8 +28,7 @@ def killed_until_ended(server, engine, chance):
         assert time.monotonic() < end, "the fault test does not end"
         time.sleep(chance.uniform(0.3, 1.2))
         if kills < MOST:
-            server.kill()
-            server.start()
+            server.again()
             kills += 1
     return kills
 
@@ -88,14 +87,6 @@ def state_files(at):
     return {name for name in os.listdir(f"{at}/state") if name.isdecimal()}
 
 
-def refused(kind, function, *words):
-    try:
-        function(*words)
-    except kind as error:
-        return str(error)
-    raise AssertionError(f"it was not refused: {function}")
-
-
 def test_a_driver_over_dask_whose_job_another_one_has_begun():
     """No library is loaded, and no driver has a file of its own."""
     sys.path.append(f"{TOP}/bindings/python")
@@ -107,7 +98,7 @@ def test_a_driver_over_dask_whose_job_another_one_has_begun():
     with folder() as at:
         os.mkdir(f"{at}/state")
         server = Server(at, names=True).start()
-        refused(Failed, driver, server, at, False)  # there is no such job
+        raised(Failed, driver, server, at, False)  # there is no such job
         old = driver(server, at)
         assert old.restore() is None
         assert old.save("one", {"x": [1, 2, 3]})[:3] == (1, 3, 0)
@@ -116,13 +107,12 @@ def test_a_driver_over_dask_whose_job_another_one_has_begun():
         new = driver(server, at)
         found = new.restore()
         assert (found.meta, [new.value(it) for it in found.parts["x"]]) == ("two", [1, 2, 4]), found
-        refused(Superseded, old.save, "three", {"x": [9, 9, 9]})
+        raised(Superseded, old.save, "three", {"x": [9, 9, 9]})
         pending = Service(server.url).job("words").state()["live"][-1]
         assert not pending["done"], pending  # the old one has triggered it, and the new one takes it
         assert new.save("three", {"x": [1, 2, 5]})[:3] == (pending["id"], 1, 2)
         old.close()
-        server.kill()
-        server.start()
+        server.again()
         copy = Copy(server, None)
         copy.make()
         assert new.save("four", {"x": [1, 2, 5], "y": [6]})[1:3] == (1, 3)
@@ -130,27 +120,23 @@ def test_a_driver_over_dask_whose_job_another_one_has_begun():
         names = state_files(at)
         assert names == in_use(Service(server.url).job("words")) and len(names) == 5, names
         copy.restore()
-        refused(Superseded, new.save, "five", {"x": [1, 2, 7]})
+        raised(Superseded, new.save, "five", {"x": [1, 2, 7]})
         new.close()
         late = driver(server, at)
-        refused(PartError, late.restore)  # the list of the third record is deleted, as it was released
-        refused(Failed, late.sweep)
+        raised(PartError, late.restore)  # the list of the third record is deleted, as it was released
+        raised(Failed, late.sweep)
         late.close()
         assert state_files(at) - names == set() == names - state_files(at), (names, state_files(at))  # those of the fourth, which nobody knows any more
         assert "relkvanu.coordinator" not in sys.modules, "the library"
-        server.stop()
         return f"the late driver is refused, and that before a restored backup; {len(names)} files stay"
 
 
 def stopped_at(work, *words):
     from relkvanu.jobs import Stopped
 
-    try:
-        work(*words)
-    except Stopped as stopped:
-        assert "relkvanu begin words" in str(stopped) or "begin=True" in str(stopped), stopped
-        return stopped.savepoint
-    raise AssertionError("it has not stopped")
+    stopped = raised(Stopped, work, *words)
+    assert "relkvanu begin words" in str(stopped) or "begin=True" in str(stopped), stopped
+    return stopped.savepoint
 
 
 def test_a_driver_over_dask_whose_job_is_stopped_and_begun():
@@ -168,14 +154,12 @@ def test_a_driver_over_dask_whose_job_is_stopped_and_begun():
         assert first.save("one", {"x": [1, 2]}).id == 1
         strange = job.call(savepoint())["id"]  # of a user, whose outputs could not be taken back
         assert ran(server, "stop", "words") == f"the job stops: savepoint {strange + 1} is triggered\n"
-        server.kill()
-        server.start()
+        server.again()
         assert first.save("two", {"x": [1, 3]})[:3] == (strange + 1, 1, 1)
         assert [stopped_at(work) for work in (first.check_stopped, lambda: first.save("no", {}), first.restore)] == [strange + 1] * 3
         first.close()
         assert ran(server, "stop", "words", "--wait", 1) == f"the job has stopped at savepoint {strange + 1}\n"
-        server.kill()
-        server.start()
+        server.again()
         late = driver(server, at)
         assert stopped_at(late.restore) == strange + 1 and late.last().meta == "two"
         late.close()
@@ -196,11 +180,11 @@ def test_a_driver_over_dask_whose_job_is_stopped_and_begun():
         assert (found.meta, [third.value(it) for it in found.parts["x"]]) == ("three", [1, 4]), found
         third.stops = True
         third._acknowledge, acknowledge = lambda *_: third.value(None), third._acknowledge  # the stop fails before it is complete
-        refused(AttributeError, third.save, "four", {"x": [1, 5]})
+        raised(AttributeError, third.save, "four", {"x": [1, 5]})
         assert (job.state()["phase"], job.state()["stop"]["failed"]) == ("running", "declined")
         third._acknowledge = acknowledge
         assert third.restore().meta == "three" and third.stops
-        refused(Failed, third._job.trigger, 9)
+        raised(Failed, third._job.trigger, 9)
         third.stops = False
         assert third.restore().meta == "three"
         fourth = third.save("four", {"x": [1, 5]}).id
@@ -210,18 +194,16 @@ def test_a_driver_over_dask_whose_job_is_stopped_and_begun():
         third.close()
         names = state_files(at)
         assert names == in_use(job) and len(names) == 3, names
-        server.stop()
-        return "3 stops; no savepoint stays"
 
 
 def test_stops_of_a_stream_over_dask_while_all_are_killed():
-    """engines/distributed/kills.py: each driver begins without a file. Kills of a stream that goes on, then stops of it, and then its end."""
+    """engines/dask/kills.py: each driver begins without a file. Kills of a stream that goes on, then stops of it, and then its end."""
     kills, stops = (os.environ.get(f"RELKVANU_DASK_{it}", "1") for it in ("KILLS", "STOPS"))
     if subprocess.run(["/usr/bin/python3", "-c", "import streamz, distributed, pandas, xxhash"], stderr=subprocess.DEVNULL, check=False).returncode:
-        raise Skipped("python3-streamz", "not all packages of engines/distributed/setup are here")
+        raise Skipped("python3-streamz", "not all packages of engines/dask/setup are here")
     with folder() as at:
-        words = ["/usr/bin/python3", f"{TOP}/engines/distributed/kills.py", "words", kills, "1", f"{at}/words", "--service", PROGRAM, "--stops", stops]
-        paths = ("bindings/python", "engines/distributed", "service/client/python")
+        words = ["/usr/bin/python3", f"{TOP}/engines/dask/kills.py", "words", kills, "1", f"{at}/words", "--service", PROGRAM, "--stops", stops]
+        paths = ("bindings/python", "engines/dask", "service/client/python")
         told = subprocess.run(words, stdout=subprocess.PIPE, stderr=subprocess.STDOUT, text=True, check=False, timeout=LONGEST,
                               env={**os.environ, "PYTHONPATH": ":".join(f"{TOP}/{it}" for it in paths), "RELKVANU_LIB": "/nowhere"})
         assert told.returncode == 0, told.stdout[-3000:]

@@ -1,9 +1,9 @@
-"""`relkvanu discard` over a folder of files: it deletes what is handed out and nothing else, and goes on where a killed one stopped."""
+"""`relkvanu clean` over a folder of files: it deletes what is handed out and nothing else, and goes on where a killed one stopped."""
 import os
 import subprocess
 import time
 
-from harness import COMMAND, PROGRAM, served, until
+from harness import COMMAND, PROGRAM, save, served, until
 from relkvanu_service import Service, ack, take
 
 SETTINGS = {"interval": 10, "timeout": 100000, "retained": 1}
@@ -16,15 +16,14 @@ def checkpoints(job, folder, count, first):
         record = until(lambda: next((it["id"] for it in job.state()["live"] if not it["done"]), None))
         new = [first + number * 10 + place for place in range(3)]
         for file in new:
-            with open(f"{folder}/s-{file}.state", "w", encoding="utf-8") as it:
-                it.write("state")
+            save(f"{folder}/s-{file}.state", "state")
         job.call(ack(record, "0.0", new))
         files += new
     return files
 
 
 def discard(server, folder, *more):
-    words = [PROGRAM, "discard", "--folder", folder, "--job", "orders", "--url", server.url, "--prefix", "s-", "--suffix", ".state"]
+    words = [PROGRAM, "clean", "--folder", folder, "--job", "orders", "--url", server.url, "--prefix", "s-", "--suffix", ".state"]
     return subprocess.Popen([*words, *more], stderr=subprocess.PIPE, text=True)
 
 
@@ -38,8 +37,7 @@ def test_a_folder():
         os.mkdir(folder)
         job = Service(server.url).open("orders", SETTINGS, [1])
         files = checkpoints(job, folder, 20, 1000)
-        with open(f"{folder}/other", "w", encoding="utf-8") as it:
-            it.write("mine")
+        save(f"{folder}/other", "mine")
         # one that was killed between the take and the reports
         left = job.take(5)
         os.remove(f"{folder}/s-{left[0]}.state")
@@ -94,7 +92,6 @@ def test_it_survives_the_service():
 
 def test_bad_options():
     for words, text in [(["--folder", "/nowhere", "--job", "a"], "no folder"), (["--folder", "/tmp", "--job", "a", "--prefix", "../"], "'/'")]:
-        told = subprocess.run([PROGRAM, "discard", *words], stderr=subprocess.PIPE, text=True, timeout=COMMAND, check=False)
+        told = subprocess.run([PROGRAM, "clean", *words], stderr=subprocess.PIPE, text=True, timeout=COMMAND, check=False)
         assert told.returncode == 1 and text in told.stderr, told
     assert take(5) == {"call": "take", "most": 5}
-    return "2 refused"

@@ -1,4 +1,4 @@
-"""`relkvanu discard` in a wrong folder, in one that goes away, and where it or the service is killed: it gives up no file that is there."""
+"""`relkvanu clean` in a wrong folder, in one that goes away, and where it or the service is killed: it gives up no file that is there."""
 import contextlib
 import os
 import re
@@ -6,12 +6,11 @@ import subprocess
 import time
 import urllib.request
 
-from between import Between
-from harness import COMMAND, PROGRAM, SERVICE, folder, free_port, served, until
+from proxy import Proxy
+from harness import COMMAND, PROGRAM, SETTINGS, Server, content, counts, folder, free_port, raised, save, served, until
+from postgres import postgres
 from relkvanu_service import Failed, Service, ack, dispose, savepoint
 from run import Skipped
-
-SETTINGS = {"interval": 1 << 40}
 
 
 def files_of(job, folder, first, count, there=None):
@@ -19,8 +18,7 @@ def files_of(job, folder, first, count, there=None):
     record = job.call(savepoint())["id"]
     files = list(range(first, first + count))
     for file in files if there is None else there:
-        with open(f"{folder}/s-{file}", "w", encoding="utf-8") as it:
-            it.write("state")
+        save(f"{folder}/s-{file}", "state")
     job.calls([ack(record, "0.0", files), dispose(record)])
     return files
 
@@ -30,7 +28,7 @@ def present(folder):
 
 
 def discard(server, folder, *more, prefix="s-", before=(), job="a"):
-    words = [PROGRAM, "discard", "--job", job, "--folder", folder, "--url", server.url, "--prefix", prefix, *more]
+    words = [PROGRAM, "clean", "--only", "released", "--job", job, "--folder", folder, "--url", server.url, "--prefix", prefix, *more]
     return subprocess.Popen([*before, *words], stderr=subprocess.PIPE, text=True)
 
 
@@ -59,9 +57,17 @@ def a_job():
         yield server, Service(server.url).open("a", SETTINGS, [1]), folder
 
 
-def counts(job):
-    files = job.state()["files"]
-    return files["waiting"], files["taken"]
+def test_a_history_that_lags():
+    """It can't tell whether files were deleted before: no marker is made, and nobody has to look. A later run goes on."""
+    with postgres() as database, folder() as at:
+        server, place = Server(at, database.url).start(), f"{at}/files"
+        os.mkdir(place)
+        job = Service(server.url).open("a", SETTINGS, [1])
+        with database.locked("figure"):
+            files = files_of(job, place, 100, 5)
+            told = await_end(discard(server, place, "--once"), 1, "it can't tell yet whether files were deleted before")
+            assert "has no file" not in told and present(place) == files and len(os.listdir(place)) == 5, told
+        await_end(discard(server, place, "--once"), 0, "deleted=5")
 
 
 def test_a_wrong_prefix():
@@ -78,8 +84,8 @@ def test_a_wrong_prefix():
         files_of(job, folder, 300, 5, there=[])
         await_end(discard(server, folder, "--once"), 78, "none of 5 files")
         await_end(discard(server, folder, "--once", "--allow-absent"), 0, "deleted=0 absent=5 failed=0")
-        assert counts(job) == (0, 0) and job.file(more[0])["history"]["deleted"]
-        return "20 files stay, and wait again"
+        assert counts(job) == (0, 0)
+        until(lambda: job.file(more[0])["history"]["deleted"])
 
 
 def test_a_folder_without_the_marker():
@@ -89,15 +95,13 @@ def test_a_folder_without_the_marker():
         os.mkdir(other)
         files = files_of(job, folder, 100, 4)
         await_end(discard(server, folder, "--once"), 0, "deleted=4")
-        with open(marker, encoding="utf-8") as it:
-            text = it.read()
+        text = content(marker)
         assert f"the job a, opened at {job.state()['opened']}," in text, text
         files = files_of(job, folder, 200, 4)
         # an empty folder, as a mount point without its disk
         await_end(discard(server, other, "--once"), 78, ".relkvanu-a")
         # one of a job of this name in another service
-        with open(f"{other}/.relkvanu-a", "w", encoding="utf-8") as it:
-            it.write(text.replace("opened at ", "opened at 9"))
+        save(f"{other}/.relkvanu-a", text.replace("opened at ", "opened at 9"))
         await_end(discard(server, other, "--once"), 78, "names another job")
         # a marker that goes while it works
         with at_work(server, folder) as run:
@@ -107,14 +111,12 @@ def test_a_folder_without_the_marker():
             await_end(run, 78, ".relkvanu-a")
         assert present(folder) == files and counts(job) == (4, 0), job.state()
         await_end(discard(server, folder, "--once", "--init"), 0, "deleted=4")
-        with open(marker, encoding="utf-8") as it:
-            assert it.read() == text
+        assert content(marker) == text
         with at_work(server, folder):
             # once it works it has the lock
             files_of(job, folder, 400, 1)
             until(lambda: counts(job) == (0, 0))
-            await_end(discard(server, folder, "--once"), 1, "another discarder")
-        return "refused in 3 folders, and marked by --init"
+            await_end(discard(server, folder, "--once"), 1, "another cleaner")
 
 
 def test_two_jobs_in_a_folder():
@@ -129,8 +131,7 @@ def test_two_jobs_in_a_folder():
             task = job.begin().session(block=10)
             names = [task.name(), task.name()]
             for name in names:
-                with open(f"{folder}/{prefix}{name}", "w", encoding="utf-8") as it:
-                    it.write(prefix)
+                save(f"{folder}/{prefix}{name}", prefix)
             for name in reversed(names):
                 task.ack(job.call(savepoint())["id"], "0.0", [name])
             job.call(dispose(2))
@@ -167,13 +168,12 @@ def test_two_jobs_in_a_folder():
         assert not os.path.exists(f"{folder}/.relkvanu-c")
         await_end(discard(server, folder, "--once", "--init", prefix="u-", job="c"), 0, "is marked")
         # and a sweeper heeds it
-        told = subprocess.run([PROGRAM, "sweep", "c", "--folder", folder, "--url", server.url, "--prefix", "t-", "--delete"], capture_output=True, text=True, timeout=COMMAND, check=False)
+        told = swept(server, folder, "c", "t-")
         assert told.returncode == 78 and ".relkvanu-b" in told.stderr and there() == ["s-2"], told
-        return "refused with the same prefix, with a digit more and with none, also by --init and by the sweeper"
 
 
 def swept(server, folder, job, prefix):
-    words = [PROGRAM, "sweep", job, "--folder", folder, "--url", server.url, "--prefix", prefix, "--delete"]
+    words = [PROGRAM, "clean", "--only", "garbage", "--once", "--job", job, "--folder", folder, "--url", server.url, "--prefix", prefix]
     return subprocess.run(words, capture_output=True, text=True, timeout=COMMAND, check=False)
 
 
@@ -181,8 +181,7 @@ def contents(folder):
     """The files of a folder with what they say."""
     found = {}
     for name in os.listdir(folder):
-        with open(f"{folder}/{name}", encoding="utf-8") as it:
-            found[name] = it.read()
+        found[name] = content(f"{folder}/{name}")
     return found
 
 
@@ -198,8 +197,7 @@ def test_a_job_that_is_named_as_a_file_of_another_job():
             task = jobs[job].begin().session(block=3)
             names = [task.name() for _ in range(3)]
             for name in names:
-                with open(f"{folder}/{prefix}{name}", "w", encoding="utf-8") as it:
-                    it.write(job)
+                save(f"{folder}/{prefix}{name}", job)
             task.ack(jobs[job].call(savepoint())["id"], "0.0", names)
 
         # the other job has a restart behind it, so it would take the files for garbage of its own
@@ -222,8 +220,7 @@ def test_a_job_that_is_named_as_a_file_of_another_job():
         os.mkdir(folder)
         for name in ("a.names", "a"):
             marker, text = jobs[name].marker()
-            with open(f"{folder}/{marker}", "w", encoding="utf-8") as it:
-                it.write(text)
+            save(f"{folder}/{marker}", text)
         in_use("a.names", folder, "s-")
         before = contents(folder)
         for name in ("a", "a.names"):
@@ -234,12 +231,8 @@ def test_a_job_that_is_named_as_a_file_of_another_job():
         folder = f"{server.folder}/claimed"
         os.mkdir(folder)
         jobs["b"].claim(folder)
-        try:
-            service.open("b.begun", SETTINGS, [1]).claim(folder)
-            raise AssertionError("the marker was made")
-        except Failed as why:
-            assert "each needs a folder of its own" in str(why), why
-        return "refused in each order, by the discarder, `--init` and the sweeper"
+        why = raised(Failed, lambda: service.open("b.begun", SETTINGS, [1]).claim(folder))
+        assert "each needs a folder of its own" in str(why), why
 
 
 def test_a_marker_whose_name_begins_as_that_of_another_job():
@@ -259,7 +252,6 @@ def test_a_marker_whose_name_begins_as_that_of_another_job():
             assert f"as .relkvanu-{name} says" in told, told
         assert contents(folder) == before
         await_end(discard(server, folder, "--once", job="b", prefix="u-"), 0, "is marked")
-        return "two jobs with a prefix each; a third one needs its own"
 
 
 def test_a_disk_that_goes():
@@ -286,7 +278,6 @@ def test_a_disk_that_goes():
             await_end(discard(server, folder, "--once"), 78, ".relkvanu-a")
         finally:
             subprocess.run(["umount", "--lazy", folder], check=False, stderr=subprocess.DEVNULL)
-        return "20 files deleted on the disk that is out of sight; its mount point is refused"
 
 
 def test_it_syncs_the_folder_before_it_reports():
@@ -299,24 +290,22 @@ def test_it_syncs_the_folder_before_it_reports():
         except FileNotFoundError:
             raise Skipped("strace", "it is not here") from None
         await_end(run, 0, "deleted=20")
-        with open(trace, encoding="utf-8", errors="replace") as it:
-            lines = it.read().splitlines()
+        lines = content(trace).splitlines()
         unlinks = [at for at, line in enumerate(lines) if "unlinkat(" in line and '"s-' in line]
         syncs = [at for at, line in enumerate(lines) if re.search(r"fsync\(\d+<[^>]*/files>\) += 0", line) and at > unlinks[-1]]
         reports = [at for at, line in enumerate(lines) if "/calls" in line and at > unlinks[0]]
         assert len(unlinks) == 20 and syncs and reports and unlinks[-1] < syncs[0] < reports[0], (unlinks, syncs, reports)
-        return "20 unlinks, then the sync, then the report"
 
 
 def test_it_is_killed_before_it_reports():
     """A proxy keeps the report from the service. The next run finds all of the take absent, and knows why."""
     with a_job() as (server, job, folder):
         files_of(job, folder, 100, 20)
-        between = Between(server, lambda number, body: (503, {}) if b'"deleted"' in body else None)
-        with at_work(between, folder):
-            until(lambda: b'"deleted"' in between.last)
+        proxy = Proxy(server, lambda number, body: (503, {}) if b'"deleted"' in body else None)
+        with at_work(proxy, folder):
+            until(lambda: b'"deleted"' in proxy.last)
             assert present(folder) == [] and counts(job) == (0, 20), job.state()
-        between.http.shutdown()
+        proxy.http.shutdown()
         await_end(discard(server, folder, "--once"), 0, "deleted=0 absent=20 failed=0")
         assert counts(job) == (0, 0), job.state()
         # the same files that nobody has begun to delete
@@ -324,7 +313,6 @@ def test_it_is_killed_before_it_reports():
         assert len(job.take(20)) == 20
         await_end(discard(server, folder, "--once"), 78, "none of 20 files")
         assert counts(job) == (20, 0), job.state()
-        return "20 files that were taken and deleted are reported by the next run"
 
 
 def test_it_never_gives_up_by_itself():
@@ -345,29 +333,25 @@ def test_it_never_gives_up_by_itself():
             files_of(job, folder, 100, 5, there=range(100, 103))
             until(lambda: counts(job) == (0, 0))
             server.kill()
-            until(lambda: metrics()['relkvanu_discard_lost_requests_total{job_name="a"}'] > 3)
+            until(lambda: metrics()['relkvanu_clean_lost_requests_total'] > 3)
             server.start()
             files_of(job, folder, 200, 5)
             os.mkdir(f"{folder}/s-300")
             record = job.call(savepoint())["id"]
             job.calls([ack(record, "0.0", [300]), dispose(record)])
-            until(lambda: metrics()['relkvanu_discard_files_total{job_name="a",outcome="failed"}'] > 0)
+            until(lambda: metrics()['relkvanu_clean_files_total{job_name="a",kind="released",outcome="failed"}'] > 0)
             told, now = metrics(), time.time()
-            outcomes = {word: told[f'relkvanu_discard_files_total{{job_name="a",outcome="{word}"}}'] for word in ("deleted", "absent")}
+            outcomes = {word: told[f'relkvanu_clean_files_total{{job_name="a",kind="released",outcome="{word}"}}'] for word in ("deleted", "absent")}
             assert outcomes == {"deleted": 8, "absent": 2}, told
-            assert now - 600 < told['relkvanu_discard_report_timestamp_seconds{job_name="a"}'] <= now, told
+            assert now - 600 < told['relkvanu_clean_report_timestamp_seconds{job_name="a"}'] <= now, told
             assert run.poll() is None
-            with open(f"{SERVICE}/deploy/alerts.yml", encoding="utf-8") as it:
-                named = set(re.findall(r"relkvanu_discard_[a-z_]+", it.read()))
-            assert named and all(any(line.startswith(name + "{") for line in told) for name in named), named
-        lost = told['relkvanu_discard_lost_requests_total{job_name="a"}']
+        lost = told['relkvanu_clean_lost_requests_total']
         return f"{outcomes}, {lost:.0f} tries that were not answered"
 
 
 def test_words_that_it_refuses():
     with folder() as at:
         for more, status, text in [(["--url", "here"], 1, "no address"), (["--metrics", "here"], 2, "--metrics"), (["--url", "ftp://a"], 1, "no address"),
-                                   (["--prefix", ".relkvanu-"], 1, "--prefix: files that begin with .relkvanu-")]:
-            told = subprocess.run([PROGRAM, "discard", "--job", "a", "--folder", at, *more], stderr=subprocess.PIPE, text=True, timeout=COMMAND, check=False)
+                                   (["--prefix", ".relkvanu-"], 1, "files that begin with .relkvanu-")]:
+            told = subprocess.run([PROGRAM, "clean", "--once", "--job", "a", "--folder", at, *more], stderr=subprocess.PIPE, text=True, timeout=COMMAND, check=False)
             assert told.returncode == status and text in told.stderr, told
-        return "4 refused"

@@ -1,4 +1,4 @@
-"""A discarder that is started with a wrong suffix: it refuses before anything is reported, and keeps what it says to other jobs."""
+"""A cleaner that is started with a wrong suffix: it refuses before anything is reported, and keeps what it says to other jobs."""
 import json
 import os
 import shutil
@@ -6,10 +6,10 @@ import subprocess
 import time
 import urllib.request
 
-from harness import COMMAND, PROGRAM, Server, folder, free_port, until
+from harness import COMMAND, PROGRAM, Server, content, counts, folder, free_port, until
 from relkvanu_service import Service
 from run import Skipped
-from test_discard_folder import SETTINGS, a_job, at_work, await_end, counts, discard, files_of, present
+from test_discard_folder import SETTINGS, a_job, at_work, await_end, discard, files_of, present
 from test_security import told_again, written
 
 
@@ -25,7 +25,6 @@ def test_a_wrong_suffix_of_a_job_that_is_known():
             assert json.load(it) == said, told
         assert present(folder) == files and counts(job) == (5, 0), (present(folder), counts(job))
         await_end(discard(server, folder, "--once"), 0, "deleted=5")
-        return "refused before a file is taken"
 
 
 def test_names_that_are_not_synced():
@@ -34,29 +33,26 @@ def test_names_that_are_not_synced():
         raise Skipped("strace", "it is not here")
     with a_job() as (server, _, folder):
         await_end(discard(server, folder, "--once", "--init"), 0, "is marked")
-        with open(f"{folder}/.relkvanu-a.names", encoding="utf-8") as it:
-            said = it.read()
+        said = content(f"{folder}/.relkvanu-a.names")
         failing = ["strace", "-f", "-qq", "-o", "/dev/null", "-e", "trace=fsync", "-e", "inject=fsync:error=EIO:when=1"]
         await_end(discard(server, folder, "--once", "--init", prefix="t-", before=failing), 0, "how the files are named can't be written")
-        with open(f"{folder}/.relkvanu-a.names", encoding="utf-8") as it:
-            assert it.read() == said
+        assert content(f"{folder}/.relkvanu-a.names") == said
         await_end(discard(server, folder, "--once", "--init", prefix="t-"), 0, "")
         with open(f"{folder}/.relkvanu-a.names", encoding="utf-8") as it:
             assert json.load(it) == {"prefix": "t-", "suffix": ""}
-        return "those before them stay"
 
 
 def works(port):
-    """Whether a discarder says that it works: "1" or "0", or None without its metrics."""
+    """Whether a cleaner says that it works: "1" or "0", or None without its metrics."""
     try:
         with urllib.request.urlopen(f"http://127.0.0.1:{port}/metrics", timeout=COMMAND) as it:
             lines = it.read().decode().splitlines()
     except OSError:
         return None
-    return next(line.rsplit(" ", 1)[1] for line in lines if line.startswith("relkvanu_discard_works"))
+    return next((line.rsplit(" ", 1)[1] for line in lines if line.startswith("relkvanu_clean_works")), None)
 
 
-def test_a_running_discarder_tells_that_it_waits_for_the_service():
+def test_a_running_cleaner_tells_that_it_waits_for_the_service():
     """By its metric, which an alert reads: while its token is refused, and while nobody answers. Then it goes on by itself."""
     token, other, port = "a" * 20, "b" * 20, free_port()
     with folder() as at:
@@ -79,16 +75,14 @@ def test_a_running_discarder_tells_that_it_waits_for_the_service():
             files_of(job, files, 100, 2)
             until(lambda: present(files) == [])
             assert run.poll() is None
-        server.stop()
-        return "a token that is refused, and a service that is away"
 
 
-def test_a_second_discarder_waits_for_the_first():
+def test_a_second_cleaner_waits_for_the_first():
     """It waits within its process, and serves its metrics meanwhile. Then it goes on."""
     with a_job() as (server, job, folder):
         files_of(job, folder, 100, 3)
         ports = [free_port() for _ in range(2)]
-        words = [PROGRAM, "discard", "--url", server.url, "--job", "a", "--folder", folder, "--prefix", "s-"]
+        words = [PROGRAM, "clean", "--url", server.url, "--job", "a", "--folder", folder, "--prefix", "s-"]
         run = [subprocess.Popen([*words, "--metrics", f"127.0.0.1:{port}"], stderr=subprocess.DEVNULL) for port in ports[:1]]
         try:
             until(lambda: works(ports[0]) == "1")
@@ -105,4 +99,3 @@ def test_a_second_discarder_waits_for_the_first():
             for it in run:
                 it.kill()
                 it.wait()
-        return "it takes over once the first one is gone"

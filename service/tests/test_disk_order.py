@@ -4,7 +4,7 @@ import shutil
 import subprocess
 
 import test_sweep
-from harness import COMMAND, PROGRAM
+from harness import COMMAND, PROGRAM, content
 from run import Skipped
 from test_discard_folder import a_job, await_end, discard, files_of
 
@@ -20,8 +20,7 @@ def traced(trace):
 
 def places(trace, synced):
     """The places of the deletions of files with the prefix, and those of syncs of a path that ends so, in the order of time."""
-    with open(trace, encoding="utf-8", errors="replace") as it:
-        lines = it.read().splitlines()
+    lines = content(trace).splitlines()
     deletions = [at for at, line in enumerate(lines) if "unlinkat(" in line and '"s-' in line]
     syncs = [at for at, line in enumerate(lines) if re.search(rf"sync\(\d+<[^>]*{synced}>\) += 0", line)]
     return deletions, syncs
@@ -35,11 +34,10 @@ def test_what_is_deleted_is_listed_before():
         await_end(discard(server, at, "--once", before=traced(trace)), 0, "deleted=20")
         deletions, syncs = places(trace, r"\.begun")
         assert len(deletions) == 20 and syncs and syncs[0] < deletions[0], (deletions[:1], syncs)
-        return "20 files"
 
 
 def test_a_sweep_is_synced():
-    """What `sweep` has deleted does not come back."""
+    """What `clean` has deleted does not come back."""
     with test_sweep.a_job() as (server, job, place):
         old = job.begin().session(block=10)
         names = [old.name() for _ in range(6)]
@@ -47,8 +45,7 @@ def test_a_sweep_is_synced():
             test_sweep.write(place, f"s-{name}")
         old.forfeit(names)
         trace = f"{server.folder}/trace"
-        words = [PROGRAM, "sweep", "a", "--folder", place, "--url", server.url, "--within", "120", "--prefix", "s-", "--delete"]
+        words = [PROGRAM, "clean", "--only", "garbage", "--once", "--job", "a", "--folder", place, "--url", server.url, "--within", "120", "--prefix", "s-"]
         run = subprocess.run([*traced(trace), *words], capture_output=True, text=True, timeout=COMMAND, check=False)
         deletions, syncs = places(trace, "/files")
         assert run.returncode == 0 and len(deletions) == 6 and syncs and syncs[-1] > deletions[-1], (run, deletions, syncs)
-        return "6 files"

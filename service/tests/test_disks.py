@@ -16,28 +16,25 @@ def test_sqlite():
     again, it goes on."""
     with folder() as at, small_disk(at, "2m") as small:
         server = Server(at, database=f"{small}/x.db")
-        try:
-            server.start()
-            server.request("POST", "/v1/jobs", JOB)
-            kept, number = 0, 0
-            until(lambda: server.get("/v1/jobs/orders")[2]["seq"] >= 1)
-            while server.process.poll() is None and number < 5000:
-                number += 1
-                # a late acknowledgement is always made
-                ack = {"call": "ack", "id": 1, "subtask": "0.0", "fresh": [str(number * 1000 + one) for one in range(200)]}
-                told = server.request("POST", "/v1/jobs/orders/calls", {"calls": [ack]})
-                if told[0] == 200:
-                    kept = max([kept] + [answer["seq"] for answer in told[2]["answers"] if "seq" in answer])
-            assert server.ended() == 75, server.log()[-500:]
-            assert "is tried again" in server.log(), server.log()[-500:]
-            subprocess.run(["mount", "-o", "remount,size=64m", small], check=True)
-            server.start()
-            log = list(Service(server.url).job("orders").log())
-            assert len(log) >= kept > 50, (len(log), kept)
-            check_log(server.get("/v1/jobs/orders")[2], [1], log)
-            return f"{kept} calls were acknowledged before the disk was full, and all were there after"
-        finally:
-            server.stop()
+        server.start()
+        server.request("POST", "/v1/jobs", JOB)
+        kept, number = 0, 0
+        until(lambda: server.get("/v1/jobs/orders")[2]["seq"] >= 1)
+        while server.process.poll() is None and number < 5000:
+            number += 1
+            # a late acknowledgement is always made
+            ack = {"call": "ack", "id": 1, "subtask": "0.0", "fresh": [str(number * 1000 + one) for one in range(200)]}
+            told = server.request("POST", "/v1/jobs/orders/calls", {"calls": [ack]})
+            if told[0] == 200:
+                kept = max([kept] + [answer["seq"] for answer in told[2]["answers"] if "seq" in answer])
+        assert server.ended() == 75, server.log()[-500:]
+        assert "is tried again" in server.log(), server.log()[-500:]
+        subprocess.run(["mount", "-o", "remount,size=64m", small], check=True)
+        server.start()
+        log = list(Service(server.url).job("orders").log())
+        assert len(log) >= kept > 50, (len(log), kept)
+        check_log(server.get("/v1/jobs/orders")[2], [1], log)
+        return f"{kept} calls were acknowledged before the disk was full, and all were there after"
 
 
 def has_log(database):

@@ -76,7 +76,6 @@ def test_an_end_with_a_file_that_nobody_knows():
         (at / f"s-{1 << 40}.bin").unlink()
         assert end(server, at).returncode == 0
         is_gone(server, at)
-        return "its name was never given out"
 
 
 def test_an_end_that_is_killed():

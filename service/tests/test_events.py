@@ -9,15 +9,15 @@ import sys
 import threading
 import time
 
-from harness import COMMAND, PROGRAM, TOP, Server, configured, folder, served, slowed, until
+from harness import COMMAND, ENGINE, SETTINGS, TOP, Server, configured, folder, raised, served, slowed, until
 from postgres import postgres
 from relkvanu_service import Gone, OtherLog, Service, ack, cancel, deleted, dispose, reserve, restore, savepoint
 from run import Skipped
+from slow import Slow
 from test_images import read_and_cut
+from test_stream import Stream
 
-SETTINGS = {"interval": 1 << 40}
 CUTTING = ["--image-calls", "40", "--keep-calls", "0"]
-ENGINE = f"{os.path.dirname(PROGRAM)}/examples/engine"
 
 
 def cut_behind(job, calls):
@@ -49,10 +49,8 @@ def test_after_a_cut():
         state = job.state()
         assert {server.get(path)[1]["relkvanu-log"] for path in ("/readyz", "/v1/jobs/a/files", "/v1/jobs/none")} == {state["log"]}
         begun = time.monotonic()
-        try:
-            raise AssertionError(job.events(missed, 20))
-        except Gone as gone:
-            assert (gone.status, gone.reason, gone.first) == (410, "cut", state["first"]) and gone.log == state["log"], vars(gone)
+        gone = raised(Gone, lambda: job.events(missed, 20))
+        assert (gone.status, gone.reason, gone.first) == (410, "cut", state["first"]) and gone.log == state["log"], vars(gone)
         assert time.monotonic() - begun < 15 * slowed()  # and not once the wait is over
         # whoever missed nothing waits as before
         assert job.events(knew, 1) == (state["seq"], [])
@@ -67,8 +65,33 @@ def test_after_a_cut():
         return f"410 with first={state['first']}, then the pending savepoint and the cancel"
 
 
+def test_a_commit_whose_writer_has_not_heard_of_it():
+    """A reader of the database sees it before. It is told with the next poll: the place of one that was told too early would be taken for that of another log."""
+    with postgres() as database, folder() as at:
+        line = Slow(database.port, 0)
+        url = database.url.replace(str(database.port), str(line.port))
+        server = Server(at, url, configured(at, "lease_seconds = 600\n")).start()
+        job = Service(server.url).open("a", SETTINGS, [1])
+        first = job.calls([savepoint()])[0]["seq"]
+        line.holds = b"_1"  # in the name of a statement that commits calls
+        late = threading.Thread(target=job.calls, args=([savepoint()],), daemon=True)
+        late.start()
+        until(lambda: int(database.sql("select max(seq) from call")) > first)
+        stream = Stream(server, f"/v1/jobs/a/stream?after={first - 1}")
+        upto, told = job.events(first - 1)
+        assert (upto, [it["seq"] for it in told]) == (first, [first]) and job.events(upto) == (first, []), told
+        until(lambda: stream.events() == ["triggered"] and stream.id)
+        again = Stream(server, "/v1/jobs/a/stream", [("Last-Event-ID", stream.id)])
+        until(lambda: b"200 OK" in again.head)
+        line.holds = None
+        late.join()
+        assert [it["seq"] for it in job.events(upto)[1]] == [first + 1]
+        until(lambda: again.events() == ["triggered"] and stream.events() == ["triggered", "triggered"])
+        server.kill()
+
+
 class Copy:
-    """A backup of a service's database that is restored, as docs/SERVICE-BACKUP.md says."""
+    """A backup of a service's database that is restored, as docs/RECOVERY.md says."""
 
     def __init__(self, server, database):
         self.server, self.database = server, database
@@ -100,10 +123,8 @@ class Copy:
 
 def ends(follower):
     """The engine hears that it must not go on."""
-    try:
-        raise AssertionError(follower.next(5))
-    except OtherLog as told:
-        assert (told.status, told.reason) == (410, "other_log") and "restore the job to a record whose files are all there" in str(told), told
+    told = raised(OtherLog, lambda: follower.next(5))
+    assert (told.status, told.reason) == (410, "other_log") and "restore the job to a record whose files are all there" in str(told), told
 
 
 def restored(server, database):
@@ -113,8 +134,7 @@ def restored(server, database):
         job.calls([savepoint(), ack(number, "0.0", [number])])
     told = job.poll(0)
     early, after, log = told["events"][2]["seq"], told["upto"], told["log"]
-    server.kill()
-    server.start()
+    server.again()
     state = job.state()
     assert state["log"] != log and after == state["last_event"] == 6
     # places from before the start are places of this log
@@ -150,12 +170,8 @@ def test_after_a_restored_backup():
 
 
 def test_after_a_restored_dump_of_postgres():
-    with postgres() as database, folder() as at:
-        server = Server(at, database.url, configured(at, "lease_seconds = 2\n")).start()
-        try:
-            return restored(server, database)
-        finally:
-            server.stop()
+    with postgres() as database, served("lease_seconds = 2\n", database=database.url) as server:
+        return restored(server, database)
 
 
 def test_an_engine_in_rust_over_a_restored_backup():
@@ -174,7 +190,6 @@ def test_an_engine_in_rust_over_a_restored_backup():
         assert job.state()["seq"] < far and len(restores_of(job)) == 1, job.state()
         told = subprocess.run([ENGINE, server.url, "rust", "5"], stdout=subprocess.PIPE, stderr=subprocess.STDOUT, text=True, timeout=COMMAND, check=False)
         assert told.returncode == 0 and "5 checkpoints completed, " in told.stdout, told
-        return "it ends, and goes on after somebody has looked"
 
 
 def restores_of(job):
@@ -197,7 +212,6 @@ def test_an_engine_in_rust_hears_of_others():
         job.call(cancel())
         told = run.communicate(timeout=COMMAND)[0]
         assert run.returncode == 1 and "cancelled" in told, told
-        return "it begins again after a restore, and ends after a cancel"
 
 
 def test_the_dask_fault_test_over_a_cut():
@@ -206,7 +220,7 @@ def test_the_dask_fault_test_over_a_cut():
         raise Skipped("python3-distributed", "it is not here")
     with served(args=CUTTING) as server:
         # for longer than this may take on a busy machine
-        words = [f"{TOP}/engines/dask/run", "3000", "--service", server.url, "--storage", f"{server.folder}/storage"]
+        words = [f"{TOP}/engines/zombie_tasks/run", "3000", "--service", server.url, "--storage", f"{server.folder}/storage"]
         with open(f"{server.folder}/said", "wb") as said:
             engine = subprocess.Popen(words, stdout=said, stderr=said, start_new_session=True)
         try:
@@ -235,7 +249,7 @@ def test_the_dask_fault_test_over_a_cut():
 
 
 class Driver:
-    """What the coordinator of engines/dask needs of its job: a job of one task, which acknowledges each barrier with a new file."""
+    """What the coordinator of engines/zombie_tasks needs of its job: a job of one task, which acknowledges each barrier with a new file."""
 
     def __init__(self, coordinator, refused):
         self.coordinator, self.lock, self.stream, self.is_over = coordinator, threading.RLock(), threading.Lock(), threading.Event()
@@ -255,7 +269,7 @@ class Driver:
 
 
 def test_the_dask_fault_test_over_a_restored_backup():
-    sys.path += [f"{TOP}/engines/dask", f"{TOP}/bindings/python"]
+    sys.path += [f"{TOP}/engines/zombie_tasks", f"{TOP}/bindings/python"]
     from over_service import OverService
     from relkvanu import Fenced, Refused
 
@@ -290,4 +304,3 @@ def test_the_dask_fault_test_over_a_restored_backup():
         # its process ends by this: no barrier is sent, and nothing restores the job
         assert len(ended) == 1 and len(driver.failures) == 1, (ended, driver.failures)
         assert len(restores_of(job)) == 3, restores_of(job)
-        return "one failure, by somebody's restore; then it ends"

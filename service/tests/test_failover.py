@@ -11,15 +11,13 @@ import time
 
 import requests
 
-from between import Between
-from harness import BUSY, COMMAND, PROGRAM, Server, configured, folder, free_port, served, slowed, until
+from proxy import Proxy
+from harness import BUSY, COMMAND, ENGINE, PROGRAM, SETTINGS, Server, configured, content, folder, free_port, raised, served, slowed, until
 from postgres import postgres
 from relkvanu_service import Failed, Service, ack, cancel, dispose, restore, savepoint
 from run import Skipped
 
-SETTINGS = {"interval": 1 << 40}
 PATIENCE = 25  # seconds: so a try has 10 of them
-ENGINE = f"{os.path.dirname(PROGRAM)}/examples/engine"
 
 
 @contextlib.contextmanager
@@ -39,7 +37,7 @@ def gone():
 
 
 def test_a_machine_that_is_gone():
-    """Python, the engine in Rust, and `discard`: each gets to the second address."""
+    """Python, the engine in Rust, and `clean`: each gets to the second address."""
     if not os.path.exists(ENGINE):
         raise Skipped("the client in Rust", f"{ENGINE} is not built")
     with served(names=True) as server, gone() as first:
@@ -47,9 +45,9 @@ def test_a_machine_that_is_gone():
         Service(server.url).open("files", SETTINGS, [1])
         runs, took = {}, {}
         for name, url in first.items():
-            words = [PROGRAM, "discard", "--job", "files", "--folder", f"{server.folder}/files", "--once", "--url", url, "--url", server.url]
+            words = [PROGRAM, "clean", "--job", "files", "--folder", f"{server.folder}/files", "--once", "--url", url, "--url", server.url]
             runs[f"engine, {name}"] = [ENGINE, f"{url},{server.url}", f"job-{name}", "2"]
-            runs[f"discard, {name}"] = words
+            runs[f"clean, {name}"] = words
         begun = time.monotonic()
         runs = {name: subprocess.Popen(words, stdout=subprocess.PIPE, stderr=subprocess.STDOUT, text=True) for name, words in runs.items()}
         for name, url in first.items():
@@ -68,8 +66,8 @@ def test_a_machine_that_is_gone():
 def test_answers_that_are_lost_are_answered_again():
     """Each request of the client is made twice, as its first answer is lost. Nothing is done twice, and nothing is refused."""
     with served() as server:
-        between = Between(server, lambda number, body: "lost" if number % 2 else None)
-        job = Service(between.url).open("a", SETTINGS, [1])
+        proxy = Proxy(server, lambda number, body: "lost" if number % 2 else None)
+        job = Service(proxy.url).open("a", SETTINGS, [1])
         assert job.call(savepoint())["id"] == 1
         assert job.call(ack(1, "0.0", [7]))["ack"] == "completed"
         assert job.call(savepoint())["id"] == 2 and job.call(ack(2, "0.0", [8]))["ack"] == "completed"
@@ -79,21 +77,21 @@ def test_answers_that_are_lost_are_answered_again():
         assert job.call(cancel())["seq"]
         made = [entry["line"].split(" ")[0] for entry in Service(server.url).job("a").log()]
         assert made == ["savepoint", "ack"] * 2 + ["restore", "dispose", "take", "cancel"], made
-        keys = [key for method, path, key in between.came if path.endswith("/calls")]
+        keys = [key for method, path, key in proxy.came if path.endswith("/calls")]
         assert None not in keys and keys[::2] == keys[1::2] and len(set(keys)) == 8, keys
-        between.http.shutdown()
-        return f"{len(between.came)} requests, {len(made)} calls"
+        proxy.http.shutdown()
+        return f"{len(proxy.came)} requests, {len(made)} calls"
 
 
 def test_which_answers_are_asked_again():
     with served() as server:
         Service(server.url).open("a", SETTINGS, [1])
         fates = []
-        between = Between(server, lambda number, body: fates.pop(0) if fates else None)
+        proxy = Proxy(server, lambda number, body: fates.pop(0) if fates else None)
 
-        def asked(*answers, call=lambda: Service(between.url, patience=PATIENCE).jobs()):
+        def asked(*answers, call=lambda: Service(proxy.url, patience=PATIENCE).jobs()):
             fates[:] = [(answer, {}) if isinstance(answer, int) else answer for answer in answers]
-            between.came.clear()
+            proxy.came.clear()
             begun = time.monotonic()
             try:
                 call()
@@ -101,9 +99,9 @@ def test_which_answers_are_asked_again():
             except Failed as failed:
                 told = failed.status
             fates.clear()
-            return told, len(between.came), time.monotonic() - begun
+            return told, len(proxy.came), time.monotonic() - begun
 
-        job = Service(between.url, patience=PATIENCE).job("a")
+        job = Service(proxy.url, patience=PATIENCE).job("a")
         for status in (429, 500, 502, 503, 504):
             assert asked(status)[:2] == (200, 2), status
         for status in (400, 401, 404, 409, 422, 301):
@@ -117,12 +115,9 @@ def test_which_answers_are_asked_again():
         assert told[:2] == (503, 1) and told[2] < PATIENCE, told
         for url in ("nowhere", "http://", "ftp://127.0.0.1/"):
             begun = time.monotonic()
-            try:
-                raise AssertionError(Service(url, patience=PATIENCE).jobs())
-            except (requests.RequestException, ValueError):
-                assert time.monotonic() - begun < PATIENCE, url
-        between.http.shutdown()
-        return "5 statuses are asked again, 6 are not"
+            raised((requests.RequestException, ValueError), lambda: Service(url, patience=PATIENCE).jobs())
+            assert time.monotonic() - begun < PATIENCE, url
+        proxy.http.shutdown()
 
 
 def test_a_deadline_of_the_caller():
@@ -130,10 +125,8 @@ def test_a_deadline_of_the_caller():
         service, took = Service(first["mute"], patience=None), []
         for ask in (service.within(0.5).jobs, service.within(0.5).job("a").state, service.job("a").within(0.5).take):
             begun = time.monotonic()
-            try:
-                raise AssertionError(ask())
-            except requests.RequestException:
-                took.append(time.monotonic() - begun)
+            raised(requests.RequestException, ask)
+            took.append(time.monotonic() - begun)
         assert all(0.2 < seconds < 9 * slowed() for seconds in took), took  # without it a try has 10 s
         return f"{max(took):.1f} s at most"
 
@@ -151,10 +144,6 @@ def test_the_leader_that_a_standby_names():
         leader.stop()
         assert took < 9 * slowed(), took  # a try at the mute one takes 10 s
         return f"{took:.2f} s, past a mute address between them"
-
-
-def number_of(server, metric):
-    return float(re.search(rf"^{metric} (\S+)$", server.get("/metrics")[2], re.M)[1])
 
 
 def test_keys_are_looked_up_for_a_group():
@@ -183,14 +172,13 @@ def test_keys_are_looked_up_for_a_group():
             for thread in threads[1:]:
                 thread.start()
             # they are there
-            until(lambda: number_of(server, "relkvanu_http_body_bytes") >= clients * body)
+            until(lambda: server.metric("relkvanu_http_body_bytes") >= clients * body)
             database.sql("delete from held")
             for thread in threads:
                 thread.join()
         keys = int(database.sql("select count(*) from request"))
         server.stop()
-        with open(f"{database.data}/log", encoding="utf-8") as it:
-            looked = len(re.findall(r"execute keyed: ", it.read()))
+        looked = len(re.findall(r"execute keyed: ", content(f"{database.data}/log")))
         assert keys > clients * rounds and 0 < looked < keys / 4, (keys, looked)
         return f"{keys} requests with a key, {looked} statements for all their keys"
 
@@ -199,9 +187,9 @@ def with_tls(server, certificate):
     """A proxy with TLS before a service: its URL, and the context that has its certificate."""
     context = ssl.SSLContext(ssl.PROTOCOL_TLS_SERVER)
     context.load_cert_chain(certificate, f"{certificate}.key")
-    between = Between(server, lambda number, body: None)
-    between.http.socket = context.wrap_socket(between.http.socket, server_side=True)
-    return f"https://localhost:{between.http.server_address[1]}", context
+    proxy = Proxy(server, lambda number, body: None)
+    proxy.http.socket = context.wrap_socket(proxy.http.socket, server_side=True)
+    return f"https://localhost:{proxy.http.server_address[1]}", context
 
 
 def a_certificate(path):
@@ -227,11 +215,9 @@ def test_https():
         took = time.monotonic() - begun
         assert took > 30, took  # its patience is a minute
         failed = []
-        try:
-            raise AssertionError(Service(url, patience=4).noticing(failed.append).jobs())
-        except requests.RequestException:
-            # its last try may have had too little time
-            assert any(isinstance(error, requests.exceptions.SSLError) for error in failed), failed
+        raised(requests.RequestException, lambda: Service(url, patience=4).noticing(failed.append).jobs())
+        # its last try may have had too little time
+        assert any(isinstance(error, requests.exceptions.SSLError) for error in failed), failed
         # one that is renewed meanwhile ends none
         engine = subprocess.Popen([ENGINE, url, "c", "2"], env={**os.environ, "SSL_CERT_FILE": renewed}, stdout=subprocess.PIPE, text=True)
         time.sleep(1)

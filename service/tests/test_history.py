@@ -6,7 +6,7 @@ import sqlite3
 import threading
 import time
 
-from harness import Server, folder, served, until
+from harness import Server, folder, served, served_job, sqlite, until
 from relkvanu_service import Service, ack, dispose, savepoint, take
 from writers import SETTINGS, SHAPE, Writer, end
 
@@ -189,8 +189,7 @@ def test_records_and_files_against_a_model():
 
 def test_the_history_of_another_log_is_forgotten():
     """The database is replaced by an earlier copy, whose log is then as long again, but another one."""
-    with served() as server:
-        job = Service(server.url).open("orders", {"interval": 1 << 40}, [1])
+    with served_job("orders", {"interval": 1 << 40}, [1]) as (server, job):
         job.calls([savepoint(), ack(1, "0.0", [11])])
         with sqlite3.connect(server.database) as base, sqlite3.connect(f"{server.folder}/copy") as copy:
             base.backup(copy)
@@ -208,21 +207,17 @@ def test_the_history_of_another_log_is_forgotten():
         server.start()
         until(lambda: (it := job.files())["upto"] == 5 and not it["taken"])
         assert job.file(11)["history"]["released"] is None and len(job.records()) == 3, job.file(11)
-        return "a longer log, another one"
 
 
 def test_the_history_of_an_earlier_version_is_set_aside():
-    with served() as server:
-        job = Service(server.url).open("orders", {"interval": 1 << 40}, [1])
+    with served_job("orders", {"interval": 1 << 40}, [1]) as (server, job):
         job.call(savepoint())
         server.stop()
         [path] = glob.glob(f"{server.folder}/history-*[0-9]")
-        with sqlite3.connect(path) as base:
-            base.execute("alter table progress drop column at")
+        sqlite(path, "alter table progress drop column at")
         server.start()
         until(lambda: job.files()["upto"] == 1)
         assert os.path.exists(f"{path}.bad") and "it is made again" in server.log(), server.log()
-        return "tables with a column less"
 
 
 def test_a_database_is_no_history():
@@ -238,8 +233,5 @@ def test_a_database_is_no_history():
             assert "the history is broken" in until(lambda: (it := other.get("/healthz"))[0] == 200 and it)[2]
             assert job.call(savepoint())["seq"] == 2 and glob.glob(f"{history}.bad*") == [], os.listdir(at)
             assert other.stop() == 0
-            with sqlite3.connect(history) as base:
-                assert base.execute("select count(*) from sqlite_master where name = 'progress'").fetchone() == (0,)
-            base.close()
+            assert sqlite(history, "select count(*) from sqlite_master where name = 'progress'") == [(0,)]
         assert first.call(savepoint())["seq"] == 2 and server.process.poll() is None
-        return "that of another service, and its own"

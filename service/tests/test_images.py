@@ -5,18 +5,19 @@ import re
 import signal
 import sqlite3
 import subprocess
-import threading
 import time
 from contextlib import closing
 
-from harness import ACK_PENDING, COMMAND, PROGRAM, TOP, Archive, PgArchive, Server, caught_up, check_log, configured, folder, lease_of, lose_history, over_copy, served, until
+from harness import (
+    ACK_PENDING, COMMAND, PROGRAM, SETTINGS, TOP, Archive, PgArchive, Server, beside, caught_up, check_log, configured, folder, lease_of, lose_history,
+    over_copy, served, served_job, until
+)
 from load import processor_times
 from postgres import postgres
 from relkvanu_service import Gone, Service, ack, decline, deleted, dispose, savepoint
 from writers import check_kept
 
 KEEPING = ["--image-calls", "20", "--keep-calls", "30"]
-SETTINGS = {"interval": 1 << 40}
 
 
 def worked(job, rounds, first=1):
@@ -66,8 +67,7 @@ def test_a_start_goes_from_the_last_image():
         before = seen(job, files)
         assert before[4][0]["history"] is None and before[4][1]["history"]["why"] == "savepoint 35 was disposed of", before[4]
         for _ in range(2):
-            server.kill()
-            server.start()
+            server.again()
             caught_up(job)
             assert seen(job, files) == before
             assert server.replayed()[-1] <= 30 and before[0]["seq"] > 200, (server.replayed(), before[0])
@@ -89,8 +89,7 @@ def cost_from_an_image(kind):
         subprocess.run(["cc", "-O2", f"{TOP}/tests/meeting.c", "-o", f"{at}/meeting"], check=True)
         told = subprocess.run([f"{at}/meeting", kind, "24000"], stdout=subprocess.PIPE, text=True, check=True).stdout.split()
     parts = [[int(number) for number in told[first : first + 4000]] for first in range(0, 24000, 4000)]
-    with served(args=["--image-calls", "7"]) as server:
-        job = Service(server.url).open("orders", SETTINGS, [6])
+    with served_job("orders", SETTINGS, [6], args=["--image-calls", "7"]) as (server, job):
         job.calls([savepoint(), *(ack(1, f"0.{index}", part) for index, part in enumerate(parts))])
         until(lambda: (it := job.state()["image"]) and it["seq"] == 7)
         server.stop()
@@ -126,8 +125,7 @@ def refused(server, text):
 
 
 def test_an_image_that_is_damaged_stops_the_start():
-    with served(args=KEEPING) as server:
-        job = Service(server.url).open("orders", SETTINGS, [2])
+    with served_job("orders", SETTINGS, [2], args=KEEPING) as (server, job):
         worked(job, 20)
         read_and_cut(job, 30)
         before = seen(job, [200])
@@ -160,38 +158,33 @@ def test_an_image_that_is_damaged_stops_the_start():
         base.execute("update call set a = ? where seq = ?", (was, place))
         base.execute("delete from call where seq = ?", (place - 1,))
         refused(server, f"call {place - 1} is missing")
-        return "3 that say something else, 3 that the library refuses, the one before it, an answer and a gap after it"
 
 
-def test_databases_of_a_newer_version():
-    """They are refused, and stay as they are."""
+def test_databases_of_other_versions():
+    """Those of a newer program are refused, and stay as they are. Those of an older one are read."""
     with served(args=KEEPING) as server:
         Service(server.url).open("orders", SETTINGS, [2]).call(savepoint())
         server.stop()
         base = sqlite3.connect(server.database, isolation_level=None)
-        for version in (2, 99):
+        for version in (3, 99):
             base.executescript(f"pragma user_version = {version};")
-            refused(server, f"the tables of the database have version {version}, and this program knows those up to 1")
-        base.executescript("pragma user_version = 1;")
+            refused(server, f"the tables of the database have version {version}, and this program knows those up to 2")
+        base.executescript("drop table storage; pragma user_version = 1;")  # of a program before that table
         server.start()
         assert Service(server.url).job("orders").state()["seq"] == 1
-    with postgres() as database, folder() as at:
-        server = Server(at, database.url, KEEPING).start()
+    with postgres() as database, served(database=database.url, args=KEEPING) as server:
         Service(server.url).open("orders", SETTINGS, [2]).call(savepoint())
         server.stop()
-        assert database.sql("select number from schema_version") == "1"
-        database.sql("update schema_version set number = 2")
-        refused(server, "the tables of the database have version 2")
-        database.sql("update schema_version set number = 1")
+        assert database.sql("select number from schema_version") == "2"
+        database.sql("update schema_version set number = 3")
+        refused(server, "the tables of the database have version 3")
+        database.sql("drop table storage; update schema_version set number = 1")
         server.start()
         assert Service(server.url).job("orders").state()["seq"] == 1
-        server.stop()
-        return "both databases"
 
 
 def test_a_history_that_is_lost_after_a_cut():
-    with served(args=KEEPING) as server:
-        job = Service(server.url).open("orders", SETTINGS, [2])
+    with served_job("orders", SETTINGS, [2], args=KEEPING) as (server, job):
         worked(job, 20)
         job.calls([savepoint(), ack(21, "0.1", [210]), dispose(20)])  # three files wait, record 21 is pending
         read_and_cut(job, 30)
@@ -210,14 +203,12 @@ def test_a_history_that_is_lost_after_a_cut():
         caught_up(job)
         assert job.file(files[0])["history"]["why"] == "savepoint 20 was disposed of", job.file(files[0])
         assert job.file(int(taken[0]["file"]))["history"]["deleted"]["answer"].startswith("deleted ")
-        return "what is taken, waits and is missing is known again"
 
 
 def test_a_backup_while_images_are_made():
     with served(args=KEEPING) as server:
         archive, job = Archive(server.database), Service(server.url).open("orders", SETTINGS, [2])
-        working = threading.Thread(target=worked, args=(job, 150))
-        working.start()
+        working = beside(worked, job, 150)
         until(lambda: job.state()["first"] > 100)
         copy = f"{server.folder}/copy.db"
         subprocess.run(["sqlite3", server.database, f".backup {copy}"], check=True)
@@ -257,7 +248,6 @@ def test_a_standby_that_is_slower_than_the_cuts():
         read_and_cut(job, 100)
         whole = check_kept(archive.log("orders"), list(job.log()), job.state()["first"])
         check_log(job.state(), [2], whole)
-        standby.stop()
         return f"{len(whole)} calls; it went on from an image"
 
 
@@ -269,8 +259,7 @@ def late(job, calls):
 
 def test_a_log_that_is_cut_while_it_is_read():
     """A reader has the first page. What is cut before it asks for the next one is missed with an error, and not in silence."""
-    with served(args=["--image-calls", "2000", "--keep-calls", "100"]) as server:
-        job = Service(server.url).open("orders", SETTINGS, [1])
+    with served_job("orders", SETTINGS, [1], args=["--image-calls", "2000", "--keep-calls", "100"]) as (server, job):
         job.calls([savepoint(), decline(1, "0.0")])
         late(job, 1500)
         reader = job.log()
@@ -299,4 +288,3 @@ def test_bad_settings_are_named():
     for words, name in [(["--image-calls", "1000000001"], "image_calls"), (["--keep-calls", "1000000000001"], "keep_calls")]:
         told = subprocess.run([PROGRAM, "serve", *words], stderr=subprocess.PIPE, text=True, timeout=COMMAND, check=False)
         assert told.returncode == 78 and f"{name}: " in told.stderr, told
-    return "2 settings"

@@ -3,18 +3,16 @@ import json
 import math
 import shutil
 import signal
-import sqlite3
 import subprocess
-import threading
 
-from harness import LOCKED, PROGRAM, Server, caught_up, configured, folder, lease_of, served, until
+from harness import PROGRAM, Server, beside, caught_up, configured, folder, lease_of, served, sqlite, until
 from postgres import postgres
 from relkvanu_service import Failed, Service, ack, cancel, deleted, dispose, savepoint
 from run import Skipped
 from test_images import SETTINGS, worked
 from test_metrics import scraped
 
-TABLES = ("call", "ack_size", "subtask_state", "figure", "request", "image", "summary", "past", "size", "job")
+TABLES = ("call", "ack_size", "subtask_state", "figure", "request", "image", "summary", "past", "size", "storage", "job")
 HISTORY = ("record", "file", "queue", "place", "sample", "progress")
 
 
@@ -36,15 +34,13 @@ def emptied(job):
 
 
 def rows(path, tables, number):
-    with sqlite3.connect(path, timeout=LOCKED) as base:
-        told = {table: base.execute(f"select count(*) from {table} where job = ?", (number,)).fetchone()[0] for table in tables}
-    base.close()
+    told = {table: sqlite(path, f"select count(*) from {table} where job = ?", number)[0][0] for table in tables}
     return {table: count for table, count in told.items() if count}
 
 
 def ended(server, service, name):
     """A job with much in its log, its history and its metrics, that has ended; its number."""
-    job = service.open(name, SETTINGS, [2])
+    job = service.open(name, SETTINGS, [2], storage={"folder": "/srv"})
     worked(job, 60)
     job.calls([savepoint(), ack(61, "0.0", [7001], sizes=[5])])
     caught_up(job)
@@ -67,8 +63,7 @@ def test_a_job_is_deleted_with_what_was_kept_of_it():
         caught_up(job)
         until(lambda: rows(f"{server.folder}/history-{server.port}", ("sample", "record"), 2))
         after, told = job.state()["seq"], []
-        waits = threading.Thread(target=lambda: told.append(server.get(f"/v1/jobs/orders/events?after={after}&wait=60")[0]))
-        waits.start()
+        waits = beside(lambda: told.append(server.get(f"/v1/jobs/orders/events?after={after}&wait=60")[0]))
         assert service.delete("orders") and not service.delete("orders")
         waits.join(50)  # the poll waits for a minute
         assert told == [404], told
@@ -78,18 +73,14 @@ def test_a_job_is_deleted_with_what_was_kept_of_it():
         assert not [line for line in server.get("/metrics")[2].splitlines() if 'job_name="orders"' in line]
         # the same name is another job then, after a start too: no number is given twice
         for _ in range(2):
-            server.kill()
-            server.start()
+            server.again()
             assert server.get("/v1/jobs/orders")[0] == 404
         new = service.open("orders", SETTINGS, [2])
         assert new.state()["seq"] == 0 and list(new.log()) == [] and new.file(10)["history"] is None
         worked(new, 2)
-        with sqlite3.connect(server.database) as base:
-            assert base.execute("select job, name from job order by job").fetchall() == [(1, "users"), (3, "orders")]
-            assert base.execute("select job, name, is_empty from gone_job").fetchall() == [(2, "orders", 1)]
-        base.close()
+        assert sqlite(server.database, "select job, name from job order by job") == [(1, "users"), (3, "orders")]
+        assert sqlite(server.database, "select job, name, is_empty from gone_job") == [(2, "orders", 1)]
         assert other.state()["seq"] > 20 and len(other.records()) == 5
-        return "and its name belongs to a new job"
 
 
 def test_a_deletion_waits_for_one_sync():
@@ -117,7 +108,6 @@ def test_a_deletion_waits_for_one_sync():
         wanted = synced() - before
         assert count <= wanted <= count + 1, wanted
         assert not [row for number in range(1, count + 1) for row in rows(server.database, TABLES, number)]
-        server.stop()
         return f"{wanted} for {count} deletions"
 
 
@@ -163,8 +153,6 @@ def test_a_standby_forgets_a_job_that_it_has():
         assert [job["name"] for job in service.jobs()] == ["users"] and service.job("users").state()["seq"] == users_calls(service)
         worked(service.open("orders1", SETTINGS, [2]), 1)
         assert database.sql("select max(job) from job") == "5"
-        standby.stop()
-        return "3 jobs, while it was suspended"
 
 
 def users_calls(service):
@@ -188,13 +176,11 @@ def test_the_command_deletes():
         assert run("orders", "--abandon", "--json") == (0, json.dumps({"deleted": "orders"}, separators=(",", ":")) + "\n", "")
         told = run("orders")
         assert told[0] == 1 and "there is no job orders" in told[2], told
-        return "4 runs"
 
 
 def test_logs_are_cut_by_their_bytes():
     text = "image_calls = 50\nkeep_calls = 1000000\nkeep_bytes = 100000\n"
-    with folder() as at:
-        server = Server(at, args=configured(at, text)).start()
+    with served(text) as server:
         service = Service(server.url)
         jobs = [service.open(name, SETTINGS, [1]) for name in ("large", "larger", "small")]
         jobs[2].calls([{"call": "tick"}] * 200)
@@ -213,12 +199,10 @@ def test_logs_are_cut_by_their_bytes():
         until(lambda: sum(kept()) * 120 < 160_000, 20, told=kept)
         large, larger, small = kept()
         assert small == 200 and large > 200 and larger > 200, kept()
-        server.kill()
-        server.start()
+        server.again()
         assert [job.state()["seq"] for job in jobs] == [2000, 4000, 200]
         for _ in range(5):
             jobs[0].calls([{"call": "tick"}] * 100)
             caught_up(jobs[0])
         until(lambda: sum(kept()) * 120 < 160_000, 20, told=kept)
-        server.stop()
         return f"{[int(count) for count in (large, larger, small)]} calls kept of 2000, 4000 and 200"

@@ -1,13 +1,11 @@
 """The lease of a leader over PostgreSQL: a process that takes over through a slow line, and standbys beside many jobs."""
-import threading
 import time
 
-from harness import BUSY, Server, configured, folder, kept, lease_of, until
+from harness import BUSY, SETTINGS, Server, beside, configured, folder, kept, lease_of, until
 from postgres import postgres
 from relkvanu_service import Service, savepoint
 from slow import Slow
 
-SETTINGS = {"interval": 1 << 40}
 # the delays are in proportion to the lease, which is as long as processes of a busy machine need to keep it
 SECONDS = lease_of(4)
 DELAY = 0.01 * SECONDS
@@ -23,9 +21,7 @@ def opened(at, url, jobs):
         for number in range(part, jobs, 8):
             service.open(f"j{number}", SETTINGS, [1])
 
-    threads = [threading.Thread(target=some, args=(part,)) for part in range(8)]
-    for thread in threads:
-        thread.start()
+    threads = [beside(some, part) for part in range(8)]
     for thread in threads:
         thread.join()
     assert server.stop() == 0
@@ -42,7 +38,7 @@ def near(at, url):
 
 
 def epoch(database):
-    return int(database.sql("select max(epoch) from shard"))
+    return int(database.sql("select epoch from leader"))
 
 
 def is_ready(server):
@@ -76,8 +72,6 @@ def test_a_take_over_through_a_slow_line():
         assert (both, stale) == (0, 0), f"both ready in {both} looks, {stale} stale answers"
         slow.wait_ready()
         assert epoch(database) == 2 and slow.process.poll() is None, slow.log()[-300:]
-        slow.stop()
-        fast.kill()
         return f"40 jobs over a line of {DELAY * 1000:.0f} ms with a lease of {SECONDS} s"
 
 
@@ -97,8 +91,6 @@ def test_a_take_over_keeps_its_lease():
         took = int(slow.log().rsplit("take_over_ms=", 1)[1].split()[0]) / 1000
         assert epoch(database) == before + 1 and took > SECONDS, (before, epoch(database), took)
         assert not is_ready(fast)
-        slow.kill()
-        fast.kill()
         return f"it took {took:.1f} s with a lease of {SECONDS} s"
 
 
@@ -116,13 +108,11 @@ def test_two_processes_on_slow_lines():
                 made += leader.request("POST", "/v1/jobs/j0/calls", {"calls": [{"call": "tick"}]})[0] == 200
                 assert took < BUSY * SECONDS, (made, ended)
         assert epoch(database) == before, (made, before, epoch(database), ended)
-        for server in servers:
-            server.kill()
         return f"{made} calls in {took:.0f} s in one epoch"
 
 
-# A statement of each look of a standby for a leader, which has two, and one of each time that it reads the log.
-LOOK, FOLLOW = b"from member order by name", b"from gone_job"
+# The statement of each look of a standby for a leader, and one of each time that it reads the log.
+LOOK, FOLLOW = b"beat, lease from leader", b"from gone_job"
 
 
 def standby_asks(at, database, url, jobs):
@@ -137,13 +127,12 @@ def standby_asks(at, database, url, jobs):
     asked, looks, follows = line.asked, *line.sent.values()
     # it reads the log once the leader has renewed its lease. How often it looks meanwhile depends on the machine
     until(lambda: job.call(savepoint()) and line.sent[FOLLOW] > follows + 2, 10 * SECONDS)
-    asks = (line.asked - asked - 2 * (line.sent[LOOK] - looks)) / (line.sent[FOLLOW] - follows)
+    asks = (line.asked - asked - (line.sent[LOOK] - looks)) / (line.sent[FOLLOW] - follows)
     state = job.state()
     leader.kill()
     standby.wait_ready()
     after = Service(standby.url).job("j1").state()
     assert after["seq"] == state["seq"] and after["live"] == state["live"], (after, state)
-    standby.stop()
     return asks
 
 

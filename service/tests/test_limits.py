@@ -5,15 +5,13 @@ import re
 import select
 import socket
 import sqlite3
-import threading
 import time
 
-from harness import COMMAND, Server, caught_up, configured, folder, lease_of, served, slowed, until
+from harness import COMMAND, SETTINGS, Server, beside, caught_up, configured, content, folder, lease_of, served, served_job, slowed, sqlite, until
 from relkvanu_service import Service, ack, cancel, deleted, dispose, restore, savepoint, undeleted
 from test_api import JOB
 from test_bytes import filled
 
-SETTINGS = {"interval": 1 << 40}
 TICK = {"calls": [{"call": "tick"}]}
 TOKENS = {"a": "a" * 20, "b": "b" * 20}
 READER = "r" * 20
@@ -85,7 +83,6 @@ def test_a_token_takes_a_part_of_the_room():
         server.kill()
         assert refused == [503] * 6, refused
         assert whole in (200, 400) and small == 200, (whole, small)
-        return "4 of 10 bodies of a team fit, and the other one goes on"
 
 
 def chunked(part):
@@ -115,8 +112,7 @@ def takes_all_room(server):
 
 
 def test_bodies_without_a_length_take_room_too():
-    with folder() as at:
-        server = Server(at, args=configured(at, f"[limits]\nbody_bytes = {MIB}\nall_bodies_bytes = {MIB}\n")).start()
+    with served(f"[limits]\nbody_bytes = {MIB}\nall_bodies_bytes = {MIB}\n") as server:
         Service(server.url).open("a", SETTINGS, [1])
         first = takes_all_room(server)
         second = begun_without_a_length(server, b" " * 700_000)
@@ -126,13 +122,11 @@ def test_bodies_without_a_length_take_room_too():
         second.close()
         server.kill()
         assert refused[0] == 503 and b"the bodies of other requests" in refused[1], refused
-        return "503 beside a body that takes most of the room"
 
 
 def test_a_refusal_reaches_a_client_that_still_sends():
     """Its body is read on after the answer, so its system does not drop that: whoever sends the whole body first reads then why it was refused."""
-    with folder() as at:
-        server = Server(at, args=configured(at, f"[limits]\nbody_bytes = {MIB}\nall_bodies_bytes = {MIB}\nidle_seconds = 600\n")).start()
+    with served(f"[limits]\nbody_bytes = {MIB}\nall_bodies_bytes = {MIB}\nidle_seconds = 600\n") as server:
         Service(server.url).open("a", SETTINGS, [1])
         part, slowly = b" " * 300_000, b" " * 3000
         first = takes_all_room(server)
@@ -191,8 +185,7 @@ def test_a_client_that_sends_on_is_left():
 
 
 def test_a_body_that_is_too_long():
-    with folder() as at:
-        server = Server(at, args=configured(at, f"[limits]\nbody_bytes = 4096\nall_bodies_bytes = {MIB}\n")).start()
+    with served(f"[limits]\nbody_bytes = 4096\nall_bodies_bytes = {MIB}\n") as server:
         Service(server.url).open("a", SETTINGS, [1])
         text = '{"calls":[{"call":"tick"}]}'
         statuses = []
@@ -202,13 +195,11 @@ def test_a_body_that_is_too_long():
             statuses.append((it.getresponse().status))
         server.kill()
         assert statuses == [200, 413], statuses
-        return "4096 bytes are taken, and 4097 refused"
 
 
 def test_an_answer_that_is_larger_than_all_room_gets_all_of_it():
     """The room of large answers: one that needs more gets all of it, and another one waits for it."""
-    with folder() as at:
-        server = Server(at, args=configured(at, f"[limits]\nall_answers_bytes = {MIB}\n")).start()
+    with served(f"[limits]\nall_answers_bytes = {MIB}\n") as server:
         filled(server, 1)
         path = "/v1/jobs/large/records/2"
         status, head, _ = server.get(path)
@@ -234,8 +225,7 @@ def test_an_answer_that_is_larger_than_all_room_gets_all_of_it():
 
 
 def test_a_queue_that_is_full_refuses():
-    with folder() as at:
-        server = Server(at, args=configured(at, "[limits]\nqueue = 2\n")).start()
+    with served("[limits]\nqueue = 2\n") as server:
         Service(server.url).open("a", SETTINGS, [1])
         base = sqlite3.connect(server.database, isolation_level=None)
         base.execute("begin immediate")  # so that no commit ends
@@ -244,9 +234,7 @@ def test_a_queue_that_is_full_refuses():
         def ask():
             told.append(server.request("POST", "/v1/jobs/a/calls", TICK))
 
-        threads = [threading.Thread(target=ask) for _ in range(12)]
-        for thread in threads:
-            thread.start()
+        threads = [beside(ask) for _ in range(12)]
         until(lambda: told)
         refused = list(told)
         base.execute("rollback")
@@ -266,14 +254,12 @@ def test_open_files_are_divided():
         server = Server(at, prefix=["prlimit", "--nofile=600:600"], args=args).start()
         server.kill()
         assert "allows 236 connections, 118 that wait for events and 118 new ones" in server.log(), server.log()[-400:]
-        return "236, 118 and 118"
 
 
 def writer_seconds(server):
     """The processor's time of the writer's thread."""
     for thread in os.listdir(f"/proc/{server.process.pid}/task"):
-        with open(f"/proc/{server.process.pid}/task/{thread}/stat", encoding="utf-8") as it:
-            name, rest = it.read().split("(", 1)[1].rsplit(")", 1)
+        name, rest = content(f"/proc/{server.process.pid}/task/{thread}/stat").split("(", 1)[1].rsplit(")", 1)
         if name == "writer":
             words = rest.split()
             return (int(words[11]) + int(words[12])) / os.sysconf("SC_CLK_TCK")
@@ -315,108 +301,88 @@ def test_lists_of_many_jobs_come_in_pieces():
 
 def test_a_commit_is_measured():
     """How many commits there were and of how many calls, and that the time of a slow one shows."""
-    with served() as server:
-        job = Service(server.url).open("a", SETTINGS, [1])
-        before = {name: metric(server, name) for name in MEASURED}
+    with served_job("a", SETTINGS, [1]) as (server, job):
+        before = {name: server.metric(name) for name in MEASURED}
         for _ in range(3):
             job.call(savepoint())
         job.calls([savepoint()] * 2)
         base = sqlite3.connect(server.database, isolation_level=None)
         base.execute("begin immediate")
-        thread = threading.Thread(target=lambda: job.call(savepoint()))
-        thread.start()
-        until(lambda: metric(server, "relkvanu_commit_under_way_seconds") > 0.5)
+        thread = beside(lambda: job.call(savepoint()))
+        until(lambda: server.metric("relkvanu_commit_under_way_seconds") > 0.5)
         base.execute("rollback")
         thread.join()
-        more = {name: metric(server, name) - before[name] for name in MEASURED}
+        more = {name: server.metric(name) - before[name] for name in MEASURED}
         assert more["relkvanu_commit_seconds_count"] == more["relkvanu_commit_calls_count"] == 5, more
         assert more["relkvanu_commit_calls_sum"] == 6, more
         assert 0.5 < more["relkvanu_commit_seconds_sum"] < 60 * slowed(), more
-        assert metric(server, "relkvanu_commit_under_way_seconds") == 0
+        assert server.metric("relkvanu_commit_under_way_seconds") == 0
         return f"5 commits of 6 calls in {more['relkvanu_commit_seconds_sum']:.2f} s"
 
 
 MEASURED = [f"relkvanu_commit_{of}_{what}" for of in ("seconds", "calls") for what in ("count", "sum")]
 
 
-def metric(server, name):
-    """The value of a metric."""
-    found = re.search(rf"^{re.escape(name)} (\S+)$", server.get("/metrics")[2], re.M)
-    assert found, f"there is no {name}"
-    return float(found[1])
-
-
 def test_moments_are_those_of_what_happened():
     """When a job was opened, and when its last image was made."""
-    with folder() as at:
-        server = Server(at, args=["--image-calls", "5"]).start()
+    with served(args=["--image-calls", "5"]) as server:
         began = time.time()
         job = Service(server.url).open("a", SETTINGS, [1])
         opened = job.state()["opened"] / 1000
-        assert metric(server, 'relkvanu_job_opened_timestamp_seconds{job_name="a"}') == opened and abs(opened - began) < 30 * slowed()
-        assert metric(server, 'relkvanu_image_timestamp_seconds{job_name="a"}') == opened
+        assert server.metric('relkvanu_job_opened_timestamp_seconds{job_name="a"}') == opened and abs(opened - began) < 30 * slowed()
+        assert server.metric('relkvanu_image_timestamp_seconds{job_name="a"}') == opened
         for _ in range(6):
             time.sleep(0.01)
             job.call({"call": "tick"})
-        until(lambda: metric(server, 'relkvanu_image_bytes{job_name="a"}') > 0)
-        with sqlite3.connect(server.database) as base:
-            at_image = base.execute("select max(at) from image").fetchone()[0] / 1000
-        told = metric(server, 'relkvanu_image_timestamp_seconds{job_name="a"}')
+        until(lambda: server.metric('relkvanu_image_bytes{job_name="a"}') > 0)
+        at_image = sqlite(server.database, "select max(at) from image")[0][0] / 1000
+        told = server.metric('relkvanu_image_timestamp_seconds{job_name="a"}')
         server.kill()
         assert told == at_image > opened, (told, at_image, opened)
-        return "those of the opening and of the image"
 
 
 def test_the_age_of_the_oldest_file():
     """Of files that wait, and of those that were taken: since the call that released or took the oldest one."""
     ages = {state: f'relkvanu_oldest_file_age_seconds{{job_name="a",state="{state}"}}' for state in ("waiting", "taken")}
-    with served() as server:
-        job = Service(server.url).open("a", SETTINGS, [1])
+    with served_job("a", SETTINGS, [1]) as (server, job):
         until(lambda: ages["taken"] in server.get("/metrics")[2])
-        assert metric(server, ages["waiting"]) == metric(server, ages["taken"]) == 0
+        assert server.metric(ages["waiting"]) == server.metric(ages["taken"]) == 0
         released = time.time()
         job.calls([savepoint(), ack(1, "0.0", [1, 2, 3]), dispose(1)])
-        until(lambda: metric(server, ages["waiting"]) >= 2)
-        assert metric(server, ages["waiting"]) <= time.time() - released + 2 and metric(server, ages["taken"]) == 0
+        until(lambda: server.metric(ages["waiting"]) >= 2)
+        assert server.metric(ages["waiting"]) <= time.time() - released + 2 and server.metric(ages["taken"]) == 0
         files = job.take(1)
-        until(lambda: 0 < metric(server, ages["taken"]) < metric(server, ages["waiting"]))
+        until(lambda: 0 < server.metric(ages["taken"]) < server.metric(ages["waiting"]))
         # one that could not be deleted waits again, since it was released
         job.calls([undeleted(files[0])])
-        until(lambda: metric(server, ages["taken"]) == 0)
-        assert metric(server, ages["waiting"]) >= 2
+        until(lambda: server.metric(ages["taken"]) == 0)
+        assert server.metric(ages["waiting"]) >= 2
         job.calls([deleted(file) for file in job.take(9)])
-        until(lambda: metric(server, ages["waiting"]) == 0)
-        return "that of its release, and of its take"
+        until(lambda: server.metric(ages["waiting"]) == 0)
 
 
 def test_since_when_a_job_is_served_and_was_restored():
-    with folder() as at:
-        server = Server(at).start()
-        job = Service(server.url).open("a", SETTINGS, [1])
+    with served_job("a", SETTINGS, [1]) as (server, job):
         opened = job.state()["opened"] / 1000
         names = [f'{name}{{job_name="a"}}' for name in ("relkvanu_last_restored_timestamp_seconds", "relkvanu_served_since_timestamp_seconds")]
-        assert metric(server, names[0]) == opened and abs(metric(server, names[1]) - opened) < 30
+        assert server.metric(names[0]) == opened and abs(server.metric(names[1]) - opened) < 30
         job.call(restore())
         restored = job.state()["now"] / 1000
-        assert opened < metric(server, names[0]) <= restored, (opened, restored)
+        assert opened < server.metric(names[0]) <= restored, (opened, restored)
         server.stop()
         server.start()
-        assert metric(server, names[1]) > restored and metric(server, names[1]) >= metric(server, "process_start_time_seconds")
-        server.kill()
-        return "by the job's moments, and by the clock"
+        assert server.metric(names[1]) > restored and server.metric(names[1]) >= server.metric("process_start_time_seconds")
 
 
 def test_records_that_ended_are_bounded():
     """The database and the history keep the last ones. They go in pieces once newer ones are kept."""
     keep, records = 20, 150
-    with served(args=["--image-calls", "10", "--keep-calls", "20", "--keep-records", str(keep)]) as server:
-        job = Service(server.url).open("a", SETTINGS, [1])
+    with served_job("a", SETTINGS, [1], args=["--image-calls", "10", "--keep-calls", "20", "--keep-records", str(keep)]) as (server, job):
         for record in range(1, records + 1):
             job.calls([savepoint(), ack(record, "0.0", []), dispose(record)])
 
         def count(path, table, where=""):
-            with sqlite3.connect(path, timeout=COMMAND) as base:
-                return base.execute(f"select count(*), coalesce(max(id), 0) from {table}{where}").fetchone()
+            return sqlite(path, f"select count(*), coalesce(max(id), 0) from {table}{where}")[0]
 
         caught_up(job)
         history = f"{server.folder}/history-{server.port}"

@@ -3,7 +3,7 @@ import shutil
 import threading
 
 import load
-from harness import check_log, served
+from harness import beside, check_log, served
 from relkvanu_service import Service
 from run import Skipped
 
@@ -19,8 +19,7 @@ def test_load_by_wrk():
                 if server.get("/metrics")[0] != 200 or server.get("/healthz")[0] != 200:
                     errors.append("a scrape failed")
 
-        scraping = threading.Thread(target=scrape)
-        scraping.start()
+        scraping = beside(scrape)
         told, made = load.loaded(server, load.WAYS, 1)
         over.set()
         scraping.join()

@@ -1,17 +1,13 @@
 """Images of jobs with many files: they are made beside the writer and written in parts, so no call of another job waits for one."""
 import os
-import sqlite3
-import threading
 
-from harness import BUSY, Server, check_log, folder, until
+from harness import BUSY, SETTINGS, Server, beside, check_log, folder, served, sqlite, until
 from postgres import postgres
 from preloaded import built
 from relkvanu_service import Service, ack, savepoint
 
-SETTINGS = {"interval": 1 << 40}
 TICK = {"call": "tick"}
 PART = 256 << 10
-OPENED = 76  # calls of `opened`
 NOT_WHOLE = "select count(*) from image_part it where not exists (select 1 from image where image.job = it.job and image.seq = it.seq)"
 
 
@@ -41,8 +37,7 @@ def test_other_jobs_are_called_while_an_image_is_made():
         until(lambda: os.path.exists(f"{held}.waits"))
         # from here on the image is being made, until the file goes
         told = []
-        waiting = threading.Thread(target=lambda: told.append(large.within(BUSY * 60).call(TICK)["seq"]))
-        waiting.start()
+        waiting = beside(lambda: told.append(large.within(BUSY * 60).call(TICK)["seq"]))
         for round_ in range(1, 4):
             assert [job.call(TICK)["seq"] for job in others] == [round_] * len(others)
         states = {state["name"]: state for state in service.jobs()}
@@ -54,17 +49,14 @@ def test_other_jobs_are_called_while_an_image_is_made():
         assert told == [81], told
         image = until(lambda: large.state()["image"])
         assert image["seq"] == 80 and image["bytes"] > 4_000_000, image
-        with sqlite3.connect(server.database) as base:
-            parts = [length for (length,) in base.execute("select length(text) from image_part order by part")]
+        parts = [length for (length,) in sqlite(server.database, "select length(text) from image_part order by part")]
         assert len(parts) == -(-image["bytes"] // PART) and sum(parts) == image["bytes"] and max(parts) == PART, parts
         before = large.state()
         server.kill()
-        with sqlite3.connect(server.database) as base:
-            base.execute("insert into image_part select job, seq - 1, part, text from image_part where part < 2")
+        sqlite(server.database, "insert into image_part select job, seq - 1, part, text from image_part where part < 2")
         server.start()
-        with sqlite3.connect(server.database) as base:
-            # those of an image that is not whole went at the start
-            assert base.execute(NOT_WHOLE).fetchone() == (0,) and base.execute("select count(*) from image_part").fetchone() == (len(parts),)
+        # those of an image that is not whole went at the start
+        assert sqlite(server.database, NOT_WHOLE) == [(0,)] and sqlite(server.database, "select count(*) from image_part") == [(len(parts),)]
         assert server.replayed()[-1] == 1 + 3 * 50 and large.state()["files"] == before["files"], server.replayed()
         large.call(ack(1, "0.75", [1]))
         state, log = large.state(), list(large.log())
@@ -74,8 +66,7 @@ def test_other_jobs_are_called_while_an_image_is_made():
 
 
 def test_each_part_has_a_commit_of_its_own():
-    with postgres() as database, folder() as at:
-        server = Server(at, database.url, ["--image-calls", "80"]).start()
+    with postgres() as database, served(database=database.url, args=["--image-calls", "80"]) as server:
         job = opened(Service(server.url))
         database.sql("""create table written(tx bigint, what text);
             create function noted() returns trigger language plpgsql as 'begin insert into written values(txid_current(), tg_table_name); return new; end';
@@ -91,14 +82,12 @@ def test_each_part_has_a_commit_of_its_own():
         server.args = ["--image-calls", "80", "--keep-calls", "0"]
         server.start()
         assert server.replayed()[-1] == 0, server.replayed()
-        server.stop()
         return f"{parts} commits"
 
 
 def test_an_image_that_is_not_written_whole():
     """Its parts go: those of one that was put off, and those that a process left which was killed."""
-    with postgres() as database, folder() as at:
-        server = Server(at, database.url, ["--image-calls", "80"]).start()
+    with postgres() as database, served(database=database.url, args=["--image-calls", "80"]) as server:
         job = opened(Service(server.url))
         database.sql("""create function refused() returns trigger language plpgsql as
             $$ begin raise exception 'no room' using errcode = '53100'; end $$;
@@ -127,9 +116,7 @@ def test_an_image_that_is_not_written_whole():
         image = until(lambda: job.call(TICK) and job.state()["image"], 30)
         assert database.sql(NOT_WHOLE) == "0" and int(database.sql("select sum(length(text)) from image_part")) == image["bytes"]
         before = job.state()
-        server.kill()
-        server.start()
+        server.again()
         after = job.state()
         assert after["files"] == before["files"] and server.replayed()[-1] == before["seq"] - image["seq"], (server.replayed(), before)
-        server.stop()
         return f"put off, then left by a kill, then whole: {image['bytes'] / 1e6:.1f} MB"

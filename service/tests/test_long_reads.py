@@ -1,13 +1,11 @@
 """PostgreSQL over a year: a table of keys in its steady state, a read that lasts for hours beside the commits, and commits that last."""
 import subprocess
-import threading
 import time
 
-from harness import Server, configured, folder, leader_and_standby, lease_of, until
+from harness import SETTINGS, beside, content, folder, leader_and_standby, lease_of, served, served_job, until
 from postgres import postgres
 from relkvanu_service import Service
 
-SETTINGS = {"interval": 1 << 40}
 DAY = 24 * 3_600_000
 KEYS = 300_000
 TICK = {"call": "tick"}
@@ -47,15 +45,13 @@ def in_the_steady_state(database, keys):
 
 def plans(database, of):
     """The plans of the statements that the service made, of those that have this text: PostgreSQL writes them to its log."""
-    with open(f"{database.data}/log", encoding="utf-8") as it:
-        found = it.read().split("LOG:  ")
+    found = content(f"{database.data}/log").split("LOG:  ")
     return [it for it in found if it.startswith("duration") and of in it]
 
 
 def test_old_keys_are_found_by_their_index():
     """The planner expects old rows early in the table, and there is none: without an order it would read all of it each second."""
-    with postgres() as database, folder() as at:
-        server = Server(at, database.url).start()
+    with postgres() as database, served(database=database.url) as server:
         Service(server.url).open("a", SETTINGS, [1])
         server.stop()
         in_the_steady_state(database, KEYS)
@@ -73,11 +69,10 @@ def test_old_keys_are_found_by_their_index():
         return f"{len(found)} deletions beside {KEYS} keys, each by the index"
 
 
-def test_a_commit_writes_no_version_of_the_member():
+def test_a_commit_writes_no_version_of_the_leader():
     """Versions of its one row stay beside a read that lasts, as a dump: so commits make one for each third of a lease alone."""
-    with postgres() as database, folder() as at:
-        server = Server(at, database.url, configured(at, "lease_seconds = 60\n")).start()
-        job, beat = Service(server.url).open("a", SETTINGS, [1]), "select beat from member"
+    with postgres() as database, served("lease_seconds = 60\n", database=database.url) as server:
+        job, beat = Service(server.url).open("a", SETTINGS, [1]), "select beat from leader"
         began, before = time.monotonic(), int(database.sql(beat))
         for _ in range(300):
             job.call(TICK)
@@ -91,9 +86,7 @@ def test_a_commit_writes_no_version_of_the_member():
 
 def test_commits_beside_a_long_read():
     """Time of the same calls before a snapshot is held, and beside it once hundreds of commits were made."""
-    with postgres() as database, folder() as at:
-        server = Server(at, database.url).start()
-        job = Service(server.url).open("a", SETTINGS, [1])
+    with postgres() as database, served_job("a", SETTINGS, [1], database=database.url) as (server, job):
         holds = subprocess.Popen(["psql", "-qX", database.url], stdin=subprocess.PIPE, stdout=subprocess.DEVNULL, text=True)
         holds.stdin.write("begin isolation level repeatable read; select 1;\n")
         holds.stdin.flush()
@@ -102,13 +95,13 @@ def test_commits_beside_a_long_read():
         until(lambda: database.sql(f"select count(*) from pg_stat_activity where {snapshot}") == "1")
         for _ in range(600):
             job.call(TICK)
-        size = int(database.sql("select pg_relation_size('member') / 8192"))
+        size = int(database.sql("select pg_relation_size('leader') / 8192"))
         holds.stdin.write("rollback;\n")
         holds.stdin.close()
         holds.wait()
         server.stop()
         assert size <= 2, size
-        return f"{size} pages of `member` beside a read"
+        return f"{size} pages of `leader` beside a read"
 
 
 def test_a_commit_that_lasts_keeps_its_leader():
@@ -119,13 +112,12 @@ def test_a_commit_that_lasts_keeps_its_leader():
         leader, standby = leader_and_standby(at, database.url, f"lease_seconds = {lease}\n")
         job = Service(leader.url).open("a", SETTINGS, [1])
         job.call(TICK)
-        epoch = "select max(epoch) from shard"
+        epoch = "select epoch from leader"
         before = database.sql(epoch)
         database.sql(f"""create function slow() returns trigger language plpgsql as 'begin perform pg_sleep({lasts}); return null; end';
             create trigger slow after insert on call for each statement execute function slow()""")
         began, told = time.monotonic(), []
-        thread = threading.Thread(target=lambda: told.append(job.call(TICK)))
-        thread.start()
+        thread = beside(lambda: told.append(job.call(TICK)))
         thread.join()
         took = time.monotonic() - began
         database.sql("drop trigger slow on call")

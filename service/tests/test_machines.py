@@ -8,8 +8,4 @@ SECONDS = int(os.environ.get("RELKVANU_MACHINES", "10"))
 
 
 def test_a_leader_and_a_standby_on_two_machines():
-    return run(SECONDS, spreads=False)
-
-
-def test_jobs_that_are_spread_over_two_machines():
-    return run(SECONDS, spreads=True)
+    return run(SECONDS)

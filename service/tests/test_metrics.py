@@ -5,7 +5,7 @@ import shutil
 import subprocess
 import time
 
-from harness import SERVICE, TOP, folder, served, until
+from harness import SERVICE, TOP, content, folder, save, served, served_job, until
 from relkvanu_service import Service, ack, cancel, savepoint
 from run import Skipped
 
@@ -42,8 +42,7 @@ def test_a_job_that_is_opened_again_keeps_its_first_counts():
 
 
 def test_metrics_say_what_was_done():
-    with served() as server:
-        job = Service(server.url).open("orders", {"interval": 3_600_000}, [2])
+    with served_job("orders", {"interval": 3_600_000}, [2]) as (server, job):
         opened = job.state()["opened"] / 1000
         values = scraped(server)[1]
         assert abs(values['relkvanu_last_completed_timestamp_seconds{job_name="orders"}'] - opened) < 0.001
@@ -79,10 +78,10 @@ def test_metrics_say_what_was_done():
         assert told.returncode == 0 and not told.stdout.strip(), told.stdout
         until(lambda: "relkvanu_oldest_file_age_seconds" in scraped(server)[0])  # the historian tells it
         text = scraped(server)[0]
-        # test_discard_folder and test_sweep look at the others, and test_damaged at a job that is kept out; those of backups and copies are the exporter's of the machine
+        # test_places looks at those of a cleaner, and test_damaged at a job that is kept out; those of backups and copies are the exporter's of the machine
         with open(f"{DEPLOY}/alerts.yml", encoding="utf-8") as it:
             rules = re.sub(r'__name__=~"relkvanu_\((.*?)\)(\w+)"', lambda it: " ".join(f"relkvanu_{one}{it[2]}" for one in it[1].split("|")), it.read())
-        named = set(re.findall(r"relkvanu_(?!discard_|sweep_|backup_|copy_|job_damaged)[a-z_]+", rules))
+        named = set(re.findall(r"relkvanu_(?!clean_|backup_|copy_|job_damaged)[a-z_]+", rules))
         missing = [name for name in named if not re.search(rf"^{name}\b", text, re.M)]
         assert not missing, f"alerts use what there is not: {missing}"
         return f"{len(values)} values, and {len(named)} that alerts use"
@@ -93,8 +92,7 @@ def test_each_alert_fires_and_rests():
     files = ["alerts_test.yml", "alerts_minutes_test.yml"]
     told = subprocess.run(["promtool", "test", "rules", *files], cwd=DEPLOY, text=True, stdout=subprocess.PIPE, stderr=subprocess.STDOUT, check=False)
     assert told.returncode == 0, told.stdout
-    with open(f"{DEPLOY}/alerts.yml", encoding="utf-8") as it:
-        alerts = set(re.findall(r"alert: (\w+)", it.read()))
+    alerts = set(re.findall(r"alert: (\w+)", content(f"{DEPLOY}/alerts.yml")))
     cases = "".join(pathlib.Path(DEPLOY, name).read_text(encoding="utf-8") for name in files)
     # each is tried where it has to fire, and where it must not
     against = set(re.findall(r"alertname: (\w+), exp_alerts: \[\]", cases))
@@ -103,21 +101,18 @@ def test_each_alert_fires_and_rests():
     return f"{len(alerts)} alerts"
 
 
-def test_each_alert_has_its_row():
-    """In the section of alerts, with its severity, at the anchor that its annotation names."""
+def test_each_alert_has_its_section():
+    """Its annotation names a heading of a page, and it has a severity and a summary."""
     with open(f"{DEPLOY}/alerts.yml", encoding="utf-8") as it:
-        alerts = re.findall(r"- alert: (\w+)\n.*?severity: (\w+)\}\n    annotations:\n      runbook_url: '([^']*)'", it.read(), re.DOTALL)
-        it.seek(0)
-        assert len(alerts) == it.read().count("- alert: "), alerts
-    [page] = {place.partition("#")[0] for _, _, place in alerts}
-    with open(f"{TOP}/docs/{page}", encoding="utf-8") as it:
-        [section] = [text for title, text in re.findall(r"^##+ ([^\n]*)\n(.*?)(?=^##|\Z)", it.read(), re.DOTALL | re.MULTILINE) if title == "Alerts"]
-    rows = re.findall(r'^\| <a id="(\w+)"></a>`(Relkvanu\w+)` \| (\w+) \| [^|]+ \| [^|]+ \|$', section, re.MULTILINE)
-    assert rows == [(place.partition("#")[2], name, severity) for name, severity, place in alerts], (rows, alerts)
-    return f"{len(rows)} rows"
+        rules = it.read()
+    alerts = re.findall(r"- alert: \w+\n.*?severity: (?:page|ticket)\}\n    annotations:\n      runbook_url: '([\w-]+\.md#[\w-]+)'\n      summary: '", rules, re.DOTALL)
+    pages = {page: content(f"{TOP}/docs/{page}") for page in {it.partition("#")[0] for it in alerts}}
+    headings = {f"{page}#{re.sub('[^a-z0-9 -]', '', title.lower()).replace(' ', '-')}" for page, text in pages.items() for title in re.findall(r"^#+ (.*)$", text, re.MULTILINE)}
+    assert len(alerts) == rules.count("- alert: ") and set(alerts) <= headings, (len(alerts), set(alerts) - headings)
+    return f"{len(alerts)} alerts"
 
 
-# The job `orders` has a discarder and a sweeper that are targets, `lone` has none.
+# The job `orders` has a cleaner that is a target, `lone` has none.
 OWN_RULES = """
 rule_files: [own.yml]
 tests:
@@ -125,34 +120,26 @@ tests:
   input_series:
   - {series: 'relkvanu_mode{job="relkvanu",installation="a",instance="x",job_name="orders"}', values: '1x90'}
   - {series: 'relkvanu_mode{job="relkvanu",installation="a",instance="x",job_name="lone"}', values: '1x90'}
-  - {series: 'relkvanu_discard_works{job="relkvanu-discard",instance="y",job_name="orders"}', values: '0x90'}
-  - {series: 'relkvanu_sweep_timestamp_seconds{job="relkvanu-sweep",instance="z",job_name="orders"}', values: '1x90'}
+  - {series: 'relkvanu_clean_works{job="relkvanu-clean",instance="y",job_name="orders"}', values: '0x90'}
   alert_rule_test:
   - {eval_time: 29m, alertname: RelkvanuNoBackup, exp_alerts: []}
-  - {eval_time: 29m, alertname: RelkvanuNoDiscarder, exp_alerts: []}
-  - {eval_time: 29m, alertname: RelkvanuNoSweeper, exp_alerts: []}
+  - {eval_time: 29m, alertname: RelkvanuNoCleaner, exp_alerts: []}
   - eval_time: 31m
     alertname: RelkvanuNoBackup
     exp_alerts: [{exp_labels: {severity: ticket}, exp_annotations: {summary: 'No backup of the service is known.'}}]
   - eval_time: 31m
-    alertname: RelkvanuNoDiscarder
-    exp_alerts: [{exp_labels: {severity: ticket, job_name: lone}, exp_annotations: {summary: 'No discarder of job lone is a target.'}}]
-  - eval_time: 31m
-    alertname: RelkvanuNoSweeper
-    exp_alerts: [{exp_labels: {severity: ticket, job_name: lone}, exp_annotations: {summary: 'No sweeper of job lone is a target.'}}]
+    alertname: RelkvanuNoCleaner
+    exp_alerts: [{exp_labels: {severity: ticket, job_name: lone}, exp_annotations: {summary: 'No cleaner of job lone is a target.'}}]
 """
 
 
-def test_the_rules_of_the_page():
+def test_the_rules_of_what_was_not_set_up():
     """Each fires where something was not set up, and nowhere else."""
     needed("promtool")
-    with open(f"{TOP}/docs/SERVICE-OPERATION.md", encoding="utf-8") as it:
-        [rules] = re.findall(r"^```\n(groups:\n.*?)^```$", it.read(), re.DOTALL | re.MULTILINE)
+    rules = content(f"{DEPLOY}/alerts_set_up.yml")
     with folder() as at:
-        with open(f"{at}/own.yml", "w", encoding="utf-8") as it:
-            it.write(rules)
-        with open(f"{at}/test.yml", "w", encoding="utf-8") as it:
-            it.write(OWN_RULES)
+        save(f"{at}/own.yml", rules)
+        save(f"{at}/test.yml", OWN_RULES)
         checked, tried = (subprocess.run(["promtool", *words], text=True, stdout=subprocess.PIPE, stderr=subprocess.STDOUT, check=False)
                           for words in (["check", "rules", f"{at}/own.yml"], ["test", "rules", f"{at}/test.yml"]))
     assert checked.returncode == 0 and f"{rules.count('alert: ')} rules found" in checked.stdout, checked.stdout

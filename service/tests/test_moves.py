@@ -3,9 +3,8 @@ import importlib
 import os
 import re
 import sqlite3
-import threading
 
-from harness import LOCKED, SERVICE, TOP, served, until
+from harness import LOCKED, SERVICE, TOP, beside, content, served, until
 from relkvanu_service import Service, ack, cancel, savepoint
 from test_metrics import scraped
 
@@ -13,10 +12,13 @@ from test_metrics import scraped
 ELSEWHERE = {
     "relkvanu_backup_timestamp_seconds": "under_systemd",
     "relkvanu_certificate_until_timestamp_seconds": "test_security",
+    "relkvanu_clean_files_total": "test_discard_folder",
+    "relkvanu_clean_interval_seconds": "test_sweep",
+    "relkvanu_clean_stopped": "test_sweep",
+    "relkvanu_clean_sweep_timestamp_seconds": "test_sweep",
+    "relkvanu_clean_unissued_files": "test_sweep",
+    "relkvanu_clean_works": "test_discard_names",
     "relkvanu_clock_ahead_seconds": "test_clocks",
-    "relkvanu_copy_timestamp_seconds": "test_restore",
-    "relkvanu_discard_files_total": "test_discard_folder",
-    "relkvanu_discard_works": "test_discard_names",
     "relkvanu_followed_timestamp_seconds": "test_lease_lengths",
     "relkvanu_history_lag_seconds": "test_summaries",
     "relkvanu_history_up": "test_summaries",
@@ -29,11 +31,6 @@ ELSEWHERE = {
     "relkvanu_reload_failed": "test_security",
     "relkvanu_samples_behind_seconds": "test_upkeep",
     "relkvanu_served_since_timestamp_seconds": "test_limits",
-    "relkvanu_shards": "test_lease_lengths",
-    "relkvanu_sweep_files_total": "test_sweep",
-    "relkvanu_sweep_interval_seconds": "test_sweep",
-    "relkvanu_sweep_timestamp_seconds": "test_sweep",
-    "relkvanu_sweep_unissued_files": "test_sweep",
     "relkvanu_token_until_timestamp_seconds": "test_upkeep",
 }
 # What a job's settings say, of a job with an interval of 2^40 ms and a timeout of a minute, and of one with 200 ms and 5 s.
@@ -43,7 +40,7 @@ OF_SETTINGS = {"relkvanu_interval_seconds": ((1 << 40) / 1000, 0.2), "relkvanu_t
 def named():
     with open(f"{SERVICE}/deploy/alerts.yml", encoding="utf-8") as it:
         rules = re.sub(r'__name__=~"relkvanu_\((.*?)\)(\w+)"', lambda it: " ".join(f"relkvanu_{one}{it[2]}" for one in it[1].split("|")), it.read())
-    return set(re.findall(r"relkvanu_[a-z_]+", rules)) - {"relkvanu_discard", "relkvanu_sweep"}
+    return set(re.findall(r"relkvanu_[a-z_]+", rules)) - {"relkvanu_clean"}
 
 
 def without_buckets(name):
@@ -89,9 +86,7 @@ def stuck(server, seen):
     """Requests wait for a commit that the database does not take."""
     other = sqlite3.connect(server.database, isolation_level=None, timeout=LOCKED)
     other.execute("begin immediate")
-    threads = [threading.Thread(target=server.request, args=("POST", "/v1/jobs/orders/calls", {"calls": [{"call": "tick"}]})) for _ in range(4)]
-    for it in threads:
-        it.start()
+    threads = [beside(server.request, "POST", "/v1/jobs/orders/calls", {"calls": [{"call": "tick"}]}) for _ in range(4)]
 
     def both():
         values = seen.look()
@@ -135,6 +130,5 @@ def test_others_are_compared_elsewhere():
     assert set(ELSEWHERE) <= named(), set(ELSEWHERE) - named()
     for name, module in ELSEWHERE.items():
         path = importlib.import_module(module).__file__
-        with open(path, encoding="utf-8") as it:
-            assert name in it.read(), (name, os.path.relpath(path, TOP))
+        assert name in content(path), (name, os.path.relpath(path, TOP))
     return f"{len(ELSEWHERE)} metrics"

@@ -10,11 +10,13 @@ import threading
 import time
 
 import kills
-from harness import COMMAND, PROGRAM, WHOLE, Archive, Server, caught_up, check_log, configured, entry_of, folder, leader_and_standby, lease_of, served, until
+from harness import (
+    COMMAND, PROGRAM, SETTINGS, WHOLE, Archive, Server, beside, caught_up, check_log, configured, entry_of, folder, leader_and_standby, lease_of, raised,
+    save, served, served_job, until
+)
 from postgres import postgres
 from relkvanu_service import Failed, Fenced, OldTerm, Refused, Service, ack, cancel, decline, deleted, dispose, reserve, restore, savepoint
 
-SETTINGS = {"interval": 1 << 40}
 JOB = {"name": "orders", "settings": SETTINGS, "shape": [1]}
 
 
@@ -26,14 +28,6 @@ def over_both(test):
     with postgres() as database, folder() as at:
         said.append(f"PostgreSQL: {test(at, database.url)}")
     return "; ".join(said)
-
-
-def refused(error, call):
-    try:
-        call()
-    except error as why:
-        return why
-    raise AssertionError(f"it is no {error.__name__}")
 
 
 def test_a_new_job_has_names_unless_it_says_otherwise():
@@ -54,14 +48,13 @@ def test_a_new_job_has_names_unless_it_says_otherwise():
         # the engines of before go on
         old = Service(server.url).job("old")
         assert old.call(savepoint())["id"] == 1 and old.call(ack(1, "0.0", [7]))["ack"] == "completed" and "term" not in old.call(restore())
-        assert refused(Fenced, lambda: old.call(reserve(1, 5))).name == "NoNames"
-        assert refused(Fenced, lambda: old.call(ack(1, "0.0", [8], term=1))).name == "NoNames"
+        assert raised(Fenced, lambda: old.call(reserve(1, 5))).name == "NoNames"
+        assert raised(Fenced, lambda: old.call(ack(1, "0.0", [8], term=1))).name == "NoNames"
         for ask in (old.term, lambda: old.garbage([7]), lambda: old.session(1).name()):
-            assert refused(Fenced, ask).name == "NoNames"
-        assert old.begin().term is None and refused(Fenced, old.begin().session)
+            assert raised(Fenced, ask).name == "NoNames"
+        assert old.begin().term is None and raised(Fenced, old.begin().session)
     with served(names=False) as server:
         assert names(server, {}) == (201, False) and names(server, {"name": "new", "names": True}) == (201, True)
-    return "the default, the setting, and what a job says"
 
 
 def test_a_zombie_after_a_restore():
@@ -81,8 +74,8 @@ def test_a_zombie_after_a_restore():
             lambda it: it.forfeit(names), lambda it: it.name(),
         ]
         for call in late:
-            assert refused(OldTerm, lambda: call(job.session(old.term))).name == "OldTerm"
-            assert refused(OldTerm, lambda: call(zombie))
+            assert raised(OldTerm, lambda: call(job.session(old.term))).name == "OldTerm"
+            assert raised(OldTerm, lambda: call(zombie))
         # one without a term is refused too, and one of a term that has not begun
         for answer in job.calls([ack(2, "0.0", names[1:2]), decline(2, "0.0"), ack(2, "0.0", term=start.term + 1)]):
             assert answer == {"fenced": "OldTerm"}, answer
@@ -94,17 +87,16 @@ def test_a_zombie_after_a_restore():
         new = start.session()
         name = new.name()
         assert job.call(savepoint())["id"] == 3 and new.ack(3, "0.0", [name], names[:1])["ack"] == "completed"
-        spent = refused(Fenced, lambda: new.ack(3, "0.0", [name]))
+        spent = raised(Fenced, lambda: new.ack(3, "0.0", [name]))
         assert (spent.name, spent.file) == ("Spent", name)
-        never = refused(Fenced, lambda: new.ack(3, "0.0", [10**6]))
+        never = raised(Fenced, lambda: new.ack(3, "0.0", [10**6]))
         assert (never.name, never.file) == ("NeverReserved", 10**6)
         # one that was suspended beside a service that was killed
-        server.kill()
-        server.start()
-        assert refused(OldTerm, lambda: job.session(old.term).ack(3, "0.0"))
+        server.again()
+        assert raised(OldTerm, lambda: job.session(old.term).ack(3, "0.0"))
         told = job.call(cancel())
-        assert told["term"] == start.term + 1 and refused(OldTerm, lambda: new.ack(3, "0.0"))
-        assert refused(Fenced, lambda: job.session(told["term"]).name()).name == "Ended" and refused(Refused, job.begin).name == "NotRunning"
+        assert told["term"] == start.term + 1 and raised(OldTerm, lambda: new.ack(3, "0.0"))
+        assert raised(Fenced, lambda: job.session(told["term"]).name()).name == "Ended" and raised(Refused, job.begin).name == "NotRunning"
         log = list(job.log(terms=True))
         answered = check_log(job.state(), [1], log)
         assert server.stop() == 0
@@ -174,8 +166,7 @@ def streamed(server, path, count):
 
 def test_tokens_for_terms():
     with folder() as at:
-        with open(f"{at}/tokens", "w", encoding="utf-8") as it:
-            it.write(f"read {'r' * 20}\nwrite {'w' * 20}\nwrite {'o' * 20} jobs=other\n")
+        save(f"{at}/tokens", f"read {'r' * 20}\nwrite {'w' * 20}\nwrite {'o' * 20} jobs=other\n")
         server = Server(at, args=["--token-file", f"{at}/tokens"], names=True).start()
         read, write, other = "r" * 20, "w" * 20, "o" * 20
         assert server.request("POST", "/v1/jobs", JOB, token=write)[0] == 201
@@ -194,7 +185,6 @@ def test_tokens_for_terms():
         assert server.request("POST", "/v1/jobs/none/garbage", {"files": []}, token=write)[0] == 404 and server.get("/v1/jobs/none/term", write)[0] == 404
         told = server.request("POST", f"{job}/fence", {"first_name": "9"}, write, [("Accept", "application/problem+json")])
         assert told[0] == 409 and told[2]["type"] == "urn:relkvanu:problem:fenced" and told[2]["fenced"] == "HasNames", told
-        server.stop()
         return f"{len(asked)} routes, {len(bad)} bad bodies"
 
 
@@ -213,9 +203,7 @@ def test_a_reserve_is_durable_before_it_is_told():
                 answer = job.call(reserve(term, mine.randint(1, 20)))
                 told.append((answer["seq"], int(answer["first"]), answer["count"]))
 
-        tasks = [threading.Thread(target=task, args=(number,)) for number in range(4)]
-        for one in tasks:
-            one.start()
+        tasks = [beside(task, number) for number in range(4)]
         for _ in range(12):
             count = len(told)
             until(lambda: len(told) > count + 2)
@@ -236,7 +224,6 @@ def test_a_reserve_is_durable_before_it_is_told():
             assert (entry["line"], entry["answer"]) == (f"reserve {term} {count}", f"reserved {first}"), entry
         assert job.term()["next_name"] > max(names)
         check_log(job.state(), [1], list(log.values()))
-        server.stop()
         return f"{len(told)} reserves over 12 kills, {len(names)} names"
 
     return over_both(reserves)
@@ -326,14 +313,12 @@ def test_garbage_is_never_in_use():
         for _ in range(4):
             time.sleep(seconds / 4)
             current[0] = job.begin()
-            server.kill()
-            server.start()
+            server.again()
         over.set()
         for thread in threads:
             thread.join(COMMAND)
         assert not errors, errors[:3]
-        with keeps.base() as base:
-            rows = base.execute(f"select ended, seq, at, line, what, a, b, files from {WHOLE} order by seq").fetchall()
+        rows = keeps.rows(f"select ended, seq, at, line, what, a, b, files from {WHOLE} it order by seq")
         log = [{**entry_of(*row), "ended": [int(it) for it in (ended or "").split()]} for ended, *row in rows]
         assert [entry["seq"] for entry in log] == list(range(1, len(log) + 1)), "the log has gaps"
         last = {}
@@ -347,7 +332,6 @@ def test_garbage_is_never_in_use():
         garbage = set(job.garbage(range(1, next_name))[0])
         known = {file for file, _, end in uses(log) if end == float("inf")}
         assert garbage and not garbage & known, garbage & known
-        server.stop()
         return f"{len(told)} answers beside {len(log)} calls and 4 kills, {len(garbage)} of {next_name - 1} names garbage at the end"
 
 
@@ -356,20 +340,16 @@ def test_a_job_is_turned():
         server = Server(at, url, names=False).start()
         job = Service(server.url).open("orders", SETTINGS, [1])
         job.calls([savepoint(), ack(1, "0.0", [5, 7])])
-        assert [refused(Fenced, lambda: job.fence(first)).name for first in (1, 5, 7)] == ["NameInUse"] * 3
+        assert [raised(Fenced, lambda: job.fence(first)).name for first in (1, 5, 7)] == ["NameInUse"] * 3
         before = job.state()["seq"]
         told = job.fence(8, key="turn")
         assert (told["term"], told["first_name"], told["seq"]) == (1, "8", before + 1), told
-        assert job.fence(8, key="turn") == told and refused(Fenced, lambda: job.fence(8)).name == "HasNames"
-        try:
-            job.fence(9, key="turn")
-            raise AssertionError("the key was used with another body")
-        except Failed as failed:
-            assert failed.status == 422
+        assert job.fence(8, key="turn") == told and raised(Fenced, lambda: job.fence(8)).name == "HasNames"
+        failed = raised(Failed, lambda: job.fence(9, key="turn"))
+        assert failed.status == 422
         # the tasks of before are refused, and those of the restart go on with the files of before
         assert job.calls([ack(1, "0.0", [9])]) == [{"fenced": "OldTerm"}]
-        server.kill()
-        server.start()
+        server.again()
         start = job.begin(1)
         assert (start.term, start.files) == (2, {"0.0": [5, 7]})
         task = start.session(block=3)
@@ -383,7 +363,6 @@ def test_a_job_is_turned():
         job.call(deleted(7))
         assert job.garbage([7]) == ([7], [])
         check_log(job.state(), [1], list(job.log(terms=True)))
-        server.stop()
         return "refused at a known file, then turned once"
 
     return over_both(turned)
@@ -391,9 +370,7 @@ def test_a_job_is_turned():
 
 def test_images_and_checks_of_a_job_with_names():
     """A start goes on from an image with names, and `check` compares images and answers."""
-    with folder() as at:
-        server = Server(at, args=configured(at, "image_calls = 10\nkeep_calls = 10\n"), names=True).start()
-        job = Service(server.url).open("orders", SETTINGS, [1])
+    with served_job("orders", SETTINGS, [1], config="image_calls = 10\nkeep_calls = 10\n", names=True) as (server, job):
         for _ in range(30):
             task = job.begin().session(block=5)
             record = job.call(savepoint())["id"]
@@ -403,8 +380,7 @@ def test_images_and_checks_of_a_job_with_names():
         until(lambda: job.state()["image"] and job.state()["first"] > 1)
         state, term = job.state(), job.term()
         kept = task.name()
-        server.kill()
-        server.start()
+        server.again()
         after = job.state()
         assert job.term() == term and after["next_name"] == state["next_name"] and after["files"] == state["files"]
         assert task.ack(job.call(savepoint())["id"], "0.0", [kept])["ack"] == "completed"
@@ -429,9 +405,7 @@ def test_a_leader_that_is_over_answers_no_garbage():
                 answers.append(server.request("POST", "/v1/jobs/orders/garbage", {"files": [str(file) for file in range(2000)]})[0])
 
             old.process.send_signal(signal.SIGSTOP)
-            asked = [threading.Thread(target=ask, args=(old,)) for _ in range(4)]
-            for one in asked:
-                one.start()
+            asked = [beside(ask, old) for _ in range(4)]
             until(lambda: new.get("/readyz")[0] == 200, 20, 0.01)
             start = Service(new.url).job("orders").begin()
             Service(new.url).job("orders").session(start.term, 100).name()
@@ -451,8 +425,7 @@ def test_a_leader_that_is_over_answers_no_garbage():
 
 
 def test_the_session_of_the_client():
-    with served(names=True) as server:
-        job = Service(server.url).open("orders", SETTINGS, [2])
+    with served_job("orders", SETTINGS, [2], names=True) as (server, job):
         start = job.begin()
         session, found = start.session(block=10), []
 
@@ -460,9 +433,7 @@ def test_the_session_of_the_client():
             for _ in range(25):
                 found.append(session.name())
 
-        threads = [threading.Thread(target=some) for _ in range(4)]
-        for thread in threads:
-            thread.start()
+        threads = [beside(some) for _ in range(4)]
         for thread in threads:
             thread.join()
         assert sorted(found) == list(range(1, 101)), "names of threads"
@@ -477,13 +448,13 @@ def test_the_session_of_the_client():
         assert [both[0]["ack"], both[1], both[2]["decline"]] == ["pending", {"refused": "UnknownCheckpoint"}, "aborted"], both
         # a refusal leaves the name with the task, until it is given up
         name = next(names)
-        assert refused(Refused, lambda: session.ack(99, "0.0", [name])).name == "UnknownCheckpoint" and job.garbage([name])[0] == []
+        assert raised(Refused, lambda: session.ack(99, "0.0", [name])).name == "UnknownCheckpoint" and job.garbage([name])[0] == []
         session.forfeit([name])
         assert job.garbage([name])[0] == [name]
         job.call(restore())
         before = sum(value for name, value in counted(server).items() if "reserve" in name)
         for _ in range(3):
-            assert refused(OldTerm, lambda: [session.name() for _ in range(20)]) and refused(OldTerm, lambda: session.calls([decline(record, "0.1")]))
+            assert raised(OldTerm, lambda: [session.name() for _ in range(20)]) and raised(OldTerm, lambda: session.calls([decline(record, "0.1")]))
         assert sum(value for name, value in counted(server).items() if "reserve" in name) == before + 1, "it asks once, and then knows"
         assert counted(server)['relkvanu_calls_total{call="reserve",job_name="orders",outcome="fenced"}'] == 1
         gauges = counted(server)

@@ -1,12 +1,11 @@
 """What an operator does to a job that runs: a checkpoint now, and other settings, over the API, the client and the commands."""
 import json
 import subprocess
-import threading
 import time
 
 import requests
 
-from harness import COMMAND, PROGRAM, Server, caught_up, folder, served, until
+from harness import COMMAND, PROGRAM, beside, caught_up, served, served_job, until
 from relkvanu_service import Failed, Fenced, Refused, Service, ack, cancel
 
 NEVER = 1 << 40
@@ -35,8 +34,7 @@ def completed(job, file):
 
 
 def test_a_changed_interval_holds_without_a_restart():
-    with served() as server:
-        job = Service(server.url).open("orders", {"interval": NEVER}, [1])
+    with served_job("orders", {"interval": NEVER}, [1]) as (server, job):
         assert job.state()["due"] > NEVER and not job.state()["live"]
         told = job.set(interval=50)
         assert told["settings"] == {**DEFAULTS, "interval": 50} == job.state()["settings"], told
@@ -48,15 +46,13 @@ def test_a_changed_interval_holds_without_a_restart():
         [first, *_] = job.log()
         assert first["line"].split() == ["configure", str(first["at"]), "50", "0", "1", "600000", "0", "1", "delete"], first
         assert "configure interval=50" in server.log(), server.log()
-        # an open finds the job by its first settings and by those of now
-        for settings, status in (({"interval": NEVER}, 200), ({"interval": 50}, 200), ({"interval": 51}, 409)):
-            assert server.request("POST", "/v1/jobs", {"name": "orders", "settings": settings, "shape": [1]})[0] == status, settings
-        return "3 checkpoints"
+        # an open finds the job by any settings, and says those of now
+        for settings, differ in (({"interval": NEVER}, True), ({"interval": 50}, False), ({"interval": 51}, True)):
+            assert Service(server.url).open("orders", settings, [1]).opened == (told["settings"], [1], differ), settings
 
 
 def test_a_refused_change_changes_nothing():
-    with served() as server:
-        job = Service(server.url).open("orders", {"interval": NEVER}, [1])
+    with served_job("orders", {"interval": NEVER}, [1]) as (server, job):
         bad = {"interval": 9, "pause": -1, "at_once": 65, "timeout": 0, "tolerable": 1001, "retained": 0, "keep_on_cancel": 1, "speed": 1}
         for name, value in bad.items():
             for body in ({name: value}, {"interval": 1000, name: value}):
@@ -83,28 +79,22 @@ def test_a_refused_change_changes_nothing():
 
 def restarted(args):
     """Settings that were changed before and after an image, and a service that is killed and started again."""
-    with folder() as at:
-        server = Server(at, args=args).start()
-        try:
-            job = Service(server.url).open("orders", {"interval": NEVER}, [1])
-            job.set(retained=3, tolerable=7)
-            for file in range(1, 41):
-                completed(job, file)
-            job.set(interval=NEVER - 1, keep_on_cancel=True)
-            wanted = {**DEFAULTS, "interval": NEVER - 1, "retained": 3, "tolerable": 7, "keep_on_cancel": True}
-            until(lambda: job.state()["image"] or not args)
-            before = job.state()
-            for _ in range(2):
-                server.kill()
-                server.start()
-                after = job.state()
-                assert after["settings"] == wanted == before["settings"], after
-                assert (after["seq"], after["due"], after["live"]) == (before["seq"], before["due"], before["live"]), (before, after)
-            made = job.checkpoint()["id"]
-            assert refused(job.checkpoint) == "AtOnce"
-            return made, after["image"]
-        finally:
-            server.stop()
+    with served_job("orders", {"interval": NEVER}, [1], args=args) as (server, job):
+        job.set(retained=3, tolerable=7)
+        for file in range(1, 41):
+            completed(job, file)
+        job.set(interval=NEVER - 1, keep_on_cancel=True)
+        wanted = {**DEFAULTS, "interval": NEVER - 1, "retained": 3, "tolerable": 7, "keep_on_cancel": True}
+        until(lambda: job.state()["image"] or not args)
+        before = job.state()
+        for _ in range(2):
+            server.again()
+            after = job.state()
+            assert after["settings"] == wanted == before["settings"], after
+            assert (after["seq"], after["due"], after["live"]) == (before["seq"], before["due"], before["live"]), (before, after)
+        made = job.checkpoint()["id"]
+        assert refused(job.checkpoint) == "AtOnce"
+        return made, after["image"]
 
 
 def test_a_restart_keeps_the_settings():
@@ -116,40 +106,33 @@ def test_a_restart_keeps_the_settings():
 
 
 def test_a_smaller_number_retained_drops_checkpoints():
-    with served() as server:
-        job = Service(server.url).open("orders", {"interval": NEVER, "retained": 3}, [1])
+    with served_job("orders", {"interval": NEVER, "retained": 3}, [1]) as (server, job):
         assert [completed(job, file) for file in (11, 12, 13)] == [1, 2, 3]
         told = job.set(retained=1)
         assert (told["dropped"], told["released"]) == (2, 2), told
         assert [one["id"] for one in job.state()["live"]] == [3] and sorted(job.take()) == [11, 12]
         caught_up(job)
         assert [job.record(made)["history"]["why"] for made in (1, 2)] == ["not retained"] * 2, job.record(1)
-        return "2 checkpoints dropped"
 
 
 def test_a_record_expires_by_the_timeout_of_now():
-    with served() as server:
-        job = Service(server.url).open("orders", {"interval": NEVER, "tolerable": 9}, [1])
+    with served_job("orders", {"interval": NEVER, "tolerable": 9}, [1]) as (server, job):
         job.checkpoint()
         job.set(timeout=1)
         until(lambda: not job.state()["live"])
         caught_up(job)
         assert job.record(1)["history"]["how"] == "expired", job.record(1)
-        return "1 record"
 
 
 def test_a_checkpoint_under_a_key_is_triggered_once():
-    with served() as server:
-        job = Service(server.url).open("orders", {"interval": NEVER, "at_once": 9}, [1])
+    with served_job("orders", {"interval": NEVER, "at_once": 9}, [1]) as (server, job):
         told = [job.checkpoint("k"), job.checkpoint("k"), job.checkpoint("l")]
         assert [one["id"] for one in told] == [1, 1, 2] and len(job.state()["live"]) == 2, told
         assert server.request("POST", "/v1/jobs/orders/calls", {"calls": [{"call": "tick"}]}, headers={"Idempotency-Key": "k"})[0] == 422
-        return "2 checkpoints"
 
 
 def test_the_commands():
-    with served() as server:
-        job = Service(server.url).open("orders", {"interval": NEVER}, [1])
+    with served_job("orders", {"interval": NEVER}, [1]) as (server, job):
         assert ran(server, "checkpoint", "orders") == "checkpoint 1 is triggered\n"
         assert "the coordinator refuses it: AtOnce" in ran(server, "checkpoint", "orders", status=1)
         job.call(ack(1, "0.0", [11]))
@@ -158,18 +141,44 @@ def test_the_commands():
         told = ran(server, "set", "orders", "interval=30000", "keep_on_cancel=true")
         assert "interval 30000" in told and "keep_on_cancel true" in told and "retained 1" in told, told
         assert json.loads(ran(server, "set", "orders", "retained=2", "--json"))["settings"] == {**DEFAULTS, "interval": 30_000, "retained": 2, "keep_on_cancel": True}
-        assert "interval is no whole number from 10 to" in ran(server, "set", "orders", "interval=9", status=78)
-        assert "speed is no field here" in ran(server, "set", "orders", "speed=9", status=78)
+        assert "interval is no whole number from 10 to" in ran(server, "set", "orders", "interval=9", status=2)
+        assert "speed is no field here" in ran(server, "set", "orders", "speed=9", status=2)
         assert "is no number" in ran(server, "set", "orders", "interval=30s", status=2)
         ran(server, "set", "orders", status=2)
         assert "there is no job" in ran(server, "set", "users", "interval=30000", status=1)
+        assert server.folder in ran(server, "set", "orders", "--folder", server.folder, "--prefix", "state-")
+        assert job.state()["storage"] == {"folder": server.folder, "prefix": "state-", "suffix": ""}, job.state()
+        for words in (["--folder", "/srv", "interval=30000"], ["--bucket", "a/b"], ["--folder", "/srv", "--bucket", "a"], ["--prefix", "state-"]):
+            ran(server, "set", "orders", *words, status=2)
         try:
             job.set(interval=9)
         except Failed as failed:
             assert (failed.status, failed.field) == (400, "interval")
         else:
             raise AssertionError("an interval of 9 is within no limits")
-        return "checkpoint and set"
+
+
+def test_a_full_checkpoint_has_no_base():
+    """So its tasks write everything anew. A service that starts later does not know which one was full, and tells no base of those before."""
+    with served_job("orders", {"interval": NEVER}, [1]) as (server, job):
+
+        def bases():
+            return [it.get("base") for it in server.get("/v1/jobs/orders/events")[2]["events"] if it["event"] == "triggered"]
+
+        completed(job, 11)
+        completed(job, 12)
+        assert ran(server, "checkpoint", "orders", "--full") == "checkpoint 3 is triggered\n"
+        told = [{"kind": "fresh"}, {"kind": "checkpoint", "id": 1}, {"kind": "fresh"}]
+        assert bases() == told, bases()
+        job.call(ack(3, "0.0", [13]))
+        assert job.checkpoint(full=True)["id"] == 4 and bases() == [*told, {"kind": "fresh"}], bases()
+        assert refused(lambda: job.checkpoint(full=True)) == "AtOnce"
+        server.again()
+        assert bases() == [None] * 4, bases()
+        job.call(ack(4, "0.0", [14]))
+        completed(job, 15)
+        assert bases() == [None] * 4 + [{"kind": "checkpoint", "id": 4}], bases()
+        assert server.request("POST", "/v1/jobs/orders/checkpoints", {"full": 1})[0] == 400
 
 
 class Tasks:
@@ -210,52 +219,46 @@ class Tasks:
 
 
 def back(names):
-    with folder() as at:
-        server = Server(at, names=names).start()
-        try:
-            tasks = Tasks(server, names)
-            job, made = tasks.job, [tasks.complete()]
-            first = tasks.files[made[0]]["0.0"][0]
-            made += [tasks.complete(first), tasks.complete(first)]
-            old = tasks.start
-            told = server.request("POST", "/v1/jobs/orders/calls", {"calls": [{"call": "restore", "from": {"checkpoint": made[1]}}]})
-            assert told[0] == 400 and told[2]["field"] == "calls[0].accept_published" and "not taken back" in told[2]["error"], told
-            assert "--accept-published" in ran(server, "restore", "orders", "--checkpoint", made[1], status=2)
-            assert "NoSuchCheckpoint" in ran(server, "restore", "orders", "--checkpoint", 99, "--accept-published", status=1)
-            assert [one["id"] for one in job.state()["live"] if one["done"]] == made
-            tasks.take_over(job.go_back(made[1], accept_published=True))
-            assert tasks.start.kind == "savepoint" and (tasks.start.term is not None) == names, tasks.start
-            copy = tasks.start.id
-            # a savepoint with the files of that checkpoint, and nothing else is left
-            assert tasks.held(copy) == tasks.files[made[1]] and [one["id"] for one in job.state()["live"] if one["done"]] == [copy]
-            kept = {file for files in tasks.files[made[1]].values() for file in files}
-            every = {file for files in tasks.files.values() for part in files.values() for file in part}
-            assert set(job.take(1000)) == every - kept, (every, kept)
-            if names:
-                assert job.calls([ack(copy + 1, "0.0", term=old.term)])[0] == {"fenced": "OldTerm"}
-            server.kill()
-            server.start()
-            assert tasks.held(copy) == tasks.files[made[1]] and job.state()["choice"] == {"kind": "savepoint", "id": copy}
-            # the job goes on from there
-            assert tasks.complete(first) > copy and refused(lambda: job.go_back(made[0], True)) == refused(lambda: job.go_back(copy, True)) == "NoSuchCheckpoint"
-            last = tasks.complete(first)
-            # the latest needs no savepoint
-            assert job.go_back(last, True).kind == "checkpoint"
-            tasks.take_over(job.begin(shape=[1]))
-            assert refused(lambda: job.go_back(last - 1, True)) == "OtherShape"
-            job.call(cancel())
-            assert refused(lambda: job.go_back(last, True)) in ("NoSuchCheckpoint", "NotRunning")
-            assert server.stop() == 0
-            told = subprocess.run([PROGRAM, "check", "--database", server.database], stdout=subprocess.PIPE, stderr=subprocess.STDOUT, text=True, timeout=COMMAND, check=False)
-            assert told.returncode == 0, told
-        finally:
-            server.stop()
+    with served(names=names) as server:
+        tasks = Tasks(server, names)
+        job, made = tasks.job, [tasks.complete()]
+        first = tasks.files[made[0]]["0.0"][0]
+        made += [tasks.complete(first), tasks.complete(first)]
+        old = tasks.start
+        told = server.request("POST", "/v1/jobs/orders/calls", {"calls": [{"call": "restore", "from": {"checkpoint": made[1]}}]})
+        assert told[0] == 400 and told[2]["field"] == "calls[0].accept_published" and "not taken back" in told[2]["error"], told
+        assert "--accept-published" in ran(server, "restore", "orders", "--checkpoint", made[1], status=2)
+        assert "NoSuchCheckpoint" in ran(server, "restore", "orders", "--checkpoint", 99, "--accept-published", status=1)
+        assert [one["id"] for one in job.state()["live"] if one["done"]] == made
+        tasks.take_over(job.go_back(made[1], accept_published=True))
+        assert tasks.start.kind == "savepoint" and (tasks.start.term is not None) == names, tasks.start
+        copy = tasks.start.id
+        # a savepoint with the files of that checkpoint, and nothing else is left
+        assert tasks.held(copy) == tasks.files[made[1]] and [one["id"] for one in job.state()["live"] if one["done"]] == [copy]
+        kept = {file for files in tasks.files[made[1]].values() for file in files}
+        every = {file for files in tasks.files.values() for part in files.values() for file in part}
+        assert set(job.take(1000)) == every - kept, (every, kept)
+        if names:
+            assert job.calls([ack(copy + 1, "0.0", term=old.term)])[0] == {"fenced": "OldTerm"}
+        server.again()
+        assert tasks.held(copy) == tasks.files[made[1]] and job.state()["choice"] == {"kind": "savepoint", "id": copy}
+        # the job goes on from there
+        assert tasks.complete(first) > copy and refused(lambda: job.go_back(made[0], True)) == refused(lambda: job.go_back(copy, True)) == "NoSuchCheckpoint"
+        last = tasks.complete(first)
+        # the latest needs no savepoint
+        assert job.go_back(last, True).kind == "checkpoint"
+        tasks.take_over(job.begin(shape=[1]))
+        assert refused(lambda: job.go_back(last - 1, True)) == "OtherShape"
+        job.call(cancel())
+        assert refused(lambda: job.go_back(last, True)) in ("NoSuchCheckpoint", "NotRunning")
+        assert server.stop() == 0
+        told = subprocess.run([PROGRAM, "check", "--database", server.database], stdout=subprocess.PIPE, stderr=subprocess.STDOUT, text=True, timeout=COMMAND, check=False)
+        assert told.returncode == 0, told
 
 
 def test_an_advance():
     """The job goes on above all terms and names that were given out: as after a restored backup, which lacks some."""
-    with served(names=True) as server:
-        job = Service(server.url).open("orders", {"interval": NEVER}, [1])
+    with served_job("orders", {"interval": NEVER}, [1], names=True) as (server, job):
         task, made = job.begin().session(), job.checkpoint()["id"]
         task.ack(made, "0.0", [task.name()])
         told = job.advance(100, 5000)
@@ -274,8 +277,7 @@ def test_an_advance():
         ran(server, "advance", "orders", "--term", 2**33, "--name", 2**41)
         before = job.term()
         assert before == {"term": 2**33 + 1, "next_name": 2**41} and server.log().count("calls=advance") == 5, before
-        server.kill()
-        server.start()
+        server.again()
         assert job.term() == before and job.session(before["term"]).name() == 2**41
         for body, field in (({"term": 1}, "first_name"), ({"first_name": "1"}, "term"), ({"term": -1, "first_name": 1}, "term"), ({"term": 1, "first_name": 0}, "first_name")):
             status, _, told = server.request("POST", "/v1/jobs/orders/advance", body)
@@ -306,34 +308,28 @@ def fenced(make):
 def test_back_to_an_older_checkpoint():
     for names in (False, True):
         back(names)
-    return "without names and with them"
 
 
 def test_a_kill_leaves_all_of_the_way_back_or_nothing():
-    with folder() as at:
-        server = Server(at).start()
-        try:
-            tasks, whole, turn = Tasks(server, False), 0, 0
-            job, kills = tasks.job, 25
-            # a busy machine makes none so soon
-            while turn < kills or whole == 0 and turn < 10 * kills:
-                until(lambda: tasks.complete() and len([one for one in job.state()["live"] if one["done"] and one["kind"] == "checkpoint"]) > 1)
-                older = next(one["id"] for one in job.state()["live"] if one["done"] and one["kind"] == "checkpoint")
-                going = threading.Thread(target=gone_back, args=(job.within(0.1), older))
-                going.start()
-                time.sleep(turn * (0.0008 if turn < kills else 0.004))
-                server.kill()
-                going.join()
-                server.start()
-                lines = [one["line"].split() for one in job.log()]
-                copies = [one["record"] for one in job.log() if one["line"].startswith("savepoint ")]
-                restores = [int(words[2]) for words in lines if words[0] == "restore" and words[2] != "latest"]
-                assert copies == restores, (turn, copies, restores)
-                whole, turn = len(copies), turn + 1
-            assert 0 < whole < turn, f"{whole} of {turn} were made"
-            return f"{whole} of {turn} were made, and the others left nothing"
-        finally:
-            server.stop()
+    with served() as server:
+        tasks, whole, turn = Tasks(server, False), 0, 0
+        job, kills = tasks.job, 25
+        # a busy machine makes none so soon
+        while turn < kills or whole == 0 and turn < 10 * kills:
+            until(lambda: tasks.complete() and len([one for one in job.state()["live"] if one["done"] and one["kind"] == "checkpoint"]) > 1)
+            older = next(one["id"] for one in job.state()["live"] if one["done"] and one["kind"] == "checkpoint")
+            going = beside(gone_back, job.within(0.1), older)
+            time.sleep(turn * (0.0008 if turn < kills else 0.004))
+            server.kill()
+            going.join()
+            server.start()
+            lines = [one["line"].split() for one in job.log()]
+            copies = [one["record"] for one in job.log() if one["line"].startswith("savepoint ")]
+            restores = [int(words[2]) for words in lines if words[0] == "restore" and words[2] != "latest"]
+            assert copies == restores, (turn, copies, restores)
+            whole, turn = len(copies), turn + 1
+        assert 0 < whole < turn, f"{whole} of {turn} were made"
+        return f"{whole} of {turn} were made, and the others left nothing"
 
 
 def gone_back(job, older):

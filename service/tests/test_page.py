@@ -4,6 +4,7 @@ import os
 import shutil
 import threading
 import time
+from contextlib import contextmanager
 from decimal import ROUND_HALF_UP, Decimal
 
 from harness import BUSY, COMMAND, free_port, served, until
@@ -189,6 +190,7 @@ def look_up(page, file):
     return until(lambda: "".join(texts(page, "#file")), 10)
 
 
+@contextmanager
 def started(width, height):
     """A browser, if one is here."""
     try:
@@ -197,12 +199,15 @@ def started(width, height):
         raise Skipped("python3-selenium", "it is not here") from None
     if not (shutil.which("chromium") and shutil.which("chromedriver")):
         raise Skipped("chromium", "it is not here")
-    return browser(width, height)
+    page = browser(width, height)
+    try:
+        yield page
+    finally:
+        page.quit()
 
 
 def test_what_the_page_shows():
-    page = started(1200, 900)
-    with served() as server:
+    with started(1200, 900) as page, served() as server:
         engine = Engine(server.url)
         engine.start()
         users = Service(server.url).open("users", {"interval": 3_600_000}, [1])
@@ -211,7 +216,6 @@ def test_what_the_page_shows():
             told = check_job_page(page, server, engine)
         finally:
             engine.over.set()
-            page.quit()
         engine.join(COMMAND)
         return told
 

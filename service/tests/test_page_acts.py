@@ -4,7 +4,7 @@ import json
 import time
 
 import test_page
-from harness import Server, caught_up, folder, served, until
+from harness import Server, caught_up, folder, save, served, served_job, until
 from relkvanu_service import Service, ack, decline, savepoint
 
 SETTINGS = {"interval": 3_600_000, "timeout": 7_200_000, "tolerable": 1000}
@@ -17,6 +17,11 @@ def focus(page):
 
 def keys(page, *pressed):
     page.switch_to.active_element.send_keys(*pressed)
+
+
+def keys_at(page, field, *pressed):
+    page.execute_script("document.getElementById(arguments[0]).focus()", field)
+    keys(page, *pressed)
 
 
 def opened(page, button):
@@ -59,16 +64,9 @@ def nameless(page):
 
 
 def test_a_user_acts_by_the_keyboard():
-    page = test_page.started(1200, 1000)
-    with folder() as at:
-        with open(f"{at}/token", "w", encoding="utf-8") as it:
-            it.write(f"read {READ}\nwrite {WRITE}\n")
-        server = Server(at, args=["--token-file", f"{at}/token"]).start()
-        try:
-            return act_by_keyboard(page, server)
-        finally:
-            page.quit()
-            server.stop()
+    with test_page.started(1200, 1000) as page, folder() as at:
+        save(f"{at}/token", f"read {READ}\nwrite {WRITE}\n")
+        return act_by_keyboard(page, Server(at, args=["--token-file", f"{at}/token"]).start())
 
 
 def act_by_keyboard(page, server):
@@ -78,8 +76,7 @@ def act_by_keyboard(page, server):
     page.get(f"{server.url}/#/jobs/orders")
     until(lambda: not page.execute_script("return document.getElementById('token').hidden"), 10)
     assert "a token is needed" in test_page.texts(page, "#status")[0]
-    page.execute_script("document.getElementById('token-text').focus()")
-    keys(page, "none of its tokens", Keys.ENTER)
+    keys_at(page, "token-text", "none of its tokens", Keys.ENTER)
     until(lambda: test_page.texts(page, "#status") == ["the service does not take this token"], 10)
     page.execute_script("document.getElementById('token-text').value = ''; document.getElementById('token-text').focus()")
     keys(page, READ, Keys.ENTER)
@@ -116,11 +113,9 @@ def act_by_keyboard(page, server):
     opened(page, "#do-restore")
     assert '"from": "latest"' in asked_call(page) and "shape" not in asked_call(page), asked_call(page)
     page.execute_script("const it = document.getElementById('restore-from'); it.value = '1'; it.dispatchEvent(new Event('input', {bubbles: true}))")
-    page.execute_script("document.getElementById('restore-shape').focus()")
-    keys(page, "1 3")
+    keys_at(page, "restore-shape", "1 3")
     assert '"from": 1' in asked_call(page) and "3" in asked_call(page).split("shape")[1], asked_call(page)
-    page.execute_script("document.getElementById('ask-yes').focus()")
-    keys(page, Keys.ENTER)
+    keys_at(page, "ask-yes", Keys.ENTER)
     until(lambda: not is_asking(page), 5)
     assert "begins again from savepoint 1" in test_page.texts(page, "#done")[0] and job.state()["shape"] == [1, 3], job.state()["shape"]
 
@@ -137,8 +132,7 @@ def act_by_keyboard(page, server):
     keys(page, Keys.ENTER)
     until(lambda: "made or not" in test_page.texts(page, "#ask-wrong")[0], 5)
     until(lambda: page.execute_script("return !document.getElementById('ask-yes').disabled"), 5)
-    page.execute_script("document.getElementById('ask-yes').focus()")
-    keys(page, Keys.ENTER)
+    keys_at(page, "ask-yes", Keys.ENTER)
     until(lambda: not is_asking(page), 5)
     assert [entry["line"].split()[0] for entry in job.log()].count("savepoint") == 2, list(job.log())
 
@@ -146,8 +140,7 @@ def act_by_keyboard(page, server):
     job.call({"call": "decline", "id": 2, "subtask": "0.0"})
     until(lambda: test_page.texts(page, "#savepoints button"), 10)
     opened(page, "#savepoints button")
-    page.execute_script("document.getElementById('ask-yes').focus()")
-    keys(page, Keys.ENTER)
+    keys_at(page, "ask-yes", Keys.ENTER)
     until(lambda: test_page.texts(page, "#ask-wrong")[0] or not is_asking(page), 5)
     first = test_page.texts(page, "#ask-wrong")[0] or test_page.texts(page, "#done")[0]
     assert "refuses" in first or "disposed" in first, first
@@ -157,23 +150,19 @@ def act_by_keyboard(page, server):
     # the end
     opened(page, "#do-cancel")
     assert focus(page) == "ask-no"
-    page.execute_script("document.getElementById('ask-yes').focus()")
-    keys(page, Keys.ENTER)
+    keys_at(page, "ask-yes", Keys.ENTER)
     until(lambda: not is_asking(page), 5)
     until(lambda: job.state()["mode"] == "cancelled", 5)
     until(lambda: page.execute_script("return document.getElementById('do-savepoint').disabled"), 10)
     # the job goes, though its files are left
     opened(page, "#do-delete")
     assert asked_call(page) == "DELETE /v1/jobs/orders", asked_call(page)
-    page.execute_script("document.getElementById('ask-yes').focus()")
-    keys(page, Keys.ENTER)
+    keys_at(page, "ask-yes", Keys.ENTER)
     until(lambda: "files of the job are left" in test_page.texts(page, "#ask-wrong")[0], 5)
-    page.execute_script("document.getElementById('delete-abandon').focus()")
-    keys(page, Keys.SPACE)
+    keys_at(page, "delete-abandon", Keys.SPACE)
     assert asked_call(page) == "DELETE /v1/jobs/orders?abandon=1", asked_call(page)
     calls = job.state()["seq"]
-    page.execute_script("document.getElementById('ask-yes').focus()")
-    keys(page, Keys.ENTER)
+    keys_at(page, "ask-yes", Keys.ENTER)
     until(lambda: not is_asking(page) and test_page.texts(page, "#done") == ["Job orders is deleted."], 5)
     until(lambda: not page.execute_script("return document.getElementById('no-jobs').hidden"), 10)
     wrong = [entry["message"] for entry in page.get_log("browser") if entry["level"] == "SEVERE" and "status of 40" not in entry["message"]]
@@ -182,22 +171,14 @@ def act_by_keyboard(page, server):
 
 
 def test_a_stop_and_older_checkpoints():
-    page = test_page.started(1200, 1000)
-    try:
-        with served() as server:
-            return stopped_and_back(page, server, Service(server.url).open("orders", {**SETTINGS, "retained": 3}, [1]))
-    finally:
-        page.quit()
+    with test_page.started(1200, 1000) as page, served() as server:
+        return stopped_and_back(page, server, Service(server.url).open("orders", {**SETTINGS, "retained": 3}, [1]))
 
 
 def test_settings_are_changed():
     """The form has the settings of now, the request those that differ, and what is refused stays on the page with its reason."""
-    page = test_page.started(1200, 1000)
-    try:
-        with served() as server:
-            return settings_changed(page, server, Service(server.url).open("orders", SETTINGS, [1]))
-    finally:
-        page.quit()
+    with test_page.started(1200, 1000) as page, served() as server:
+        return settings_changed(page, server, Service(server.url).open("orders", SETTINGS, [1]))
 
 
 def settings_changed(page, server, job):
@@ -214,13 +195,11 @@ def settings_changed(page, server, job):
     assert page.execute_script("return document.getElementById('set-interval').value") == str(before["interval"])
     typed("set-interval", "30000")
     typed("set-retained", "0")
-    page.execute_script("document.getElementById('set-keep').focus()")
-    keys(page, Keys.SPACE)
+    keys_at(page, "set-keep", Keys.SPACE)
     wanted = {"interval": 30_000, "retained": 0, "keep_on_cancel": not before["keep_on_cancel"]}
     method, body = asked_call(page).split("\n", 1)
     assert (method, json.loads(body)) == ("PATCH /v1/jobs/orders/settings", wanted), asked_call(page)
-    page.execute_script("document.getElementById('ask-yes').focus()")
-    keys(page, Keys.ENTER)
+    keys_at(page, "ask-yes", Keys.ENTER)
     until(lambda: "retained" in test_page.texts(page, "#ask-wrong")[0], 10, told=lambda: test_page.texts(page, "#ask-wrong"))
     assert job.state()["settings"] == before
     typed("set-retained", "2")
@@ -244,8 +223,7 @@ def stopped_and_back(page, server, job):
     def done(button, said_then):
         opened(page, button)
         assert nameless(page) == [], nameless(page)
-        page.execute_script("document.getElementById('ask-yes').focus()")
-        keys(page, Keys.ENTER)
+        keys_at(page, "ask-yes", Keys.ENTER)
         until(lambda: not is_asking(page), 10)
         assert test_page.texts(page, "#done") == [said_then], test_page.texts(page, "#done")
 
@@ -277,14 +255,11 @@ def stopped_and_back(page, server, job):
     assert page.execute_script(hidden) and nameless(page) == []
     page.execute_script("const it = document.getElementById('restore-from'); it.selectedIndex = 3; it.dispatchEvent(new Event('input', {bubbles: true}))")
     assert not page.execute_script(hidden) and '"checkpoint": 3' in asked_call(page) and '"accept_published": false' in asked_call(page), asked_call(page)
-    page.execute_script("document.getElementById('ask-yes').focus()")
-    keys(page, Keys.ENTER)
+    keys_at(page, "ask-yes", Keys.ENTER)
     until(lambda: "not taken back" in test_page.texts(page, "#ask-wrong")[0], 10)
-    page.execute_script("document.getElementById('restore-consent').focus()")
-    keys(page, Keys.SPACE)
+    keys_at(page, "restore-consent", Keys.SPACE)
     assert '"accept_published": true' in asked_call(page), asked_call(page)
-    page.execute_script("document.getElementById('ask-yes').focus()")
-    keys(page, Keys.ENTER)
+    keys_at(page, "ask-yes", Keys.ENTER)
     until(lambda: not is_asking(page), 10)
     assert test_page.texts(page, "#done")[0].startswith("The job begins again from savepoint 6"), test_page.texts(page, "#done")
     assert job.state()["choice"] == {"kind": "savepoint", "id": 6}
@@ -292,23 +267,18 @@ def stopped_and_back(page, server, job):
 
 
 def test_a_record_and_older_ones():
-    page = test_page.started(1200, 1000)
-    try:
-        with served() as server:
-            job = Service(server.url).open("orders", {**SETTINGS, "timeout": 6500}, [2])
-            for number in range(1, 61):
-                acks = [ack(number, "0.0", [number], sizes=[1500]), ack(number, "0.1", sizes=[])]
-                job.calls([savepoint(), *([decline(number, "0.1", reason="no disk" if number == 57 else None)] if number % 2 else acks)])
-            job.calls([savepoint()])
-            for index in (0, 1):
-                time.sleep(0.1)
-                job.calls([ack(61, f"0.{index}", [1000 + index], [2], sizes=[2_500_000])])
-            job.calls([savepoint(), ack(62, "0.0")])
-            caught_up(job)
-            page.get(f"{server.url}/#/jobs/orders")
-            return check_records_page(page, job)
-    finally:
-        page.quit()
+    with test_page.started(1200, 1000) as page, served_job("orders", {**SETTINGS, "timeout": 6500}, [2]) as (server, job):
+        for number in range(1, 61):
+            acks = [ack(number, "0.0", [number], sizes=[1500]), ack(number, "0.1", sizes=[])]
+            job.calls([savepoint(), *([decline(number, "0.1", reason="no disk" if number == 57 else None)] if number % 2 else acks)])
+        job.calls([savepoint()])
+        for index in (0, 1):
+            time.sleep(0.1)
+            job.calls([ack(61, f"0.{index}", [1000 + index], [2], sizes=[2_500_000])])
+        job.calls([savepoint(), ack(62, "0.0")])
+        caught_up(job)
+        page.get(f"{server.url}/#/jobs/orders")
+        return check_records_page(page, job)
 
 
 def first_of(page):
@@ -413,42 +383,32 @@ def check_records_page(page, job):
 def test_the_term_is_shown_when_it_is_asked_for():
     from selenium.webdriver.common.keys import Keys
 
-    page = test_page.started(1200, 1000)
-    with folder() as at:
-        with open(f"{at}/token", "w", encoding="utf-8") as it:
-            it.write(f"read {READ}\nwrite {WRITE}\n")
+    with test_page.started(1200, 1000) as page, folder() as at:
+        save(f"{at}/token", f"read {READ}\nwrite {WRITE}\n")
         server = Server(at, args=["--token-file", f"{at}/token"], names=True).start()
-        try:
-            job = Service(server.url, token=WRITE).open("orders", SETTINGS, [1])
-            Service(server.url, token=WRITE).open("other", SETTINGS, [1], names=False)
-            page.get(f"{server.url}/#/jobs/orders")
-            until(lambda: not page.execute_script("return document.getElementById('token').hidden"), 10)
-            page.execute_script("document.getElementById('token-text').focus()")
-            keys(page, READ, Keys.ENTER)
-            until(lambda: test_page.texts(page, "#job-name") == ["orders"], 10)
-            assert test_page.texts(page, "#term") == [""] and test_page.texts(page, "[data-fact='Next name']") == ["1"] and nameless(page) == []
+        job = Service(server.url, token=WRITE).open("orders", SETTINGS, [1])
+        Service(server.url, token=WRITE).open("other", SETTINGS, [1], names=False)
+        page.get(f"{server.url}/#/jobs/orders")
+        until(lambda: not page.execute_script("return document.getElementById('token').hidden"), 10)
+        keys_at(page, "token-text", READ, Keys.ENTER)
+        until(lambda: test_page.texts(page, "#job-name") == ["orders"], 10)
+        assert test_page.texts(page, "#term") == [""] and test_page.texts(page, "[data-fact='Next name']") == ["1"] and nameless(page) == []
 
-            def asked():
-                page.execute_script("document.getElementById('do-term').focus()")
-                keys(page, Keys.ENTER)
-                until(lambda: test_page.texts(page, "#term") != [""], 10)
-                return test_page.texts(page, "#term")[0]
+        def asked():
+            keys_at(page, "do-term", Keys.ENTER)
+            until(lambda: test_page.texts(page, "#term") != [""], 10)
+            return test_page.texts(page, "#term")[0]
 
-            assert asked() == "The term needs a write token."
-            page.execute_script(f"sessionStorage.setItem('relkvanu-token', '{WRITE}'); document.getElementById('term').textContent = ''")
-            assert asked().startswith("The term is 1:")
-            # a restore by somebody else ends it, so the page does not say it any more; one of the page says the next
-            assert job.begin().term == 2
-            until(lambda: test_page.texts(page, "#term") == [""], 20)
-            opened(page, "#do-restore")
-            page.execute_script("document.getElementById('ask-yes').focus()")
-            keys(page, Keys.ENTER)
-            until(lambda: not is_asking(page), 10)
-            assert test_page.texts(page, "#done")[0].endswith("The term is 3."), test_page.texts(page, "#done")
-            page.get(f"{server.url}/#/jobs/other")
-            until(lambda: test_page.texts(page, "#job-name") == ["other"], 10)
-            assert page.execute_script("return document.getElementById('do-term').hidden") and not test_page.texts(page, "[data-fact='Next name']")
-            return "a read token, a write token, two restores, and a job without names"
-        finally:
-            page.quit()
-            server.stop()
+        assert asked() == "The term needs a write token."
+        page.execute_script(f"sessionStorage.setItem('relkvanu-token', '{WRITE}'); document.getElementById('term').textContent = ''")
+        assert asked().startswith("The term is 1:")
+        # a restore by somebody else ends it, so the page does not say it any more; one of the page says the next
+        assert job.begin().term == 2
+        until(lambda: test_page.texts(page, "#term") == [""], 20)
+        opened(page, "#do-restore")
+        keys_at(page, "ask-yes", Keys.ENTER)
+        until(lambda: not is_asking(page), 10)
+        assert test_page.texts(page, "#done")[0].endswith("The term is 3."), test_page.texts(page, "#done")
+        page.get(f"{server.url}/#/jobs/other")
+        until(lambda: test_page.texts(page, "#job-name") == ["other"], 10)
+        assert page.execute_script("return document.getElementById('do-term').hidden") and not test_page.texts(page, "[data-fact='Next name']")

@@ -28,37 +28,33 @@ def opened(server):
 
 
 def test_the_page_agrees_with_itself():
-    page = test_page.started(1200, 900)
-    try:
-        with served() as server:
-            job = opened(server)
-            caught_up(job)  # so the first look has the last acknowledgement
-            page.get(f"{server.url}/#/jobs/orders")
-            until(lambda: len(test_page.texts(page, "#records tr")) == 3, 20)
-            rows = test_page.records(page)
-            # who declined, what the pending one lacks and for how long
-            assert [(row["No"], row["Ended"]) for row in rows[:2]] == [("3", "pending"), ("2", "declined by 0.1")], rows
-            assert rows[0]["Took"].endswith(" so far") and rows[0]["Reason"] == "waits for 0.1" and rows[0]["Acks"] == "1 of 2", rows
-            assert [text.split(",")[0] for text in test_page.texts(page, "#savepoints li")] == ["savepoint 1"], test_page.texts(page, "#savepoints li")
-            # the chart ends with the state that the facts have, at its moment, and so does its table
-            told = page.execute_script("""
-                const facts = (name) => Number(document.querySelector(`[data-fact="${name}"]`).textContent);
-                const lines = Chart.getChart('counts').data.datasets.map(d => d.data[d.data.length - 1]);
-                return {facts: [facts("Files in use"), facts("Files waiting"), facts("Files taken")], ends: lines.map(l => l.y), at: lines.map(l => l.x),
-                        row: [...document.querySelector("#count-rows tr").children].slice(1).map(c => Number(c.textContent))}""")
-            assert told["facts"] == told["ends"] == told["row"] == [4, 0, 0], told
-            assert abs(told["at"][0] - job.state()["now"]) < 60_000, told
-            ticks_together(page)
-            shows_the_focus(page)
-            asks_once(page, job)
-            server.kill()
-            until(lambda: page.execute_script("return document.body.classList.contains('old')"), 20)
-            assert "what is shown is of" in test_page.texts(page, "#status")[0], test_page.texts(page, "#status")
-            server.start()
-            until(lambda: not page.execute_script("return document.body.classList.contains('old')"), 20)
-            return f"{len(rows)} records"
-    finally:
-        page.quit()
+    with test_page.started(1200, 900) as page, served() as server:
+        job = opened(server)
+        caught_up(job)  # so the first look has the last acknowledgement
+        page.get(f"{server.url}/#/jobs/orders")
+        until(lambda: len(test_page.texts(page, "#records tr")) == 3, 20)
+        rows = test_page.records(page)
+        # who declined, what the pending one lacks and for how long
+        assert [(row["No"], row["Ended"]) for row in rows[:2]] == [("3", "pending"), ("2", "declined by 0.1")], rows
+        assert rows[0]["Took"].endswith(" so far") and rows[0]["Reason"] == "waits for 0.1" and rows[0]["Acks"] == "1 of 2", rows
+        assert [text.split(",")[0] for text in test_page.texts(page, "#savepoints li")] == ["savepoint 1"], test_page.texts(page, "#savepoints li")
+        # the chart ends with the state that the facts have, at its moment, and so does its table
+        told = page.execute_script("""
+            const facts = (name) => Number(document.querySelector(`[data-fact="${name}"]`).textContent);
+            const lines = Chart.getChart('counts').data.datasets.map(d => d.data[d.data.length - 1]);
+            return {facts: [facts("Files in use"), facts("Files waiting"), facts("Files taken")], ends: lines.map(l => l.y), at: lines.map(l => l.x),
+                    row: [...document.querySelector("#count-rows tr").children].slice(1).map(c => Number(c.textContent))}""")
+        assert told["facts"] == told["ends"] == told["row"] == [4, 0, 0], told
+        assert abs(told["at"][0] - job.state()["now"]) < 60_000, told
+        ticks_together(page)
+        shows_the_focus(page)
+        asks_once(page, job)
+        server.kill()
+        until(lambda: page.execute_script("return document.body.classList.contains('old')"), 20)
+        assert "what is shown is of" in test_page.texts(page, "#status")[0], test_page.texts(page, "#status")
+        server.start()
+        until(lambda: not page.execute_script("return document.body.classList.contains('old')"), 20)
+        return f"{len(rows)} records"
 
 
 def ticks_together(page):
@@ -110,31 +106,27 @@ def asks_once(page, job):
 
 
 def test_what_the_page_says():
-    page = test_page.started(1200, 900)
-    try:
-        with served() as server:
-            opened(server)
-            page.get(f"{server.url}/#/jobs/orders")
-            until(lambda: test_page.texts(page, "#job-name") == ["orders"], 20)
-            told = evaluated(page, """
-                const job = {mode: "running", due: 5, now: 9, seq: 293, settings: {pause: 0, at_once: 1}, choice: {kind: "checkpoint", id: 4},
-                             files: {in_use: 0, waiting: 0, taken: 0}, bytes: {in_use: 0, waiting: 0, taken: 0, files: 0}, shape: [1], last_completed: null, image: null};
-                const due = (job, pending) => views.facts(job, pending)[2].querySelector("dd").textContent;
-                const checkpoint = {id: 57, kind: "checkpoint"};
-                return {due: [due(job, []), due(job, [checkpoint]), due({...job, due: 2009}, [checkpoint]), due({...job, mode: "failed"}, [])],
-                        hints: [views.hint(job), views.hint({...job, mode: "failed"})],
-                        upto: [views.progress(293, 293), views.progress(240, 293), views.lags(240, 293), views.lags(100, 293)]}""")
-            assert told["due"] == ["at the next tick", "when checkpoint 57 ends", "in 2.0 s", "not while it is failed"], told
-            assert told["hints"][0] == "" and "call restore" in told["hints"][1] and "from checkpoint 4" in told["hints"][1], told
-            assert told["upto"][0] == "" and "240 of 293 calls" in told["upto"][1] and told["upto"][2:] == [False, True], told
-            # a process that stands by names the leader, as its answer does
-            page.execute_script("""window.fetch = async () => new Response('{"error": "another process leads"}',
-                {status: 503, headers: {"relkvanu-leader": "http://10.0.0.7:7780"}})""")
-            until(lambda: not page.execute_script("return document.getElementById('leader').hidden"), 20)
-            link = page.execute_script("const it = document.getElementById('leader-link'); return [it.textContent, it.href]")
-            assert link == ["http://10.0.0.7:7780", "http://10.0.0.7:7780/"], link
-            heads = page.execute_script("return [...document.querySelectorAll('th')].map(it => it.scope)")
-            assert heads and set(heads) == {"col"}, heads
-            return f"{len(heads)} columns"
-    finally:
-        page.quit()
+    with test_page.started(1200, 900) as page, served() as server:
+        opened(server)
+        page.get(f"{server.url}/#/jobs/orders")
+        until(lambda: test_page.texts(page, "#job-name") == ["orders"], 20)
+        told = evaluated(page, """
+            const job = {mode: "running", due: 5, now: 9, seq: 293, settings: {pause: 0, at_once: 1}, choice: {kind: "checkpoint", id: 4},
+                         files: {in_use: 0, waiting: 0, taken: 0}, bytes: {in_use: 0, waiting: 0, taken: 0, files: 0}, shape: [1], last_completed: null, image: null};
+            const due = (job, pending) => views.facts(job, pending)[2].querySelector("dd").textContent;
+            const checkpoint = {id: 57, kind: "checkpoint"};
+            return {due: [due(job, []), due(job, [checkpoint]), due({...job, due: 2009}, [checkpoint]), due({...job, mode: "failed"}, [])],
+                    hints: [views.hint(job), views.hint({...job, mode: "failed"})],
+                    upto: [views.progress(293, 293), views.progress(240, 293), views.lags(240, 293), views.lags(100, 293)]}""")
+        assert told["due"] == ["at the next tick", "when checkpoint 57 ends", "in 2.0 s", "not while it is failed"], told
+        assert told["hints"][0] == "" and "call restore" in told["hints"][1] and "from checkpoint 4" in told["hints"][1], told
+        assert told["upto"][0] == "" and "240 of 293 calls" in told["upto"][1] and told["upto"][2:] == [False, True], told
+        # a process that stands by names the leader, as its answer does
+        page.execute_script("""window.fetch = async () => new Response('{"error": "another process leads"}',
+            {status: 503, headers: {"relkvanu-leader": "http://10.0.0.7:7780"}})""")
+        until(lambda: not page.execute_script("return document.getElementById('leader').hidden"), 20)
+        link = page.execute_script("const it = document.getElementById('leader-link'); return [it.textContent, it.href]")
+        assert link == ["http://10.0.0.7:7780", "http://10.0.0.7:7780/"], link
+        heads = page.execute_script("return [...document.querySelectorAll('th')].map(it => it.scope)")
+        assert heads and set(heads) == {"col"}, heads
+        return f"{len(heads)} columns"

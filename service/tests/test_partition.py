@@ -20,4 +20,3 @@ def test_an_old_read_is_seen():
     floor.raised("orders", 5)
     client.state()
     assert client.errors == ["a read of orders has 4 calls, and call 5 was answered before it"], client.errors
-    return "one of two reads"

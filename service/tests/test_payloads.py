@@ -1,11 +1,9 @@
 """What records have beside their files: payloads, figures and reasons, over starts, take-overs, the ends of records and a lost history."""
 import base64
-import contextlib
 import os
-import sqlite3
 import time
 
-from harness import Server, caught_up, configured, folder, lease_of, lose_history, served, until
+from harness import caught_up, folder, leader_and_standby, lease_of, lose_history, raised, served, served_job, sqlite, until
 from postgres import postgres
 from relkvanu_service import Failed, Service, ack, cancel, decline, dispose, restore, savepoint, trigger
 
@@ -15,8 +13,7 @@ PAYLOAD = bytes(range(256)) * 16  # 4096 bytes
 
 def rows(server, table="subtask_state"):
     """The records that have rows, each as often as it has some."""
-    with contextlib.closing(sqlite3.connect(server.database)) as base:
-        return [row[0] for row in base.execute(f"select {'record' if table == 'subtask_state' else 'seq'} from {table} order by 1")]
+    return [row[0] for row in sqlite(server.database, f"select {'record' if table == 'subtask_state' else 'seq'} from {table} order by 1")]
 
 
 def whole(job, id):
@@ -40,8 +37,7 @@ def gone(job, id):
 
 
 def test_a_payload_is_there_as_long_as_its_record():
-    with served() as server:
-        job = Service(server.url).open("orders", SETTINGS, [2])
+    with served_job("orders", SETTINGS, [2]) as (server, job):
         job.calls([savepoint(), ack(1, "0.0", [12, 11], payload=PAYLOAD, size=5, millis=7)])
         assert gone(job, 1), "it is not complete"
         job.calls([ack(1, "0.1", [14, 13], [11])])
@@ -50,8 +46,7 @@ def test_a_payload_is_there_as_long_as_its_record():
         told = job.load(1)
         assert (told["id"], told["kind"], told["shape"]) == (1, "savepoint", [2]), told
         job.call(ack(1, "0.0", [99], payload=b"late"))
-        server.kill()
-        server.start()
+        server.again()
         assert whole(job, 1) == wanted and rows(server) == [1]
         # a savepoint whose files are all in memory: the order without a payload too
         job.calls([savepoint(), ack(2, "0.0", [22, 21], payload=b""), ack(2, "0.1", payload=b"x")])
@@ -60,7 +55,6 @@ def test_a_payload_is_there_as_long_as_its_record():
         assert gone(job, 1) and rows(server) == [2, 2]
         start = job.begin(2)
         assert start.load()["subtasks"]["0.1"]["payload"] == b"x"
-        return "after a kill, and gone with it"
 
 
 def test_a_load_looks_at_the_files():
@@ -73,18 +67,13 @@ def test_a_load_looks_at_the_files():
             pass
         task.ack(start_of, "0.0", [name], payload=b"a state", size=3, millis=4)
         begun = start._job.begin()
-        assert begun.load(at)["subtasks"]["0.0"] == {"files": [name], "payload": b"a state", "bytes": 3, "millis": 4}
+        assert begun.load(at)["subtasks"]["0.0"] == {"files": [name], "sizes": [None], "payload": b"a state", "bytes": 3, "millis": 4}
         os.remove(f"{at}/{name}")
-        try:
-            begun.load(at)
-            raise AssertionError("it did not look")
-        except FileNotFoundError:
-            return "and a lost file is told"
+        raised(FileNotFoundError, lambda: begun.load(at))
 
 
 def test_what_is_too_long_is_refused():
-    with served() as server:
-        job = Service(server.url).open("orders", SETTINGS, [2])
+    with served_job("orders", SETTINGS, [2]) as (server, job):
         job.call(savepoint())
         before = job.state()["seq"]
         good = ack(1, "0.0", payload=PAYLOAD)
@@ -94,21 +83,14 @@ def test_what_is_too_long_is_refused():
             ({**good, "reason": "x"}, "reason"), (decline(1, "0.0", reason="x" * 201), "reason"), (decline(1, "0.0", reason="a\0b"), "reason"),
             ({**decline(1, "0.0"), "payload": ""}, "payload"),
         ]:
-            try:
-                job.calls([good, call])
-                raise AssertionError(f"it was not refused: {call}")
-            except Failed as refused:
-                assert (refused.status, refused.field) == (400, f"calls[1].{field}"), refused
+            refused = raised(Failed, lambda: job.calls([good, call]))
+            assert (refused.status, refused.field) == (400, f"calls[1].{field}"), refused
         assert job.state()["seq"] == before and rows(server) == [], "a request with a bad call makes none"
         assert job.calls([{"call": "ack", "id": 1, "subtask": "0.7", "payload": "eA=="}]) == [{"refused": "UnknownSubtask"}]
         assert rows(server) == []
         job.call(good)
         assert rows(server) == [1]
-        try:
-            ack(1, "0.1", sizes=[1], size=1)
-            raise AssertionError("both were taken")
-        except ValueError:
-            return "4,097 bytes, and 201 of a reason"
+        raised(ValueError, lambda: ack(1, "0.1", sizes=[1], size=1))
 
 
 def test_rows_go_however_a_record_ends():
@@ -138,7 +120,6 @@ def test_rows_go_however_a_record_ends():
         assert rows(server) == [1]
         other.set(timeout=1)
         until(lambda: not rows(server))  # it expires
-        return "declined, subsumed, restored, disposed of, cancelled, expired"
 
 
 def test_a_savepoint_of_an_older_checkpoint_has_its_payloads():
@@ -152,14 +133,12 @@ def test_a_savepoint_of_an_older_checkpoint_has_its_payloads():
             assert (answers[-1]["restore"], answers[-1]["id"]) == ("savepoint", 3), (name, answers)
             wanted = {"0.0": ([10], b"a0", 0, 0), "0.1": ([11], b"a1", 0, 0)}
             assert whole(job, 3) == wanted and gone(job, 1), (name, whole(job, 3))
-            server.kill()
-            server.start()
+            server.again()
             assert whole(job, 3) == wanted, name
             job.call(cancel())
             job.call(dispose(3))
             assert gone(job, 3)
         assert rows(server) == []
-        return "also in one commit with them"
 
 
 def test_a_deleted_job_leaves_no_rows():
@@ -170,7 +149,6 @@ def test_a_deleted_job_leaves_no_rows():
         assert rows(server) == [1, 1] and rows(server, "figure") == [5], rows(server, "figure")
         assert service.delete("orders")
         until(lambda: not rows(server) and not rows(server, "figure"))
-        return "with a savepoint of payloads"
 
 
 def figures(job):
@@ -201,8 +179,7 @@ def figured(job):
 
 
 def test_the_history_has_figures_and_reasons():
-    with served() as server:
-        job = Service(server.url).open("orders", SETTINGS, [4])
+    with served_job("orders", SETTINGS, [4]) as (server, job):
         wanted = figured(job)
         assert figures(job) == wanted, (figures(job), wanted)
         for lost in (False, True):
@@ -212,11 +189,8 @@ def test_the_history_has_figures_and_reasons():
             server.start()
             assert figures(job) == wanted, (lost, figures(job))
         assert job.history(1) == wanted[:1] and job.history(0) == []
-        try:
-            job.history(1001)
-            raise AssertionError("it was not refused")
-        except Failed as refused:
-            assert (refused.status, refused.field) == (400, "last"), refused
+        refused = raised(Failed, lambda: job.history(1001))
+        assert (refused.status, refused.field) == (400, "last"), refused
         job.call(ack(3, "0.0", size=7, millis=8))
         server.kill()  # while a record is pending
         server.start()
@@ -225,13 +199,11 @@ def test_the_history_has_figures_and_reasons():
         assert (told["id"], told["acks"], told["bytes"], told["millis"]) == (3, 4, 28, 8), told
         at = [entry["at"] for entry in job.log() if entry["record"] == 3]
         assert (told["first"], told["median"]) == (at[1] - at[0], at[2] - at[0]), (told, at)
-        return "2 records, after a kill and without the history"
 
 
 def test_the_history_says_nothing_that_nobody_told():
     """Of a record whose tasks told one of both figures alone, the other is null; a 0 that a task told is one. What its new files have stands for the bytes."""
-    with served() as server:
-        job = Service(server.url).open("orders", SETTINGS, [2])
+    with served_job("orders", SETTINGS, [2]) as (server, job):
         told = [({"millis": 9}, {"millis": 4}), ({"size": 6}, {"size": 8}), ({"size": 0}, {"millis": 0}), ({"payload": b"x"}, {}), ({"millis": 3}, {"size": 2, "millis": 1})]
         for record, (first, second) in enumerate(told, 1):
             job.calls([savepoint(), ack(record, "0.0", **first), ack(record, "0.1", **second)])
@@ -248,8 +220,7 @@ def test_the_history_says_nothing_that_nobody_told():
 
 def test_payloads_and_figures_outlive_a_take_over():
     with postgres() as database, folder() as at:
-        servers = [Server(at, database.url, configured(at, f"lease_seconds = {lease_of(3)}\n")) for _ in range(2)]
-        leader, standby = servers[0].start(), servers[1].stand_by()
+        leader, standby = leader_and_standby(at, database.url, f"lease_seconds = {lease_of(3)}\n")
         job = Service(leader.url).open("orders", SETTINGS, [2])
         job.calls([trigger(), *both(1, b"a", 10), trigger(), ack(2, "0.0", [21, 20], payload=PAYLOAD, size=1, millis=2), ack(2, "0.1")])
         job.calls([savepoint(), *both(3, b"c"), savepoint(), both(4, b"d")[0], decline(4, "0.1", reason="no disk")])
@@ -271,5 +242,3 @@ def test_payloads_and_figures_outlive_a_take_over():
         for id in (3, 5, answer["id"]):
             job.calls([cancel(), dispose(id)])
         assert database.sql("select count(*) from subtask_state") == "0"
-        standby.stop()
-        return "by the standby of a leader that was killed"

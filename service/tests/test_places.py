@@ -1,18 +1,15 @@
-"""What `relkvanu discard`, `sweep` and `savepoints` do in a folder, and the same in a bucket: what is deleted and reported, and where nothing is."""
+"""What `relkvanu clean` and `savepoints` do in a folder, and the same in a bucket: what is deleted and reported, and where nothing is."""
+import glob
 import json
 import os
 import re
 import subprocess
 import tempfile
-import time
 import urllib.request
-from contextlib import contextmanager
 
-from harness import COMMAND, PROGRAM, SERVICE, free_port, served, until
+from harness import COMMAND, PROGRAM, SERVICE, SETTINGS, content, counts, free_port, save, until
 from places import Bucket, a_job, around, files, over_both, ran, words_of
 from relkvanu_service import Service, dispose, savepoint
-
-SETTINGS = {"interval": 1 << 40}
 
 
 def sums(lines):
@@ -22,11 +19,6 @@ def sums(lines):
 def some_of(place, rows, count):
     """The rows of a rule that is the same for both: all in a folder, and so many in a bucket, where each takes a second."""
     return rows if place.kind == "folder" else rows[:count]
-
-
-def counts(job):
-    told = job.state()["files"]
-    return told["waiting"], told["taken"]
 
 
 def released(job, task, place, count):
@@ -57,13 +49,12 @@ def test_garbage_is_found_and_deleted(server, job, place):
     # in a bucket no file is written in parts, so that is no file of the job
     parts = [f"{{}} {shown('s-3.part')} 5"] if place.has_parts else []
     wanted = [f"{{}} {shown('s-3')} 30", *parts]
-    status, lines, _ = ran("sweep", server, place)
+    status, lines, _ = ran("look", server, place)
     assert (status, sorted(lines[:-1])) == (3, sorted([*(it.format("garbage") for it in wanted), f"unissued {shown('s-11')} 5"])), lines
     told = sums(lines)
     assert (told["listed"], told["garbage"], told["bytes"], told["deleted"]) == (str(7 + len(parts)), str(1 + len(parts)), str(30 + 5 * len(parts)), "0"), told
-    status, quiet, _ = ran("sweep", server, place, "--quiet")
-    assert (status, len(quiet)) == (3, 1) and files(place) == before, quiet
-    status, lines, _ = ran("sweep", server, place, "--delete")
+    assert files(place) == before
+    status, lines, _ = ran("garbage", server, place)
     assert (status, sorted(lines[:-1])) == (3, sorted([*(it.format("deleted") for it in wanted), f"unissued {shown('s-11')} 5"])), lines
     gone = {"s-3", *(["s-3.part"] if place.has_parts else [])}
     assert files(place) == sorted(set(before) - gone)
@@ -71,13 +62,12 @@ def test_garbage_is_found_and_deleted(server, job, place):
     job.begin()
     place.remove("s-11")
     with place.keeping("s-6"):
-        status, lines, _ = ran("sweep", server, place, "--delete")
+        status, lines, _ = ran("garbage", server, place)
         # a folder is no file, so nothing is found in place of one
         failed = [line for line in lines if line.startswith(f"failed {shown('s-6')} 60 ")]
         assert (status, len(failed)) == ((0, 0) if place.kind == "folder" else (1, 1)) and f"deleted {shown('s-5')} 50" in lines, lines
-    assert ran("sweep", server, place, "--delete")[0] == 0
+    assert ran("garbage", server, place)[0] == 0
     assert {"s-1", "s-2", "s-4", "s-x", "s-07", "other"} <= set(files(place)) and not {"s-5", "s-6"} & set(files(place)), files(place)
-    return "given up, of an ended term, never given out"
 
 
 @over_both
@@ -88,27 +78,26 @@ def test_many_files(server, job, place):
     assert len(job.take(20)) == 20  # and the process ends
     place.remove(f"s-{names[30]}")
     with place.keeping(f"s-{names[40]}"):
-        status, _, told = ran("discard", server, place, "--once")
+        status, _, told = ran("released", server, place)
         assert status == 1 and f"s-{names[40]}: " in told and "failed=1" in told, (status, told[-500:])
         # those of its take, and those behind it, are gone or wait
         assert sum(counts(job)) >= 1 and f"s-{names[1200]}" in files(place)
-    status, _, told = ran("discard", server, place, "--once")
+    status, _, told = ran("released", server, place)
     assert (status, files(place), counts(job)) == (0, [f"s-{names[1200]}"], (0, 0)), (status, told[-500:])
     assert json.loads(place.all()[".relkvanu-a.names"]) == {"prefix": "s-", "suffix": ""}
     # garbage of a thousand files is more than a request of a bucket has
     job.begin()
     for name in names:
         place.put(f"s-{name}", b"")
-    status, lines, _ = ran("sweep", server, place, "--delete", "--quiet")
+    status, lines, _ = ran("garbage", server, place)
     assert (status, sums(lines)["deleted"], files(place)) == (0, "1200", [f"s-{names[1200]}"]), lines
-    return "1200 files, twice"
 
 
 @over_both
 def test_a_place_without_the_marker(server, job, place):
     names = released(job, job.begin().session(), place, 2)
     name, text = job.marker()
-    commands = (("discard", "--once"), ("sweep", "--delete"))
+    commands = (("released",), ("garbage",))
     for marker in (None, text.replace("opened at ", "opened at 9"), text.replace("the job a,", "the job b,")):
         place.remove(name)
         if marker is not None:
@@ -118,76 +107,83 @@ def test_a_place_without_the_marker(server, job, place):
             assert (status, lines) == (78, []) and name in told, (words, marker, status, told)
         place.put(name, text.encode())
     assert files(place) == [f"s-{it}" for it in names] and counts(job) == (2, 0)
-    # none of the job's files was taken before: the discarder makes the marker
+    # none of the job's files was taken before: the cleaner makes the marker
     place.remove(name)
-    assert ran("discard", server, place, "--once")[0] == 0 and place.all()[name] == text.encode() and files(place) == [f"s-{names[2]}"]
+    assert ran("released", server, place)[0] == 0 and place.all()[name] == text.encode() and files(place) == [f"s-{names[2]}"]
     more = released(job, job.session(job.term()["term"]), place, 2)
     place.remove(name)
-    status, _, told = ran("discard", server, place, "--once")
+    status, _, told = ran("released", server, place)
     assert status == 78 and f"no file {name}" in told and "--init" in told and counts(job)[0] >= 2, (status, told)
-    assert ran("discard", server, place, "--once", "--init")[0] == 0 and place.all()[name] == text.encode()
+    assert ran("released", server, place, "--init")[0] == 0 and place.all()[name] == text.encode()
     assert f"s-{more[2]}" in files(place) and f"s-{more[0]}" not in files(place)
-    return "no marker, and two of others"
 
 
 @over_both
 def test_a_marker_that_goes_while_it_works(server, job, place):
+    """The file waits. A cleaner of one job ends, and one of all jobs goes on once the marker is there again."""
     name, text = job.marker()
-    with subprocess.Popen(words_of("discard", server, place), env=around(place), stderr=subprocess.PIPE, text=True) as run:
-        try:
-            task = job.begin().session()
-            released(job, task, place, 1)
-            until(lambda: counts(job) == (0, 0))
-            place.remove(name)
-            released(job, task, place, 1)
-            told = run.communicate(timeout=COMMAND)[1]
-        finally:
+    job.set_storage(place.storage("s-"))
+    words = [words_of("released", server, place), [PROGRAM, "clean", "--url", server.url]]
+    runs = [subprocess.Popen(words[0], env=around(place), stderr=subprocess.PIPE, text=True)]
+    try:
+        task = job.begin().session()
+        released(job, task, place, 1)
+        until(lambda: counts(job) == (0, 0))
+        place.remove(name)
+        names = released(job, task, place, 1)
+        told = runs[0].communicate(timeout=COMMAND)[1]
+        assert runs[0].returncode == 78 and f"no file {name}" in told and counts(job)[0] >= 1, (runs[0].returncode, told)
+        runs.append(subprocess.Popen(words[1], env=around(place), stderr=subprocess.PIPE, text=True))
+        assert next(line for line in runs[1].stderr if f"no file {name}" in line)
+        assert f"s-{names[0]}" in files(place) and runs[1].poll() is None and counts(job) == (1, 0)
+        place.put(name, text.encode())  # as a disk that is mounted again
+        until(lambda: counts(job) == (0, 0))
+    finally:
+        for run in runs:
             run.kill()
-    assert run.returncode == 78 and f"no file {name}" in told and counts(job)[0] >= 1, (run.returncode, told)
-    return "it ends, and the file waits"
+            run.wait()
 
 
 @over_both
 def test_wrong_names(server, job, place):
     """A first run with wrong names reports nothing, and leaves none. Once they are known, others are refused at the start."""
     names = released(job, job.begin().session(), place, 3)
-    status, _, told = ran("discard", server, place, "--once", prefix="t-")
+    status, _, told = ran("released", server, place, prefix="t-")
     assert status == 78 and "none of 3 files" in told and f"t-{names[0]}" in told and "--allow-absent" in told, (status, told)
     assert counts(job) == (3, 0) and ".relkvanu-a.names" not in place.all()
-    assert ran("discard", server, place, "--once")[0] == 0 and counts(job) == (0, 0) and files(place) == [f"s-{names[3]}"]
+    assert ran("released", server, place)[0] == 0 and counts(job) == (0, 0) and files(place) == [f"s-{names[3]}"]
     more = released(job, job.session(job.term()["term"]), place, 2)
     before = place.all()
-    status, _, told = ran("discard", server, place, "--once", suffix=".dat")
+    status, _, told = ran("released", server, place, suffix=".dat")
     assert status == 78 and "is --prefix or --suffix wrong?" in told and place.all() == before, (status, told)
     # files that others have deleted, and those that a process had begun to delete
     for name in more[:2]:
         place.remove(f"s-{name}")
-    status, _, told = ran("discard", server, place, "--once")
+    status, _, told = ran("released", server, place)
     assert status == 78 and "none of 2 files" in told and counts(job) == (2, 0), (status, told)
     begun = " ".join(map(str, more[:2]))
     place.put(".relkvanu-a.begun", begun.encode())  # cut short
-    assert ran("discard", server, place, "--once")[0] == 78
+    assert ran("released", server, place)[0] == 78
     place.put(".relkvanu-a.begun", f"{begun}\n".encode())
-    assert ran("discard", server, place, "--once")[0] == 0 and counts(job) == (0, 0)
+    assert ran("released", server, place)[0] == 0 and counts(job) == (0, 0)
     last = released(job, job.session(job.term()["term"]), place, 1)
     place.remove(f"s-{last[0]}")
-    assert ran("discard", server, place, "--once", "--allow-absent")[0] == 0 and counts(job) == (0, 0)
+    assert ran("released", server, place, "--allow-absent")[0] == 0 and counts(job) == (0, 0)
     assert files(place) == sorted(f"s-{name}" for name in (names[3], more[2], last[1]))
-    return "nothing is reported, and the files wait"
 
 
 @over_both
 def test_the_names_of_another_job(server, job, place):
-    """The files of another job are never touched, whatever its discarder says of their names."""
+    """The files of another job are never touched, whatever its cleaner says of their names."""
     names = released(job, job.begin().session(), place, 1)
     job.begin()
     place.put("s-9.part", b"of the other job")
     place.put(".relkvanu-others", b"")
-    commands = [("discard", "--once", "--init"), ("sweep", "--delete")]
+    commands = [("released", "--init"), ("garbage",)]
     rows = [("s-", "", True), ("t-", "", False), ("s-", ".part", True), ("s-1", "", True), ("s-", ".bin", False), ("", "", False)]
     for prefix, suffix, is_refused in some_of(place, rows, 2):
         place.put(".relkvanu-others.names", json.dumps({"prefix": prefix, "suffix": suffix}).encode())
-        for command, *more in commands if is_refused else [("sweep", "--quiet")]:
+        for command, *more in commands if is_refused else [("look",)]:
             status, lines, told = ran(command, server, place, *more)
             need = ".relkvanu-others says: so --prefix or --suffix is needed that differs from its own"
             assert (status == 78, need in told) == (is_refused, is_refused), (prefix, suffix, command, status, told)
@@ -197,27 +193,26 @@ def test_the_names_of_another_job(server, job, place):
     for text in some_of(place, [None, "{", "[]", '{"prefix": 1, "suffix": ""}', '{"prefix": ""}', "\0"], 2):
         if text is not None:
             place.put(".relkvanu-others.names", text.encode())
-        status, lines, told = ran("sweep", server, place, "--delete", prefix="")
+        status, lines, told = ran("garbage", server, place, prefix="")
         assert (status, lines) == (78, []) and ".relkvanu-others" in told, (text, status, told)
-        assert ran("sweep", server, place, "--quiet")[0] in (0, 3), text
+        assert ran("look", server, place)[0] in (0, 3), text
     assert set(files(place)) == {*(f"s-{name}" for name in names), "s-9.part"} and counts(job) == (1, 0)
-    return "refused, unless they differ"
 
 
 @over_both
 def test_what_is_beside_a_marker(server, job, place):
-    """Files that discarders and clients leave there are no marker of another job. A job may be named as one of them, and its marker says so."""
+    """Files that cleaners and clients leave there are no marker of another job. A job may be named as one of them, and its marker says so."""
     marker = job.marker()[1]
     for name in (".relkvanu-a.begun", ".relkvanu-a.names", ".relkvanu-a.claim"):
         place.put(name, b"" if "claim" not in name else marker.encode())
     place.remove(".relkvanu-a.claim")
-    assert ran("sweep", server, place, prefix="")[0] == 0
+    assert ran("look", server, place, prefix="")[0] == 0
     for other in some_of(place, ["a.names", "a.begun"], 1):
         place.put(f".relkvanu-{other}", marker.replace("the job a,", f"the job {other},").encode())
         for prefix in ("", "s-"):
-            status, lines, told = ran("sweep", server, place, "--delete", prefix=prefix)
+            status, lines, told = ran("garbage", server, place, prefix=prefix)
             assert (status, lines) == (78, []) and f".relkvanu-{other} says: one of the two jobs" in told, (other, told)
-            status, _, told = ran("discard", server, place, "--once", "--init", prefix=prefix)
+            status, _, told = ran("released", server, place, "--init", prefix=prefix)
             assert status == 78 and f".relkvanu-{other} says: one of the two jobs" in told, (other, told)
         place.put(f".relkvanu-{other}", b"")
     # a job whose name begins with this one's is another job, but the storage of this job's engine is its own
@@ -225,10 +220,9 @@ def test_what_is_beside_a_marker(server, job, place):
             ("storage", marker.replace("the job a,", "the job storage,"), 78)]
     for other, text, status in some_of(place, rows, 2):
         place.put(f".relkvanu-{other}", text.encode())
-        found, _, told = ran("sweep", server, place, prefix="")
+        found, _, told = ran("look", server, place, prefix="")
         assert (found, f".relkvanu-{other} says" in told) == (status, status == 78), (other, text, found, told)
         place.remove(f".relkvanu-{other}")
-    return "beside the marker, and named as what is"
 
 
 @over_both
@@ -256,7 +250,6 @@ def test_records_that_have_all_their_files(server, job, place):
     place.remove(job.marker()[0])
     status, _, told = ran("savepoints", server, place)
     assert (status == 78, "no marker of this job" in told) == ((False, True) if place.kind == "folder" else (True, False)), (status, told)
-    return "a file that is there, one that is not, and all"
 
 
 def metrics(port):
@@ -271,48 +264,49 @@ def metrics(port):
 
 @over_both
 def test_metrics(server, job, place):
-    """Of a discarder and of a sweeper, which go on while the service is away."""
-    ports = free_port(), free_port()
+    """Of a cleaner, which goes on while the service is away."""
+    port = free_port()
     task = job.begin().session(block=5)
-    runs = [subprocess.Popen(words_of(*words, "--metrics", f"127.0.0.1:{port}"), env=around(place), stdout=subprocess.DEVNULL, stderr=subprocess.DEVNULL)
-            for port, words in zip(ports, (("discard", server, place), ("sweep", server, place, "--delete", "--every", "1s", "--within", "1")))]
+    job.set_storage(place.storage("s-"))
+    words = [PROGRAM, "clean", "--url", server.url, "--every", "1s", "--within", "1", "--metrics", f"127.0.0.1:{port}"]
+    run = subprocess.Popen(words, env=around(place), stdout=subprocess.DEVNULL, stderr=subprocess.DEVNULL)
+
+    def value(name):
+        return metrics(port).get(f"relkvanu_clean_{name}")
+
     try:
         names = released(job, task, place, 2)
-        until(lambda: metrics(ports[0]).get('relkvanu_discard_files_total{outcome="deleted"}') == 2, told=lambda: metrics(ports[0]))
-        assert metrics(ports[0])["relkvanu_discard_works"] == 1
+        until(lambda: value('files_total{kind="released",outcome="deleted"}') == 2, told=lambda: metrics(port))
+        assert value("works") == 1
         place.put(f"s-{names[0]}", b"1234567")
-        # a file of 5 bytes counts too that the discarder deletes between a look of the sweeper and the service's answer
-        until(lambda: metrics(ports[1]).get("relkvanu_sweep_deleted_bytes_total") in (7, 12, 17), told=lambda: metrics(ports[1]))
+        # a file of 5 bytes counts too that is deleted between a look at the garbage and the service's answer
+        until(lambda: value("garbage_bytes_total") in (7, 12, 17), told=lambda: metrics(port))
         place.put("s-99", b"")
-        until(lambda: metrics(ports[1]).get("relkvanu_sweep_unissued_files") == 1)
+        until(lambda: value("unissued_files") == 1)
         server.kill()
-        for port, name in zip(ports, ("discard", "sweep")):
-            until(lambda port=port, name=name: metrics(port).get(f"relkvanu_{name}_lost_requests_total"))
+        until(lambda: value("lost_requests_total") and value("works") == 0)
         server.start()
         released(job, task, place, 1)
-        until(lambda: metrics(ports[0])['relkvanu_discard_files_total{outcome="deleted"}'] >= 3)
-        with open(f"{SERVICE}/deploy/alerts.yml", encoding="utf-8") as it:
-            named = set(re.findall(r"relkvanu_(?:discard|sweep)_[a-z_]+", it.read()))
-        served = {name.partition("{")[0] for port in ports for name in metrics(port)}
-        assert named and named <= served, named - served
+        until(lambda: value('files_total{kind="released",outcome="deleted"}') >= 3 and value("works") == 1)
+        named = set(re.findall(r"relkvanu_clean_[a-z_]+", content(f"{SERVICE}/deploy/alerts.yml")))
+        served = {name.partition("{")[0] for name in metrics(port)}
+        assert named and named <= served | {"relkvanu_clean_stopped"}, named - served
     finally:
-        for run in runs:
-            run.kill()
-            run.wait()
-    return "they count, and go on"
+        run.kill()
+        run.wait()
 
 
 @over_both
 def test_what_is_refused(server, job, place):
-    """A job without names, one that is not there, a token that is not known, and words that are wrong."""
+    """A job that a recovery has opened, one that is not there, a token that is not known, and words that are wrong."""
     plain = Service(server.url).open("plain", SETTINGS, [1], names=False)
     name, text = plain.marker()
     place.put(name, text.encode())
     place.put(f"{name}.names", b'{"prefix": "t-", "suffix": ""}')
-    for command, more in (("sweep", ["--delete"]), *([("discard", ["--once"])] if place.kind == "bucket" else [])):
+    for command, more in (("garbage", []), *([("released", [])] if place.kind == "bucket" else [])):
         status, lines, told = ran(command, server, place, *more, job="plain", prefix="t-")
-        assert (status, lines) == (78, []) and "names" in told and "relkvanu fence" in told, (command, status, told)
-    for command, more in (("sweep", ["--delete"]), ("discard", ["--once"])):
+        assert (status, lines) == (78, []) and "no names" in told, (command, status, told)
+    for command, more in (("garbage", []), ("released", [])):
         status, _, told = ran(command, server, place, *more, job="none")
         assert status == 1 and "404" in told, (status, told)
         status, _, told = ran(command, server, place, *more, "--token-file", f"{server.folder}/none")
@@ -324,70 +318,68 @@ def test_what_is_refused(server, job, place):
         for given in ({"suffix": "/b"}, {"prefix": ".relkvanu-"}, *([{"prefix": "b/"}] if place.kind == "folder" else [])):
             assert ran(command, server, place, *more, **given)[0] == 1, given
     assert counts(job) == (0, 0)
-    return "four kinds"
 
 
 def test_a_bucket_that_keeps_versions():
     with a_job(Bucket) as (server, job, place):
         names = released(job, job.begin().session(), place, 1)
         place.s3.put_bucket_versioning(Bucket=place.bucket, VersioningConfiguration={"Status": "Enabled"})
-        for command, *more in (("discard", "--once"), ("sweep", "--delete"), ("savepoints",)):
+        for command, *more in (("released",), ("garbage",), ("savepoints",)):
             status, lines, told = ran(command, server, place, *more)
             assert (status, lines) == (78, []) and "keeps versions" in told, (command, status, told)
         assert counts(job) == (1, 0) and files(place) == [f"s-{name}" for name in names]
-        assert ran("discard", server, place, "--once", "--keeps-versions")[0] == 0 and counts(job) == (0, 0)
-        return "refused by three commands"
+        assert ran("released", server, place, "--keeps-versions")[0] == 0 and counts(job) == (0, 0)
 
 
 def test_a_server_that_is_away():
-    """And a bucket that is not there, keys that are wrong, and a helper that is not installed: nothing is reported, and a discarder goes on."""
+    """And a bucket that is not there, keys that are wrong, and a helper that is not installed: nothing is reported, and a cleaner goes on."""
     with a_job(Bucket) as (server, job, place):
         released(job, job.begin().session(), place, 2)
         away = [*place.words("s-", "")[:-3], "http://127.0.0.1:9", *place.words("s-", "")[-2:]]
-        for command, more, wanted in (("discard", ["--once"], 1), ("sweep", ["--delete"], 1), ("savepoints", [], 75)):
+        for command, more, wanted in (("released", ["--once"], 1), ("garbage", ["--once"], 1), ("savepoints", [], 75)):
             words = words_of(command, server, place, *more)
             elsewhere = [*words[:words.index("--bucket")], *away, *more]
             assert subprocess.run(elsewhere, env=around(place), capture_output=True, timeout=COMMAND, check=False).returncode == wanted, elsewhere
-        words = words_of("discard", server, place, "--once")
+        words = words_of("released", server, place, "--once")
 
         def told_with(*words, **environment):
             told = subprocess.run(words, env={**around(place), **environment}, capture_output=True, text=True, timeout=COMMAND, check=False)
             return told.returncode, told.stderr
 
         with tempfile.TemporaryDirectory() as at:
-            with open(f"{at}/python3", "w", encoding="utf-8") as it:
-                it.write("#!/bin/sh\nexit 1\n")
+            save(f"{at}/python3", "#!/bin/sh\nexit 1\n")
             os.chmod(f"{at}/python3", 0o755)
             for path in (f"{at}:/usr/bin", f"{at}/none"):
                 status, told = told_with(*words, PATH=path)
-                assert status == 1 and "--bucket needs python3-relkvanu and python3-boto3" in told, (path, told)
+                assert status == 1 and "a bucket needs python3-relkvanu and python3-boto3" in told, (path, told)
         status, told = told_with(*words, AWS_SECRET_ACCESS_KEY="wrong")
         assert status == 1 and "SignatureDoesNotMatch" in told, told
         status, told = told_with(*[*words[:words.index("--bucket") + 1], "nowhere", *words[words.index("--bucket") + 2:]])
         assert status == 78 and "NoSuchBucket" in told, told
         assert counts(job) == (2, 0)
         # one that runs waits for the server, which has it in the end
-        words = words_of("discard", server, place)
+        words = words_of("released", server, place)
         run = subprocess.Popen([*words[:words.index("--bucket")], *away], env=around(place), stderr=subprocess.PIPE, text=True)
         try:
             for line in run.stderr:
-                if "it tries again later" in line:
+                if "Could not connect" in line:
                     break
             assert run.poll() is None
         finally:
             run.kill()
             run.communicate()
-        assert counts(job) == (2, 0) and ran("discard", server, place, "--once")[0] == 0 and counts(job) == (0, 0)
-        return "it tries again, and reports nothing"
+        assert counts(job) == (2, 0) and ran("released", server, place)[0] == 0 and counts(job) == (0, 0)
 
 
 def test_the_helper_ends_with_the_command():
     """Also if that is killed."""
     with a_job(Bucket) as (server, job, place):
-        with subprocess.Popen(words_of("discard", server, place), env=around(place), stderr=subprocess.DEVNULL) as run:
+        with subprocess.Popen(words_of("released", server, place), env=around(place), stderr=subprocess.DEVNULL) as run:
             def helper():
-                with open(f"/proc/{run.pid}/task/{run.pid}/children", encoding="ascii") as it:
-                    return it.read().split()
+                found = []
+                for path in glob.glob(f"/proc/{run.pid}/task/*/children"):
+                    found += content(path).split()
+                return found
 
             try:
                 released(job, job.begin().session(), place, 1)
@@ -396,73 +388,11 @@ def test_the_helper_ends_with_the_command():
             finally:
                 run.kill()
         until(lambda: has_ended(pid))
-        return "its input ends"
 
 
 def has_ended(pid):
     """Whether there is no such process, or one that nobody has waited for."""
     try:
-        with open(f"/proc/{pid}/stat", encoding="ascii") as it:
-            return "Z" in it.read().rpartition(")")[2]
+        return "Z" in content(f"/proc/{pid}/stat").rpartition(")")[2]
     except OSError:
         return True
-
-
-def command_of(unit, known):
-    """What a unit runs, with what systemd puts in."""
-    with open(f"{SERVICE}/deploy/{unit}.service", encoding="utf-8") as it:
-        text = it.read()
-    assert "EnvironmentFile=/etc/relkvanu/bucket-%i.conf\n" in text
-    (line,) = re.findall(r"^ExecStart=/usr/local/bin/relkvanu (.*)$", text, re.M)
-    for name, value in known.items():
-        line = line.replace(name, value)
-    assert "$" not in line and "%" not in line, line
-    return [PROGRAM, *line.split()]
-
-
-def left_in(place):
-    """The files of a bucket, though somebody deletes them meanwhile."""
-    pages = place.s3.get_paginator("list_objects_v2").paginate(Bucket=place.bucket, Prefix="orders/s-")
-    return [it["Key"].partition("/")[2] for page in pages for it in page.get("Contents", [])]
-
-
-@contextmanager
-def running(words, place):
-    """A process, which ends with the block."""
-    with subprocess.Popen(words, env=around(place), stdout=subprocess.PIPE, stderr=subprocess.DEVNULL, text=True) as process:
-        try:
-            yield process
-        finally:
-            process.terminate()
-
-
-def test_the_units_of_a_bucket():
-    """The sweeper waits for the marker, which the discarder makes. Then both delete."""
-    with served(names=True) as server:
-        job, place = Service(server.url).open("a", SETTINGS, [1]), Bucket(server.folder)
-        with open(f"{server.folder}/token", "w", encoding="utf-8") as it:
-            it.write("w" * 20)
-        options = " ".join(it for it in place.words("s-", "") if it not in ("--suffix", ""))
-        known = {"%i": "a", "%d": server.folder, "${EVERY}": "2s", "$OPTIONS": f"{options} --url {server.url}", "$DISCARD": "", "$SWEEP": "", "$RELKVANU_OPTIONS": ""}
-        sweeps, discards = (command_of(it, known) for it in ("relkvanu-bucket-sweep@", "relkvanu-bucket@"))
-        task = job.begin().session(block=3)
-        garbage = task.name()
-        place.put(f"s-{garbage}", b"state")
-        job.begin()
-        with running(sweeps, place) as sweeper:
-            time.sleep(4)
-            assert sweeper.poll() is None and left_in(place) == [f"s-{garbage}"], sweeper.poll()
-            with running(discards, place) as discarder:
-                until(lambda: left_in(place) == [])
-                names = released(job, job.begin().session(block=4), place, 2)
-                until(lambda: left_in(place) == [f"s-{names[2]}"] and counts(job) == (0, 0))
-                assert (sweeper.poll(), discarder.poll()) == (None, None)
-            sweeper.terminate()
-            assert f"deleted orders/s-{garbage} 5\n" in sweeper.stdout.read()
-        # without a discarder it ends, as somebody has to look
-        place.remove(job.marker()[0])
-        sweeps[sweeps.index("--await-marker") + 1] = "3"
-        began = time.monotonic()
-        told = subprocess.run(sweeps, env=around(place), capture_output=True, text=True, timeout=COMMAND, check=False)
-        assert told.returncode == 78 and "has no file .relkvanu-a" in told.stderr and time.monotonic() - began > 3, told
-        return "both over a bucket"

@@ -15,18 +15,19 @@ import tempfile
 import time
 import uuid
 
-from harness import COMMAND, HERE, PROGRAM, SERVICE, TOP, free_port, served
+from harness import COMMAND, ENVIRONMENT, HERE, PROGRAM, TOP, Server, content, free_port, served
+from harness import folder as temporary
 from places import s3_server
+from postgres import postgres
 from publishing_engine import PREFIX, SETTINGS, SUFFIX, TASKS, write
 from relkvanu_service import Failed, Service, cancel, savepoint
 
 LOSSES = int(os.environ.get("RELKVANU_LOST_LOGS", "4"))
+ALL_JOBS = int(os.environ.get("RELKVANU_ALL_JOBS", "3"))
 EACH = int(os.environ.get("RELKVANU_EACH", "12"))  # of so many writes and requests one is an end's, on average
 SEED = os.environ.get("SEED", "1")
 ENGINE = [sys.executable, f"{HERE}/publishing_engine.py"]
-STORE = f"{os.environ['RELKVANU_LIB']}/relkvanu-store"
 KILLED, INPUTS = 9, 10 ** 9
-ENVIRONMENT = {**os.environ, "PYTHONPATH": f"{TOP}/bindings/python:{SERVICE}/client/python"}
 
 
 def ran(words, **env):
@@ -47,6 +48,13 @@ def did(words, status=0, text=""):
 def record_of(told):
     """The record that a job goes on from."""
     return int(told.split("checkpoint ")[1].partition(",")[0])
+
+
+def fits_the_schema(manifest):
+    import jsonschema
+
+    with open(f"{TOP}/docs/manifest.schema.json", encoding="utf-8") as it:
+        jsonschema.validate(json.loads(manifest), json.load(it))
 
 
 def killed(server, folder, seconds):
@@ -76,9 +84,33 @@ def state_in(folder):
     return {int(it.name[len(PREFIX):-len(SUFFIX)]): it.read_text() for it in folder.glob(f"{PREFIX}*{SUFFIX}")}
 
 
+class Racing(Service):
+    """The service of a recovery, while an engine opens an empty job behind each of the first jobs that are dropped."""
+
+    opened = 0
+
+    def delete(self, name, abandon=False):
+        told = super().delete(name, abandon)
+        if self.opened < 3:
+            self.opened += 1
+            self.open(name, SETTINGS, [1], names=True)
+        return told
+
+
+def recovered_in_a_race(server, folder):
+    import relkvanu_service
+    from relkvanu.service_manifests import service_folder
+    from relkvanu.service_moves import Recovery
+
+    service = Racing(server.url)
+    found = Recovery(relkvanu_service, service, "orders", service_folder("orders", folder, PREFIX, SUFFIX)).run(0)
+    assert service.opened == 3, service.opened
+    return found.record
+
+
 def test_lost_databases():
-    """Each time the engine goes on from its last record, and in the end each input was published once. Some engines start before the recovery: a supervisor starts
-    them. They open an empty job, and end, because the folder is another's."""
+    """Each time the engine goes on from its last record, and in the end each input was published once. Some engines start before the recovery, and during it: a
+    supervisor starts them. They open an empty job, and end, because the folder is another's."""
     chance = random.Random(SEED)
     with served(names=True) as server:
         folder, last = pathlib.Path(server.folder) / "job", 0
@@ -90,13 +122,15 @@ def test_lost_databases():
             if loss % 2:
                 told = ran([*ENGINE, server.url, folder, "10"])
                 assert told.returncode != 0 and "names another job" in told.stdout, told.stdout
-            last = record_of(did([PROGRAM, "recover", "orders", *place_of(server, folder / "state")]))
+                last = recovered_in_a_race(server, folder / "state")
+            else:
+                last = record_of(did([PROGRAM, "recover", "orders", *place_of(server, folder / "state")]))
             assert last in (complete, complete + 1), (last, complete)  # a completion may not have been said
         most = max(published(folder)) + 20
         did([*ENGINE, server.url, folder, str(most)])
         found = published(folder)
         assert sorted(found) == list(range(most)), f"{len(found)} inputs, {len(set(found))} of them others, up to {most}"
-        swept = did([PROGRAM, "sweep", "orders", *place_of(server, folder / "state"), "--delete"])
+        swept = did([PROGRAM, "clean", "--only", "garbage", "--once", "--job", "orders", *place_of(server, folder / "state")])
         assert "unissued=0" in swept and "failed=0" in swept, swept
         job = Service(server.url).job("orders")
         used = {int(it) for live in job.state()["live"] for ack in job.record(live["id"])["live"]["acks"] for it in ack["files"]}
@@ -108,9 +142,9 @@ class Ends:
     """A command in a process of its own, which ends before or after one of its writes or requests. A fork takes less time than an interpreter."""
 
     def __init__(self, at):
-        import relkvanu.service_moves
+        import relkvanu.__main__
 
-        self.main, self.chance, self.temporary = relkvanu.service_moves.main, random.Random(SEED), at / "temporary"
+        self.main, self.chance, self.temporary = relkvanu.__main__.main, random.Random(SEED), at / "temporary"
         self.temporary.mkdir()
 
     def ended(self, at, after, words):
@@ -129,8 +163,7 @@ class Ends:
                 print(repr(error))
                 os._exit(100)
         os.close(write)
-        with open(read, encoding="utf-8") as told:
-            said = told.read()
+        said = content(read)
         return os.waitstatus_to_exitcode(os.waitpid(child, 0)[1]), said
 
     def each(self, words, check):
@@ -183,8 +216,8 @@ class Base:
         self.server, self.at = server, pathlib.Path(server.folder)
         self.folder = self.at / "base"
         self.folder.mkdir()
+        job = Service(server.url).open("orders", SETTINGS, [TASKS], first=69)
         self.complete = killed(server, self.folder, 0.05)
-        job = Service(server.url).job("orders")
         self.settings, self.term = job.state()["settings"], job.term()
         self.state = state_in(self.folder / "state")
 
@@ -217,6 +250,7 @@ class Base:
         now = job.term()
         assert now["term"] > self.term["term"] and now["next_name"] >= self.term["next_name"], (now, self.term)
         start = job.begin()
+        assert next(iter(job.log()))["answer"].endswith(f" triggered {start.id}"), "its log counts up to the record"
         assert start.term > now["term"] and sorted(start.files) == [f"0.{task}" for task in range(TASKS)], start.files
         for name, (file,) in start.files.items():
             assert state_in(folder)[file] == self.state[file] == start.load()["subtasks"][name]["payload"].decode(), file
@@ -249,7 +283,7 @@ def test_a_recovery_at_each_end():
 
 
 def exported(base):
-    did([PROGRAM, "export", "orders", "latest", base.at / "out", *place_of(base.server, base.folder / "state")])
+    did([PROGRAM, "export", "orders", base.at / "out", *place_of(base.server, base.folder / "state")])
     return base.at / "out"
 
 
@@ -287,15 +321,132 @@ def test_exports_at_each_end():
         base, ends = Base(server), Ends(pathlib.Path(server.folder))
 
         def words(n):
-            return ["export", "orders", "latest", base.at / f"out-{n}", *place_of(server, base.folder / "state")]
+            return ["export", "orders", base.at / f"out-{n}", *place_of(server, base.folder / "state")]
 
         def check(given, is_killed):
             status, said = ends.ended(0, False, given)
             assert (is_killed and status == 0) or "not empty" in said, (is_killed, status, said)
-            told = did([STORE, "show", given[3]])
+            told = did([PROGRAM, "records", given[2]])
             assert told.count("whole; ") == 1 and not list(base.at.glob("*.part")), told
 
         return f"{ends.each(words, check)} ends"
+
+
+def with_jobs(server, at):
+    """Jobs with two records each, of which some have other settings than they were opened with; one without a record, and one that was cancelled. Returns
+    what each has."""
+    service, found = Service(server.url), {}
+    for nth in range(ALL_JOBS):
+        job, files = service.open(f"job-{nth}", SETTINGS, [TASKS]), at / f"job-{nth}"
+        files.mkdir(parents=True)
+        job.claim(files)
+        session = job.begin().session()
+        for _ in range(2):
+            id = job.checkpoint()["id"]
+            for task in range(TASKS):
+                file = session.name()
+                write(files / f"{PREFIX}{file}{SUFFIX}", f"{nth} {id} {task}")
+                session.ack(id, f"0.{task}", [file], payload=b"%d" % task)
+        if nth % 2:
+            job.set(interval=5000)
+        found[job.name] = id, job.term()
+    service.open("fresh", SETTINGS, [TASKS])
+    service.open("gone", SETTINGS, [TASKS]).call(cancel())
+    return {name: (id, whole(service.job(name), id), service.job(name).state()["settings"], term) for name, (id, term) in found.items()}
+
+
+def has_jobs(server, at, found):
+    """A service has these jobs, each with its files."""
+    service = Service(server.url)
+    assert {job["name"] for job in service.jobs()} == set(found), service.jobs()
+    for name, (id, parts, settings, term) in found.items():
+        job, texts = service.job(name), state_in(at / name)
+        state, now = job.state(), job.term()
+        assert (state["choice"]["id"], state["settings"], whole(job, id)) == (id, settings, parts), state
+        assert [texts[file] for files, _ in parts.values() for file in files] == [f"{name[4:]} {id} {task}" for task in range(TASKS)], texts
+        assert now["term"] > term["term"] and now["next_name"] >= term["next_name"], (now, term)
+        job.claim(at / name)
+
+
+def emptied(server):
+    service = Service(server.url)
+    for name in [job["name"] for job in service.jobs()]:
+        with contextlib.suppress(Failed):
+            service.job(name).call(cancel())
+        service.delete(name, abandon=True)
+
+
+def test_all_jobs_go_to_postgresql_and_back():
+    """Each of the commands is ended before and after writes and requests, and given again."""
+    with served(names=True) as server, postgres() as database, temporary() as elsewhere:
+        at, other = pathlib.Path(server.folder), Server(elsewhere, database.url, names=True).start()
+        found, ends = with_jobs(server, at / "files"), Ends(at)
+
+        def is_exported(given, is_killed):
+            """The second time nothing is left to be done."""
+            for expected in ("", "already"):
+                status, said = ends.ended(0, False, given)
+                assert status == 0 and expected in said and "gone: it was cancelled" in said and "fresh: no record is complete" in said, (status, said)
+            assert sorted(os.listdir(given[2])) == sorted(found), (is_killed, os.listdir(given[2]))
+            shutil.rmtree(given[2])
+
+        exports = ends.each(lambda n: ["export", "--all", at / n, *place_of(server, at / "files" / "{job}")], is_exported)
+        out = at / "out"
+        did([PROGRAM, "export", "--all", out, *place_of(server, at / "files" / "{job}")])
+
+        def is_imported(given, is_killed):
+            folder = given[given.index("--folder") + 1].parent
+            for expected in ("", "job-0 is there already"):
+                status, said = ends.ended(0, False, given)
+                assert status == 0 and expected in said, (is_killed, status, said)
+            has_jobs(other, folder, found)
+            emptied(other)
+            shutil.rmtree(folder)
+
+        imports = ends.each(lambda n: ["import", "--all", out, *place_of(other, at / n / "{job}")], is_imported)
+        # there and back, over the program's own words
+        did([PROGRAM, "import", "--all", out, *place_of(other, at / "there" / "{job}")])
+        lose(server)
+        did([PROGRAM, "export", "--all", at / "back", *place_of(other, at / "there" / "{job}")])
+        did([PROGRAM, "import", "--all", at / "back", *place_of(server, at / "here" / "{job}")])
+        has_jobs(server, at / "here", found)
+        # one that lacks a file is not exported, and the others are
+        lost = next(iter(found["job-0"][1].values()))[0][0]
+        (at / "here" / "job-0" / f"{PREFIX}{lost}{SUFFIX}").unlink()
+        told = did([PROGRAM, "export", "--all", at / "some", *place_of(server, at / "here" / "{job}")], 1, "job-0: ")
+        assert sorted(os.listdir(at / "some")) == sorted(set(found) - {"job-0"}), told
+        did([PROGRAM, "import", "--all", out, *place_of(other, at / "alike")], 2, "{job}")
+        return f"{len(found)} jobs, {exports} ends of an export and {imports} of an import"
+
+
+def test_all_jobs_of_a_lost_database_are_recovered():
+    """Each whose marker is in a folder; given again after an end, the command passes over those that are there."""
+    with served(names=True) as server:
+        at = pathlib.Path(server.folder)
+        found, ends = with_jobs(server, at / "files"), Ends(at)
+        for name in found:
+            did([PROGRAM, "keep", name, *place_of(server, at / "files" / name)])
+        lose(server)
+        (at / "files" / "of-nobody").mkdir()
+
+        def words(n):
+            emptied(server)
+            shutil.copytree(at / "files", at / n)
+            return ["recover", "--all", *place_of(server, at / n / "{job}")]
+
+        def check(given, is_killed):
+            for expected in ("", "job-0 is there already"):
+                status, said = ends.ended(0, False, given)
+                assert status == 0 and expected in said, (is_killed, status, said)
+            folder = given[given.index("--folder") + 1].parent
+            has_jobs(server, folder, found)
+            shutil.rmtree(folder)
+
+        ended = ends.each(words, check)
+        did([PROGRAM, "recover", "--all", *place_of(server, at / "none" / "{job}")], 78, "there is no marker of a job")
+        for more in (["orders", *place_of(server, at / "{job}")], place_of(server, at / "files"), ["--bucket", "{job}"]):
+            did([PROGRAM, "recover", "--all", *more], 2, "--all")
+        return f"{len(found)} jobs, {ended} ends"
 
 
 def test_between_the_service_and_the_durable_coordinator():
@@ -308,10 +459,8 @@ def test_between_the_service_and_the_durable_coordinator():
         job = Service(server.url).job("orders")
         held, record = job._held(job.state()["choice"]["id"]), job.state()["choice"]["id"]
         out, store, state = exported(base), base.at / "store.db", base.at / "store"
-        with open(f"{TOP}/docs/manifest.schema.json", encoding="utf-8") as it:
-            import jsonschema
-            jsonschema.validate(json.loads((out / f"record-{record}.manifest").read_text()), json.load(it))
-        assert f"checkpoint {record}, which has {TASKS} files" in did([STORE, "import", out, store, state])
+        fits_the_schema((out / f"record-{record}.manifest").read_text())
+        assert f"checkpoint {record}, which has {TASKS} files" in did([PROGRAM, "import", out, store, state])
         settings = Settings(interval=SETTINGS["interval"], timeout=SETTINGS["timeout"], tolerable=1000, retained=2)
         with Store(store, settings, [TASKS], storage=state, manifests=True) as durable:
             made = durable.restore()
@@ -341,9 +490,9 @@ def test_what_the_commands_refuse():
     with served(names=True) as server:
         base = Base(server)
         here, there = place_of(server, base.folder / "state"), place_of(server, base.at)
-        did([PROGRAM, "export", "orders", "latest", base.at / "out", *there], 78, "no marker")
-        did([PROGRAM, "export", "orders", "999999", base.at / "out", *here], 1, "404")
-        did([PROGRAM, "export", "orders", "last", base.at / "out", *here], 2, "latest")
+        did([PROGRAM, "export", "orders", base.at / "out", *there], 78, "no marker")
+        did([PROGRAM, "export", "orders", base.at / "out", "--record", "999999", *here], 1, "404")
+        did([PROGRAM, "export", "orders", base.at / "out", "--record", "last", *here], 2, "--record")
         did([PROGRAM, "recover", "orders", *here], 1, "there is a job")
         did([PROGRAM, "recover", "orders", *there], 78, "no marker")
         did([PROGRAM, "recover", "orders", *here[:2]], 2, "--folder")
@@ -365,7 +514,6 @@ def test_what_the_commands_refuse():
         from relkvanu.service_manifests import identity_of
         manifests.rename(manifests.parent / identity_of(other.encode()))
         did([PROGRAM, "recover", "orders", *place_of(server, base.at / "copy")], 1, "another job of this name")
-        return "wrong places, jobs that are there, and a service that is away"
 
 
 def test_savepoints_live_on():
@@ -437,10 +585,10 @@ def test_checksums():
         did([PROGRAM, "recover", "orders", *place_of(server, at)])
         assert sums(record) == {first: 0xcbf43926, second: 0xcbf43926}, sums(record)
         out = at.parent / "out"
-        did([PROGRAM, "export", "orders", "latest", out, *place_of(server, at)])
-        told = did([STORE, "show", "--whole", out], 1, f"record {record}: file {first} has another checksum")
+        did([PROGRAM, "export", "orders", out, *place_of(server, at)])
+        told = did([PROGRAM, "records", "--whole", out], 1, f"record {record}: file {first} has another checksum")
         assert f"file {second}" not in told, told
-        did([STORE, "show", out], 0, "whole; a recovery")
+        did([PROGRAM, "records", out], 0, "whole; a recovery")
         return f"record {record}"
 
 
@@ -503,12 +651,10 @@ def test_figures_go_with_their_records():
             return {key: {it: value[it] for it in ("bytes", "millis") if value.get(it)} for key, value in subtasks.items()}
 
         out, store, state = (at.parent / it for it in ("out", "store.db", "store"))
-        did([PROGRAM, "export", "orders", record, out, *place_of(server, at)])
+        did([PROGRAM, "export", "orders", out, "--record", str(record), *place_of(server, at)])
         path = out / f"record-{record}.manifest"
         text = path.read_bytes()
-        with open(f"{TOP}/docs/manifest.schema.json", encoding="utf-8") as it:
-            import jsonschema
-            jsonschema.validate(json.loads(text), json.load(it))
+        fits_the_schema(text)
         assert figures({f"{it['vertex']}.{it['index']}": it for it in json.loads(text)["subtasks"]}) == wanted, text
         for wrong, why in ((-1, ""), ("7", ""), (1.5, ""), (1 << 64, ""), (True, "can't be bytes or milliseconds")):
             found = json.loads(text)
@@ -516,10 +662,10 @@ def test_figures_go_with_their_records():
             found["subtasks"][0]["millis"] = wrong
             path.write_bytes(sealed(found))
             if not why:  # SQLite reads `true` as a number
-                did([STORE, "import", out, store, state], 1)
+                did([PROGRAM, "import", out, store, state], 1)
             did([PROGRAM, "import", out, "other", *place_of(server, at.parent / "other")], 1, why)
         path.write_bytes(text)
-        did([STORE, "import", out, store, state])
+        did([PROGRAM, "import", out, store, state])
         settings = Settings(interval=SETTINGS["interval"], timeout=SETTINGS["timeout"], tolerable=1000, retained=2)
         with Store(store, settings, [3, 1], storage=state, manifests=True) as durable:
             parts = {f"{it.vertex}.{it.index}": {"bytes": it.bytes, "millis": it.millis} for it in durable.load(record).parts}
@@ -534,7 +680,6 @@ def test_figures_go_with_their_records():
         for it in (Service(server.url).job(of) for of in ("orders", "copy")):
             assert figures(it.load(record)["subtasks"]) == wanted, it.load(record)
             assert (it.state()["bytes"]["in_use"], it.file(name)["bytes"], it.file(other)["bytes"]) == (12, 5, 7), it.state()
-        return "four subtasks"
 
 
 def test_a_look_at_the_records_of_a_job():
@@ -560,8 +705,55 @@ def test_a_look_at_the_records_of_a_job():
         assert "1 files are missing" in did(words)
         did([*words, "--whole"], 1, "is missing")
         did([*words[:3], "--folder", base.folder], 78, "there is no marker of the job")
-        did([*words[:3]], 2)
+        did([*words[:3]], 1, "No such file")  # it is taken for the storage of a durable job
         return f"record {record}"
+
+
+def test_a_manifest_says_what_was_acknowledged():
+    """A file that is cut short stays lost: a record that uses it again does not make it whole, and no engine that starts."""
+    from relkvanu.service_manifests import Manifests, NotKept, service_folder
+
+    with served(names=True) as server:
+        at = pathlib.Path(server.folder) / "state"
+        at.mkdir()
+        job = Service(server.url).open("orders", {**SETTINGS, "retained": 4}, [1])
+        job.claim(at)
+        session, place = job.begin().session(), place_of(server, at)
+
+        def completes(text, reused=(), **told):
+            """A checkpoint with a new file of this text, if there is one."""
+            names = [session.name()] if text else []
+            for name in names:
+                (at / f"{PREFIX}{name}{SUFFIX}").write_text(text)
+            id = job.checkpoint()["id"]
+            session.ack(id, "0.0", names, reused, **told)
+            return id, *names
+
+        def kept(anew=False):
+            """The number of the record, or the files that are lost."""
+            try:
+                return (Manifests(job, service_folder("orders", at, PREFIX, SUFFIX)) if anew else manifests).keep()
+            except NotKept as why:
+                return re.findall(r"the files \[(.*)\] are not there, or have another length", str(why))
+
+        manifests = Manifests(job, service_folder("orders", at, PREFIX, SUFFIX))
+        first, base = completes("x" * 230)
+        assert kept() == first
+        os.truncate(at / f"{PREFIX}{base}{SUFFIX}", 10)
+        (second,) = completes("", [base])
+        assert kept() == kept(anew=True) == [str(base)], (kept(), kept(anew=True))
+        lengths = [json.loads(it.read_text())["subtasks"][0]["files"] for it in sorted(at.glob(".relkvanu.records/*/*"))]
+        assert lengths == [{str(base): 230}] * 2, lengths
+        assert did([PROGRAM, "records", "orders", *place[2:]]).count("1 files are missing or have another length") == 2
+        did([PROGRAM, "export", "orders", at.parent / "out", *place], 1, f"record {second} is not whole")
+        # what its task told is another length from the beginning
+        _, told = completes("12345", sizes=[7])
+        assert kept() == [str(told)], kept()
+        fourth, _ = completes("12345", sizes=[5])
+        assert kept() == fourth
+        lose(server)
+        assert record_of(did([PROGRAM, "recover", "orders", *place])) == fourth
+        return f"of {fourth} records one is whole"
 
 
 def test_payloads_go_with_their_records():
@@ -615,11 +807,9 @@ def test_payloads_of_a_record_that_is_carried():
         _, alone, ordered, last, wanted = with_payloads(server, at)
         for record in (alone, ordered, last):
             out, store, state = (at.parent / f"{record}-{it}" for it in ("out", "store.db", "store"))
-            did([PROGRAM, "export", "orders", record, out, *place_of(server, at)])
-            with open(f"{TOP}/docs/manifest.schema.json", encoding="utf-8") as it:
-                import jsonschema
-                jsonschema.validate(json.loads((out / f"record-{record}.manifest").read_text()), json.load(it))
-            did([STORE, "import", out, store, state])
+            did([PROGRAM, "export", "orders", out, "--record", str(record), *place_of(server, at)])
+            fits_the_schema((out / f"record-{record}.manifest").read_text())
+            did([PROGRAM, "import", out, store, state])
             with Store(store, Settings(interval=SETTINGS["interval"], timeout=SETTINGS["timeout"], tolerable=1000, retained=2), [2, 1], storage=state,
                        manifests=True) as durable:
                 found = {f"{it.vertex}.{it.index}": (list(it.files), it.payload) for it in durable.load(record).parts}
@@ -658,8 +848,8 @@ def test_a_job_over_a_bucket():
         manifests = Manifests(job, service_bucket("orders", bucket, "orders/s-", ".bin", s3))
         assert manifests.keep() == record
         there = ["--url", server.url, *words, "--bucket", bucket, "--suffix", ".bin", "--prefix"]
-        did([PROGRAM, "export", "orders", record, at / "out", *there, "orders/s-"])
-        did([PROGRAM, "export", "orders", "latest", f"s3://{bucket}/out", *there, "orders/s-"])
+        did([PROGRAM, "export", "orders", at / "out", "--record", str(record), *there, "orders/s-"])
+        did([PROGRAM, "export", "orders", f"s3://{bucket}/out", *there, "orders/s-"])
         assert {it: (at / "out" / str(it)).read_bytes() for it in names} == {it: b"state %d" % it for it in names}
         lose(server)
         assert record_of(did([PROGRAM, "recover", "orders", *there, "orders/s-"])) == record

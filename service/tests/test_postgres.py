@@ -5,9 +5,10 @@ import signal
 import time
 
 import kills
-from harness import BUSY, PgArchive, Server, check_log, configured, folder, kept, leader_and_standby, lease_of, slowed, until
+from harness import BUSY, PgArchive, Server, check_log, configured, folder, kept, leader_and_standby, lease_of, served, slowed, until
 from postgres import postgres
 from relkvanu_service import Service
+from writers import made_by
 
 # a standby is beside its leader: as long as a busy machine needs to keep it
 LEASE = lease_of(4)
@@ -21,8 +22,7 @@ def test_kills():
 
 
 def test_a_database_that_stops():
-    with postgres() as database, folder() as at:
-        server = Server(at, database.url, configured(at, "lease_seconds = 1\n")).start()
+    with postgres() as database, served("lease_seconds = 1\n", database=database.url) as server:
         told = []
         with kept(server) as ended, kills.writers_at([server.url], told):
             for mode in ("immediate", "fast", "immediate"):
@@ -47,8 +47,8 @@ def test_a_dump_of_a_service_that_runs():
     """`pg_dump` while writers are at work; the copy is restored into a new database, and served."""
     with postgres() as database, folder() as at:
         server, told = Server(at, database.url).start(), []
-        with kills.writers_at([server.url], told):
-            time.sleep(1)
+        with kills.writers_at([server.url], told) as writers:
+            until(lambda: made_by(writers) > 50)
             before = {job["name"]: job["seq"] for job in Service(server.url).jobs()}
             database.run("pg_dump", "--format=custom", f"--file={database.data}/dump", f"--dbname={database.url}")
         logs = {name: list(Service(server.url).job(name).log()) for name in kills.JOBS}
@@ -64,7 +64,6 @@ def test_a_dump_of_a_service_that_runs():
             assert before[name] <= len(found) <= len(log) and found == log[: len(found)], (name, before, len(found), len(log))
             check_log(job.state(), kills.SHAPE, found)
             counts.append(len(found))
-        restored.stop()
         return f"{sum(counts)} of {sum(map(len, logs.values()))} calls in the copy, {sum(before.values())} before it was made"
 
 
@@ -101,7 +100,7 @@ def test_take_over():
                 leader = leader_of(servers)
                 standby = next(server for server in servers if server is not leader)
                 time.sleep(0.6)
-                epochs.append(int(database.sql("select max(epoch) from shard")))
+                epochs.append(int(database.sql("select epoch from leader")))
                 started = time.monotonic()
                 if way == "cut":
                     cut_writer(database)
@@ -135,7 +134,6 @@ def test_a_stop_in_good_order():
         handed = time.monotonic() - started
         assert handed < lease / 2, handed
         assert {job["name"] for job in Service(standby.url).jobs()} == set(kills.JOBS)
-        standby.stop()
         return f"{handed:.2f} s after it, with a lease of {lease} s"
 
 
@@ -147,4 +145,3 @@ def test_a_database_that_does_not_sync_is_refused():
         server.start(ready=False)
         status = server.ended()
         assert status == 75 and "fsync is off" in server.log(), (status, server.log())
-        return "fsync=off"

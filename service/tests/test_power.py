@@ -1,4 +1,4 @@
-"""Losses of power: the service over SQLite, `relkvanu discard`, `relkvanu sweep` and an engine run under faults/shim.c, over
+"""Losses of power: the service over SQLite, `relkvanu clean` and an engine run under faults/shim.c, over
 one machine. Whatever a loss leaves (faults/power.py), the service starts again, each answered call has its place and its answer, and no
 file in use is missing. RELKVANU_LOSSES has so many times as many; 0 is each loss at each call that writes."""
 import json
@@ -10,7 +10,7 @@ import sys
 import time
 from contextlib import contextmanager
 
-from harness import COMMAND, HERE, LOG_ORACLE, PROGRAM, TOP, Archive, Server, check_log, folder, until
+from harness import COMMAND, HERE, LOG_ORACLE, PROGRAM, TOP, Archive, Server, check_log, content, folder, until
 from power_engine import SHAPE, SUBTASKS, Engine
 from preloaded import SHIM, built, shim
 from relkvanu_service import Service, cancel, dispose
@@ -35,12 +35,12 @@ def server_in(root, at, prefix=()):
 
 @contextmanager
 def beside(server, prefix, told):
-    """The engine, the discarder and the sweeper at work. They are killed at the end."""
+    """The engine and the cleaner at work. They are killed at the end."""
     files = f"{server.folder}/files"
     known = ["--folder", files, "--url", server.url, "--prefix", "s-"]
-    program = ["STORE_RAW=1", PROGRAM]  # the crate rustix makes system calls itself
-    words = [[sys.executable, f"{HERE}/power_engine.py", server.url, files, told], [*program, "discard", "--job", "orders", *known],
-             [*program, "sweep", "orders", *known, "--delete", "--every", "1s"]]
+    # the crate rustix makes system calls itself
+    cleans = ["STORE_RAW=1", PROGRAM, "clean", "--job", "orders", *known, "--every", "1s"]
+    words = [[sys.executable, f"{HERE}/power_engine.py", server.url, files, told], cleans]
     with open(f"{server.log_path}-beside", "ab") as log:
         processes = [subprocess.Popen([*prefix, *it], stdout=log, stderr=log) for it in words]
     try:
@@ -84,8 +84,7 @@ class Recorded:
         return told["seq"] if status == 200 else None
 
     def told_beside(self):
-        with open(f"{self.server.log_path}-beside", encoding="utf-8", errors="replace") as it:
-            return it.read()[-800:]
+        return content(f"{self.server.log_path}-beside")[-800:]
 
 
 class Checks:
@@ -145,10 +144,9 @@ class Checks:
             if record["kind"] == "savepoint" and record["done"]:
                 engine.job.call(dispose(record["id"]))
         engine.job.call(cancel())
-        for words in (["discard", "--job", "orders", "--once", "--allow-absent"], ["sweep", "orders", "--delete"]):
-            words = [PROGRAM, *words, "--folder", files, "--url", server.url, "--prefix", "s-"]
-            told = subprocess.run(words, capture_output=True, text=True, timeout=COMMAND, check=False)
-            assert told.returncode == 0, told.stderr
+        words = [PROGRAM, "clean", "--job", "orders", "--once", "--allow-absent", "--folder", files, "--url", server.url, "--prefix", "s-"]
+        told = subprocess.run(words, capture_output=True, text=True, timeout=COMMAND, check=False)
+        assert told.returncode == 0, told.stderr
         left = [name for name in os.listdir(files) if name.startswith("s-")]
         assert not left, f"{left} are left"
         self.goes_on += 1

@@ -3,9 +3,11 @@ import os
 import shutil
 import subprocess
 
-from harness import COMMAND, PROGRAM, folder, served
+from harness import COMMAND, PROGRAM, Server, folder, save, served
+from postgres import postgres
 from preloaded import SHIM, built, shim
 from relkvanu_service import Service, savepoint
+from stepped import Steps
 from test_commands import SETTINGS
 
 KILLED = -9  # by faults/shim.c
@@ -34,8 +36,7 @@ class Place:
         shutil.rmtree(self.at, ignore_errors=True)
         os.mkdir(self.at)
         for name, text in files.items():
-            with open(f"{self.at}/{name}", "w", encoding="utf-8") as it:
-                it.write(text)
+            save(f"{self.at}/{name}", text)
 
     def of(self, at):
         """The files of a folder but for the lock."""
@@ -120,8 +121,7 @@ def test_what_is_there_stays():
             status, told = ran(place.copy, *place.words)
             assert status == 0 and "is the copy already" in told and place.is_put(files), told
         # a service has run over it: its calls are not replaced
-        with open(f"{place.database}-wal", "w", encoding="utf-8") as it:
-            it.write("later calls")
+        save(f"{place.database}-wal", "later calls")
         status, told = ran(place.copy, *place.words)
         assert status == 1 and "aside has relkvanu.db already: name another folder" in told, told
         assert content(f"{place.database}-wal") == b"later calls" and not os.path.exists(f"{place.database}.restored")
@@ -129,21 +129,23 @@ def test_what_is_there_stays():
         # a new database that a service has made is not set aside beside the lost one
         place.fill({"relkvanu.db": "damaged"})
         assert ran("--none", *place.words)[0] == 0 and place.of(place.at) == {}
-        with open(place.database, "w", encoding="utf-8") as it:
-            it.write("new")
+        save(place.database, "new")
         status, told = ran("--none", *place.words)
         assert status == 1 and "aside has relkvanu.db already: name another folder" in told and content(place.database) == b"new", told
         for words in ((), ("--none", "--back"), ("--none", place.copy), ("--back", place.copy)):
             assert ran(*words, *place.words)[0] == 2, words
         place.fill({})
         assert ran(place.copy, *place.words)[0] == 0
+        # its disk was lost, with the folder, which systemd has behind a link
+        os.rename(place.at, f"{at}/lost")
+        os.mkdir(f"{at}/private")
+        os.symlink("private/relkvanu", place.at)
+        assert ran(place.copy, *place.words)[0] == 0 and content(f"{at}/private/relkvanu/relkvanu.db") == content(place.copy)
         # a copy over which no service can run
-        with open(f"{at}/bad.db", "w", encoding="utf-8") as it:
-            it.write("no database")
+        save(f"{at}/bad.db", "no database")
         status, told = ran(f"{at}/bad.db", *place.words)
         assert status == 1 and "no service can run over this copy" in told and content(place.database) == content(place.copy), told
         assert ran(f"{at}/none.db", *place.words)[0] == 1 and "nothing is set aside" in ran("--back", *place.words, "--aside", f"{at}/none")[1]
-        return "four places"
 
 
 def test_beside_a_service():
@@ -158,4 +160,119 @@ def test_beside_a_service():
             assert status == 0, told
             server.start()
             assert [it["name"] for it in Service(server.url).jobs()] == ["orders"], before
-        return "a service that runs, and one that was killed"
+
+
+class Databases:
+    """A PostgreSQL with databases that say what they are, and a dump of one that a service has made."""
+
+    def __init__(self, at, server):
+        self.at, self.server, self.url = at, server, f"postgres://postgres@127.0.0.1:{server.port}/relkvanu"
+        self.words = ("--database", self.url)
+        self.environment = {"PGHOST": "127.0.0.1", "PGPORT": str(server.port), "PGUSER": "postgres"}
+        programs = {name: f"{server.bin}/{name}" for name in ("createdb", "dropdb", "pg_restore", "psql")}
+        self.steps = Steps(at, PROGRAM, (), **programs)
+        self.sql("create database relkvanu")
+        service = Server(f"{at}/of", self.url).start()
+        Service(service.url).open("orders", SETTINGS, [1]).call(savepoint())
+        service.stop()
+        self.sql("create table what as select 'dumped' text", "relkvanu")
+        subprocess.run([f"{server.bin}/pg_dump", "--format=custom", f"--file={at}/copy.dump", self.url], check=True, timeout=COMMAND)
+
+    def sql(self, text, database="postgres"):
+        return self.server.run("psql", "-XAtq", self.server.url.rsplit("/", 1)[0] + f"/{database}", "-c", text).strip()
+
+    def there(self):
+        return set(self.sql("select datname from pg_database where datname like 'relkvanu%'").split())
+
+    def of(self, name):
+        return self.sql("select text from what", name) if name in self.there() else None
+
+    def drop(self):
+        self.server.quiet()
+        for name in self.there():
+            self.sql(f"drop database {name}")
+
+    def fill(self):
+        """A database that is damaged, of a service."""
+        self.drop()
+        self.sql("create database relkvanu")
+        self.sql("create table what as select 'damaged' text; create table log_start as select 1::bigint number", "relkvanu")
+
+    def put(self, *words):
+        return self.steps.run("put-back", *words, *self.words, **self.environment)
+
+    def ends(self, words, *checks):
+        return self.steps.ends(("put-back", *words, *self.words), *checks, **self.environment)
+
+
+def test_a_dump_gets_in_its_place():
+    """Both databases have their names at each moment but for one transaction, and the one that was there is never lost."""
+    with folder() as at, postgres() as server:
+        os.mkdir(f"{at}/of")
+        base = Databases(at, server)
+
+        def is_put():
+            assert base.there() == {"relkvanu", "relkvanu_aside"} and (base.of("relkvanu"), base.of("relkvanu_aside")) == ("dumped", "damaged"), base.there()
+
+        def is_known():
+            assert sorted([base.of("relkvanu"), base.of("relkvanu_aside") or "none"]) in (["damaged", "none"], ["damaged", "dumped"]), base.there()
+
+        def put():
+            base.fill()
+            assert base.put("copy.dump")[0] == 0
+
+        def is_back():
+            assert (base.of("relkvanu"), base.of("relkvanu_not_used")) == ("damaged", "dumped"), base.there()
+
+        puts = base.ends(("copy.dump",), base.fill, is_put, is_known)
+        backs = base.ends(("--back",), put, is_back)
+        # a service has run over it
+        put()
+        assert base.put("copy.dump")[0] == 0
+        is_put()
+        base.sql("update log_start set number = number + 1", "relkvanu")
+        status, told = base.put("copy.dump")
+        assert status == 1 and "there is a database relkvanu_aside already" in told, told
+        assert base.put("copy.dump", "--aside", "relkvanu_more")[0] == 0 and base.of("relkvanu_more") == "dumped"
+        check_databases_of_others(base)
+        nones = check_an_empty_one(base)
+        # the disk was lost, and the copy was checked before
+        base.drop()
+        assert base.put("copy.dump", "--checked")[0] == 0 and (base.there(), base.of("relkvanu")) == ({"relkvanu"}, "dumped")
+        for url in ("postgres://db/relkvanu", "postgres://a@db", "postgres://a@db/x'y"):
+            status, told = base.steps.run("put-back", "copy.dump", "--database", url)
+            assert status == 1 and "the URL has to name a user and a database" in told, told
+        assert puts > 10 and backs > 4 and nones > 8, (puts, backs, nones)
+        return f"{puts} ends, {nones} of one of nothing, and {backs} of the way back"
+
+
+def check_databases_of_others(base):
+    """A database of somebody, and a dump over which no service can run."""
+    base.fill()
+    base.sql("create database relkvanu_restored")
+    base.sql("create table x(y int)", "relkvanu_restored")
+    status, told = base.put("copy.dump")
+    assert status == 1 and "which is not of this command" in told and base.of("relkvanu") == "damaged", told
+    base.sql("drop database relkvanu_restored")
+    subprocess.run([f"{base.server.bin}/pg_dump", "--format=custom", f"--file={base.at}/bad.dump", base.url], check=True, timeout=COMMAND)
+    status, told = base.put("bad.dump")
+    assert status == 1 and "no service can run over this copy" in told and base.of("relkvanu") == "damaged" and "relkvanu_aside" not in base.there(), told
+    status, told = base.put("none.dump")
+    assert status == 1 and "none.dump: No such file" in told and base.of("relkvanu") == "damaged", told
+
+
+def check_an_empty_one(base):
+    """In the place of a database that is lost. Once a service has run over it, it is not replaced."""
+    def is_empty():
+        assert base.there() == {"relkvanu", "relkvanu_aside"} and base.of("relkvanu_aside") == "damaged", base.there()
+        assert base.sql("select count(*) from pg_class where relnamespace = 'public'::regnamespace", "relkvanu") == "0"
+
+    def is_known():
+        assert base.of("relkvanu_aside" if "relkvanu_aside" in base.there() else "relkvanu") == "damaged", base.there()
+
+    ended = base.ends(("--none",), base.fill, is_empty, is_known)
+    base.sql("create table what as select 'later' text", "relkvanu")
+    status, told = base.put("--none")
+    assert status == 1 and "there is a database relkvanu_aside already" in told and base.of("relkvanu") == "later", told
+    assert base.put("--back")[0] == 0 and (base.of("relkvanu"), base.of("relkvanu_not_used")) == ("damaged", "later")
+    return ended

@@ -1,20 +1,13 @@
 """Images and summaries that a database has no room for: calls go on, and they are made later. A metric tells it of images."""
 import errno
-import re
 
-from harness import Server, caught_up, check_log, folder, lose_history, until
+from harness import SETTINGS, caught_up, check_log, lose_history, served_job, until
 from postgres import postgres
 from preloaded import SHIM, built, shim
-from relkvanu_service import Service, ack, dispose, savepoint
+from relkvanu_service import ack, dispose, savepoint
 
-SETTINGS = {"interval": 1 << 40}
 TICK = {"calls": [{"call": "tick"}]}
 FAILING = 'relkvanu_image_failing{job_name="orders"}'
-
-
-def metric(server, name):
-    found = re.search(rf"^{re.escape(name)} (\S+)$", server.get("/metrics")[2], re.M)
-    return found and float(found[1])
 
 
 def tick(server):
@@ -35,13 +28,11 @@ def allow(database, tables):
 
 
 def test_an_image_that_postgresql_has_no_room_for():
-    with postgres() as database, folder() as at:
-        server = Server(at, database.url, ["--image-calls", "20", "--keep-calls", "0"]).start()
-        job = Service(server.url).open("orders", SETTINGS, [1])
+    with postgres() as database, served_job("orders", SETTINGS, [1], database=database.url, args=["--image-calls", "20", "--keep-calls", "0"]) as (server, job):
         refuse(database, ["image"], "no room", "53100")
         for _ in range(60):
             assert tick(server), server.log()[-400:]
-        until(lambda: metric(server, FAILING) == 1, told=lambda: server.log()[-400:])
+        until(lambda: server.metric(FAILING) == 1, told=lambda: server.log()[-400:])
         assert job.state()["image"] is None
         assert "an image of job orders is put off" in server.log(), server.log()[-400:]
         assert server.process.poll() is None
@@ -50,20 +41,16 @@ def test_an_image_that_postgresql_has_no_room_for():
         until(lambda: tick(server) and "too long" in server.log(), 20, 0.2)
         allow(database, ["image"])
         until(lambda: tick(server) and job.state()["image"], 20, 0.2)
-        until(lambda: metric(server, FAILING) == 0)
+        until(lambda: server.metric(FAILING) == 0)
         seq = job.state()["seq"]
-        server.kill()
-        server.start()
+        server.again()
         assert job.state()["seq"] == seq and server.replayed()[-1] < seq
-        server.stop()
         return f"{seq} calls; the image was made {seq - server.replayed()[-1]} calls after the job's opening"
 
 
 def test_a_summary_that_postgresql_has_no_room_for():
     """The log is not cut without one. Once there is room, it is, and a history that begins anew has what was cut."""
-    with postgres() as database, folder() as at:
-        server = Server(at, database.url, ["--image-calls", "20", "--keep-calls", "0"]).start()
-        job = Service(server.url).open("orders", SETTINGS, [1])
+    with postgres() as database, served_job("orders", SETTINGS, [1], database=database.url, args=["--image-calls", "20", "--keep-calls", "0"]) as (server, job):
         refuse(database, ["past", "summary"], "no room", "53100")
         for text, code in [("no room", "53100"), ("no memory", "53200"), ("too long", "54000")]:
             refuse(database, ["summary"], text, code)
@@ -89,22 +76,19 @@ def test_a_summary_that_postgresql_has_no_room_for():
         server.start()
         caught_up(job)
         assert [job.record(record)["history"] for record in (1, 2, 3)] == before
-        server.stop()
         return f"three times; then the log began with call {first}"
 
 
 def test_an_image_that_sqlite_has_no_room_for():
     """The write-ahead log has room for calls, and not for a part of the image: on a full disk, and by a quota."""
-    with folder() as at:
-        server = Server(at, args=["--image-calls", "0"]).start()
-        job = Service(server.url).open("orders", SETTINGS, [76])
+    with served_job("orders", SETTINGS, [76], args=["--image-calls", "0"]) as (server, job):
         job.call(savepoint())
         for subtask in range(75):
             first = 10**15 + subtask * 4000
             job.call(ack(1, f"0.{subtask}", list(range(first, first + 4000))))
         server.stop()
         server.args = ["--image-calls", "20"]
-        library = built(at, SHIM)
+        library = built(server.folder, SHIM)
         for number in (errno.ENOSPC, errno.EDQUOT):
             server.prefix = shim(library, server.database, fault="grow", on="-wal$", grows=150000, error=number)
             server.start()
@@ -112,13 +96,13 @@ def test_an_image_that_sqlite_has_no_room_for():
             until(lambda: tick(server) and server.log().count("an image of job orders is put off") > put_off)
             answered = sum(tick(server) for _ in range(20))
             assert answered == 20, (number, answered, server.log()[-400:])
-            until(lambda: metric(server, FAILING) == 1)
+            until(lambda: server.metric(FAILING) == 1)
             assert server.process.poll() is None
             server.kill()
         server.prefix = []
         server.start()
         until(lambda: tick(server) and job.state()["image"], 30, 0.2)
-        until(lambda: metric(server, FAILING) == 0)
+        until(lambda: server.metric(FAILING) == 0)
         log, state = list(job.log()), job.state()
         server.stop()
         check_log(state, [76], log)

@@ -9,7 +9,7 @@ import subprocess
 import time
 import urllib.request
 
-from harness import COMMAND, PROGRAM, Server, caught_up, folder, served, until
+from harness import COMMAND, PROGRAM, Server, caught_up, folder, raised, save, served, until
 from relkvanu_service import Failed, Service, ack, deleted, dispose, savepoint
 from test_images import SETTINGS
 from test_start import refused
@@ -20,8 +20,7 @@ JOB = {"settings": {"interval": 1 << 40}, "shape": [1]}
 
 
 def written(path, *lines):
-    with open(path, "w", encoding="utf-8") as it:
-        it.write("\n".join(lines) + "\n")
+    save(path, "\n".join(lines) + "\n")
 
 
 def told_again(server, says="read again"):
@@ -65,7 +64,6 @@ def test_tokens_for_some_jobs():
         lines, seconds = server.log().count("status=401") - before, time.monotonic() - began
         # one a second
         assert 1 <= lines <= seconds + 2 and re.search(r"status=401 by=nobody took_ms=\d+ more=\d+", server.log()), (lines, seconds)
-        server.stop()
         return f"{len(told)} lines name who called"
 
 
@@ -86,8 +84,6 @@ def test_tokens_are_read_again():
         written(f"{at}/token", "write short")
         told_again(server, "stay as they were")
         assert [server.get("/v1/jobs", token)[0] for token in (ALL, ORDERS)] == [200, 200] and "line 1" in server.log()
-        server.stop()
-        return "a new one, an old one and a bad file"
 
 
 def certificate(at, name, days=2):
@@ -162,7 +158,6 @@ def test_tls_of_its_own():
         refused(words, 78, "tls_key")
         written(f"{at}/service.toml", f"tls_key = '{at}/key.pem'")
         refused(words, 78, "there is only one of them")
-        return "two certificates"
 
 
 def asked(connection, token):
@@ -214,7 +209,6 @@ def test_all_files_are_read_again_or_none():
         subprocess.run(["cp", f"{at}/copies/certificate.pem", f"{at}/trusted.pem"], check=True)
         assert reload_failed(server, ORDERS) == ["0"]
         assert server.stop() == 0
-        return "two bad files and good ones"
 
 
 def test_a_refusal_over_tls_reaches_a_client_that_still_sends():
@@ -234,7 +228,6 @@ def test_a_refusal_over_tls_reaches_a_client_that_still_sends():
             assert answer.status == 415 and "Content-Type" in answer.read().decode()
             assert it.recv(1) == b""
         assert server.stop() == 0
-        return "415 after 1 MB"
 
 
 def test_lists_come_in_parts():
@@ -259,10 +252,6 @@ def test_lists_come_in_parts():
             files.append([row["file"] for row in page])
             before = page[-1]["deleted"]
         assert files == [["7", "6", "5"], ["4", "3", "2"], ["1"]], files
-        try:
-            server.get("/v1/jobs?limit=x")
-            service.request("GET", "/v1/jobs?limit=x")
-            raise AssertionError("it was not refused")
-        except Failed as failed:
-            assert (failed.status, failed.field) == (400, "limit")
-        return "7 jobs and 7 files"
+        server.get("/v1/jobs?limit=x")
+        failed = raised(Failed, lambda: service.request("GET", "/v1/jobs?limit=x"))
+        assert (failed.status, failed.field) == (400, "limit")

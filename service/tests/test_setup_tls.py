@@ -9,7 +9,7 @@ import subprocess
 import urllib.error
 import urllib.request
 
-from harness import COMMAND, PROGRAM, SERVICE, Server, folder, until
+from harness import COMMAND, PROGRAM, SERVICE, Server, content, folder, save, until
 from preloaded import SHIM, built, shim
 from stepped import EACH, FIRST
 from test_security import certificate
@@ -19,11 +19,6 @@ SECRET = ("read-token", "write-token", "token", "key.pem")
 MADE = {*SECRET, "certificate.pem", "service.toml"}
 HERE = "127.0.0.1"
 CREDENTIALS = "/run/credentials/relkvanu.service"
-
-
-def content(path):
-    with open(path, encoding="utf-8") as it:
-        return it.read()
 
 
 class Machine:
@@ -77,8 +72,7 @@ class TlsServer(Server):
 
     def __init__(self, at, machine):
         self.ca = f"{machine.settings}/certificate.pem"
-        with open(f"{at}/serve.toml", "w", encoding="utf-8") as it:
-            it.write(content(f"{machine.settings}/service.toml").replace(CREDENTIALS, machine.settings))
+        save(f"{at}/serve.toml", content(f"{machine.settings}/service.toml").replace(CREDENTIALS, machine.settings))
         super().__init__(at, args=["--config", f"{at}/serve.toml", "--token-file", f"{machine.settings}/token"])
 
     def get(self, path, token=None):
@@ -99,7 +93,6 @@ def test_a_service_starts_with_it():
         assert [server.get("/v1/jobs", it)[0] for it in (*tokens, "x" * 40)] == [200, 200, 401]
         assert Server.get(server, "/readyz")[0] == 0, "without TLS"
         assert server.stop() == 0
-        return "two tokens"
 
 
 def ends_at(machine, library, nth, after, words):
@@ -183,7 +176,6 @@ def test_a_certificate_is_renewed():
         bare = Machine(at)
         status, told = bare.ran("--renew", "--self-signed")
         assert status == 1 and "key.pem: it is not there" in told and os.listdir(bare.settings) == ["service.toml"], told
-        return "a reload"
 
 
 def answers(server):
@@ -229,8 +221,7 @@ def test_nothing_is_replaced():
             machine.fill()
             path = os.path.join(machine.settings, name)
             os.makedirs(os.path.dirname(path), exist_ok=True)
-            with open(path, "w", encoding="utf-8") as it:
-                it.write("of somebody")
+            save(path, "of somebody")
             status, told = machine.ran("--self-signed")
             assert status == 1 and f"{path}: it is there, and is not replaced" in told and content(path) == "of somebody", told
             assert machine.is_as_installed() and set(os.listdir(machine.settings)) <= {"service.toml", name}, os.listdir(machine.settings)
@@ -240,11 +231,9 @@ def test_nothing_is_replaced():
         assert machine.ran("--self-signed")[0] == 1 and before == {name: content(f"{machine.settings}/{name}") for name in MADE}
         # settings that somebody has changed
         machine.fill()
-        with open(f"{machine.settings}/service.toml", "w", encoding="utf-8") as it:
-            it.write('listen = "10.0.0.5:80"\n')
+        save(f"{machine.settings}/service.toml", 'listen = "10.0.0.5:80"\n')
         status, told = machine.ran("--self-signed")
         assert status == 1 and "as they are installed" in told and os.listdir(machine.settings) == ["service.toml"], (told, os.listdir(machine.settings))
-        return "7 files"
 
 
 def test_a_certificate_that_is_given():
@@ -268,4 +257,3 @@ def test_a_certificate_that_is_given():
         machine.check()
         status, told = Machine(at).ran("--self-signed", before=["env", f"PATH={at}"])
         assert status == 1 and "openssl: " in told, told
-        return "a certificate"

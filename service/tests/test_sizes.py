@@ -1,7 +1,6 @@
 """Sizes that acknowledgements say: each file's through its life, a record's, over starts, take-overs, cuts and a lost history."""
-import sqlite3
 
-from harness import CALL, Server, caught_up, configured, folder, lease_of, lose_history, served, until
+from harness import CALL, caught_up, folder, leader_and_standby, lease_of, lose_history, raised, served_job, sqlite, until
 from postgres import postgres
 from relkvanu_service import Failed, Service, ack, deleted, dispose, savepoint, undeleted
 from test_images import KEEPING, SETTINGS, read_and_cut
@@ -30,8 +29,7 @@ def file_bytes(job):
 
 
 def test_sizes_outlive_starts_and_a_lost_history():
-    with served() as server:
-        job = Service(server.url).open("orders", SETTINGS, [2])
+    with served_job("orders", SETTINGS, [2]) as (server, job):
         wanted = worked(job)
         files = [100, 20, 3, None, 7, 1 << 52, 50, None]
         assert told(job) == wanted and file_bytes(job) == files, (told(job), wanted)
@@ -48,21 +46,17 @@ def test_sizes_outlive_starts_and_a_lost_history():
         job.calls([deleted(12), deleted(41)])
         assert told(job)[0] == {**wanted[0], "waiting": 0, "taken": 0, "files": 4}
         assert job.file(12)["bytes"] == 20  # the history has it
-        with sqlite3.connect(server.database) as base:
-            assert base.execute("select count(*) from size").fetchone() == (4,)
-        base.close()
+        assert sqlite(server.database, "select count(*) from size") == [(4,)]
         values = scraped(server)[1]
         assert values['relkvanu_file_bytes{job_name="orders",state="in_use"}'] == wanted[0]["in_use"]
         assert values['relkvanu_sized_files{job_name="orders"}'] == 4
         job.call(ack(3, "0.1", [], [13]))
         until(lambda: scraped(server)[1].get('relkvanu_record_bytes{job_name="orders",kind="savepoint",of="all"}') == (1 << 52) + 3)
         assert scraped(server)[1]['relkvanu_record_bytes{job_name="orders",kind="savepoint",of="new"}'] == 1 << 52
-        return "6 files and 3 records, after a kill and without the history"
 
 
 def test_sizes_outlive_cuts():
-    with served(args=KEEPING) as server:
-        job = Service(server.url).open("orders", SETTINGS, [2])
+    with served_job("orders", SETTINGS, [2], args=KEEPING) as (server, job):
         worked(job)
         for number in range(4, 44):
             job.calls([savepoint(), ack(number, "0.0", [number * 10], sizes=[number]), ack(number, "0.1", [], [13])])
@@ -73,10 +67,7 @@ def test_sizes_outlive_cuts():
         before = told(job)
         assert before[0] == {"in_use": 110 + (1 << 52), "waiting": 0, "taken": 0, "files": 4}, before
         assert before[1][20] == (20, 23) and before[1][3] == (1 << 52, 1 << 52), before
-        with sqlite3.connect(server.database) as base:
-            cut = base.execute("select min(seq) >= ? from ack_size", (job.state()["first"],)).fetchone()
-        base.close()
-        assert cut == (1,), cut
+        assert sqlite(server.database, "select min(seq) >= ? from ack_size", job.state()["first"]) == [(1,)]
         server.stop()
         lose_history(server)
         server.start()
@@ -86,8 +77,7 @@ def test_sizes_outlive_cuts():
 
 def test_sizes_outlive_a_take_over():
     with postgres() as database, folder() as at:
-        servers = [Server(at, database.url, configured(at, f"lease_seconds = {lease_of(3)}\n")) for _ in range(2)]
-        leader, standby = servers[0].start(), servers[1].stand_by()
+        leader, standby = leader_and_standby(at, database.url, f"lease_seconds = {lease_of(3)}\n")
         wanted = worked(Service(leader.url).open("orders", SETTINGS, [2]))
         # the size of a file that is not there
         database.sql("insert into size values (1, 77, 5)")
@@ -100,18 +90,11 @@ def test_sizes_outlive_a_take_over():
         # what archives rely on
         columns = "select string_agg(column_name, ', ' order by ordinal_position) from information_schema.columns where table_name = 'call'"
         assert database.sql(columns) == CALL
-        standby.stop()
-        return "by the standby of a leader that was killed"
 
 
 def test_jobs_without_sizes_have_none():
-    with served() as server:
-        job = Service(server.url).open("orders", SETTINGS, [2])
+    with served_job("orders", SETTINGS, [2]) as (server, job):
         job.calls([savepoint(), ack(1, "0.0", [1]), ack(1, "0.1", [2])])
         assert told(job) == ({"in_use": 0, "waiting": 0, "taken": 0, "files": 0}, {1: (None, None)})
-        try:
-            job.call(ack(1, "0.0", [5], sizes=[1, 2]))
-            raise AssertionError("it was not refused")
-        except Failed as refused:
-            assert (refused.status, refused.field) == (400, "calls[0].bytes"), refused
-        return "and a list of another length is refused"
+        refused = raised(Failed, lambda: job.call(ack(1, "0.0", [5], sizes=[1, 2])))
+        assert (refused.status, refused.field) == (400, "calls[0].bytes"), refused

@@ -5,7 +5,7 @@ import subprocess
 import threading
 import time
 
-from harness import ACK_COMPLETED, COMMAND, PROGRAM, Server, check_log, folder, over_copy, served, until
+from harness import ACK_COMPLETED, COMMAND, PROGRAM, Server, beside, check_log, folder, over_copy, save, served, until
 from relkvanu_service import Service
 from run import Skipped
 
@@ -21,8 +21,7 @@ def refused(args, status, text):
 def test_bad_configurations_are_named():
     with folder() as at:
         def file(name, text):
-            with open(f"{at}/{name}", "w", encoding="utf-8") as it:
-                it.write(text)
+            save(f"{at}/{name}", text)
             return f"{at}/{name}"
 
         database = ["--database", f"{at}/x.db"]
@@ -35,13 +34,11 @@ def test_bad_configurations_are_named():
         refused(["--database", f"{at}/no/x.db", "--listen", "127.0.0.1:0"], 75, "no/x.db")
         told = subprocess.run([PROGRAM, "--version"], stdout=subprocess.PIPE, text=True, check=True)
         assert told.stdout.startswith("relkvanu "), told
-        return "7 configurations"
 
 
 def test_tokens():
     with folder() as at:
-        with open(f"{at}/token", "w", encoding="utf-8") as it:
-            it.write("read " + "r" * 20 + "\nwrite " + "w" * 20 + "\n")
+        save(f"{at}/token", "read " + "r" * 20 + "\nwrite " + "w" * 20 + "\n")
         server = Server(at, args=["--token-file", f"{at}/token"]).start()
         read, write = "r" * 20, "w" * 20
         for token, method, path, status in [
@@ -53,8 +50,6 @@ def test_tokens():
             told = server.request(method, path, JOB if method == "POST" else None, token)
             assert told[0] == status, (token, method, path, told)
         assert write not in server.log() and read not in server.log()
-        server.stop()
-        return "12 requests"
 
 
 def driven(server, calls=20):
@@ -74,8 +69,7 @@ def driven(server, calls=20):
 
 
 def test_a_log_that_answers_otherwise_stops_the_start():
-    with folder() as at:
-        server = Server(at).start()
+    with served() as server:
         driven(server)
         server.stop()
         base = sqlite3.connect(server.database)
@@ -95,13 +89,11 @@ def test_a_log_that_answers_otherwise_stops_the_start():
         base.execute("update call set seq = 2, line = 'tock 1' where seq = 3")
         base.commit()
         refused(args, 78, '"tock 1" is no call')
-        return "an answer, a gap and a line"
 
 
 def test_a_database_that_is_damaged_stops_the_start():
     """For good: a start over the same file ends in the same way."""
-    with folder() as at:
-        server = Server(at).start()
+    with served() as server:
         driven(server)
         server.stop()
         args = ["--database", server.database, "--listen", "127.0.0.1:0"]
@@ -125,18 +117,15 @@ def test_a_database_that_is_damaged_stops_the_start():
         with open(server.database, "r+b") as it:
             it.write(b"no database " * 100)
         refused(args, 78, "file is not a database")
-        return "4 cells and a file"
 
 
 def test_two_processes_of_one_database():
     with served() as server:
         refused(["--database", server.database, "--listen", "127.0.0.1:0"], 75, "another process serves this database")
-        return "the second ended with 75"
 
 
 def test_a_stop_loses_nothing():
-    with folder() as at:
-        server = Server(at).start()
+    with served() as server:
         driven(server, 30)
         before = server.get("/v1/jobs/orders/log?limit=1000")[2]["calls"]
         assert server.stop() == 0
@@ -144,7 +133,6 @@ def test_a_stop_loses_nothing():
         after = server.get("/v1/jobs/orders/log?limit=1000")[2]["calls"]
         assert after[: len(before)] == before
         check_log(server.get("/v1/jobs/orders")[2], [1], after)
-        server.stop()
         return f"{len(before)} calls"
 
 
@@ -156,8 +144,7 @@ def test_a_backup_of_a_service_that_runs():
         if not shutil.which("sqlite3"):
             raise Skipped("sqlite3", "it is not here")
         over = threading.Event()
-        driving = threading.Thread(target=lambda: [driven(server, 5) for _ in iter(over.is_set, True)])
-        driving.start()
+        driving = beside(lambda: [driven(server, 5) for _ in iter(over.is_set, True)])
         first = server.get("/v1/jobs/orders")[2]["seq"]
         subprocess.run(["sqlite3", server.database, f".backup {copy}"], check=True)
         over.set()
@@ -174,8 +161,7 @@ def test_a_backup_of_a_service_that_runs():
 def test_an_end_runs_no_finalizers():
     """Those of C libraries: another thread may be connecting to PostgreSQL, and Kerberos aborts if it is finalized meanwhile."""
     with folder() as at:
-        with open(f"{at}/finalizer.c", "w", encoding="utf-8") as it:
-            it.write("#include <stdlib.h>\n__attribute__((destructor)) static void finalize(void) { abort(); }\n")
+        save(f"{at}/finalizer.c", "#include <stdlib.h>\n__attribute__((destructor)) static void finalize(void) { abort(); }\n")
         subprocess.run(["cc", "-shared", "-fPIC", "-o", f"{at}/finalizer.so", f"{at}/finalizer.c"], check=True)
         loaded = ["env", f"LD_PRELOAD={at}/finalizer.so"]
         told = subprocess.run([*loaded, PROGRAM, "--version"], stdout=subprocess.DEVNULL, check=False)
@@ -186,4 +172,3 @@ def test_an_end_runs_no_finalizers():
             assert told.returncode == status, told
         server = Server(at, prefix=loaded).start()
         assert server.stop() == 0
-        return "ended with 75, 78 and 0"

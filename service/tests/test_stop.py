@@ -5,7 +5,7 @@ import socket
 import threading
 import time
 
-from harness import COMMAND, Server, folder, slowed, until
+from harness import COMMAND, Server, folder, raised, served, slowed, until
 from postgres import postgres
 from test_api import JOB
 from test_connections import answer, opened, poll
@@ -75,8 +75,7 @@ def is_read(server, connection):
 
 
 def test_a_stop_ends_polls_and_slow_bodies():
-    with folder() as at:
-        server = Server(at).start()
+    with served() as server:
         server.request("POST", "/v1/jobs", JOB)
         head = "POST /v1/jobs/orders/calls HTTP/1.1\r\nHost: localhost\r\nContent-Type: application/json\r\nContent-Length: 100\r\n\r\n{"
         waits, slow, idle, silent = (opened(server, text) for text in (poll(0), head, "GET /healthz HTTP/1.1\r\nHost: localhost\r\n\r\n", ""))
@@ -90,11 +89,7 @@ def test_a_stop_ends_polls_and_slow_bodies():
         # at once: it waits for answers for 12 s
         assert status == 200 and told["events"] == [] and polled < 10 * slowed(), (status, told, polled)
         assert idle.recv(10) == b"" and silent.recv(10) == b""
-        try:
-            socket.create_connection(("127.0.0.1", server.port), timeout=COMMAND).close()
-            raise AssertionError("it still accepts connections")
-        except ConnectionRefusedError:
-            pass
+        raised(ConnectionRefusedError, lambda: socket.create_connection(("127.0.0.1", server.port), timeout=COMMAND).close())
         assert answer(slow)[0] == 503
         assert server.ended() == 0
         took = time.monotonic() - started

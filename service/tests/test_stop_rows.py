@@ -8,7 +8,7 @@ from contextlib import closing
 
 import requests
 
-from harness import COMMAND, PROGRAM, Server, folder, free_port, served, until
+from harness import COMMAND, PROGRAM, Server, folder, free_port, served, served_job, sqlite, until
 from postgres import postgres
 from relkvanu_service import Failed, Service, ack, restore, savepoint
 from test_operate import NEVER, Tasks
@@ -108,7 +108,7 @@ def a_trial(database, between, server, name, message, how):
     if not between.disarm():
         return None
     database.quiet()
-    database.sql("delete from member")  # nobody waits for the lease of the process that was killed
+    database.sql("update leader set name = ''")  # nobody waits for the lease of the process that was killed
     made = [is_made(step, before[step], rows(database, job.name)) for step, (job, _) in jobs.items()]
     server.start()
     for (step, (job, given)), is_all in zip(jobs.items(), made):
@@ -219,21 +219,16 @@ def test_a_check_compares_phases_with_the_log():
         Phase(server, "stops").told(("stopped", stopping, moment, 2, None), f"the job has gone on since savepoint {stopping}")
         Phase(server, "stops").told(("running", stopping, moment, None, "expired"), f"savepoint {stopping} is pending")
         Phase(server, "runs").told(("stopping", 9, moment, None, None), "the job runs without savepoint 9")
-        with closing(sqlite3.connect(server.database)) as base:
-            base.execute("update phase set phase = 'ended' where record = ?", (stopped,))
-            base.commit()
+        sqlite(server.database, "update phase set phase = 'ended' where record = ?", stopped)
         assert "a row of phase has" in checked(server, 1)
-        return "9 rows"
 
 
 def test_a_check_of_a_restore_that_is_no_stop():
     """Somebody restores a job to a savepoint that is complete, after some time."""
-    with served() as server:
-        job = Service(server.url).open("orders", {"interval": NEVER}, [1])
+    with served_job("orders", {"interval": NEVER}, [1]) as (server, job):
         made = job.call(savepoint())["id"]
         job.call(ack(made, "0.0", [1]))
         until(lambda: job.state()["now"] > job.log(1).__next__()["at"])
         job.call(restore(made))
         assert server.stop() == 0
         checked(server, 0)
-        return "1 restore"

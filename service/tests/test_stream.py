@@ -4,10 +4,8 @@ import socket
 import threading
 import time
 
-from harness import COMMAND, Server, caught_up, configured, folder, served, slowed, until
+from harness import COMMAND, SETTINGS, caught_up, served, served_job, slowed, until
 from relkvanu_service import Service, ack, decline, dispose, savepoint
-
-SETTINGS = {"interval": 1 << 40}
 
 
 class Stream(threading.Thread):
@@ -52,9 +50,7 @@ class Stream(threading.Thread):
 
 
 def test_a_stream_tells_what_comes():
-    with folder() as at:
-        server = Server(at, args=configured(at, "[limits]\nidle_seconds = 2\n")).start()
-        job = Service(server.url).open("orders", SETTINGS, [2])
+    with served_job("orders", SETTINGS, [2], config="[limits]\nidle_seconds = 2\n") as (server, job):
         job.calls([savepoint()])
         path = "/v1/jobs/orders/stream"
         whole, later = Stream(server, path), Stream(server, f"{path}?after=1")
@@ -83,21 +79,17 @@ def test_a_stream_tells_what_comes():
 
 
 def test_streams_take_the_places_of_polls():
-    with folder() as at:
-        server = Server(at, args=configured(at, "[limits]\npolls = 2\n")).start()
+    with served("[limits]\npolls = 2\n") as server:
         Service(server.url).open("orders", SETTINGS, [1]).call(savepoint())
         streams = [Stream(server, "/v1/jobs/orders/stream") for _ in range(2)]
         until(lambda: all(it.events() for it in streams))
         assert server.get("/v1/jobs/orders/stream")[0] == 503 and server.get("/v1/jobs/orders")[0] == 200
         streams[0].close()
         until(lambda: server.get("/v1/jobs/orders/events")[0] == 200)
-        server.stop()
-        return "2 of 2"
 
 
 def test_the_times_of_acknowledgements():
-    with served() as server:
-        job = Service(server.url).open("orders", SETTINGS, [5])
+    with served_job("orders", SETTINGS, [5]) as (server, job):
         job.calls([savepoint()])
         for index in (3, 0, 4, 1):
             time.sleep(0.05)
@@ -121,8 +113,7 @@ def test_the_times_of_acknowledgements():
 
 
 def test_records_are_searched():
-    with served() as server:
-        job = Service(server.url).open("orders", SETTINGS, [1])
+    with served_job("orders", SETTINGS, [1]) as (server, job):
         for number in range(1, 31):
             job.calls([savepoint(), decline(number, "0.0") if number % 3 else ack(number, "0.0")])
         caught_up(job)
@@ -134,4 +125,3 @@ def test_records_are_searched():
         assert ids("kind=checkpoint") == [] and ids("kind=savepoint&limit=1") == [30] and ids("how=failed+over") == ids("how=failed%20over") == []
         told = server.get("/v1/jobs/orders/records?how=late")
         assert (told[0], told[2]["field"]) == (400, "how"), told
-        return "30 records"

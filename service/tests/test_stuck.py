@@ -7,7 +7,7 @@ import subprocess
 import threading
 import time
 
-from harness import BUSY, COMMAND, LOCKED, PROGRAM, SERVICE, Server, folder, free_port, served, slowed, until
+from harness import BUSY, COMMAND, LOCKED, PROGRAM, SERVICE, Server, content, folder, free_port, served, slowed, sqlite, until
 from postgres import postgres
 from test_api import JOB
 from test_connections import within
@@ -47,8 +47,7 @@ def test_health_and_metrics_answer_while_a_commit_is_stuck():
             lasted, found = looked(server)
             if lasted < 9:
                 break
-            server.kill()
-            server.start()
+            server.again()
         refused, after, health, text, told = found
         assert "no commit is possible" in refused[2]["error"] and refused[1]["retry-after"] == "1", refused
         assert 2 < after and health == 200, (after, health)
@@ -63,17 +62,14 @@ def test_health_and_metrics_answer_while_a_commit_is_stuck():
 def test_errors_of_the_database_are_not_for_clients():
     with served() as server:
         server.request("POST", "/v1/jobs", JOB)
-        with sqlite3.connect(server.database, timeout=LOCKED) as base:
-            base.execute("alter table call rename to elsewhere")
+        sqlite(server.database, "alter table call rename to elsewhere")
         for path in "/v1/jobs/orders/log", "/v1/jobs/orders/events?after=0":
             status, headers, told = server.get(path)
             assert status == 503 and headers["retry-after"] == "1", (path, status, told)
             assert told == {"error": "the database can't be read now"}, told
         assert "no such table" in server.log()
-        with sqlite3.connect(server.database, timeout=LOCKED) as base:
-            base.execute("alter table elsewhere rename to call")
+        sqlite(server.database, "alter table elsewhere rename to call")
         until(lambda: server.get("/v1/jobs/orders/log")[0] == 200)
-        return "2 reads"
 
 
 def test_long_names_are_not_repeated_whole():
@@ -141,9 +137,7 @@ def test_a_connection_to_postgresql_that_was_forgotten():
         server.request("POST", "/v1/jobs", {"name": "orders", "settings": {"interval": 500, "timeout": 1 << 40, "at_once": 64}, "shape": [1]})
         until(lambda: server.get("/v1/jobs/orders/log")[2]["calls"])
         until(lambda: server.get("/v1/jobs/orders/events?after=0")[2]["events"])
-        time.sleep(5.5)
-        count = proxy.forget(5.2)
-        assert count >= 2, count
+        count = until(lambda: (it := proxy.forget(5.2)) >= 2 and it)
         times = []
         for path in "/v1/jobs/orders/events?after=0", "/v1/jobs/orders/log", "/v1/jobs/orders":
             started = time.monotonic()
@@ -153,7 +147,6 @@ def test_a_connection_to_postgresql_that_was_forgotten():
         # it tries a connection for 3 s; a statement may take a minute
         assert server.process.poll() is None and max(times) < 30 * slowed(), times
         until(lambda: kept_alive(proxy.port) >= 2)
-        server.stop()
         return f"{count} connections: the reads took {', '.join(f'{it:.1f} s' for it in times)}"
 
 
@@ -165,11 +158,9 @@ def kept_alive(port):
 
 
 def test_events_are_read_by_an_index():
-    with open(f"{SERVICE}/src/store/rows.rs", encoding="utf-8") as it:
-        is_event = re.search('IS_EVENT: &str = "(.*)"', it.read())[1]
+    is_event = re.search('IS_EVENT: &str = "(.*)"', content(f"{SERVICE}/src/store/rows.rs"))[1]
     with served() as server:
-        plan = sqlite3.connect(server.database).execute(
-            f"explain query plan select * from call indexed by call_event where job = ? and seq > ? and {is_event} order by seq limit ?", (1, 0, 10)).fetchall()
+        plan = sqlite(server.database, f"explain query plan select * from call indexed by call_event where job = ? and seq > ? and {is_event} order by seq limit ?", 1, 0, 10)
         assert len(plan) == 1 and "USING INDEX call_event (job=? AND seq>?)" in plan[0][3], plan
     with folder() as at, postgres() as database:
         server = Server(at, database=database.url).start()
@@ -179,7 +170,6 @@ def test_events_are_read_by_an_index():
         )
         assert "Index Scan using call_event" in told and "Sort" not in told, told
         server.stop()
-    return "in both databases"
 
 
 def test_files_of_long_lists():
@@ -210,8 +200,6 @@ def test_files_of_long_lists():
         os.remove(f"{at}/history-{server.port}")
         server.start()
         assert sorted(listed(1000)[0], key=int) == sorted(taken[1:], key=int)
-        server.stop()
-        return "59 files"
 
 
 def test_what_is_no_database_is_refused():
@@ -224,7 +212,6 @@ def test_what_is_no_database_is_refused():
         words = [PROGRAM, "serve", "--listen", "127.0.0.1:0", "--database", f"Postgres://u@127.0.0.1:{free_port()}/x"]
         told = subprocess.run(words, stderr=subprocess.PIPE, text=True, timeout=COMMAND, check=False, cwd=at)
         assert told.returncode == 75 and "onnection" in told.stderr and os.listdir(at) == [], told
-        return "5 words"
 
 
 def test_files_are_private_and_a_link_is_no_other_database():
@@ -243,5 +230,4 @@ def test_files_are_private_and_a_link_is_no_other_database():
         words = [PROGRAM, "serve", "--listen", "127.0.0.1:0", "--database", f"{at}/link.db", "--history", f"{at}/h"]
         told = subprocess.run(words, stderr=subprocess.PIPE, text=True, timeout=COMMAND, check=False)
         assert told.returncode == 75 and "another process serves this database" in told.stderr, told
-        server.stop()
         return f"{len(modes)} files of mode 600; a symbolic link ended with 75"

@@ -4,7 +4,7 @@ import glob
 import os
 import sqlite3
 
-from harness import Server, caught_up, configured, folder, lease_of, lose_history, served, small_disk, until
+from harness import Server, caught_up, configured, folder, lease_of, lose_history, served_job, small_disk, sqlite, until
 from postgres import postgres
 from relkvanu_service import Service, ack, deleted, dispose, savepoint
 from test_images import KEEPING, SETTINGS, read_and_cut, seen, worked
@@ -32,8 +32,7 @@ def same(before, after):
 
 
 def test_a_lost_history_is_made_again_with_what_was_cut():
-    with served(args=KEEPING) as server:
-        job = Service(server.url).open("orders", SETTINGS, [2])
+    with served_job("orders", SETTINGS, [2], args=KEEPING) as (server, job):
         before = prepared(job)
         server.stop()
         lose_history(server)
@@ -48,10 +47,8 @@ def test_a_lost_history_is_made_again_with_what_was_cut():
         assert whys == {"savepoint 40 was disposed of"}, whys
         record = job.record(42)["history"]
         assert (record["how"], record["acks"], record["missing"]) == ("completed", 2, []), record
-        with sqlite3.connect(server.database) as base:
-            kept = base.execute("select count(distinct seq), sum(length(text)) from summary").fetchone()
-            ended = base.execute("select count(*) from past").fetchone()[0]
-        base.close()
+        [kept] = sqlite(server.database, "select count(distinct seq), sum(length(text)) from summary")
+        [[ended]] = sqlite(server.database, "select count(*) from past")
         assert kept[0] < 12 and ended > 30, (kept, ended)
         return f"{before[0]['first'] - 1} of {before[0]['seq']} calls cut; {kept[0]} summaries of {kept[1]} bytes in all, {ended} records that ended"
 
@@ -70,13 +67,11 @@ def test_a_new_leader_knows_what_was_cut():
             job = Service(new.url).job("orders")
             caught_up(job)
             same(before[1:], seen(job, FILES)[1:])
-        servers[2].stop()
         return f"{len(before[2])} records, and who wrote and released which file, after two take-overs"
 
 
 def test_a_damaged_history_is_set_aside_and_nothing_is_overwritten():
-    with served(args=KEEPING) as server:
-        job = Service(server.url).open("orders", SETTINGS, [2])
+    with served_job("orders", SETTINGS, [2], args=KEEPING) as (server, job):
         before = prepared(job)
         path = history_of(server)
         for content in (b"first " * 4000, b"second " * 4000):
@@ -91,10 +86,7 @@ def test_a_damaged_history_is_set_aside_and_nothing_is_overwritten():
             same(before, seen(job, FILES))
         # in the middle of its work
         server.stop()
-        with sqlite3.connect(path) as base:
-            root = base.execute("select rootpage from sqlite_master where name = 'record'").fetchone()[0]
-            size = base.execute("pragma page_size").fetchone()[0]
-        base.close()
+        [[root]], [[size]] = sqlite(path, "select rootpage from sqlite_master where name = 'record'"), sqlite(path, "pragma page_size")
         with open(path, "r+b") as it:
             it.seek((root - 1) * size)
             it.write(b"\xff" * size)
@@ -107,7 +99,6 @@ def test_a_damaged_history_is_set_aside_and_nothing_is_overwritten():
         for it, content in zip(aside, (b"first ", b"second ", b"SQLite ")):
             with open(f"{it}/{os.path.basename(path)}", "rb") as old:
                 assert old.read().startswith(content), it
-        return "three times, once in the middle of its work"
 
 
 def test_a_history_that_cannot_be_written_is_kept():
@@ -157,9 +148,7 @@ def test_a_broken_history_is_seen():
         assert "full" in server.log() and server.get("/readyz")[0] == 200
 
         def told():  # what the metrics, the state and `/log` say, and what the table has
-            with sqlite3.connect(server.database) as base:
-                rows, least = base.execute("select count(*), min(seq) from call").fetchone()
-            base.close()
+            [[rows, least]] = sqlite(server.database, "select count(*), min(seq) from call")
             metric = scraped(server)[1]['relkvanu_log_kept_calls{job_name="orders"}']
             return metric == rows and job.state()["first"] == least == server.get("/v1/jobs/orders/log?limit=1")[2]["calls"][0]["seq"], least
 
@@ -171,21 +160,15 @@ def test_a_broken_history_is_seen():
         assert server.get("/healthz")[2] == "ok\n"
         until(lambda: scraped(server)[1].get('relkvanu_disk_free_bytes{of="history"}', 0) > 0)
         assert scraped(server)[1]['relkvanu_stored_bytes{of="database"}'] >= os.path.getsize(server.database)
-        server.stop()
-        return "calls went on, and the history caught up by itself"
 
 
 def test_the_history_of_a_newer_version():
-    with served(args=KEEPING) as server:
-        job = Service(server.url).open("orders", SETTINGS, [2])
+    with served_job("orders", SETTINGS, [2], args=KEEPING) as (server, job):
         prepared(job)
         server.stop()
         path = history_of(server)
-        with sqlite3.connect(path) as base:
-            base.execute("update version set number = 2")
-        base.close()
+        sqlite(path, "update version set number = 2")
         server.start()
         assert server.get("/v1/jobs/orders")[0] == 200
         until(lambda: scraped(server)[1]["relkvanu_history_up"] == 0)
         assert "a newer program has made them" in server.log() and not os.path.exists(f"{path}.bad")
-        return "it is left alone, and calls go on"

@@ -1,4 +1,4 @@
-"""`relkvanu sweep`, `term` and `fence`: garbage of a folder is deleted beside tasks, and nothing else."""
+"""`relkvanu clean` and `term`: garbage of a folder is deleted beside tasks, and nothing else."""
 import json
 import os
 import re
@@ -9,17 +9,17 @@ import time
 import urllib.request
 from contextlib import contextmanager, suppress
 
-from harness import BUSY, COMMAND, PROGRAM, SERVICE, folder, free_port, served, until
+from harness import BUSY, COMMAND, PROGRAM, SERVICE, SETTINGS, content, folder, free_port, save, served, until
 from relkvanu_service import Fenced, OldTerm, Refused, Service, deleted, dispose, savepoint
 from run import Skipped
 
-SETTINGS = {"interval": 1 << 40}
-
 
 def swept(server, place, *more, job="a", prefix="s-", url=None):
-    """The status, the lines by their first word and the sums of a sweep."""
+    """The status, the lines by their first word and the sums of a look at the garbage, which is deleted if that is said."""
     within = "5" if url else "120"  # another address is that of no service
-    words = [PROGRAM, "sweep", job, "--folder", place, "--url", url or server.url, "--within", within, *(["--prefix", prefix] if prefix else []), *more]
+    what = ["--look"] if "--delete" not in more else ["--only", "garbage", "--once"]
+    more = [word for word in more if word != "--delete"]
+    words = [PROGRAM, "clean", *what, "--job", job, "--folder", place, "--url", url or server.url, "--within", within, *(["--prefix", prefix] if prefix else []), *more]
     told = subprocess.run(words, stdout=subprocess.PIPE, stderr=subprocess.PIPE, text=True, timeout=COMMAND, check=False)
     lines, sums = {}, {}
     for line in told.stdout.splitlines():
@@ -74,8 +74,8 @@ def test_what_is_garbage_and_what_is_not():
         assert names_in(place) == sorted(set(before) - {"s-3", "s-3.part"})
         # the term has ended: what it may have written is garbage, and its file that is in use is not
         job.begin(1)
-        status, lines, sums, _ = swept(server, place, "--delete", "--quiet")
-        assert status == 3 and lines == {} and sums["deleted"] == 3, (status, lines, sums)
+        status, lines, sums, _ = swept(server, place, "--delete")
+        assert status == 3 and len(lines["deleted"]) == sums["deleted"] == 3, (status, lines, sums)
         assert names_in(place) == sorted(set(before) - {"s-3", "s-3.part", "s-5", "s-5.part", "s-6"})
         for name in ("s-11", "s-12.part"):
             os.remove(f"{place}/{name}")
@@ -84,7 +84,6 @@ def test_what_is_garbage_and_what_is_not():
         job.call(deleted(4))
         assert swept(server, place, "--delete")[:2] == (0, {"deleted": {"s-4": 40}})
         assert {"s-1", "s-2", "s-8", "s-0"} <= set(names_in(place))
-        return "in use, waiting, taken, given up, of ended terms, parts, links and folders"
 
 
 def test_folders_that_are_not_the_jobs():
@@ -93,32 +92,28 @@ def test_folders_that_are_not_the_jobs():
             write(other, "s-1")
             status, _, sums, told = swept(server, other, "--delete")
             assert status == 78 and ".relkvanu-a" in told and not sums and names_in(other) == ["s-1"], told
-            with open(f"{place}/.relkvanu-a", encoding="utf-8") as it:
-                text = it.read()
-            with open(f"{other}/.relkvanu-a", "w", encoding="utf-8") as it:
-                it.write(re.sub(r"opened at \d+", "opened at 7", text))
+            text = content(f"{place}/.relkvanu-a")
+            save(f"{other}/.relkvanu-a", re.sub(r"opened at \d+", "opened at 7", text))
             assert swept(server, other, "--delete")[0] == 78 and names_in(other) == ["s-1"]
         # files of another job beside those of this one, without a prefix
         Service(server.url).open("b", SETTINGS, [1])
-        with open(f"{place}/.relkvanu-b", "w", encoding="utf-8") as it:
-            it.write("another job")
+        save(f"{place}/.relkvanu-b", "another job")
         status, _, _, told = swept(server, place, "--delete", prefix="")
         assert status == 78 and "--prefix" in told, told
         os.remove(f"{place}/.relkvanu-b")
         assert swept(server, place, "--delete", prefix="")[0] == 0
         assert swept(server, f"{place}/none")[0] == 1 and swept(server, place, prefix="x/")[0] == 1
-        # a job without names
+        # a job that a recovery has opened
         old = Service(server.url).open("old", SETTINGS, [1], names=False)
         with folder() as at:
             old.claim(at)
             write(at, "s-5")
             status, _, _, told = swept(server, at, "--delete", job="old")
-            assert status == 78 and "relkvanu fence JOB N" in told and names_in(at) == ["s-5"], told
-            assert subprocess.run([PROGRAM, "fence", "old", "6", "--url", server.url], check=False, stdout=subprocess.DEVNULL).returncode == 0
+            assert status == 78 and "gives out no names" in told and names_in(at) == ["s-5"], told
+            old.fence(6)
             assert swept(server, at, "--delete", job="old")[:2] == (0, {"deleted": {"s-5": 5}})
         assert swept(server, place, job="none")[0] == 1 and swept(server, place, url="http://127.0.0.1:1")[0] == 1
         assert not job.garbage([1])[0]
-        return "no marker, another job's, two jobs, no names, no service"
 
 
 def test_sweeps_beside_tasks():
@@ -176,7 +171,7 @@ def test_sweeps_beside_tasks():
         threads = [threading.Thread(target=task, args=(number,)) for number in range(2)]
         threads += [threading.Thread(target=it) for it in (discarder, checker)]
         sweepers = [
-            subprocess.Popen([PROGRAM, "sweep", "fast", "--folder", at, "--url", server.url, "--prefix", "s-", "--delete", "--every", "1s"], stdout=subprocess.PIPE, text=True)
+            subprocess.Popen([PROGRAM, "clean", "--only", "garbage", "--job", "fast", "--folder", at, "--url", server.url, "--prefix", "s-", "--every", "1s"], stdout=subprocess.PIPE, text=True)
             for _ in range(2)
         ]
         extra = threading.Thread(target=lambda: [swept(server, at, "--delete", job="fast") for _ in iter(over.is_set, True)])
@@ -212,41 +207,44 @@ def test_every_and_metrics():
     with a_job() as (server, job, place):
         task, port = job.begin().session(block=5), free_port()
         write(place, f"s-{task.name()}", 7)
-        words = [PROGRAM, "sweep", "a", "--folder", place, "--prefix", "s-", "--url", server.url, "--delete", "--every", "1s", "--within", "1", "--metrics", f"127.0.0.1:{port}"]
-        run = subprocess.Popen(words, stdout=subprocess.PIPE, stderr=subprocess.PIPE, text=True)
+        job.set_storage({"folder": place, "prefix": "s-"})
+        words = [PROGRAM, "clean", "--url", server.url, "--every", "1s", "--within", "1", "--metrics", f"127.0.0.1:{port}"]
+        run = subprocess.Popen(words, stderr=subprocess.PIPE, text=True)
 
-        def value(name):
+        def value(name, labels=""):
             try:
                 with urllib.request.urlopen(f"http://127.0.0.1:{port}/metrics", timeout=COMMAND) as told:
-                    found = re.search(rf"^{re.escape(name)} (.*)$", told.read().decode(), re.M)
+                    found = re.search(rf"^{re.escape(name + labels)} (.*)$", told.read().decode(), re.M)
             except OSError:
                 return None
             return found and float(found[1])
 
-        ended = 'relkvanu_sweep_timestamp_seconds{job_name="a"}'
-        first = until(lambda: value(ended))
+        of_job, ended = '{job_name="a"}', "relkvanu_clean_sweep_timestamp_seconds"
+        first = until(lambda: value(ended, of_job))
         task.forfeit([1])
         until(lambda: names_in(place) == [])
-        until(lambda: value('relkvanu_sweep_deleted_bytes_total{job_name="a"}') == 7)
+        until(lambda: value("relkvanu_clean_garbage_bytes_total", of_job) == 7)
         write(place, "s-99")
-        until(lambda: value('relkvanu_sweep_unissued_files{job_name="a"}') == 1)
-        assert value('relkvanu_sweep_files_total{job_name="a",outcome="deleted"}') == 1 and value('relkvanu_sweep_interval_seconds{job_name="a"}') == 1
-        with open(f"{SERVICE}/deploy/alerts.yml", encoding="utf-8") as it:
-            for name in set(re.findall(r"relkvanu_sweep_[a-z_]+", it.read())):
-                labels = '{job_name="a",outcome="failed"}' if "files_total" in name else '{job_name="a"}'
-                assert value(name + labels) is not None, f"an alert uses {name}, which there is not"
+        until(lambda: value("relkvanu_clean_unissued_files", of_job) == 1)
+        assert value("relkvanu_clean_files_total", '{job_name="a",kind="garbage",outcome="deleted"}') == 1 and value("relkvanu_clean_interval_seconds") == 1
         # it goes on after the service was away
         server.kill()
-        until(lambda: value('relkvanu_sweep_lost_requests_total{job_name="a"}'))
+        until(lambda: value("relkvanu_clean_lost_requests_total"))
         server.start()
-        now = until(lambda: value(ended))
-        until(lambda: (value(ended) or 0) > now)
-        # and ends if the folder is not the job's any more
-        os.remove(f"{place}/.relkvanu-a")
-        told, errors = run.communicate(timeout=COMMAND)
-        assert run.returncode == 78 and first < now and ".relkvanu-a" in errors, (run.returncode, errors)
-        assert "s-99" in told and names_in(place) == ["s-99"], (told, errors)
-        return "it sweeps again and again, also after the service was away"
+        now = until(lambda: value(ended, of_job))
+        until(lambda: (value(ended, of_job) or 0) > now)
+        # and deletes nothing if the folder is not the job's any more
+        os.rename(f"{place}/.relkvanu-a", f"{place}/../marker")
+        until(lambda: value("relkvanu_clean_stopped", '{job_name="a",reason="no_marker"}') == 1 and value("relkvanu_clean_works", of_job) == 0)
+        write(place, "s-1")
+        time.sleep(3)
+        assert names_in(place) == ["s-1", "s-99"] and run.poll() is None
+        os.rename(f"{place}/../marker", f"{place}/.relkvanu-a")
+        until(lambda: names_in(place) == ["s-99"] and value("relkvanu_clean_works", of_job) == 1)
+        assert value("relkvanu_clean_stopped", '{job_name="a",reason="no_marker"}') is None
+        run.kill()
+        errors = run.communicate(timeout=COMMAND)[1]
+        assert first < now and "unissued=1" in errors and ".relkvanu-a" in errors, errors
 
 
 def test_commands():
@@ -257,62 +255,48 @@ def test_commands():
 
         assert "the term is 2" in asked("restore", "a")[1]
         assert json.loads(asked("term", "a", "--json")[1])["term"] == 2 and asked("term", "a")[1].split() == ["term", "2", "next", "name", "1"]
-        old = Service(server.url).open("old", SETTINGS, [1], names=False)
-        assert asked("term", "old")[0] == 1 and "term" not in asked("restore", "old")[1]
-        assert asked("fence", "old", "0")[0] == 2 and asked("fence", "none", "5")[0] == 1
-        status, told, _ = asked("fence", "old", "50")
-        assert status == 0 and "from 50 on" in told and old.term() == {"term": 1, "next_name": 50}
-        # names that its log does not know, after a backup was restored
-        status, told, _ = asked("fence", "old", "200000")
-        assert status == 0 and old.term() == {"term": 1, "next_name": 200000}, told
-        assert asked("fence", "old", "60")[0] == 0 and old.term()["next_name"] == 200000
-        assert old.garbage([50, 199999]) == ([], []) and old.begin().session().name() == 200000 and old.garbage([50, 199999])[0] == [50, 199999]
-        assert "reserve * 65536" in asked("log", "old")[1] and "reserve 1 65536" in asked("log", "old", "--terms")[1]
+        job.begin().session().name()
+        assert "reserve * " in asked("log", "a")[1] and "reserve 3 " in asked("log", "a", "--terms")[1]
         assert "next name" in asked("show", "a")[1]
-        return "restore, term, fence and log"
 
 
 def test_the_unit():
-    """The command of the unit sweeps, and the unit is hardened."""
-    unit = f"{SERVICE}/deploy/relkvanu-sweep@.service"
-    with open(unit, encoding="utf-8") as it:
-        text = it.read()
-    (line,) = re.findall(r"^ExecStart=/usr/local/bin/relkvanu (.*)$", text, re.M)
-    (every,) = re.findall(r"^Environment=EVERY=(.*)$", text, re.M)
+    """The command of the unit cleans, and the unit is hardened."""
+    (line,) = re.findall(r"^ExecStart=/usr/local/bin/relkvanu (.*)$", content(f"{SERVICE}/deploy/relkvanu-clean.service"), re.M)
     with a_job() as (server, job, place):
-        with open(f"{place}/../token", "w", encoding="utf-8") as it:
-            it.write("w" * 20)
+        save(f"{place}/../token", "w" * 20)
+        job.set_storage({"folder": place, "prefix": "s-"})
         task = job.begin().session(block=3)
         write(place, f"s-{task.name()}")
         job.begin()
-        known = {"%i": "a", "%d": f"{place}/..", "${FOLDER}": place, "${EVERY}": every, "$OPTIONS": f"--prefix s- --url {server.url}"}
+        known = {"%d": f"{place}/..", "$OPTIONS": f"--url {server.url}", "$RELKVANU_OPTIONS": ""}
         for name, value in known.items():
             assert name in line, name
             line = line.replace(name, value)
-        run = subprocess.Popen([PROGRAM, *line.split()], stdout=subprocess.PIPE, text=True)
+        assert "$" not in line and "%" not in line, line
+        run = subprocess.Popen([PROGRAM, *line.split()], stderr=subprocess.PIPE, text=True)
         until(lambda: names_in(place) == [])
-        told = "".join(run.stdout.readline() for _ in range(2))
-        time.sleep(0.3)
+        told = next(it for it in run.stderr if "listed=" in it)
         assert run.poll() is None, "it does not go on"
         run.terminate()
         run.communicate(timeout=COMMAND)
-        assert told.startswith("deleted s-1 5\nlisted=1 garbage=1 bytes=5 deleted=1 failed=0 unissued=0"), told
+        assert "job a: listed=1 garbage=1 bytes=5 deleted=1 failed=0 unissued=0" in told, told
     if not shutil.which("systemd-analyze"):
         raise Skipped("systemd-analyze", "it is not here")
-    found = [exposure_of(name) for name in ("relkvanu-sweep@", "relkvanu-bucket@", "relkvanu-bucket-sweep@")]
-    assert all(it < 3 for it in found), found
-    return f"it sweeps each {every}, exposure {found[0]}, and of those of a bucket {found[1]} and {found[2]}"
+    found = exposure_of("relkvanu-clean")
+    assert found < 3, found
+    return f"exposure {found}"
 
 
 def exposure_of(name):
     """How open a unit is, which systemd can read."""
     with folder() as at:
-        unit = f"{at}/{name}orders.service"
+        unit = f"{at}/{name}.service"
         shutil.copy(f"{SERVICE}/deploy/{name}.service", unit)
         told = subprocess.run(["systemd-analyze", "security", "--offline=true", unit], text=True, stdout=subprocess.PIPE, stderr=subprocess.STDOUT, check=False).stdout
-        found = re.search(rf"Overall exposure level for {name}orders.service: ([0-9.]+)", told)
+        found = re.search(rf"Overall exposure level for {name}.service: ([0-9.]+)", told)
         if not found:
             raise Skipped("a running systemd-analyze", f"it does not run here: {told.strip().splitlines()[-1:]}")
         read = subprocess.run(["systemd-analyze", "verify", unit], text=True, stdout=subprocess.PIPE, stderr=subprocess.STDOUT, check=False).stdout
-        assert not re.search(rf"{name}orders.service:\d+:", read), read
+        assert not re.search(rf"{name}.service:\d+:", read), read
     return float(found[1])

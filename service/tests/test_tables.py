@@ -2,16 +2,10 @@
 import subprocess
 import time
 
-from harness import BUSY, Server, folder, slowed, until
+from harness import BUSY, SETTINGS, Server, folder, slowed, until
 from postgres import postgres
 from relkvanu_service import Service
-
-SETTINGS = {"interval": 1 << 40}
-TICK = {"calls": [{"call": "tick"}]}
-
-
-def tick(server):
-    return server.request("POST", "/v1/jobs/orders/calls", TICK)[0] == 200
+from test_put_off import tick
 
 
 def longest_gap(server, seconds, is_there):

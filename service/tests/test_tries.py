@@ -32,4 +32,3 @@ def test_a_few_are_tried_alone_and_many_are_not():
     assert "second try: page: it is seen failed beside others, and passed alone" in said and said.count("second try") == 1, said
     assert tried([module("one: a", "one: b", "one: c")], ["test_one.test_a"])[:2] == (0, [])
     assert tried([module("one: a", ended_badly=True)], ["test_one.test_a"])[:2] == (0, [])
-    return "two tests get a second try, three get none, and no test of a module that ended badly"

@@ -1,14 +1,13 @@
 """The unit under a real systemd, which is booted in a container: installed, saved and restored as the pages say, killed, stopped
 and misconfigured, and set up with TLS from nothing."""
 import fcntl
-import glob
 import json
 import os
 import shutil
 import subprocess
 import tempfile
 
-from harness import HERE, PROGRAM, SERVICE, TOP, folder
+from harness import HERE, PROGRAM, SERVICE, TOP, content, folder, save
 from run import Skipped
 
 BOOT = """[Unit]
@@ -27,32 +26,10 @@ TimeoutStartSec=1740
 """
 
 
-def commands():
-    """The commands of the service's pages that an operator gives, by a name: the first block after a text."""
-    text = ""
-    for path in sorted(glob.glob(f"{TOP}/docs/SERVICE*.md")):
-        with open(path, encoding="utf-8") as it:
-            text += it.read()
-    places = {
-        "install": "## The unit", "backup": "**SQLite**, while", "timer": "relkvanu-backup.timer) makes", "restore": "Step 2 over SQLite.",
-        "savepoints": "**To choose the record yourself**", "from backup": "**Restore each job.**", "orphans": "**Files that nobody acknowledged, of a job", "add": "### As a service",
-        "init": "For an option that is for one", "upgrade": "`operate upgrade` is for a program",
-        "way back": "If the start ends with 78 all the same", "savepoint units": "**The timer takes no savepoint.**", "savepoints over TLS": "**Over TLS, or if the service",
-        "try savepoints": "**Try it once** while", "mail": "- **By mail** to root", "metric": "- **By Prometheus**, with",
-        "copies": "**The state files need a copy",
-        "address": "**The address.**", "discarders": "**Let the discarders run**", "moved": "1. **Leave the old machine.**",
-        "try": "## To try a restore\n",
-    }
-    steps = ("Install", "Set up TLS", "Start")
-    places |= {f"TLS: {step}": f"{number}. **{step}**" for number, step in enumerate(steps, 1)}
-    places |= {"TLS: Trust": "**For a first try** let", "TLS: Ask": "**Ask whether it serves.**", "TLS: See it": "**See it**, with a command"}
-    assert all(text.count(place) == 1 for place in places.values()), places
-    return {name: text.partition(place)[2].split("```")[1] for name, place in places.items()}
-
-
 def booted(at):
     """Boots systemd over a root of its own, with /usr of this machine, and runs under_systemd.py in it."""
     binds = [f"--bind={at}:/try", f"--bind-ro={HERE}:/tests", f"--bind-ro={SERVICE}/deploy:/deploy", f"--bind-ro={PROGRAM}:/relkvanu", f"--bind-ro={TOP}/docs:/docs"]
+    binds += [f"--bind-ro={TOP}/examples/service/procedures.sh:/procedures.sh"]
     binds += [f"--bind-ro={at}/try.service:/etc/systemd/system/try.service", "--bind-ro=/dev/null:/etc/systemd/system/systemd-firstboot.service", "--bind-ro=/etc/ssl/openssl.cnf"]
     words = ["--quiet", "--console=pipe", "--directory=/", "--volatile=yes", "--private-network", "--register=no", "--keep-unit", f"--machine=relkvanu-test-{os.getpid()}"]
     # the program is installed where /usr of this machine can't be written
@@ -67,18 +44,14 @@ def test_under_systemd():
     if os.geteuid() != 0 or not shutil.which("systemd-nspawn"):
         raise Skipped("root and systemd-nspawn", "systemd can't be booted here")
     with folder() as at:
-        for name, text in [("try.service", BOOT), ("commands", json.dumps(commands()))]:
-            with open(f"{at}/{name}", "w", encoding="utf-8") as it:
-                it.write(text)
+        save(f"{at}/try.service", BOOT)
         boot = booted(at)
         if not os.path.exists(f"{at}/errors"):
             raise Skipped("a booting systemd", f"it does not boot here: {boot.stdout[-300:]!r}")
-        with open(f"{at}/errors", encoding="utf-8") as it:
-            errors = it.read()
+        errors = content(f"{at}/errors")
         assert not errors, errors[-10_000:]
-        with open(f"{at}/told", encoding="utf-8") as it:
-            told = json.loads(it.read())
-        assert told["exposure"] < 3 and told["discard_exposure"] < 3, told
+        told = json.loads(content(f"{at}/told"))
+        assert told["exposure"] < 3 and told["clean_exposure"] < 3, told
         again = f"ready again {told['after_kill']:.1f} s after SIGKILL, {told['after_stop']:.1f} s after SIGSTOP with a watchdog of 2 s"
-        rest = f"78 and 2 end it; a start took {told['long_start']:.1f} s; a backup was restored, and an upgrade taken back; the discarder has exposure {told['discard_exposure']}; TLS"
+        rest = f"78 and 2 end it; a start took {told['long_start']:.1f} s; a backup was restored, and the program upgraded; the cleaner has exposure {told['clean_exposure']}; TLS"
         return f"exposure {told['exposure']}; {again}; {rest}"

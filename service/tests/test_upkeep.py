@@ -3,12 +3,11 @@ import sqlite3
 import threading
 import time
 
-from harness import BUSY, LOCKED, Server, folder, served, slowed, until
+from harness import BUSY, LOCKED, SETTINGS, Server, beside, folder, save, served, slowed, until
 from postgres import postgres
 from relkvanu_service import Service, savepoint
 from test_metrics import scraped
 
-SETTINGS = {"interval": 1 << 40}
 DAY = 24 * 3_600_000
 
 
@@ -47,14 +46,12 @@ def test_old_keys_go_in_pieces():
 
 
 def test_old_keys_in_postgresql():
-    with postgres() as database, folder() as at:
-        server = Server(at, database.url).start()
+    with postgres() as database, served(database=database.url) as server:
         Service(server.url).open("orders", SETTINGS, [1])
         database.sql(f"insert into request select 1, 'old' || i, {now() - DAY - 60_000}, 'd', '{{}}' from generate_series(1, 20000) i")
         database.sql(f"insert into request values(1, 'young', {now() - DAY + 3_600_000}, 'd', '{{}}')")
         started = time.monotonic()
         until(lambda: database.sql("select count(*) from request") == "1", 20)
-        server.stop()
         return f"20,000 in {time.monotonic() - started:.1f} s, without a call"
 
 
@@ -90,8 +87,7 @@ def test_samples_do_not_stop_the_history():
                 for number in range(1, jobs):
                     service.job(f"job{number}").call(savepoint())
 
-        changing = threading.Thread(target=change)
-        changing.start()
+        changing = beside(change)
         job = Service(server.url).job("job0")
         base = sqlite3.connect(history, timeout=LOCKED)
 
@@ -118,8 +114,7 @@ def test_samples_do_not_stop_the_history():
 def test_a_token_ends_with_its_day():
     with folder() as at:
         day = time.strftime("%Y-%m-%d", time.gmtime(time.time() + 10 * 86_400))
-        with open(f"{at}/token", "w", encoding="utf-8") as it:
-            it.write(f"read {'r' * 20} until={day}\nwrite {'w' * 20}\nwrite {'o' * 20} until=2020-01-01\n")
+        save(f"{at}/token", f"read {'r' * 20} until={day}\nwrite {'w' * 20}\nwrite {'o' * 20} until=2020-01-01\n")
         server = Server(at, args=["--token-file", f"{at}/token"]).start()
         told = [server.get("/v1/jobs", token * 20)[0] for token in "rwo"]
         text = server.get("/metrics", "r" * 20)[2]
@@ -127,4 +122,3 @@ def test_a_token_ends_with_its_day():
         ends = sorted(float(line.rsplit(" ", 1)[1]) for line in text.splitlines() if line.startswith("relkvanu_token_until_timestamp_seconds"))
         assert told == [200, 200, 401] and len(ends) == 2, (told, ends)
         assert time.strftime("%Y-%m-%d %H:%M", time.gmtime(ends[0])) == f"{day} 00:00" and ends[1] == float("inf"), ends
-        return "one of three had ended"

@@ -8,7 +8,7 @@ import sys
 import threading
 import time
 
-from harness import COMMAND, TOP, Server, check_log, folder, kept, over_copy, served, until
+from harness import COMMAND, TOP, Server, check_log, folder, kept, over_copy, served, sqlite, until
 from preloaded import SHIM, built, shim
 from relkvanu_service import Service
 
@@ -134,9 +134,7 @@ def test_a_log_that_another_program_deletes():
     with served() as server:
         server.request("POST", "/v1/jobs", JOB)
         acknowledged = [tick(server) for _ in range(5)]
-        base = sqlite3.connect(server.database)
-        base.execute("pragma wal_checkpoint(full)")
-        base.close()
+        sqlite(server.database, "pragma wal_checkpoint(full)")
         os.unlink(f"{server.database}-wal")
         acknowledged += [seq for seq in (tick(server) for _ in range(3)) if seq]
         if server.process.poll() is None:
@@ -191,4 +189,3 @@ def test_a_reader_of_another_program_keeps_a_start_waiting():
         base.close()
         server.wait_ready()
         assert os.path.getsize(f"{server.database}-wal") == 0 or tick(server)
-        return "it served once the reader had ended"

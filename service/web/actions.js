@@ -150,6 +150,7 @@ export function restore(job, savepoints) {
     fields: [
       element("p", {}, element("label", { for: "restore-from" }, "Begin from "), from),
       accept,
+      element("p", {}, `This page sees no files. Look first whether the record has all of its own: relkvanu savepoints ${job.name} --folder DIR.`),
       element("p", {}, element("label", { for: "restore-shape" }, "In the shape "), into, element("span", { id: "restore-help" }, " the parallelism of each vertex; empty: as it is")),
     ],
     request: () => {

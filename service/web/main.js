@@ -103,7 +103,7 @@ async function show() {
   const [job, last] = [told.job, Date.now()];
   const rows = job ? await records.rows(job, told.records, RECORDS) : [];
   Object.assign(shown, { told, last });
-  at("no-jobs").hidden = told.jobs.length + told.damaged.length > 0;
+  at("no-jobs").hidden = told.jobs.length + told.damaged.length > 0 || told.replay !== null;
   const links = told.damaged.map((one) => views.damagedLink(one, one.name === name));
   views.fill(at("jobs"), [...links, ...told.jobs.map((one) => views.jobLink(one, job !== null && one.name === job.name))]);
   showDamage(told.damaged.find((one) => one.name === name));
@@ -115,7 +115,8 @@ async function show() {
   } else {
     at("job").hidden = true;
   }
-  say(`live · epoch ${told.epoch}`, false);
+  const started = told.replay === null ? "" : ` · the service has started: ${told.replay.replayed} of ${told.replay.jobs} jobs are replayed`;
+  say(`live · epoch ${told.epoch}${started}`, false);
   return job;
 }
 
@@ -160,7 +161,7 @@ function pause(milliseconds) {
 async function waited(job) {
   const wake = new Promise((resolve) => (shown.wake = resolve));
   if (job) hear(job);
-  if (!heard.news) await Promise.race([wake, pause(job ? SELDOM : SLOWEST)]);
+  if (!heard.news) await Promise.race([wake, pause(job && shown.told.replay === null ? SELDOM : SLOWEST)]);
   heard.news = false;
   // a stream that ended at once is not opened again at once
   if (job && heard.job === null) await pause(SLOWEST);

@@ -9,25 +9,26 @@
             name = task.name()  # of a new file, which no other file ever has
             task.ack(event["id"], "0.0", fresh=[name])  # once the file is synced
 
-docs/SERVICE-API.md has the whole loop of an engine. If a request is not answered, the client makes it again, by default for a minute, at the service's next address. Calls have an
+docs/SERVICE-ENGINE.md has the order of an engine's calls. If a request is not answered, the client makes it again, by default for a minute, at the service's next address. Calls have an
 Idempotency-Key, so the service makes them once. File numbers are integers here, and strings in the API. Threads may share
 what is here.
 """
 import base64
 import copy
 import email.utils
+import errno
 import math
 import os
 import random
-import secrets
 import threading
 import time
 import uuid
+from typing import NamedTuple
 
 import requests
 
 __all__ = [
-    "Failed", "Fenced", "Gone", "OldTerm", "OtherLog", "Refused", "Service", "Job", "Start", "Session", "Follower", "file_numbers", "ack",
+    "Failed", "Fenced", "Gone", "OldTerm", "OtherLog", "Refused", "Service", "Job", "Opened", "Start", "Session", "Follower", "ack",
     "decline", "reserve", "forfeit", "restore", "take",
 ]
 # bindings/generate makes the names of calls of one number
@@ -40,12 +41,10 @@ _CONNECT = 2.0  # seconds in which a machine that is there takes a connection
 _ONE_TRY = 10.0  # seconds in which an address has to answer, besides the wait of a poll
 _FIRST_PAUSE, _LONGEST_PAUSE = 0.05, 1.0  # between two tries at an address
 _LONGEST_LATER = 60.0  # the longest Retry-After that is believed
-_COUNT_BITS = 24  # of a file's number; random ones are above them
 _RESERVED = 1000  # names that a task reserves at once
 _BESIDE = (".names", ".begun")  # what follows a marker's name in the names of the files that a discarder writes beside it
 _MOST_FORFEITED, _MOST_GARBAGE = 4096, 10_000  # of a call, and of a request
 _LONG_POLL = 25  # seconds that a poll waits for the next event
-_ONE_LOOK, _HISTORY_PATIENCE = 0.1, 60.0  # seconds between two looks at how far the history is, and until they end
 # A proxy, a standby or a service that starts answers so; another try may be answered otherwise.
 _PASSING = {429, 502, 503, 504}
 _LOST = (requests.ConnectionError, requests.Timeout, requests.exceptions.ChunkedEncodingError)
@@ -96,14 +95,6 @@ class OldTerm(Fenced):
 
 def _fenced(name, file=None):
     return (OldTerm if name == "OldTerm" else Fenced)(name, file)
-
-
-def file_numbers():
-    """Yields numbers for new files of a job without names: 40 random bits, and a count in the 24 bits below. So no two tasks give the same, and
-    none comes twice after a backup of the service was restored, as numbers of records do then."""
-    while True:
-        begin = secrets.randbits(64 - _COUNT_BITS) << _COUNT_BITS
-        yield from range(begin, begin + (1 << _COUNT_BITS))
 
 
 def ack(record, subtask, fresh=(), reused=(), sizes=None, term=None, payload=None, size=None, millis=None):
@@ -211,7 +202,7 @@ class _Addresses:
 
 class Service:
     """A service at a URL, or at several of which one leads. For `patience` seconds it makes a request again, or for ever if that
-    is None. `ca` is a file of certificates that `https` trusts, by default the system's."""
+    is None; and for as long as a service that starts replays more of its jobs within these seconds. `ca` is a file of certificates that `https` trusts, by default the system's."""
 
     def __init__(self, *urls, token=None, patience=60.0, ca=None):
         self._addresses = _Addresses(urls)
@@ -233,13 +224,15 @@ class Service:
         it._notice = notice
         return it
 
-    def open(self, name, settings, shape, names=None):
-        """Opens a job, or finds it: the same name and settings give the same job, with its first shape or its last. A new job gives out names,
-        unless `names` is false or the service is set so: then the engine numbers its files itself. One of an earlier version refuses
-        `names`."""
-        said = {} if names is None else {"names": names}
-        self.request("POST", "/v1/jobs", {"name": name, "settings": settings, "shape": shape, **said})
-        return Job(self, name)
+    def open(self, name, settings, shape, names=None, first=1, storage=None):
+        """Opens a job, or finds it. A job that is there keeps its settings and its shape, which an operator may have changed: `opened` of the
+        job has them, and an engine goes on with these. A new job gives out names, but for one that a recovery opens without them. Its first record has the
+        number `first`. `storage` says where its files are, for cleaners, as {"folder": "/srv/orders", "prefix": "state-"}; a job that knows it keeps
+        what it knows. A service of an earlier version refuses it."""
+        said = {**({} if names is None else {"names": names}), **({} if first == 1 else {"first": first})}
+        said.update({} if storage is None else {"storage": storage})
+        told = self.request("POST", "/v1/jobs", {"name": name, "settings": settings, "shape": shape, **said})
+        return Job(self, name, Opened(told["settings"], told["shape"], told.get("settings_differ", False)), told.get("storage"))
 
     def job(self, name):
         """A job that exists."""
@@ -267,8 +260,7 @@ class Service:
 
     def request(self, method, path, body=None, key=None, wait=0):
         """Makes a request until it is answered, and returns its body. Raises `Failed` if the answer is an error."""
-        until = math.inf if self._patience is None else time.monotonic() + self._patience + wait
-        pause = _FIRST_PAUSE
+        until, pause, replayed = self._until(wait), _FIRST_PAUSE, -1
         while True:
             place = self._addresses.current
             later, leader = 0.0, None
@@ -280,6 +272,8 @@ class Service:
                     return _body(told)
                 later, leader = _retry_after(told), told.headers.get("relkvanu-leader", "").rstrip("/")
                 error = Failed(told.status_code, told.text)
+                if (more := _replayed(told)) > replayed:
+                    replayed, until = more, self._until(wait)
             except _LOST as lost:
                 # a handshake that was cut too, and a certificate that can't be verified: it may be renewed meanwhile
                 error = lost
@@ -290,6 +284,9 @@ class Service:
                 raise error
             time.sleep(rest)
             pause = min(pause * 2, _LONGEST_PAUSE)
+
+    def _until(self, wait):
+        return math.inf if self._patience is None else time.monotonic() + self._patience + wait
 
     def _one_try(self):
         """Seconds for one try. There is time for each address, and for the first again."""
@@ -313,6 +310,15 @@ def _retry_after(told):
     except (TypeError, ValueError):
         return 0.0
     return min(max(later, 0.0), _LONGEST_LATER)
+
+
+def _replayed(told):
+    """How much a service that starts has replayed: jobs and calls; -1 if it does not say so."""
+    try:
+        replay = told.json()["replay"]
+        return replay["replayed"] + replay["calls"]
+    except (ValueError, KeyError, TypeError):
+        return -1
 
 
 def _body(told):
@@ -358,30 +364,43 @@ def _made(answer):
     return answer
 
 
-class Job:
-    """A job of a service."""
+class Opened(NamedTuple):
+    """A job as it was opened or found: its settings and its shape, and whether it has others than were given."""
 
-    def __init__(self, service, name):
+    settings: dict
+    shape: list
+    settings_differ: bool
+
+
+class Job:
+    """A job of a service. `opened` says what it had when it was opened or found here, or is None, and `storage` where its files were then."""
+
+    def __init__(self, service, name, opened=None, storage=None):
         self._service = service
         self.name = name
+        self.opened, self.storage = opened, storage
         self._path = f"/v1/jobs/{name}"
 
     def within(self, seconds):
         """The same job, which makes a request again for this many seconds, or for ever if that is None."""
-        return Job(self._service.within(seconds), self.name)
+        return Job(self._service.within(seconds), self.name, self.opened, self.storage)
 
-    def open(self, settings, shape, names=None):
+    def open(self, settings, shape, names=None, storage=None):
         """Opens this job, or finds it, as `Service.open` does."""
-        return self._service.open(self.name, settings, shape, names)
+        return self._service.open(self.name, settings, shape, names, storage=storage)
 
     def calls(self, calls, key=None):
         """Makes calls in order and returns the answer of each, a refusal too. They are no transaction. The service makes them once
         under a key, which is new if none is given. A caller that gave up and comes back gives the same key again."""
         return self._make(calls, key)["answers"]
 
-    def _make(self, calls, key):
+    def made(self, calls, key=None):
+        """The same, with the log's identity, and in each answer the `kind` of the call's record and the records that the call has `ended`."""
+        return self._make(calls, key, ended=True)
+
+    def _make(self, calls, key, **more):
         key = uuid.uuid4().hex if key is None else key
-        return self._service.request("POST", f"{self._path}/calls", {"calls": calls}, key)
+        return self._service.request("POST", f"{self._path}/calls", {"calls": calls, **more}, key)
 
     def call(self, call, key=None):
         """Makes one call. Raises `Refused` if the coordinator refuses it, and `Fenced` if the term or the names do."""
@@ -416,17 +435,22 @@ class Job:
         text = f"relkvanu discard deletes files of the job {self.name}, opened at {state['opened']}, from this folder.\n"
         return f".relkvanu-{self.name}", text
 
-    def begin(self, start="latest", shape=None, key=None):
+    def begin(self, start="latest", shape=None, key=None, folder=None):
         """Begins the job again, from the latest record or from a savepoint: makes the call `restore`, and returns a `Start`. Pending records
         end, and so does the term of the tasks; those of a job without names have all ended before. Raises `Refused` if the job is
-        cancelled."""
+        cancelled. **The records behind a savepoint end**: give the folder of the state files, so that it is looked first, as `load` does,
+        whether the savepoint is whole. If it is not, nothing changes."""
+        if folder is not None and start != "latest":
+            self.load(start, folder)
         told = self._make([restore(start, shape)], key)
         return Start(self, _made(told["answers"][0]), told.get("log"))
 
-    def go_back(self, checkpoint, accept_published, shape=None, key=None):
+    def go_back(self, checkpoint, accept_published, shape=None, key=None, folder=None):
         """The same from an older checkpoint that is retained, by a savepoint that the service makes of its files. What sinks published for
         records after it is not taken back: `accept_published` has to be true. Raises `Refused` if no such checkpoint is retained, it has
-        another shape than the job, or the job does not run."""
+        another shape than the job, or the job does not run. With the folder of the state files it looks first, as `begin` does."""
+        if folder is not None:
+            self.load(checkpoint, folder)
         call = {**restore({"checkpoint": checkpoint}, shape), "accept_published": accept_published}
         told = self._make([call], key)
         return Start(self, _made(told["answers"][0]), told.get("log"))
@@ -447,17 +471,21 @@ class Job:
         key = uuid.uuid4().hex if key is None else key
         return self._service.request("POST", f"{self._path}/fence", {"first_name": str(first_name)}, key)
 
-    def checkpoint(self, key=None):
-        """Triggers a checkpoint now, whatever the interval and the pause; its number is the answer's `id`. Raises `Refused` if as many are
-        pending as may be, or the job does not run."""
+    def checkpoint(self, key=None, *, full=False):
+        """Triggers a checkpoint now, whatever the interval and the pause; its number is the answer's `id`. The barrier of a `full` one names no base, so the
+        tasks write all their state anew. Raises `Refused` if as many are pending as may be, or the job does not run."""
         key = uuid.uuid4().hex if key is None else key
-        return self._service.request("POST", f"{self._path}/checkpoints", {}, key)
+        return self._service.request("POST", f"{self._path}/checkpoints", {"full": True} if full else {}, key)
 
     def set(self, **settings):
         """Changes settings of the job while it runs: those that are given, as `interval=30_000`. The answer has all that the job has then,
         as `settings`. Raises `Failed` if one is not within its limits, and `Refused` if more checkpoints are pending than may be from then
         on, or the job is cancelled."""
         return self._service.request("PATCH", f"{self._path}/settings", settings)
+
+    def set_storage(self, storage):
+        """Says where the job's files are, as `Service.open` does, whatever it knew. Returns the state of the job."""
+        return self._service.request("PUT", f"{self._path}/storage", storage)
 
     def stop_job(self, key=None):
         """Stops the job with a savepoint, whose number is the answer's `id`: the timer rests, and with the last acknowledgement the job has
@@ -501,24 +529,6 @@ class Job:
             unissued += map(int, told["unissued"])
         return garbage, unissued
 
-    def orphans(self, files):
-        """Of a job without names: those of these files that the job does not know. No record uses them, and they don't wait for deletion and
-        are not taken. An engine deletes them if it listed them after all its tasks had ended, has made `begin` since, and starts no task before it has
-        deleted them. At any other time a file may be one whose acknowledgement is on its way."""
-        state, until = self.state(), time.monotonic() + _HISTORY_PATIENCE
-        while self.files(1)["upto"] < state["seq"]:
-            if time.monotonic() > until:
-                raise Failed(503, "the history is behind, so it is not known which files wait for deletion")
-            time.sleep(_ONE_LOOK)
-        rest = set(files)
-        for record in state["live"]:
-            rest.difference_update(*(self._held(record["id"]) or {}).values())
-        return {file for file in rest if self._is_orphan(file)}
-
-    def _is_orphan(self, number):
-        told = self.file(number)
-        return told["uses"] == 0 and (told["history"] is None or told["history"]["deleted"] is not None)
-
     def _held(self, record):
         """The files of each subtask of a record, or None if it is not live."""
         try:
@@ -543,15 +553,19 @@ class Job:
 
     def load(self, number, folder=None):
         """A complete record as a whole, which has all that the tasks begin with after a restore: its `id`, `kind` and `shape`, and for each subtask,
-        by its name, its `files` in their order, its `payload`, and its figures `bytes` and `millis`. With the folder of the state files, in which
-        each has its number as its name, it looks that they are there, and raises FileNotFoundError if one is not: then the engine ends, and
-        starts no task. Raises `Failed` with status 404 if no such record is complete, or it has ended."""
+        by its name, its `files` in their order, their `sizes` as far as their tasks told them, its `payload`, and its figures `bytes` and `millis`.
+        With the folder of the state files, in which each has its number as its name, it looks that they are there, and raises
+        FileNotFoundError if one is not, or has another length than was told: then the engine ends, and starts no task. Raises `Failed` with
+        status 404 if no such record is complete, or it has ended."""
         told = self._get(f"/records/{number}/states")
         subtasks = {it.pop("subtask"): it for it in told["subtasks"]}
         for it in subtasks.values():
             it["files"], it["payload"] = [int(file) for file in it["files"]], base64.b64decode(it["payload"])
-            for file in it["files"] if folder is not None else ():
-                os.stat(f"{folder}/{file}")
+            it.setdefault("sizes", [None] * len(it["files"]))  # a service that tells none
+            for file, size in zip(it["files"], it["sizes"]) if folder is not None else ():
+                length = os.stat(f"{folder}/{file}").st_size
+                if size not in (None, length):
+                    raise FileNotFoundError(errno.ENOENT, f"it has {length} bytes, and its task told {size}", f"{folder}/{file}")
         return {**told, "subtasks": subtasks}
 
     def history(self, last=100):

@@ -117,7 +117,7 @@ impl Storage for Folder {
             Err(TryLockError::Error(error))
                 if matches!(error.raw_os_error(), Some(libc::ENOLCK | libc::EOPNOTSUPP)) =>
             {
-                log::warn(&format!("{} has no locks: see to it that there is one discarder", self.path.display()));
+                log::warn(&format!("{} has no locks: see to it that there is one cleaner", self.path.display()));
                 Ok(true)
             }
             Err(TryLockError::Error(error)) => Err(self.failed(error)),

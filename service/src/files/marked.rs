@@ -1,5 +1,5 @@
 //! The marker of a job: the file that says whose files a place has.
-use super::{Stop, Storage};
+use super::{Refusal, Stop, Storage};
 use std::ops::Deref;
 
 /// Whose files a place has.
@@ -39,8 +39,8 @@ impl Marked {
         let marker = owner.marker();
         match place.hold(&marker)? {
             Some(text) if text == owner.text() => Ok(Marked { place, marker }),
-            Some(_) => Err(Stop::Never(other_marker(&*place, &marker))),
-            None => Err(Stop::Never(no_marker(&*place, &marker))),
+            Some(_) => Err(Stop::Never(Refusal::OtherMarker, other_marker(&*place, &marker))),
+            None => Err(Stop::Never(Refusal::NoMarker, no_marker(&*place, &marker))),
         }
     }
 
@@ -53,7 +53,7 @@ impl Marked {
         if self.place.is_marked()? {
             return Ok(());
         }
-        Err(Stop::Never(no_marker(&*self.place, &self.marker)))
+        Err(Stop::Never(Refusal::NoMarker, no_marker(&*self.place, &self.marker)))
     }
 }
 
@@ -72,13 +72,16 @@ pub fn no_marker(place: &dyn Storage, name: &str) -> String {
     } else {
         "it may be the wrong folder, or its disk is not mounted"
     };
-    format!("{} has no file {name}: {may_be}. If it is the job's, run relkvanu discard once with --init", place.title())
+    format!(
+        "{} has no file {name}: {may_be}. If it is the job's, run relkvanu clean --job NAME --once --init",
+        place.title()
+    )
 }
 
 fn other_marker(place: &dyn Storage, name: &str) -> String {
     format!(
         "{}/{name} names another job, or a job of this name of another service: its files have other numbers. If the folder is of \
-         this one, run it once with --init",
+         this one, run relkvanu clean --job NAME --once --init",
         place.title()
     )
 }

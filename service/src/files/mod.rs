@@ -1,29 +1,96 @@
 //! Where a job's files are: a folder, or a bucket. A `Storage` is asked for what either can do. Whose place it is, and what may be deleted there, is
-//! decided in `marked`, `others` and the commands, once for both.
+//! decided in `marked`, `others` and by who asks, once for both.
 mod bucket;
 mod folder;
+mod job_storage;
 mod marked;
 mod names;
 mod others;
 
 pub use folder::Folder;
+pub use job_storage::JobStorage;
 pub use marked::{no_marker, Marked, Owner};
 pub use names::FileNames;
 pub use others::{check, check_markers, check_own, forget, say, Need, BEGUN, MARK};
 
 use bucket::Bucket;
 use clap::Args;
-use std::path::PathBuf;
+use std::path::{Path, PathBuf};
 
 /// Why the work ends.
 #[derive(Debug, thiserror::Error)]
 pub enum Stop {
-    /// Another start may go on.
+    /// The storage does not do it now. Another try may go on.
     #[error("{0}")]
     Again(String),
-    /// Somebody has to look first.
+    /// The service gave no answer to go on with.
     #[error("{0}")]
-    Never(String),
+    Away(String),
+    /// Another process works there.
+    #[error("{0}")]
+    Busy(String),
+    /// Somebody has to look first.
+    #[error("{1}")]
+    Never(Refusal, String),
+}
+
+impl Stop {
+    /// Its word in the metrics.
+    pub fn word(&self) -> &'static str {
+        match self {
+            Stop::Again(_) => "storage",
+            Stop::Away(_) => "service",
+            Stop::Busy(_) => "busy",
+            Stop::Never(refusal, _) => refusal.word(),
+        }
+    }
+}
+
+/// Why no file of a place is deleted before somebody looks.
+#[derive(Clone, Copy, Debug, PartialEq, Eq)]
+pub enum Refusal {
+    /// The place has no marker, or that of another job or opening.
+    NoMarker,
+    OtherMarker,
+    /// Another job may have files of the same names, or this one had other names.
+    Names,
+    /// All files that were handed out together are absent.
+    AllAbsent,
+    /// The job gives out no names.
+    NoNames,
+    /// The bucket keeps versions of what is deleted.
+    KeepsVersions,
+    /// Nobody has said where the files are.
+    NoPlace,
+}
+
+impl Refusal {
+    const ALL: [Refusal; 7] = [
+        Refusal::NoMarker,
+        Refusal::OtherMarker,
+        Refusal::Names,
+        Refusal::AllAbsent,
+        Refusal::NoNames,
+        Refusal::KeepsVersions,
+        Refusal::NoPlace,
+    ];
+
+    pub fn word(self) -> &'static str {
+        match self {
+            Refusal::NoMarker => "no_marker",
+            Refusal::OtherMarker => "other_marker",
+            Refusal::Names => "names",
+            Refusal::AllAbsent => "all_absent",
+            Refusal::NoNames => "no_names",
+            Refusal::KeepsVersions => "keeps_versions",
+            Refusal::NoPlace => "no_storage",
+        }
+    }
+
+    /// The one that has this word.
+    pub fn of(word: &str) -> Option<Refusal> {
+        Refusal::ALL.into_iter().find(|refusal| refusal.word() == word)
+    }
 }
 
 /// Where the files of a job are.
@@ -47,24 +114,37 @@ pub struct Where {
 }
 
 impl Where {
-    /// The names of the files where they are, or why there can be no such names.
-    pub fn names(&self, names: &FileNames) -> Result<FileNames, String> {
-        let base = if self.bucket.is_some() { names.in_bucket().1 } else { names.clone() };
-        base.check().map(|()| base)
-    }
-
     pub fn is_said(&self) -> bool {
         self.folder.is_some() || self.bucket.is_some()
     }
 
-    /// Opens it for a job.
-    pub fn open(&self, names: &FileNames, owner: &Owner) -> Result<Box<dyn Storage>, Stop> {
-        match (&self.folder, &self.bucket) {
-            (Some(path), _) => Ok(Box::new(Folder::open(path)?)),
-            (None, Some(bucket)) => Ok(Box::new(Bucket::open(self, bucket, names, owner)?)),
-            (None, None) => Err(Stop::Never("--folder or --bucket says where the files are".to_string())),
+    /// The place with the names of the files there, if it is said; or why there can be no such place.
+    pub fn storage(&self, names: &FileNames) -> Result<Option<JobStorage>, String> {
+        if !self.is_said() {
+            return Ok(None);
+        }
+        let folder = self.folder.as_deref().map(absolute).transpose()?;
+        let storage = JobStorage {
+            folder,
+            bucket: self.bucket.clone(),
+            prefix: names.prefix.clone(),
+            suffix: names.suffix.clone(),
+            endpoint: self.endpoint.clone(),
+            region: self.region.clone(),
+            keeps_versions: self.keeps_versions,
+        };
+        match storage.wrong() {
+            Some((member, why)) => Err(format!("--{member}: {why}")),
+            None => Ok(Some(storage)),
         }
     }
+}
+
+/// The path of a folder, from the root on.
+fn absolute(folder: &Path) -> Result<String, String> {
+    let shown = folder.display();
+    let path = std::path::absolute(folder).map_err(|error| format!("--folder: {shown}: {error}"))?;
+    path.into_os_string().into_string().map_err(|_| format!("--folder: {shown} is no text"))
 }
 
 /// What became of a file.
@@ -86,7 +166,7 @@ pub struct Found {
 
 /// A folder or a bucket with files. Names are those in it, without a path. It stays the same one until it is dropped, also if another disk is
 /// mounted or renamed to its path.
-pub trait Storage {
+pub trait Storage: Send {
     /// What a person calls it.
     fn title(&self) -> String;
 
@@ -112,7 +192,7 @@ pub trait Storage {
     /// What the marker says; `None` if there is none. From here on it is this one that is locked, and that has to stay.
     fn hold(&mut self, marker: &str) -> Result<Option<String>, Stop>;
 
-    /// Keeps other discarders out by the marker that is held; `false` if another one works here.
+    /// Keeps other cleaners out by the marker that is held; `false` if another one works here.
     fn lock(&self) -> Result<bool, Stop>;
 
     /// Whether the marker that is held is still there.

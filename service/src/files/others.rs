@@ -1,6 +1,6 @@
 //! Other jobs whose files are in the same place. Each job that gives out names begins with 1, so two of them need names that differ.
 use super::marked::begins;
-use super::{FileNames, Stop, Storage};
+use super::{FileNames, Refusal, Stop, Storage};
 use crate::http::is_name;
 use serde_json::{json, Value};
 use std::collections::BTreeSet;
@@ -12,7 +12,7 @@ const BESIDE: [&str; 2] = [NAMES, BEGUN];
 /// The marker that an engine's storage has by itself, and how it says whose it is.
 const STORAGE: &str = ".relkvanu-storage";
 const STORAGE_OF: &str = "relkvanu: state files of the job ";
-/// The file in which a discarder says how its files are named.
+/// The file in which a cleaner says how the files are named.
 const NAMES: &str = ".names";
 /// The file in which it says which files it deletes now.
 pub const BEGUN: &str = ".begun";
@@ -33,7 +33,7 @@ pub fn check_markers(place: &dyn Storage, own: &str) -> Result<(), Stop> {
     let Some(other) = others(place, own)?.into_iter().find(|other| clash(other, own) || clash(own, other)) else {
         return Ok(());
     };
-    Err(Stop::Never(format!(
+    Err(Stop::Never(Refusal::Names, format!(
         "another job has files in {}, as {other} says: one of the two jobs needs a folder of its own, since the marker of one is named \
          as a file beside the marker of the other",
         place.title()
@@ -49,12 +49,12 @@ pub fn check(place: &dyn Storage, own: &str, names: &FileNames, need: Need) -> R
             Some(_) => continue,
             None if names.prefix.is_empty() && names.suffix.is_empty() => "so --prefix or --suffix is needed",
             None if need == Need::Look => {
-                "so --prefix or --suffix is needed that differs from its own. If it does, run relkvanu discard once with --init"
+                "so --prefix or --suffix is needed that differs from its own. If it does, run relkvanu clean --job NAME --once --init"
             }
             None => continue,
         };
         let path = place.title();
-        return Err(Stop::Never(format!(
+        return Err(Stop::Never(Refusal::Names, format!(
             "another job has files in {path}, as {other} says: {why}. If that job was deleted, delete {other} and {other}{NAMES}"
         )));
     }
@@ -65,16 +65,16 @@ pub fn check(place: &dyn Storage, own: &str, names: &FileNames, need: Need) -> R
 /// names that they have.
 pub fn check_own(place: &dyn Storage, own: &str, names: &FileNames) -> Result<(), Stop> {
     match names_of(place, own)? {
-        Some(FileNames { prefix, suffix }) if prefix != names.prefix || suffix != names.suffix => Err(Stop::Never(format!(
+        Some(FileNames { prefix, suffix }) if prefix != names.prefix || suffix != names.suffix => Err(Stop::Never(Refusal::Names, format!(
             "{}/{own}{NAMES} says that the files of this job are named {prefix}NUMBER{suffix}: is --prefix or --suffix wrong? If the \
-             files have other names now, run it once with --init",
+             files have other names now, run relkvanu clean --job NAME --once --init",
             place.title()
         ))),
         _ => Ok(()),
     }
 }
 
-/// Writes down how the files of the job are named, for discarders and sweepers of other jobs. What is known stays, unless it is to be said
+/// Writes down how the files of the job are named, for cleaners of other jobs. What is known stays, unless it is to be said
 /// `anew`. Returns whether it was not known.
 pub fn say(place: &dyn Storage, own: &str, names: &FileNames, anew: bool) -> Result<bool, Stop> {
     if names_of(place, own)?.is_some() && !anew {

@@ -100,11 +100,11 @@ impl Historian {
 
     /// Forgets the jobs that were deleted, those of an earlier process too.
     fn forget_deleted(&mut self, tables: &Tables, followers: &mut HashMap<i64, Follower>) -> Result<(), Error> {
-        // before it leads it does not know the jobs
-        if !self.board.is_ready() {
+        // before all are replayed it does not know the jobs
+        if !self.board.is_ready() || self.board.replay.of_all().is_some() {
             return Ok(());
         }
-        // a job that the tables have has been on the board, unless it was deleted, or is another process's
+        // a job that the tables have has been on the board, unless it was deleted, or is kept out
         let lengths: HashSet<i64> = self.board.lengths().into_iter().map(|(job, _)| job).collect();
         let away: HashSet<i64> = tables.jobs()?.into_iter().filter(|job| !lengths.contains(job)).collect();
         followers.retain(|number, _| lengths.contains(number));
@@ -292,7 +292,7 @@ impl Historian {
             let after = all.last().map_or(i64::MIN, |job| job.opening.number);
             let (reply, answer) = oneshot::channel();
             self.inbox.try_send(Message::Read(Read::Jobs { after, most: MOST_JOBS }, reply)).ok()?;
-            let Ok(ReadDone::Jobs(_, mut piece)) = answer.blocking_recv() else {
+            let Ok(ReadDone::Jobs(mut piece)) = answer.blocking_recv() else {
                 return None;
             };
             let is_last = piece.len() < MOST_JOBS;

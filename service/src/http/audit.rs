@@ -2,6 +2,7 @@
 //! that is refused for its token or fails, though no more than one a second, and one for each request if the configuration says so.
 use super::reply::HttpReply;
 use super::route::Route;
+use crate::files::JobStorage;
 use crate::log;
 use crate::model::{Call, Change, FIELDS};
 use hyper::Method;
@@ -41,6 +42,11 @@ impl Did {
         let mut words: Vec<String> = numbers.map(|(name, number)| format!("{name}={number}")).collect();
         words.extend(change.keep_on_cancel.map(|keep| format!("keep_on_cancel={keep}")));
         Did(format!("configure {}", words.join(" ")))
+    }
+
+    /// Where the files of a job are.
+    pub fn storage(storage: &JobStorage) -> Did {
+        Did(format!("storage {}", storage.text()))
     }
 }
 

@@ -4,7 +4,7 @@ use super::json_members::PATH;
 use super::reply::{as_problem, damaged, error, text, wants_problems, with_header, HttpReply};
 use super::route::{NoRoute, Route};
 use super::slots::{Kind, Slot};
-use super::{forward, names, operate, page, reads, room, stream, trace, view, writes, App};
+use super::{names, operate, page, reads, room, stream, trace, view, wire, writes, App};
 use crate::auth::Caller;
 use crate::log;
 use crate::model::Call;
@@ -53,8 +53,6 @@ async fn answered(app: Arc<App>, slot: &Arc<Slot>, request: Request<Body>) -> Ht
     app.audit.answered(&asked, known.as_ref(), by.as_deref(), &mut reply);
     let reply = if wants_problems { as_problem(reply) } else { reply };
     match app.board.log() {
-        // that of the process that has the job
-        _ if reply.headers().contains_key(LOG) => reply,
         "" => reply,
         log => with_header(reply, HeaderName::from_static(LOG), log),
     }
@@ -89,9 +87,7 @@ fn crowded() -> HttpReply {
 
 async fn dispatched(app: &Arc<App>, route: Route, caller: Option<Caller>, request: Request<Body>) -> HttpReply {
     let caller = caller.unwrap_or_else(Caller::local);
-    let job = route.job().map(str::to_string);
-    let reply = dispatch(app, route, &caller, request).await.unwrap_or_else(|refused| *refused);
-    forward::looked_again(app, job.as_deref(), reply).await
+    dispatch(app, route, &caller, request).await.unwrap_or_else(|refused| *refused)
 }
 
 async fn dispatch(
@@ -103,20 +99,19 @@ async fn dispatch(
     if route.needs_leader() && !app.board.is_ready() {
         return Err(standby(app).await.into());
     }
-    let request = match route.job() {
-        // the page's view of a job has the names of all jobs too
-        Some(job) if !matches!(route, Route::View(_)) => {
-            // nothing of it is served, so that it is never served in part
-            if let Some(why) = app.board.damage(job) {
-                return Err(damaged(job, &why).into());
-            }
-            forward::answered(app, job, request).await?
+    if let Some(job) = route.job() {
+        app.replayed(job).await?;
+    }
+    // the page's view of a job has the names of all jobs too
+    if let Some(job) = route.job().filter(|_| !matches!(route, Route::View(_))) {
+        // nothing of it is served, so that it is never served in part
+        if let Some(why) = app.board.damage(job) {
+            return Err(damaged(job, &why).into());
         }
-        _ => request,
-    };
+    }
     match route {
-        Route::Jobs => reads::jobs(app, caller, &request).await,
-        Route::View(job) => view::answer(app, job, caller, request).await,
+        Route::Jobs => reads::jobs(app, caller, request.uri().query().unwrap_or("")).await,
+        Route::View(job) => view::answer(app, job, caller, request.uri().query().unwrap_or("")).await,
         Route::Asset(asset) => Ok(page::answer(asset)),
         Route::Health => Ok(health(app)),
         Route::Ready => Ok(ready(app).await),
@@ -126,10 +121,13 @@ async fn dispatch(
         Route::Fence(job) => names::fence(app, caller, job, request).await,
         Route::Advance(job) => names::advance(app, caller, job, request).await,
         Route::Garbage(job) => names::garbage(app, caller, job, request).await,
-        Route::Checkpoint(job) => operate::one(app, caller, job, Call::Trigger, request).await,
-        Route::Stop(job) => operate::one(app, caller, job, Call::Stop, request).await,
-        Route::Begin(job) => operate::one(app, caller, job, Call::Begin, request).await,
+        Route::Checkpoint(job) => operate::one(app, caller, job, wire::checkpoint, request).await,
+        Route::Stop(job) => operate::one(app, caller, job, |it| wire::nothing(it).map(|()| Call::Stop), request).await,
+        Route::Begin(job) => {
+            operate::one(app, caller, job, |it| wire::nothing(it).map(|()| Call::Begin), request).await
+        }
         Route::Settings(job) => operate::settings(app, caller, job, request).await,
+        Route::Storage(job) => operate::storage(app, caller, job, request).await,
         Route::Stream(job) => stream::answer(app, job, caller, &request).await,
         read => reads::answer(app, read, caller, request.uri().query().unwrap_or("")).await,
     }
@@ -208,7 +206,6 @@ async fn ready(app: &App) -> HttpReply {
         takes if takes >= SLOW_COMMIT => {
             busy(&format!("no commit is possible: the database has not taken one for {} s", takes.as_secs()))
         }
-        _ if app.board.is_ready() && !app.board.is_settled() => busy("this process does not have its jobs yet"),
         _ if app.board.is_ready() => text(200, "ready\n"),
         _ => standby(app).await,
     }

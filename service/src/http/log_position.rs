@@ -23,32 +23,19 @@ pub struct LogPosition<'a> {
     pub job: &'a str,
     pub number: i64,
     pub after: Option<u64>,
-    /// Since when this process has the job.
-    pub epoch: u64,
 }
 
 impl<'a> LogPosition<'a> {
-    /// A place of a job that this process has.
     pub fn of(app: &App, job: &'a str, after: Option<u64>) -> Result<LogPosition<'a>, Box<HttpReply>> {
-        let number = app.number(job)?;
-        match app.board.epoch_of(number) {
-            0 => Err(no_job(job).into()),
-            epoch => Ok(LogPosition { job, number, after, epoch }),
-        }
+        Ok(LogPosition { job, number: app.number(job)?, after })
     }
 
-    /// Whether this process has had the job since then. Else what it has read may be of another owner, and of another identity of the log.
-    pub fn is_owned(&self, app: &App) -> bool {
-        app.board.is_ready() && app.board.epoch_of(self.number) == self.epoch
-    }
-
-    /// Refuses what may be of another owner.
-    pub async fn check_owner(&self, app: &App) -> Result<(), Box<HttpReply>> {
-        match self.is_owned(app) {
-            true => Ok(()),
-            false if app.board.is_ready() => Err(no_job(self.job).into()),
-            false => Err(gate::standby(app).await.into()),
+    /// Refuses what was read while another process may have led, with another identity of the log.
+    pub async fn check_leads(&self, app: &App) -> Result<(), Box<HttpReply>> {
+        if app.board.is_ready() {
+            return Ok(());
         }
+        Err(gate::standby(app).await.into())
     }
 
     /// Whether this log has the place, or had it when the identity `known` of the log ended.
@@ -57,12 +44,12 @@ impl<'a> LogPosition<'a> {
         let length = match known.filter(|known| *known != app.board.log()) {
             None => app.board.length(self.job),
             Some(known) => {
-                let (known, number) = (known.to_string(), self.number);
-                let ended = app.read_log(move |reader| reader.lengths_after(&known, number)).await?;
-                ended.map_or(0, |lengths| length_in(&lengths, number)).min(app.board.length(self.job))
+                let known = known.to_string();
+                let ended = app.read_log(move |reader| reader.lengths_after(&known)).await?;
+                ended.map_or(0, |lengths| length_in(&lengths, self.number)).min(app.board.length(self.job))
             }
         };
-        self.check_owner(app).await?;
+        self.check_leads(app).await?;
         if after > length {
             return Err(self.gone(app, "other_log", OTHER_LOG).into());
         }

@@ -3,11 +3,9 @@ mod acks;
 mod audit;
 mod bodies;
 mod connection;
-mod forward;
 mod gate;
 mod json_members;
 mod keys;
-mod lists;
 mod log_position;
 mod names;
 mod operate;
@@ -30,7 +28,6 @@ mod writes;
 
 pub use audit::Audit;
 pub use bodies::Bodies;
-pub use forward::Forwarder;
 pub use keys::Keys;
 pub use server::serve;
 pub use tls::{NoTls, Tls, TlsFiles};
@@ -40,19 +37,20 @@ use crate::config::Limits;
 use crate::history::{self, Door, HistoryFile, HistoryReader};
 use crate::log;
 use crate::metrics::Metrics;
-use crate::model::Shards;
 use crate::store::{DbError, Reader};
 use crate::writer::{Board, Inbox, JobState, Message, NotSent, Read, ReadDone, MOST_JOBS};
 use reply::{error, HttpReply};
 use std::error::Error;
 use std::sync::Arc;
 use std::time::Duration;
-use tokio::sync::{oneshot, Mutex, Semaphore};
+use tokio::sync::{oneshot, watch, Mutex, Semaphore};
 
 /// The unit in which room for answers is counted, in bytes.
 pub const UNIT: usize = 1024;
 /// How long a read may wait for those before it.
 const READ_WITHIN: Duration = Duration::from_secs(20);
+/// How long a request waits for the replay of its job, before it is answered how far the replay is.
+const REPLAY_WITHIN: Duration = Duration::from_millis(500);
 
 /// What all requests share.
 pub struct App {
@@ -66,8 +64,6 @@ pub struct App {
     pub history: Arc<Mutex<Door>>,
     pub history_file: Arc<HistoryFile>,
     pub keys: Arc<Keys>,
-    /// The other processes, if this one shares the jobs with them.
-    pub others: Option<Forwarder>,
     pub audit: Audit,
     /// Room for the bodies of all requests.
     pub bodies: Arc<Bodies>,
@@ -103,24 +99,42 @@ impl App {
         self.ask(|reply| Message::Read(read, reply)).await
     }
 
-    /// The jobs of this process in the order of their numbers, and the shards of which they are all. The writer makes calls between two pieces.
-    async fn jobs(&self) -> Result<(Shards, Vec<JobState>), Box<HttpReply>> {
-        let (mut all, mut known) = (Vec::<JobState>::new(), None);
+    /// The jobs in the order of their numbers. The writer makes calls between two pieces.
+    async fn jobs(&self) -> Result<Vec<JobState>, Box<HttpReply>> {
+        let mut all = Vec::<JobState>::new();
         loop {
             let after = all.last().map_or(i64::MIN, |job| job.opening.number);
-            let ReadDone::Jobs(shards, mut piece) = self.read(Read::Jobs { after, most: MOST_JOBS }).await? else {
+            let ReadDone::Jobs(mut piece) = self.read(Read::Jobs { after, most: MOST_JOBS }).await? else {
                 return Err(error(500, "the writer answered something else").into());
             };
-            // jobs that came from another process meanwhile may have numbers that were passed
-            if known.replace(shards).is_some_and(|known| known != shards) {
-                (all, known) = (Vec::new(), None);
-                continue;
-            }
             let is_last = piece.len() < MOST_JOBS;
             all.append(&mut piece);
             if is_last {
-                return Ok((shards, all));
+                return Ok(all);
             }
+        }
+    }
+
+    /// Waits until a job is replayed, which then goes before others. Nothing is answered of it before.
+    async fn replayed(&self, job: &str) -> Result<(), Box<HttpReply>> {
+        self.until(self.board.replay.of(job), &format!("job {job} is not replayed yet")).await
+    }
+
+    /// Waits until all jobs are replayed.
+    async fn all_replayed(&self) -> Result<(), Box<HttpReply>> {
+        self.until(self.board.replay.of_all(), "not all jobs are replayed yet").await
+    }
+
+    /// Waits until something is replayed, but for so long that a client learns how far it is.
+    async fn until(&self, done: Option<watch::Receiver<()>>, why: &str) -> Result<(), Box<HttpReply>> {
+        let Some(mut done) = done else {
+            return Ok(());
+        };
+        tokio::select! {
+            // an error: what told of it has gone
+            _ = done.changed() => Ok(()),
+            () = tokio::time::sleep(REPLAY_WITHIN) => Err(reply::replaying(why, self.board.replay.progress()).into()),
+            () = self.board.stopping() => Err(gate::busy("the service is stopping").into()),
         }
     }
 
@@ -172,7 +186,5 @@ async fn waited<R: Send + 'static, T: Send + 'static, E: Error + Send + 'static>
 }
 
 fn no_job(job: &str) -> HttpReply {
-    let mut reply = error(404, &format!("there is no job {job}"));
-    reply.extensions_mut().insert(forward::NoSuchJob);
-    reply
+    error(404, &format!("there is no job {job}"))
 }

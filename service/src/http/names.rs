@@ -29,9 +29,9 @@ pub async fn fence(
     let (at, calls) = (job.clone(), vec![Call::Fence { first_name }]);
     let did = Did::of(&calls);
     let mut reply = match app.ask(|reply| Message::Calls { job, calls, tells: false, key, reply }).await? {
-        CallsDone::Made(epoch, outcomes) => match &outcomes[..] {
+        CallsDone::Made(outcomes) => match &outcomes[..] {
             [Outcome::Refused(Fault::Fenced(why))] => fenced(&why.name()),
-            _ => turned(&app.board.answers(epoch, &outcomes), first_name),
+            _ => turned(&app.board.answers(&outcomes), first_name),
         },
         CallsDone::Known(answers) => turned(&answers, first_name),
         CallsDone::KeyUsed => return Err(super::writes::key_used().into()),

@@ -1,27 +1,28 @@
 //! What an operator does to a job that is open: a checkpoint now, a stop and the beginning after it, and other settings.
 use super::audit::Did;
+use super::json_members::Checked;
 use super::reply::{bad_key, error, invalid, json_reply, refusal, HttpReply};
 use super::writes::{key_name, key_used, read_body};
-use super::{no_job, wire, App};
+use super::{no_job, render, wire, App};
 use crate::auth::Caller;
 use crate::model::{sha256, Call};
-use crate::writer::{CallsDone, Key, Message};
+use crate::writer::{CallsDone, Key, Message, ReadDone};
 use hyper::{Body, Request};
 use serde_json::{json, Value};
 
-/// Makes the one call that a path is of. Under a key it is made once.
+/// Makes the one call that the body of a path's request says. Under a key it is made once.
 pub async fn one(
     app: &App,
     caller: &Caller,
     job: String,
-    call: Call,
+    read: impl Fn(&[u8]) -> Checked<Call>,
     request: Request<Body>,
 ) -> Result<HttpReply, Box<HttpReply>> {
     app.number(&job)?;
     let name = key_name(request.headers())?;
     let (bytes, _room) = read_body(app, caller, request.into_body()).await?;
-    wire::nothing(&bytes).map_err(|why| invalid(&why))?;
-    // the paths have the same body: a key of one makes nothing for another
+    let call = read(&bytes).map_err(|why| invalid(&why))?;
+    // paths may have the same body: a key of one makes nothing for another
     let key = name.map(|name| Key { name, digest: sha256(&[word(&call).as_bytes(), &bytes].concat()) });
     let (at, calls) = (job.clone(), vec![call]);
     let did = Did::of(&calls);
@@ -53,9 +54,28 @@ pub async fn settings(
     Ok(answered(app, &at, done, Some(Did::settings(&change))))
 }
 
+/// Says where the job's files are. A repeat says the same, so it needs no key.
+pub async fn storage(
+    app: &App,
+    caller: &Caller,
+    job: String,
+    request: Request<Body>,
+) -> Result<HttpReply, Box<HttpReply>> {
+    app.number(&job)?;
+    let (bytes, _room) = read_body(app, caller, request.into_body()).await?;
+    let storage = wire::storage(&bytes).map_err(|why| invalid(&why))?;
+    let (at, did) = (job.clone(), Did::storage(&storage));
+    let ReadDone::Job(state) = app.ask(|reply| Message::Locate { job, storage, reply }).await? else {
+        return Err(no_job(&at).into());
+    };
+    let mut reply = json_reply(200, &render::job(&state, app.board.log()));
+    reply.extensions_mut().insert(did);
+    Ok(reply)
+}
+
 pub(super) fn answered(app: &App, job: &str, done: CallsDone, did: Option<Did>) -> HttpReply {
     let mut reply = match done {
-        CallsDone::Made(epoch, outcomes) => turned(&app.board.answers(epoch, &outcomes)),
+        CallsDone::Made(outcomes) => turned(&app.board.answers(&outcomes)),
         CallsDone::Known(answers) => turned(&answers),
         CallsDone::KeyUsed => key_used(),
         CallsDone::BadKey(why) => bad_key(&why),

@@ -1,17 +1,14 @@
 //! Requests that read: jobs, records, files, the log, events and metrics.
-use super::forward::was_passed;
 use super::log_position::{self, LogPosition};
 use super::query::{self, numbers, Parameter};
 use super::render::{self, Metadata};
 use super::reply::{bad_field, body, error, json_reply, with_type, HttpReply};
 use super::route::Route;
-use super::{acks, lists, names, no_job, states, App};
+use super::{acks, names, no_job, states, App};
 use crate::auth::Caller;
 use crate::history::{FileRow, HistoryReader, Search};
-use crate::model::Shards;
 use crate::store::Reader;
 use crate::writer::{JobState, Read, ReadDone, RecordState};
-use hyper::{Body, Request};
 use serde_json::{json, Value};
 use std::time::Duration;
 
@@ -51,6 +48,7 @@ pub async fn answer(app: &App, route: Route, caller: &Caller, query: &str) -> Re
         | Route::Garbage(_)
         | Route::Checkpoint(_)
         | Route::Settings(_)
+        | Route::Storage(_)
         | Route::Jobs
         | Route::View(_)
         | Route::Stop(_)
@@ -71,11 +69,10 @@ async fn metrics(app: &App, query: &str) -> Result<HttpReply, Box<HttpReply>> {
         if !app.board.is_ready() {
             return Vec::new();
         }
-        app.jobs().await.map_or(Vec::new(), |(_, jobs)| jobs)
+        app.jobs().await.unwrap_or_default()
     };
     let jobs = tokio::time::timeout(ASK_WRITER, asked).await.unwrap_or_default();
     app.metrics.lead(app.board.is_ready());
-    app.metrics.shards(app.board.shards().len());
     app.metrics.queue.length(app.inbox.len());
     app.metrics.process.look();
     app.metrics.bodies(app.bodies.taken());
@@ -84,6 +81,7 @@ async fn metrics(app: &App, query: &str) -> Result<HttpReply, Box<HttpReply>> {
     }
     app.metrics.commit_takes(app.board.commit_takes());
     app.metrics.upkeep.damaged(app.board.damaged().iter().map(|(job, _)| job.as_str()));
+    app.metrics.upkeep.replay(app.board.replay.progress());
     app.metrics.upkeep.history_up(app.history_file.works());
     // those of many jobs take long, and the other requests go on by another thread
     let served = |job: &str| app.board.served(job);
@@ -92,38 +90,27 @@ async fn metrics(app: &App, query: &str) -> Result<HttpReply, Box<HttpReply>> {
     Ok(with_type(200, "text/plain; version=0.0.4", text))
 }
 
-/// The jobs in the order of their numbers, in parts if that is asked for: `next` is the `after` of the next part. One process alone numbers
-/// them as they are opened.
-pub async fn jobs(app: &App, caller: &Caller, request: &Request<Body>) -> Result<HttpReply, Box<HttpReply>> {
-    let query = request.uri().query().unwrap_or("");
+/// The jobs in the order of their numbers, in parts if that is asked for: `next` is the `after` of the next part.
+pub async fn jobs(app: &App, caller: &Caller, query: &str) -> Result<HttpReply, Box<HttpReply>> {
     let [after, most] = numbers(query, [AFTER, limit(u64::MAX, u64::MAX)])?;
-    let most = usize::try_from(most).unwrap_or(usize::MAX);
-    let place = format!("/v1/jobs?{query}");
-    let (shards, parts) = lists::parts(app, request, &place, || own_jobs(app, caller, after, most)).await?;
-    let is_part = was_passed(request.headers());
-    let joined = |mut parts: Vec<Value>| if is_part { parts.swap_remove(0) } else { lists::joined(parts, after, most) };
-    let told = tokio::task::block_in_place(|| joined(parts));
-    Ok(lists::reply(request, shards, told))
-}
-
-/// The jobs of this process, with their numbers.
-async fn own_jobs(app: &App, caller: &Caller, after: u64, most: usize) -> Result<(Shards, Value), Box<HttpReply>> {
-    let (shards, mut jobs) = app.jobs().await?;
+    // whoever does something to each job must not pass one over
+    app.all_replayed().await?;
+    let mut jobs = app.jobs().await?;
     let number = |job: &JobState| u64::try_from(job.opening.number).unwrap_or(0);
     jobs.retain(|job| number(job) > after && caller.may_see(&job.opening.name));
-    let most = most.min(jobs.len());
+    let most = usize::try_from(most).unwrap_or(usize::MAX).min(jobs.len());
     let next = (most < jobs.len()).then(|| jobs[..most].last().map_or(after, number));
     let (log, epoch) = (app.board.log(), app.board.epoch());
-    let numbers: Vec<u64> = jobs[..most].iter().map(number).collect();
-    let jobs: Vec<Value> =
-        tokio::task::block_in_place(|| jobs[..most].iter().map(|job| render::job(job, log)).collect());
-    let mut told =
-        json!({"epoch": epoch, "log": log, "numbers": numbers, "next": next, "damaged": damaged(app, caller)});
-    told["jobs"] = jobs.into(); // `json!` would copy them
-    Ok((shards, told))
+    // the text of many jobs takes long, and the other requests go on by another thread
+    Ok(tokio::task::block_in_place(|| {
+        let jobs: Vec<Value> = jobs[..most].iter().map(|job| render::job(job, log)).collect();
+        let mut told = json!({"epoch": epoch, "log": log, "next": next, "damaged": damaged(app, caller)});
+        told["jobs"] = jobs.into(); // `json!` would copy them
+        json_reply(200, &told)
+    }))
 }
 
-/// The jobs of this process that are kept out and that the caller may see, and why. They are in no list of jobs.
+/// The jobs that are kept out and that the caller may see, and why. They are in no list of jobs.
 pub(super) fn damaged(app: &App, caller: &Caller) -> Vec<Value> {
     let mut kept_out = app.board.damaged();
     kept_out.retain(|(name, _)| caller.may_see(name));
@@ -309,8 +296,10 @@ async fn events(app: &App, job: &str, query: &str) -> Result<HttpReply, Box<Http
     }
     let first = place.check_cut(app)?;
     let length = app.board.length(job);
-    let page = app.read_events(move |reader| reader.events(number, after.max(first - 1), rows(most))).await?;
-    place.check_owner(app).await?;
+    let mut page = app.read_events(move |reader| reader.events(number, after.max(first - 1), rows(most))).await?;
+    place.check_leads(app).await?;
+    // a commit is told once it is published: before that the next poll would find its place in no log
+    page.retain(|entry| entry.seq <= length);
     // if there is none, the calls that were committed before it was read are no events
     let none = if most > 0 { after.max(length) } else { after };
     let upto = page.last().map_or(none, |entry| entry.seq);

@@ -40,6 +40,7 @@ pub fn job(state: &JobState, log: &str) -> Value {
         "mode": mode(state.mode),
         "phase": state.phase.word(),
         "stop": state.phase.stop_json(),
+        "storage": state.storage.as_deref(),
         "log": log,
         "seq": state.seq,
         "now": state.now,

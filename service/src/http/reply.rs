@@ -1,5 +1,6 @@
 //! Answers: JSON bodies, and errors that name the field.
 use super::json_members::Invalid;
+use crate::writer::Progress;
 use hyper::header::{
     HeaderMap, HeaderName, HeaderValue, ACCEPT, CONTENT_TYPE, REFERRER_POLICY, RETRY_AFTER, X_CONTENT_TYPE_OPTIONS,
     X_FRAME_OPTIONS,
@@ -81,6 +82,17 @@ pub fn as_problem(mut reply: HttpReply) -> HttpReply {
 pub fn damaged(job: &str, why: &str) -> HttpReply {
     let why = format!("job {job} is damaged, and is kept out: {why}");
     with_header(refusal(503, json!({"error": why, "reason": "damaged"})), RETRY_AFTER, "10")
+}
+
+/// A job that is not replayed yet. A client makes the request again, for as long as more jobs or calls are replayed each time.
+pub fn replaying(why: &str, progress: Progress) -> HttpReply {
+    let why = format!("{why}: the service has started, and {} of {} jobs are", progress.replayed, progress.jobs);
+    refusal(503, json!({"error": why, "reason": "replaying", "replay": replay(progress)}))
+}
+
+/// How far the replay is.
+pub fn replay(Progress { jobs, replayed, calls }: Progress) -> Value {
+    json!({"jobs": jobs, "replayed": replayed, "calls": calls})
 }
 
 /// The answer that was given under a key is damaged. Nothing is made under it again.

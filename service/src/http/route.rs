@@ -27,6 +27,8 @@ pub enum Route {
     Checkpoint(String),
     /// Other settings of a job that is open.
     Settings(String),
+    /// Where the job's files are.
+    Storage(String),
     /// The job stops with a savepoint.
     Stop(String),
     /// A job that has stopped begins again.
@@ -65,7 +67,7 @@ pub enum NoRoute {
 
 /// All routes of the API. The description must have each.
 #[cfg(test)]
-pub const API: [(&str, &str); 30] = [
+pub const API: [(&str, &str); 31] = [
     ("get", "/healthz"),
     ("get", "/readyz"),
     ("get", "/metrics"),
@@ -80,6 +82,7 @@ pub const API: [(&str, &str); 30] = [
     ("post", "/v1/jobs/{job}/garbage"),
     ("post", "/v1/jobs/{job}/checkpoints"),
     ("patch", "/v1/jobs/{job}/settings"),
+    ("put", "/v1/jobs/{job}/storage"),
     ("post", "/v1/jobs/{job}/stop"),
     ("post", "/v1/jobs/{job}/begin"),
     ("post", "/v1/jobs/{job}/advance"),
@@ -143,6 +146,10 @@ impl Route {
             let is_patch = method == Method::PATCH;
             return if is_patch { Ok(Route::Settings(name)) } else { Err(NoRoute::Method("PATCH")) };
         }
+        if rest == ["storage"] {
+            let is_put = method == Method::PUT;
+            return if is_put { Ok(Route::Storage(name)) } else { Err(NoRoute::Method("PUT")) };
+        }
         if rest.is_empty() && !is_get {
             let is_delete = method == Method::DELETE;
             return if is_delete { Ok(Route::DeleteJob(name)) } else { Err(NoRoute::Method("GET, DELETE")) };
@@ -177,6 +184,7 @@ impl Route {
             Route::NewJob | Route::Calls(_) | Route::DeleteJob(_) => Some(Access::Write),
             Route::Fence(_) | Route::Term(_) | Route::Garbage(_) | Route::Advance(_) => Some(Access::Write),
             Route::Checkpoint(_) | Route::Settings(_) | Route::Stop(_) | Route::Begin(_) => Some(Access::Write),
+            Route::Storage(_) => Some(Access::Write),
             _ => Some(Access::Read),
         }
     }
@@ -186,7 +194,7 @@ impl Route {
         match self {
             Route::Job(job) | Route::DeleteJob(job) | Route::Calls(job) | Route::Records(job) => Some(job),
             Route::Record(job, _) | Route::Acks(job, _) | Route::Files(job) | Route::File(job, _) => Some(job),
-            Route::States(job, _) | Route::History(job) => Some(job),
+            Route::States(job, _) | Route::History(job) | Route::Storage(job) => Some(job),
             Route::Log(job) | Route::Events(job) | Route::Stream(job) | Route::Samples(job) => Some(job),
             Route::Fence(job) | Route::Term(job) | Route::Garbage(job) | Route::Advance(job) => Some(job),
             Route::Checkpoint(job) | Route::Settings(job) | Route::Stop(job) | Route::Begin(job) => Some(job),
@@ -199,6 +207,7 @@ impl Route {
     pub fn has_body(&self) -> bool {
         matches!(self, Route::NewJob | Route::Calls(_) | Route::Fence(_) | Route::Garbage(_) | Route::Advance(_))
             || matches!(self, Route::Checkpoint(_) | Route::Settings(_) | Route::Stop(_) | Route::Begin(_))
+            || matches!(self, Route::Storage(_))
     }
 
     /// The kind of place that its connection takes.
@@ -233,6 +242,7 @@ impl Route {
             Route::Garbage(_) => "garbage",
             Route::Checkpoint(_) => "checkpoint",
             Route::Settings(_) => "settings",
+            Route::Storage(_) => "storage",
             Route::Stop(_) => "stop",
             Route::Begin(_) => "begin",
             Route::Advance(_) => "advance",
@@ -320,5 +330,6 @@ mod tests {
         }
         assert_eq!(Route::of(&Method::POST, "/v1/jobs/a/term"), Err(NoRoute::Method("GET")));
         assert_eq!(Route::of(&Method::GET, "/v1/jobs/a/settings"), Err(NoRoute::Method("PATCH")));
+        assert_eq!(Route::of(&Method::POST, "/v1/jobs/a/storage"), Err(NoRoute::Method("PUT")));
     }
 }

@@ -15,6 +15,8 @@ struct One<'a> {
     subtask: &'a str,
     /// In the order in which its acknowledgement gave them, if that gave anything beside them; else ascending.
     files: Vec<String>,
+    /// The bytes of each file, as its task told them.
+    sizes: Vec<Option<u64>>,
     payload: &'a str,
     bytes: u64,
     millis: u64,
@@ -33,10 +35,12 @@ pub async fn answer(app: &App, job: String, id: u64, query: &str) -> Result<Http
     numbers(query, [])?;
     let number = app.number(&job)?;
     let record = complete(app, &job, id).await?;
-    let states = app.read_log(move |reader| reader.states(number, id)).await?;
+    let files: Vec<u64> = record.acks().flat_map(|(_, files)| files.iter().copied()).collect();
+    let read = app.read_log(move |reader| Ok((reader.states(number, id)?, reader.bytes_of(number, &files)?)));
+    let (states, sizes) = read.await?;
     // the rows go with the record, which may have ended meanwhile
     complete(app, &job, id).await?;
-    let text = tokio::task::block_in_place(|| whole(&record, &states));
+    let text = tokio::task::block_in_place(|| whole(&record, &states, &sizes.into_iter().collect()));
     Ok(body(200, text))
 }
 
@@ -48,15 +52,17 @@ async fn complete(app: &App, job: &str, id: u64) -> Result<Metadata, Box<HttpRep
     record.ok_or_else(|| error(404, &format!("job {job} has no record {id} that is complete and live")).into())
 }
 
-fn whole(record: &Metadata, states: &[SubtaskState]) -> String {
+fn whole(record: &Metadata, states: &[SubtaskState], sizes: &HashMap<u64, u64>) -> String {
     let said: HashMap<String, &SubtaskState> = states.iter().map(|it| (it.subtask.to_string(), it)).collect();
     let none = Given::default();
     let one = |(subtask, ascending)| {
         let (files, given) = said.get(subtask).map_or((ascending, &none), |it| (it.files.as_slice(), &it.given));
+        let sizes = files.iter().map(|file| sizes.get(file).copied()).collect();
         let files = files.iter().map(u64::to_string).collect();
         One {
             subtask,
             files,
+            sizes,
             payload: &given.payload,
             bytes: given.bytes.unwrap_or(0),
             millis: given.millis.unwrap_or(0),
@@ -78,8 +84,8 @@ mod tests {
         let given = Given { payload: "eA==".to_string(), bytes: Some(1), millis: Some(2) };
         let (subtask, files) = (Subtask { vertex: 0, index: 0 }, vec![9, 3]);
         let states = [SubtaskState { job: 1, record: 7, subtask, files, given }];
-        let told = Metadata::of(text).map(|record| (record.is_done(), whole(&record, &states)));
-        let wanted = r#"{"id":7,"kind":"savepoint","shape":[2],"subtasks":[{"subtask":"0.0","files":["9","3"],"payload":"eA==","bytes":1,"millis":2},{"subtask":"0.1","files":["4","5"],"payload":"","bytes":0,"millis":0}]}"#;
+        let told = Metadata::of(text).map(|record| (record.is_done(), whole(&record, &states, &[(9, 70)].into())));
+        let wanted = r#"{"id":7,"kind":"savepoint","shape":[2],"subtasks":[{"subtask":"0.0","files":["9","3"],"sizes":[70,null],"payload":"eA==","bytes":1,"millis":2},{"subtask":"0.1","files":["4","5"],"sizes":[null,null],"payload":"","bytes":0,"millis":0}]}"#;
         assert_eq!(told, Some((true, wanted.to_string())));
         let pending = Metadata::of(&text.replace("done", "pending")).map(|record| record.is_done());
         assert_eq!(pending, Some(false));

@@ -38,7 +38,7 @@ pub async fn answer(
         None => (log_position::given(after), known.map(str::to_string)),
     };
     let place = LogPosition::of(app, &job, after)?;
-    let (number, epoch) = (place.number, place.epoch);
+    let number = place.number;
     place.check_log(app, known.as_deref()).await?;
     let first = place.check_cut(app)?;
     let last = app.board.events(&job).ok_or_else(|| no_job(&job))?;
@@ -47,7 +47,7 @@ pub async fn answer(
     let (calls, upto) = (app.board.length(&job), app.board.history(&job));
     let (keys, until) = (app.keys.generation(), caller.until);
     let said = (calls, upto);
-    let stream = Stream { app: Arc::clone(app), job, number, epoch, after, said, last, keys, until, sender };
+    let stream = Stream { app: Arc::clone(app), job, number, after, said, last, keys, until, sender };
     tokio::spawn(stream.feed());
     let mut reply = with_type(200, KIND, body);
     reply.headers_mut().insert(CACHE_CONTROL, HeaderValue::from_static("no-store"));
@@ -71,7 +71,6 @@ struct Stream {
     app: Arc<App>,
     job: String,
     number: i64,
-    epoch: u64,
     after: u64,
     /// How many calls there were, and how many of them the history had read, when that was told last.
     said: (u64, u64),
@@ -107,11 +106,11 @@ impl Stream {
         }
     }
 
-    /// The text of what has come, and whether it is the last. Nothing comes of a log that is another process's by now.
+    /// The text of what has come, and whether it is the last. Nothing comes of a log that another process may write by now.
     async fn next(&mut self) -> Result<(String, bool), Box<HttpReply>> {
-        let place = LogPosition { job: &self.job, number: self.number, after: Some(self.after), epoch: self.epoch };
+        let place = LogPosition { job: &self.job, number: self.number, after: Some(self.after) };
         let is_cut = place.check_cut(&self.app).is_err();
-        if !place.is_owned(&self.app) {
+        if !self.app.board.is_ready() {
             return Ok((String::new(), true));
         }
         if is_cut {
@@ -119,12 +118,13 @@ impl Stream {
         }
         let mut text = String::new();
         if *self.last.borrow() > self.after {
-            let (number, after) = (self.number, self.after);
+            let (number, after, length) = (self.number, self.after, self.app.board.length(&self.job));
             let page = self.app.read_events(move |reader| reader.events(number, after, PAGE)).await?;
-            if !place.is_owned(&self.app) {
+            if !self.app.board.is_ready() {
                 return Ok((String::new(), true));
             }
-            for entry in &page {
+            // as in a poll: a commit is told once it is published
+            for entry in page.iter().filter(|entry| entry.seq <= length) {
                 self.after = entry.seq;
                 if let Some(event) = render::event(entry, |seq| self.app.board.base(&self.job, seq)) {
                     let id = format!("{}@{}", entry.seq, self.app.board.log());

@@ -1,16 +1,14 @@
 //! All that a tab of the page shows, in one answer: the jobs by name and mode, and one job with its pending records, its savepoints,
 //! its history and its files.
-use super::forward::{self, was_passed, Served};
 use super::query::{numbers, Parameter};
 use super::reads::{files_of, metadata, FilesRead};
 use super::render;
-use super::reply::{json_reply, HttpReply};
-use super::{lists, reads, App};
+use super::reply::{self, json_reply, HttpReply};
+use super::{reads, App};
 use crate::auth::Caller;
 use crate::history::{self, HistoryReader, Search};
-use crate::model::{Kind, Shards};
+use crate::model::Kind;
 use crate::writer::{JobState, Read, ReadDone};
-use hyper::{Body, Request};
 use serde_json::{json, Value};
 
 const RECORDS: Parameter = Parameter { name: "records", most: 1000, default: 60 };
@@ -29,76 +27,22 @@ struct Wanted {
     files: u64,
 }
 
-/// Asks for the names of jobs and little else.
-const NAMES: &str = "/v1/view?records=0&samples=0&files=0";
-
-/// The job of this name is shown, or the first one if there is none. The names are those of all processes that share the jobs.
+/// The job of this name is shown, or the first one if there is none.
 pub async fn answer(
     app: &App,
     name: Option<String>,
     caller: &Caller,
-    request: Request<Body>,
+    query: &str,
 ) -> Result<HttpReply, Box<HttpReply>> {
-    let query = request.uri().query().unwrap_or("");
-    let wanted = numbers(query, [RECORDS, SAMPLES, FILES])?;
-    let is_damaged = name.as_ref().is_some_and(|job| app.board.damage(job).is_some());
-    let elsewhere = match (&name, &app.others) {
-        (Some(job), Some(others)) if !is_damaged => match others.find(app, job).await? {
-            Some(Served::At(_)) if was_passed(request.headers()) => return Err(forward::moves().into()),
-            Some(Served::At(address)) => Some((others, job.clone(), address)),
-            Some(Served::Here) | None => None,
-        },
-        _ => None,
-    };
-    let (shards, mut parts) = lists::parts(app, &request, NAMES, || own(app, name.as_ref(), caller, wanted)).await?;
-    if was_passed(request.headers()) || app.others.is_none() {
-        return Ok(lists::reply(&request, shards, parts.swap_remove(0)));
-    }
-    let mut names: Vec<Value> =
-        parts.iter_mut().filter_map(|part| part["jobs"].as_array_mut().map(std::mem::take)).flatten().collect();
-    names.sort_by(|one, other| one["name"].as_str().cmp(&other["name"].as_str()));
-    let damaged = lists::damaged(&mut parts);
-    let mut told = match elsewhere {
-        Some((others, job, address)) => {
-            let reply = others.pass(app, &address, &job, forward::get(&place(&request), request.headers())).await?;
-            if reply.status() != 200 {
-                return Err(reply.into());
-            }
-            forward::json(reply).await?
-        }
-        // where this process has none, the first job of another one
-        None => match parts.iter().position(|part| !part["job"].is_null()) {
-            _ if is_damaged => parts.swap_remove(0),
-            Some(0) | None => parts.swap_remove(0),
-            Some(_) => return Box::pin(answer(app, first(&names), caller, request)).await,
-        },
-    };
-    told["jobs"] = names.into();
-    told["damaged"] = damaged;
-    Ok(json_reply(200, &told))
-}
-
-fn place(request: &Request<Body>) -> String {
-    request.uri().path_and_query().map_or(String::new(), ToString::to_string)
-}
-
-fn first(names: &[Value]) -> Option<String> {
-    names.first().and_then(|one| one["name"].as_str()).map(str::to_string)
-}
-
-/// What this process has of it.
-async fn own(
-    app: &App,
-    name: Option<&String>,
-    caller: &Caller,
-    [records, samples, files]: [u64; 3],
-) -> Result<(Shards, Value), Box<HttpReply>> {
-    let (shards, jobs) = app.jobs().await?;
+    let [records, samples, files] = numbers(query, [RECORDS, SAMPLES, FILES])?;
+    let jobs = app.jobs().await?;
     // the names of many jobs take long, and the other requests go on by another thread
-    let (names, shown) = tokio::task::block_in_place(|| names_of(jobs, name, caller));
+    let (names, shown) = tokio::task::block_in_place(|| names_of(jobs, name.as_ref(), caller));
     // in place of one that is kept out no other job is shown
-    let shown = shown.filter(|_| name.is_none_or(|name| app.board.damage(name).is_none()));
+    let shown = shown.filter(|_| name.as_ref().is_none_or(|name| app.board.damage(name).is_none()));
+    let replay = app.board.replay.of_all().map(|_| reply::replay(app.board.replay.progress()));
     let mut told = json!({"epoch": app.board.epoch(), "job": null, "damaged": reads::damaged(app, caller)});
+    told["replay"] = json!(replay);
     told["jobs"] = names; // `json!` would copy them
     if let (Some(job), Some(object)) = (shown, told.as_object_mut()) {
         let wanted = Wanted { records, samples, files };
@@ -106,7 +50,8 @@ async fn own(
         object.insert("pending".to_string(), Value::Array(pending(app, &job).await?));
         object.append(&mut history(app, &job, wanted).await?);
     }
-    Ok((shards, told))
+    // the text of many jobs takes long, too
+    Ok(tokio::task::block_in_place(|| json_reply(200, &told)))
 }
 
 /// The jobs that the caller may see, by name and mode, and the one that is shown.

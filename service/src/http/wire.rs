@@ -1,5 +1,6 @@
 //! Reads the bodies of requests. An error names the place of the bad value, such as `calls[3].fresh[0]`.
 use super::json_members::{each, invalid, items, read, shown, text, Checked, Members};
+use crate::files::JobStorage;
 use crate::model::{
     check_shape, settings_of, Call, Change, Given, Settings, Subtask, Target, FIELDS, MOST_PAYLOAD, MOST_REASON,
 };
@@ -192,6 +193,10 @@ pub struct NewJob {
     pub shape: Vec<u64>,
     /// Whether it gives out names, if that is said.
     pub names: Option<bool>,
+    /// The number of its first record.
+    pub first: u64,
+    /// Where its files are, if that is said.
+    pub storage: Option<JobStorage>,
 }
 
 /// Reads the body that opens a job.
@@ -204,8 +209,34 @@ pub fn new_job(bytes: &[u8]) -> Checked<NewJob> {
     let settings = settings(Members::of("settings", members.wanted("settings")?)?)?;
     let shape = members.shape()?.ok_or_else(|| members.wrong("shape", "is missing"))?;
     let names = members.flag("names")?;
+    let storage = members.take("storage").map(|value| storage_of(Members::of("storage", value)?)).transpose()?;
+    let first = if members.has("first") { members.number("first", 1, GREATEST)? } else { 1 };
     members.finish()?;
-    Ok(NewJob { name, settings, shape, names })
+    Ok(NewJob { name, settings, shape, names, first, storage })
+}
+
+/// Reads the body that says where a job's files are.
+pub fn storage(bytes: &[u8]) -> Checked<JobStorage> {
+    storage_of(Members::of_body(bytes)?)
+}
+
+fn storage_of(mut members: Members) -> Checked<JobStorage> {
+    let mut text = |name: &str| -> Checked<Option<String>> {
+        if members.has(name) {
+            members.text(name).map(|text| Some(text.into_owned()))
+        } else {
+            Ok(None)
+        }
+    };
+    let (folder, bucket, endpoint, region) = (text("folder")?, text("bucket")?, text("endpoint")?, text("region")?);
+    let (prefix, suffix) = (text("prefix")?.unwrap_or_default(), text("suffix")?.unwrap_or_default());
+    let keeps_versions = members.flag("keeps_versions")?.unwrap_or(false);
+    let storage = JobStorage { folder, bucket, prefix, suffix, endpoint, region, keeps_versions };
+    if let Some((member, why)) = storage.wrong() {
+        return Err(members.wrong(member, &why));
+    }
+    members.finish()?;
+    Ok(storage)
 }
 
 /// Reads the body that gives a job names: the first one, as a string or as a number.
@@ -247,6 +278,14 @@ pub fn change(bytes: &[u8]) -> Checked<Change> {
         return Err(invalid("body", "names no setting"));
     }
     Ok(change)
+}
+
+/// Reads what a checkpoint is to be: with `full` its barrier names no base.
+pub fn checkpoint(bytes: &[u8]) -> Checked<Call> {
+    let mut members = Members::of_body(bytes)?;
+    let is_full = members.flag("full")?.unwrap_or(false);
+    members.finish()?;
+    Ok(if is_full { Call::TriggerFull } else { Call::Trigger })
 }
 
 /// Reads a body that says nothing.
@@ -340,7 +379,12 @@ fn restore(members: &mut Members) -> Checked<Call> {
         }
         _ => return Err(members.wrong("accept_published", "is no field here")),
     }
-    Ok(Call::Restore { target, shape: members.shape()? })
+    let (is_stopped, shape) = (members.flag("stopped")?.unwrap_or(false), members.shape()?);
+    match target {
+        Target::Checkpoint(_) if is_stopped => Err(members.wrong("stopped", "is no field here")),
+        _ if is_stopped => Ok(Call::RestoreStopped { target, shape }),
+        _ => Ok(Call::Restore { target, shape }),
+    }
 }
 
 fn target(members: &mut Members) -> Checked<Target> {
@@ -582,7 +626,10 @@ mod tests {
     fn reads_jobs() {
         let body = br#"{"name":"orders","settings":{"interval":1000,"retained":2},"shape":[2,1]}"#;
         let settings = settings_of([1000, 0, 1, 600_000, 0, 2], false);
-        let wanted = |names| Ok(NewJob { name: "orders".to_string(), settings, shape: vec![2, 1], names });
+        let wanted = |names| {
+            let name = "orders".to_string();
+            Ok(NewJob { name, settings, shape: vec![2, 1], names, first: 1, storage: None })
+        };
         assert_eq!(new_job(body), wanted(None));
         let with =
             |names: &str| String::from_utf8_lossy(body).replace("{\"name\"", &format!("{{\"names\":{names},\"name\""));

@@ -1,7 +1,6 @@
 //! Requests that change something: a new job, and calls.
 use super::audit::Did;
 use super::bodies::BodyRoom;
-use super::forward::{self, was_passed, Served};
 use super::query::{numbers, Parameter};
 use super::reply::{bad_field, bad_key, body, damaged, error, invalid, json_reply, refusal, with_header, HttpReply};
 use super::{gate, no_job, wire, App};
@@ -22,74 +21,43 @@ const ABANDON: Parameter = Parameter { name: "abandon", most: 1, default: 0 };
 const STOP_BODIES: Duration = Duration::from_secs(5);
 
 pub async fn new_job(app: &App, caller: &Caller, request: Request<Body>) -> Result<HttpReply, Box<HttpReply>> {
-    let (head, body) = request.into_parts();
-    let (bytes, _room) = read_body(app, caller, body).await?;
-    let wire::NewJob { name, settings, shape, names } = wire::new_job(&bytes).map_err(|why| invalid(&why))?;
+    let (bytes, _room) = read_body(app, caller, request.into_body()).await?;
+    let wire::NewJob { name, settings, shape, names, first, storage } =
+        wire::new_job(&bytes).map_err(|why| invalid(&why))?;
     if !caller.may_see(&name) {
         return Err(gate::not_for(&name).into());
     }
-    let mut told = json!({"name": name, "settings": settings_json(&settings), "shape": shape});
+    app.replayed(&name).await?;
+    let mut told = json!({"name": name, "settings": settings_json(&settings), "shape": shape, "storage": storage});
+    let wanted = (settings, shape.clone());
     let (place, by_default) = (format!("/v1/jobs/{name}"), app.names);
-    let names = NamesWanted { wanted: names, by_default };
+    let names = NamesWanted { wanted: names, by_default, first };
     if let Some(why) = app.board.damage(&name) {
         return Err(damaged(&name, &why).into());
     }
-    if let Some(address) = elsewhere(app, &name).await? {
-        return pass_new(app, &address, &name, head, bytes).await;
-    }
     let at = name.clone();
-    let created = app.ask(|reply| Message::Create { name, settings, shape, names, reply }).await?;
+    let created = app.ask(|reply| Message::Create { name, settings, shape, names, storage, reply }).await?;
     Ok(match created {
-        // another process has opened it in this moment, or has to
-        Created::Elsewhere => match elsewhere(app, &at).await? {
-            Some(address) => return pass_new(app, &address, &at, head, bytes).await,
-            None => forward::moves(),
-        },
         Created::New { names } => {
             told["names"] = json!(names);
             with_header(json_reply(201, &told), LOCATION, &place)
         }
-        Created::Same { names } => {
-            told["names"] = json!(names);
+        // its settings and its shape are the operator's since it was opened
+        Created::Found { names, settings, shape, storage } => {
+            let differ = (settings, &shape) != (wanted.0, &wanted.1);
+            (told["settings"], told["storage"]) = (settings_json(&settings), json!(storage.as_deref()));
+            (told["shape"], told["names"], told["settings_differ"]) = (json!(shape), json!(names), json!(differ));
             json_reply(200, &told)
         }
-        Created::Other => bad_name_taken(),
+        Created::Making => making(&at),
         Created::OtherNames { names } => other_names(names),
         Created::NotOpened(why) => error(507, &format!("the job was not opened: {why}")),
         Created::Damaged(why) => damaged(&at, &why),
     })
 }
 
-/// The address of the process that has the job of this name, or has to open it; `None`: this one.
-async fn elsewhere(app: &App, job: &str) -> Result<Option<String>, Box<HttpReply>> {
-    let Some(others) = &app.others else {
-        return Ok(None);
-    };
-    Ok(match others.find(app, job).await? {
-        Some(Served::At(address)) => Some(address),
-        None if app.board.shards().is_empty() => others.owners.others().into_iter().next(),
-        Some(Served::Here) | None => None,
-    })
-}
-
-/// Passes on a request to open a job.
-async fn pass_new(
-    app: &App,
-    address: &str,
-    job: &str,
-    head: hyper::http::request::Parts,
-    bytes: Vec<u8>,
-) -> Result<HttpReply, Box<HttpReply>> {
-    match &app.others {
-        Some(others) if !was_passed(&head.headers) => {
-            others.pass(app, address, job, Request::from_parts(head, Body::from(bytes))).await
-        }
-        _ => Err(forward::moves().into()),
-    }
-}
-
-fn bad_name_taken() -> HttpReply {
-    let why = "name is that of a job with other settings or another shape";
+fn making(job: &str) -> HttpReply {
+    let why = format!("name: the job {job} is being recovered or imported, and is not whole: give that command again");
     refusal(409, json!({"error": why, "field": "name"}))
 }
 
@@ -132,7 +100,7 @@ pub async fn calls(
     let (at, did) = (job.clone(), Did::of(&calls));
     let done = app.ask(|reply| Message::Calls { job, calls, tells, key, reply }).await?;
     let mut reply = match done {
-        CallsDone::Made(epoch, outcomes) => body(200, app.board.answers(epoch, &outcomes)),
+        CallsDone::Made(outcomes) => body(200, app.board.answers(&outcomes)),
         CallsDone::Known(answers) => body(200, answers),
         CallsDone::KeyUsed => key_used(),
         CallsDone::BadKey(why) => bad_key(&why),

@@ -62,7 +62,6 @@ pub struct Metrics {
     images_fail: Parted<IntGaugeVec>,
     clock_ahead: Gauge,
     leader: IntGauge,
-    shards: IntGauge,
     connections: IntGauge,
     bodies: IntGauge,
     commit_takes: Gauge,
@@ -106,7 +105,6 @@ impl Metrics {
                 "How far the moments that calls are given are ahead of this machine's clock.",
             )?,
             leader: IntGauge::new("relkvanu_leader", "1 where this process leads.")?,
-            shards: IntGauge::new("relkvanu_shards", "Shards of the jobs that this process serves, of 64.")?,
             connections: IntGauge::new("relkvanu_http_connections", "Open connections.")?,
             bodies: IntGauge::new(
                 "relkvanu_http_body_bytes",
@@ -152,7 +150,6 @@ impl Metrics {
         all.add(&self.images_fail)?;
         all.add(&self.clock_ahead)?;
         all.add(&self.leader)?;
-        all.add(&self.shards)?;
         all.add(&self.connections)?;
         all.add(&self.bodies)?;
         all.add(&self.commit_takes)?;
@@ -239,16 +236,6 @@ impl Metrics {
         self.gauges.forget(job);
         self.upkeep.forget(job);
         self.sizes.forget(job);
-    }
-
-    /// Jobs were deleted, or are another process's.
-    pub fn forget_all<'a>(&self, jobs: impl IntoIterator<Item = &'a str>) {
-        jobs.into_iter().for_each(|job| self.forget(job));
-    }
-
-    /// How many shards of the jobs this process serves.
-    pub fn shards(&self, count: usize) {
-        self.shards.set(i64::try_from(count).unwrap_or(i64::MAX));
     }
 
     pub fn lead(&self, leads: bool) {

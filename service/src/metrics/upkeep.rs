@@ -2,6 +2,7 @@
 use super::{seconds, Families, Parted, STATES};
 use crate::auth::{Access, Tokens};
 use crate::store::Disk;
+use crate::writer::Progress;
 use prometheus::{Gauge, GaugeVec, IntGauge, IntGaugeVec, Opts};
 use std::time::{Duration, SystemTime, UNIX_EPOCH};
 
@@ -17,6 +18,8 @@ pub struct Upkeep {
     certificate_until: Gauge,
     oldest_file: Parted<GaugeVec>,
     damaged: IntGaugeVec,
+    jobs: IntGauge,
+    replayed: IntGauge,
     reload_failed: IntGauge,
 }
 
@@ -58,6 +61,14 @@ impl Upkeep {
                 ),
                 &["job_name"],
             )?,
+            jobs: IntGauge::new(
+                "relkvanu_replay_jobs",
+                "How many jobs there were when this process began to lead, those too that it keeps out.",
+            )?,
+            replayed: IntGauge::new(
+                "relkvanu_replayed_jobs",
+                "How many of these are replayed by now: requests for the others wait.",
+            )?,
             token_until: GaugeVec::new(
                 Opts::new(
                     "relkvanu_token_until_timestamp_seconds",
@@ -75,7 +86,7 @@ impl Upkeep {
         all.add(&self.certificate_until)?;
         [&self.keys_behind, &self.samples_behind].into_iter().try_for_each(|it| all.add(it))?;
         all.add(&self.damaged)?;
-        all.add(&self.reload_failed)?;
+        [&self.jobs, &self.replayed, &self.reload_failed].into_iter().try_for_each(|it| all.add(it))?;
         [&self.bytes, &self.free, &self.disk].into_iter().try_for_each(|it| all.add(it))
     }
 
@@ -88,6 +99,12 @@ impl Upkeep {
     pub fn damaged<'a>(&self, jobs: impl Iterator<Item = &'a str>) {
         self.damaged.reset();
         jobs.for_each(|job| self.damaged.with_label_values(&[job]).set(1));
+    }
+
+    /// How far the replay is.
+    pub fn replay(&self, Progress { jobs, replayed, .. }: Progress) {
+        self.jobs.set(jobs as i64);
+        self.replayed.set(replayed as i64);
     }
 
     pub fn history_up(&self, is_up: bool) {

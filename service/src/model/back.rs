@@ -1,5 +1,6 @@
 //! The way back to an older checkpoint that is retained: a savepoint of its own files, and the restore to that savepoint.
 use super::call::{Call, Subtask, Target};
+use super::held::Held;
 use super::job::{Job, Logged};
 use super::outcome::{Outcome, Reply, Unable};
 use relkvanu::{Answer, Choice, Kind};
@@ -21,15 +22,9 @@ struct Part {
 impl Job {
     /// Restores the job to a checkpoint that is retained, in a new shape if one is given. Returns the answer of the restore, and adds the rows
     /// of all calls, which are for one commit. A refusal of one of them takes back what was done before it, so no file is lost.
-    pub(super) fn go_back(
-        &mut self,
-        checkpoint: u64,
-        shape: Option<&[u64]>,
-        now: u64,
-        made: &mut Vec<Logged>,
-    ) -> Outcome {
+    pub(super) fn go_back(&mut self, checkpoint: u64, shape: Option<&[u64]>, now: u64, made: &mut Vec<Logged>) -> Held {
         match self.parts(checkpoint) {
-            Err(outcome) => outcome,
+            Err(outcome) => self.hold_back(outcome),
             Ok(_) if self.engine().choice() == Choice::Checkpoint(checkpoint) => {
                 self.step(&Call::Restore { target: Target::Latest, shape: shape.map(<[u64]>::to_vec) }, now, made)
             }
@@ -60,30 +55,30 @@ impl Job {
         shape: Option<&[u64]>,
         now: u64,
         made: &mut Vec<Logged>,
-    ) -> Outcome {
-        let id = match self.step(&Call::Savepoint, now, made) {
-            Outcome::Made { reply: Reply::Answered(Answer::SavepointTriggered(id)), .. } => id,
-            other => return other,
+    ) -> Held {
+        let held = self.step(&Call::Savepoint, now, made);
+        let Outcome::Made { reply: Reply::Answered(Answer::SavepointTriggered(id)), .. } = held.outcome else {
+            return held;
         };
         let term = self.engine().term().map_or(0, |now| now.term);
         for (subtask, files) in parts {
             let (subtask, reused) = (*subtask, files.clone());
             let ack = Call::Ack { term, id, subtask, fresh: vec![], reused, bytes: vec![], given: None };
-            let outcome = self.step(&ack, now, made);
-            if !matches!(outcome, Outcome::Made { .. }) {
+            let held = self.step(&ack, now, made);
+            if !matches!(held.outcome, Outcome::Made { .. }) {
                 self.step(&Call::Decline { term, id, subtask, reason: None }, now, made);
-                return outcome;
+                return held;
             }
         }
         if let (Some(last), Some(copy)) = (made.last_mut(), self.states.copy(checkpoint, id)) {
             last.states.get_or_insert_with(Box::default).copy = Some(copy);
         }
         let restore = Call::Restore { target: Target::Savepoint(id), shape: shape.map(<[u64]>::to_vec) };
-        let outcome = self.step(&restore, now, made);
-        if !matches!(outcome, Outcome::Made { .. }) {
+        let held = self.step(&restore, now, made);
+        if !matches!(held.outcome, Outcome::Made { .. }) {
             self.step(&Call::Dispose { id }, now, made);
         }
-        outcome
+        held
     }
 }
 
@@ -99,7 +94,8 @@ mod tests {
 
     /// A job of two subtasks with three checkpoints, of which each has a file of each subtask and the first file of all.
     fn with_three() -> Result<Job, Box<dyn Error>> {
-        let opening = Opening { number: 1, name: "orders".to_string(), settings: SETTINGS, shape: vec![2], started: 0 };
+        let opening =
+            Opening { number: 1, name: "orders".to_string(), settings: SETTINGS, shape: vec![2], started: 0, first: 1 };
         let mut job = Job::open(opening)?;
         for id in 1..=3 {
             job.call(&Call::Tick, id * 10);
@@ -116,7 +112,7 @@ mod tests {
     }
 
     fn go_back(job: &mut Job, checkpoint: u64, now: u64) -> (Outcome, Vec<Logged>) {
-        job.operate(&Call::Restore { target: Target::Checkpoint(checkpoint), shape: None }, now)
+        job.committed(&Call::Restore { target: Target::Checkpoint(checkpoint), shape: None }, now)
     }
 
     #[test]

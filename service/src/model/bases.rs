@@ -25,6 +25,21 @@ impl Bases {
         }
     }
 
+    /// A trigger is told no base, though the choice is this one.
+    pub fn note_full(&mut self, seq: u64, choice: Choice) {
+        self.0.push_back((seq.saturating_sub(1), Choice::Fresh));
+        self.0.push_back((seq, choice));
+        let most = self.0.len().saturating_sub(MOST);
+        self.0.drain(..most);
+    }
+
+    /// Of the calls up to this one nothing is known: an earlier process may have told a trigger no base.
+    pub fn forget(&mut self, seq: u64) {
+        if let Some((_, choice)) = self.0.pop_back() {
+            *self = Bases::from(seq, choice);
+        }
+    }
+
     /// The choice before a call; `None` if it is not known any more.
     pub fn before(&self, seq: u64) -> Option<Choice> {
         self.0.iter().rev().find(|(at, _)| *at < seq).map(|(_, choice)| *choice)
@@ -49,6 +64,18 @@ mod tests {
         assert_eq!([4, 5, 7].map(|seq| bases.before(seq)), [None, Some(Choice::Fresh), Some(Choice::Fresh)]);
         assert_eq!([8, 12].map(|seq| bases.before(seq)), [Some(Choice::Checkpoint(1)); 2]);
         assert_eq!((bases.before(13), bases.changed()), (Some(Choice::Savepoint(2)), 12));
+    }
+
+    #[test]
+    fn a_full_trigger_has_no_base() {
+        let mut bases = Bases::from(4, Choice::Fresh);
+        bases.note(7, Choice::Checkpoint(1));
+        bases.note(8, Choice::Checkpoint(2));
+        bases.note_full(9, Choice::Checkpoint(2));
+        let told = [8, 9, 10].map(|seq| bases.before(seq));
+        assert_eq!(told, [Choice::Checkpoint(1), Choice::Fresh, Choice::Checkpoint(2)].map(Some));
+        bases.forget(12);
+        assert_eq!([9, 12, 13].map(|seq| bases.before(seq)), [None, None, Some(Choice::Checkpoint(2))]);
     }
 
     #[test]

@@ -104,6 +104,13 @@ pub enum Call {
     Take {
         most: u64,
     },
+    /// A trigger whose barrier names no base, so tasks write everything anew. Its line is that of a trigger.
+    TriggerFull,
+    /// Restores a job that has stopped, which stays stopped: it begins from there, in this shape.
+    RestoreStopped {
+        target: Target,
+        shape: Option<Vec<u64>>,
+    },
     /// Triggers the savepoint with which the job stops. The job makes several calls of it ([`Job::operate`](super::job::Job::operate)).
     Stop,
     /// Begins the job again where it has stopped.
@@ -148,7 +155,8 @@ impl Call {
             // bindings/generate: end
             Call::Ack { .. } => "ack",
             Call::Decline { .. } => "decline",
-            Call::Restore { .. } => "restore",
+            Call::TriggerFull => "trigger",
+            Call::Restore { .. } | Call::RestoreStopped { .. } => "restore",
             Call::Take { .. } => "take",
             Call::Stop => "stop",
             Call::Begin => "begin",

@@ -100,14 +100,6 @@ impl Pace {
     }
 }
 
-/// How far moments that are ahead of a clock still are after so many milliseconds of it: they go as much slower as a [`Clock`] does.
-pub fn nearer(ahead: u64, passed: u64) -> u64 {
-    if ahead > millis(FOLLOWED) {
-        return ahead;
-    }
-    ahead.saturating_sub(passed / PART)
-}
-
 /// The system's clock is more than a day ahead of the last moment that the database has.
 #[derive(Debug, PartialEq, Eq, Error)]
 #[error(
@@ -151,13 +143,6 @@ pub fn millis(time: Duration) -> u64 {
 #[cfg(test)]
 mod tests {
     use super::*;
-
-    #[test]
-    fn moments_that_are_ahead_come_nearer() {
-        let day = millis(FOLLOWED);
-        assert_eq!([nearer(5000, 1000), nearer(50, 1000), nearer(0, 1000)], [4900, 0, 0]);
-        assert_eq!((nearer(day, 1000), nearer(day + 1, 1000)), (day - 100, day + 1));
-    }
 
     #[test]
     fn moments_follow_a_clock_that_is_near() {

@@ -2,7 +2,10 @@
 use super::call::Call;
 use super::live::Live;
 use super::outcome::Reply;
-use relkvanu::{Answer, Choice, Fault, FileCounts, Garbage, LineFault, Mode, RunningTerm, Said, Settings};
+use relkvanu::{
+    Answer, Choice, Fault, FileCounts, Garbage, Grouped, LineFault, Mode, Receipt, Refusal, RunningTerm, Said,
+    Settings, Told,
+};
 use std::ops::{Deref, DerefMut, Range};
 use thiserror::Error;
 
@@ -41,18 +44,30 @@ impl MadeCall {
     }
 }
 
-pub struct Engine(relkvanu::Coordinator);
+/// A call whose answer the library holds back.
+pub struct HeldCall {
+    pub receipt: Receipt,
+    pub made: Result<MadeCall, Fault>,
+}
+
+impl HeldCall {
+    fn of(held: relkvanu::Held<'_>) -> HeldCall {
+        HeldCall { receipt: held.receipt, made: held.made.and_then(MadeCall::of) }
+    }
+}
+
+pub struct Engine(Grouped);
 
 impl Engine {
-    /// Opens a coordinator at the moment `now`. Its first record has the number 1.
-    pub fn open(settings: &Settings, shape: &[u64], now: u64) -> Result<Engine, NoJob> {
-        let opened = relkvanu::Coordinator::open(settings, shape, now, 1);
-        opened.map(Engine).map_err(NoJob)
+    /// Opens a coordinator at the moment `now`. Its first record has the number `first`.
+    pub fn open(settings: &Settings, shape: &[u64], now: u64, first: u64) -> Result<Engine, NoJob> {
+        let opened = relkvanu::Coordinator::open(settings, shape, now, first);
+        opened.map(|it| Engine(Grouped::new(it))).map_err(NoJob)
     }
 
     /// Opens the coordinator of an image.
     pub fn of_image(text: &str) -> Result<Engine, Fault> {
-        relkvanu::Coordinator::open_saved(text.as_bytes()).map(Engine)
+        relkvanu::Coordinator::open_saved(text.as_bytes()).map(|it| Engine(Grouped::new(it)))
     }
 
     /// The coordinator's image; `None` if memory ran out.
@@ -80,32 +95,47 @@ impl Engine {
         self.0.garbage(files)
     }
 
-    /// Makes a call at the moment `now`, in one call of the library. A take that finds more files than there is room for is made again.
-    pub fn make(&mut self, call: &Call, now: u64) -> Result<MadeCall, Fault> {
+    /// Makes a call at the moment `now`, in one call of the library, which holds its answer back. A take that finds more files than there is room
+    /// for is made again. A fault of this function itself has no receipt: there was no memory for it.
+    pub fn make(&mut self, call: &Call, now: u64) -> Result<HeldCall, Fault> {
         let call = call.of_library(now);
         let mut files = [0; FILES];
-        match self.0.make(&call, &mut files) {
+        let held = match self.0.make(&call, &mut files) {
             Err(Fault::TooShort { places }) => {
                 let mut files = vec![0; usize::try_from(places).unwrap_or(0)];
-                self.0.make(&call, &mut files).and_then(MadeCall::of)
+                return self.0.make(&call, &mut files).map(HeldCall::of);
             }
-            // The line would be longer than a line may be. So it has more files than an acknowledgement may have, and is refused for
-            // these or before them.
-            Err(long @ Fault::BadLine(LineFault::TooLong)) => Err(self.refused(&call).unwrap_or(long)),
+            held => held,
+        };
+        held.map(HeldCall::of)
+    }
+
+    /// Makes a call of the log again. Its answer was told before, or is told to nobody.
+    pub fn repeat(&mut self, call: &Call, now: u64) -> Result<MadeCall, Fault> {
+        let call = call.of_library(now);
+        let mut files = [0; FILES];
+        match self.0.repeat(&call, &mut files) {
+            Err(Fault::TooShort { places }) => {
+                let mut files = vec![0; usize::try_from(places).unwrap_or(0)];
+                self.0.repeat(&call, &mut files).and_then(MadeCall::of)
+            }
             made => made.and_then(MadeCall::of),
         }
     }
 
-    /// Why an acknowledgement of too many files is refused.
-    fn refused(&mut self, call: &relkvanu::Call<'_>) -> Option<Fault> {
-        use relkvanu::Call as C;
-        match *call {
-            C::Ack { now, id, subtask, fresh, reused } => self.0.ack(now, id, subtask, fresh, reused).err(),
-            C::AckIn { term, now, id, subtask, fresh, reused } => {
-                self.0.ack_in(term, now, id, subtask, fresh, reused).err()
-            }
-            _ => None,
-        }
+    /// Holds back that the service itself refuses a call.
+    pub fn hold(&mut self) -> Result<Receipt, Fault> {
+        self.0.hold(Refusal::NotRunning)
+    }
+
+    /// The lines of all calls so far are committed: the library may tell their answers.
+    pub fn synced(&mut self) -> Result<u64, Fault> {
+        self.0.synced()
+    }
+
+    /// The answer of this receipt, once its line is committed.
+    pub fn told(&self, receipt: Receipt) -> Result<Told, Fault> {
+        self.0.told(receipt)
     }
 
     pub fn mode(&self) -> Mode {
@@ -200,7 +230,6 @@ mod tests {
     use super::super::call::Subtask;
     use super::super::settings::settings_of;
     use super::*;
-    use relkvanu::Refusal;
     use std::error::Error;
 
     const SETTINGS: Settings = settings_of([10, 0, 1, 5000, 0, 1], false);
@@ -212,36 +241,24 @@ mod tests {
 
     #[test]
     fn a_call_is_made_with_its_line() -> Result<(), Box<dyn Error>> {
-        let mut engine = Engine::open(&SETTINGS, &[1], 0)?;
-        let ticked = engine.make(&Call::Tick, 10)?;
+        let mut engine = Engine::open(&SETTINGS, &[1], 0, 1)?;
+        let ticked = engine.make(&Call::Tick, 10)?.made?;
         assert_eq!((ticked.line.as_str(), ticked.released), ("tick 10", 0..0));
-        let acknowledged = engine.make(&ack(vec![8, 7]), 11)?;
+        let acknowledged = engine.make(&ack(vec![8, 7]), 11)?.made?;
         assert_eq!((acknowledged.line.as_str(), acknowledged.released), ("ack 11 1 0.0 +7 +8", 0..0));
-        assert_eq!(engine.make(&Call::Cancel, 12)?.released, 0..2);
+        assert_eq!(engine.make(&Call::Cancel, 12)?.made?.released, 0..2);
         Ok(())
     }
 
     #[test]
     fn a_take_may_find_more_files_than_most_do() -> Result<(), Box<dyn Error>> {
-        let mut engine = Engine::open(&SETTINGS, &[1], 0)?;
+        let mut engine = Engine::open(&SETTINGS, &[1], 0, 1)?;
         let files: Vec<u64> = (1..=100).collect();
         engine.make(&Call::Tick, 10)?;
         engine.make(&ack(files.clone()), 11)?;
         engine.make(&Call::Cancel, 12)?;
-        let taken = engine.make(&Call::Take { most: 1000 }, 13)?;
+        let taken = engine.make(&Call::Take { most: 1000 }, 13)?.made?;
         assert_eq!((taken.reply, taken.line.as_str()), (Reply::Taken(files), "take 1000"));
-        Ok(())
-    }
-
-    #[test]
-    fn an_acknowledgement_with_too_long_a_line_has_too_many_files() -> Result<(), Box<dyn Error>> {
-        let mut engine = Engine::open(&SETTINGS, &[1], 0)?;
-        engine.make(&Call::Tick, 10)?;
-        let image = engine.image();
-        let many = ack((0..9000).map(|place| u64::MAX - place).collect());
-        assert_eq!(engine.make(&many, 11).err(), Some(Refusal::TooManyFiles.into()));
-        assert_eq!(engine.make(&many, 1 << 62).err(), Some(Refusal::MomentTooLarge.into()));
-        assert_eq!(engine.image(), image);
         Ok(())
     }
 }

@@ -73,7 +73,7 @@ pub fn kind(reply: &Reply) -> Option<&'static str> {
 mod tests {
     use super::super::answer_row::AnswerRow;
     use super::*;
-    use crate::store::{IS_EVENT, LITE, PG};
+    use crate::store::{IS_EVENT, PG, SQLITE};
     use rusqlite::Connection;
     use Answer as A;
 
@@ -81,7 +81,7 @@ mod tests {
         Reply::Answered(answer)
     }
 
-    /// Answers, as docs/RULES.md says; the event that each is, by docs/SERVICE-API.md. None is left out.
+    /// Answers, as docs/RULES.md says; the event that each is, by docs/SERVICE-ENGINE.md. None is left out.
     fn answers() -> Vec<(Reply, Option<&'static str>)> {
         let restored = |from| answered(A::Restored { from, released: 3 });
         vec![
@@ -144,7 +144,7 @@ mod tests {
     /// The index of each database has the rows that are events, by the condition that the statements have.
     #[test]
     fn the_databases_have_the_same_events() -> rusqlite::Result<()> {
-        assert!(LITE.contains(IS_EVENT) && PG.contains(IS_EVENT));
+        assert!(SQLITE.contains(IS_EVENT) && PG.contains(IS_EVENT));
         let base = Connection::open_in_memory()?;
         for (reply, word) in answers() {
             let [what, a, _] = AnswerRow::of(&reply).numbers();

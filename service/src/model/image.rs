@@ -17,7 +17,7 @@ pub struct Image {
     pub shape: Vec<u64>,
     pub last_completed: Option<u64>,
     pub last_event: u64,
-    /// The coordinator's image, as docs/IMAGE.md has it.
+    /// The coordinator's image, as docs/LOGS.md has it.
     pub text: String,
 }
 
@@ -175,7 +175,7 @@ mod tests {
     use super::super::Engine;
     use super::*;
 
-    /// The example of docs/IMAGE.md.
+    /// The example of docs/LOGS.md.
     const TEXT: &str = r#"{"outbox":{"taken":[12],"waiting":[21]},"records":[
         {"acks":[{"files":[11,13],"index":0,"vertex":0},{"files":[22],"index":1,"vertex":0}],
          "id":2,"kind":"checkpoint","pins":[],"shape":[2],"started":2000,"state":"done"},
@@ -198,7 +198,7 @@ mod tests {
             retained: 1,
             keep_on_cancel: true,
         };
-        let text = Engine::open(&settings, &[1], 5)?.image().ok_or("no memory")?;
+        let text = Engine::open(&settings, &[1], 5, 1)?.image().ok_or("no memory")?;
         assert_eq!(Image { text, ..example() }.settings(), Some(settings));
         assert_eq!(Image { text: "{}".to_string(), ..example() }.settings(), None);
         Ok(())

@@ -2,7 +2,8 @@
 use super::answer_row::AnswerRow;
 use super::bases::Bases;
 use super::call::Call;
-use super::engine::{Engine, Lendable, MadeCall, NoJob};
+use super::engine::{Engine, HeldCall, Lendable, MadeCall, NoJob};
+use super::held::Held;
 use super::image::Image;
 use super::live::{ended_numbers, Live};
 use super::outcome::{Extra, Outcome, Reply};
@@ -11,9 +12,11 @@ use super::retention::Retention;
 use super::settings::pending_limit;
 use super::sizes::{FileBytes, SizeChange, Sizes, Use};
 use super::states::{StateChange, States};
+use crate::files::JobStorage;
 use relkvanu::{Answer, Choice, Fault, Kind, Live as LiveRecord, Mode, Settings};
 use std::collections::HashSet;
 use std::ops::Range;
+use std::sync::Arc;
 
 /// What a job was opened with, which never changes. A job may have other settings and another shape since.
 #[derive(Clone, Debug, PartialEq, Eq)]
@@ -25,6 +28,8 @@ pub struct Opening {
     pub shape: Vec<u64>,
     /// The moment of the opening.
     pub started: u64,
+    /// The number of its first record.
+    pub first: u64,
 }
 
 /// A row of the log: a call that was made, and its answer.
@@ -92,10 +97,10 @@ pub struct Job {
     pub sizes: Sizes,
     /// The records with payloads and the like, if this process leads.
     pub states: States,
-    /// How many milliseconds its moments are ahead of the writer's clock: it came from a process whose clock is ahead of this one's.
-    pub ahead: u64,
     /// As the database has it, and as the calls since have left it.
     pub phase: Phase,
+    /// Where its files are, if that was said.
+    pub storage: Option<Arc<JobStorage>>,
     pub is_deleted: bool,
     engine: Lendable,
     live: Live,
@@ -103,10 +108,11 @@ pub struct Job {
 
 impl Job {
     pub fn open(opening: Opening) -> Result<Job, NoJob> {
-        let engine = Lendable::of(Engine::open(&opening.settings, &opening.shape, opening.started)?);
+        let Opening { ref settings, ref shape, started, first, .. } = opening;
+        let engine = Lendable::of(Engine::open(settings, shape, started, first)?);
         let (shape, at, retention) = (opening.shape.clone(), opening.started, Retention::default());
         let (live, sizes, states) = (Live::new(), Sizes::default(), States::default());
-        let (seq, last_event, ahead, is_deleted) = (0, 0, 0, false);
+        let (seq, last_event, is_deleted) = (0, 0, false);
         let (bases, settings) = (Bases::from(seq, Choice::Fresh), opening.settings);
         Ok(Job {
             opening,
@@ -121,8 +127,8 @@ impl Job {
             retention,
             sizes,
             states,
-            ahead,
             phase: Phase::Running,
+            storage: None,
             is_deleted,
             engine,
             live,
@@ -144,9 +150,10 @@ impl Job {
     /// The job was deleted: frees what it takes, as far as memory allows.
     pub fn close(&mut self) {
         self.is_deleted = true;
-        (self.retention, self.sizes, self.live, self.ahead) = (Retention::default(), Sizes::default(), Live::new(), 0);
+        (self.retention, self.sizes, self.live) = (Retention::default(), Sizes::default(), Live::new());
         self.states = States::default();
-        if let Ok(engine) = Engine::open(&self.opening.settings, &self.opening.shape, self.opening.started) {
+        let Opening { ref settings, ref shape, started, first, .. } = self.opening;
+        if let Ok(engine) = Engine::open(settings, shape, started, first) {
             self.engine = Lendable::of(engine);
         }
     }
@@ -176,17 +183,22 @@ impl Job {
 
     /// The job's moment when the writer's clock says `now`. It never goes back.
     pub fn moment(&self, now: u64) -> u64 {
-        now.saturating_add(self.ahead).max(self.at)
+        now.max(self.at)
     }
 
-    /// Makes a call. If it changed something, also returns its row, which has to be committed before the call is answered.
-    pub fn call(&mut self, call: &Call, now: u64) -> (Outcome, Option<Logged>) {
-        let MadeCall { reply, line, released } = match self.engine.make(call, now) {
+    /// Makes a call, whose answer is held back. If it changed something, also returns its row, which has to be committed before the call is answered.
+    pub fn call(&mut self, call: &Call, now: u64) -> (Held, Option<Logged>) {
+        let HeldCall { receipt, made } = match self.engine.make(call, now) {
+            Ok(held) => held,
+            Err(fault) => return (Held::without_memory(fault.into()), None),
+        };
+        let held = |outcome| Held { outcome, receipt: Some(receipt) };
+        let MadeCall { reply, line, released } = match made {
             Ok(made) => made,
-            Err(fault) => return (fault.into(), None),
+            Err(fault) => return (held(fault.into()), None),
         };
         if reply.changed_nothing() {
-            return (Outcome::Made { seq: None, reply, beside: Extra::Nothing }, None);
+            return (held(Outcome::Made { seq: None, reply, beside: Extra::Nothing }), None);
         }
         let (record, ended) = self.take_in(call, now, &reply);
         let waiting = released.end.saturating_sub(released.start);
@@ -195,7 +207,31 @@ impl Job {
         let entry = Entry { job, seq, at, record, line, told: AnswerRow::of(&reply), ended, waiting };
         self.retention.count_bytes(entry.bytes() as u64);
         let (beside, states) = (self.beside(call), self.states.follow(call, &reply, &entry));
-        (Outcome::Made { seq: Some(self.seq), reply, beside }, Some(Logged { entry, sizes, states }))
+        (held(Outcome::Made { seq: Some(self.seq), reply, beside }), Some(Logged { entry, sizes, states }))
+    }
+
+    /// Holds back an outcome that the service itself decides.
+    pub(super) fn hold_back(&mut self, outcome: Outcome) -> Held {
+        match self.engine.hold() {
+            Ok(receipt) => Held { outcome, receipt: Some(receipt) },
+            Err(_) => Held::without_memory(Outcome::NoMemory),
+        }
+    }
+
+    /// All calls so far are committed: their answers may be told, until the next call. A coordinator that is lent has none.
+    pub fn synced(&mut self) -> Result<(), Fault> {
+        if self.engine.is_lent() {
+            return Ok(());
+        }
+        self.engine.synced().map(|_| ())
+    }
+
+    /// What is told of an outcome. It is a fault before its call is committed, and once the next one is made.
+    pub fn tell(&self, held: Held) -> Result<Outcome, Fault> {
+        match held.receipt {
+            Some(receipt) => self.engine.told(receipt).map(|told| held.outcome.with_answer(told)),
+            None => Ok(held.outcome),
+        }
     }
 
     /// What a call changed of the sizes, which released the files at these places among those that wait.
@@ -228,7 +264,7 @@ impl Job {
 
     /// Makes a call of the log again.
     pub fn repeat(&mut self, call: &Call, now: u64) -> Outcome {
-        let reply = match self.engine.make(call, now) {
+        let reply = match self.engine.repeat(call, now) {
             Ok(made) => made.reply,
             Err(fault) => return fault.into(),
         };
@@ -236,6 +272,7 @@ impl Job {
             return Outcome::Made { seq: None, reply, beside: Extra::Nothing };
         }
         self.take_in(call, now, &reply);
+        self.bases.forget(self.seq);
         Outcome::Made { seq: Some(self.seq), reply, beside: Extra::Nothing }
     }
 
@@ -307,7 +344,7 @@ impl Job {
         if self.is_deleted || self.engine.is_lent() || self.engine.mode() != Mode::Running {
             return None;
         }
-        let moment = match self.phase {
+        match self.phase {
             Phase::Stopped(..) => None,
             Phase::Stopping(stop) => Some(self.stop_wakes(stop)),
             Phase::Running | Phase::NotStopped(..) => {
@@ -316,8 +353,7 @@ impl Job {
                 let due = has_room.then(|| self.engine.due());
                 due.into_iter().chain(expiry).min()
             }
-        };
-        moment.map(|moment| moment.saturating_sub(self.ahead))
+        }
     }
 
     pub fn pending(&self, kind: Kind) -> usize {

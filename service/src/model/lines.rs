@@ -37,11 +37,12 @@ impl Call {
             Call::Decline { term, id, subtask, .. } => {
                 C::DeclineIn { term: *term, now, id: *id, subtask: subtask.into() }
             }
-            Call::Restore { target, shape } => {
+            Call::Restore { target, shape } | Call::RestoreStopped { target, shape } => {
                 C::Restore { now, savepoint: target.savepoint(), shape: shape.as_deref() }
             }
             Call::Take { most } => C::Take { most: *most },
             // the first calls that are made of them
+            Call::TriggerFull => C::Trigger { now },
             Call::Stop => C::Savepoint { now },
             Call::Begin => C::Restore { now, savepoint: None, shape: None },
             Call::Configure { numbers } => C::Configure { now, settings: numbers },

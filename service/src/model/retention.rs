@@ -3,8 +3,10 @@ use super::image::Image;
 use super::summary::KeptSummary;
 
 /// How many bytes a call of the log counts as. An image is made when the calls since the last one have as many bytes as
-/// that one. So images never take more bytes than the log.
+/// that one. So images take more bytes than the log only where each has more than 10 MB.
 pub const CALL_BYTES: u64 = 100;
+/// After so many calls an image is made though it has more bytes than they: a start makes as many again in about a second.
+const MOST_CALLS: u64 = 100_000;
 /// Into how many parts images and summaries divide the kept calls, at least.
 const PARTS: u64 = 8;
 
@@ -122,7 +124,7 @@ impl Retention {
     /// Whether to make an image at this place, because the last one is old enough.
     pub fn wants_image(&self, seq: u64, keeping: Keeping) -> bool {
         let (last, bytes) = self.last().map_or((0, 0), |image| (image.seq, image.bytes));
-        let each = keeping.image_calls.max(bytes / CALL_BYTES);
+        let each = keeping.image_calls.max((bytes / CALL_BYTES).min(MOST_CALLS));
         keeping.image_calls > 0 && seq.saturating_sub(last.max(self.tried)) >= each
     }
 
@@ -212,6 +214,8 @@ mod tests {
         assert!(!kept.wants_image(19, KEEPING) && kept.wants_image(20, KEEPING));
         kept.add(&image(20, 1500), KEEPING);
         assert!(!kept.wants_image(34, KEEPING) && kept.wants_image(35, KEEPING));
+        kept.images = vec![KeptImage { seq: 40, at: 1, bytes: u64::MAX }];
+        assert!(!kept.wants_image(100_039, KEEPING) && kept.wants_image(100_040, KEEPING));
         assert!(
             !kept.wants_image(1 << 40, Keeping { image_calls: 0, keep_calls: 0, keep_bytes: 0, keep_records: 1000 })
         );

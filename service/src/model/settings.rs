@@ -24,6 +24,9 @@ pub const FIELDS: [Field; 6] = [
     Field { name: "retained", least: 1, most: 1000, default: Some(1) },
 ];
 
+/// The settings of a job that a recovery has not made whole: nothing is due and nothing expires. The Python package gives them to it.
+pub const MAKING: Settings = settings_of([LONGEST - 77, LONGEST - 77, 1, LONGEST - 77, 1000, 1], true);
+
 /// The settings of six numbers, in the order of [`FIELDS`].
 pub const fn settings_of(numbers: [u64; 6], keep_on_cancel: bool) -> Settings {
     let [interval, pause, at_once, timeout, tolerable, retained] = numbers;

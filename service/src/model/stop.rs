@@ -1,6 +1,7 @@
 //! A call with all that belongs to it in one commit: the stop of a job with a savepoint, its beginning after that, and the way back to an
 //! older checkpoint.
 use super::call::{Call, Target};
+use super::held::Held;
 use super::job::{Job, Logged};
 use super::outcome::{Outcome, Reply, Unable};
 use super::phase::{Phase, Stop, StopFailed};
@@ -9,65 +10,83 @@ use relkvanu::{Answer, Mode};
 impl Job {
     /// Makes a call of a request or of the timer. Returns its answer, and the rows of all calls that it made, which are for one commit with the
     /// phase.
-    pub fn operate(&mut self, call: &Call, now: u64) -> (Outcome, Vec<Logged>) {
+    pub fn operate(&mut self, call: &Call, now: u64) -> (Held, Vec<Logged>) {
         let mut made = Vec::new();
         if let Some(stop) = self.complete_stop() {
             // there was no memory for it when its savepoint completed
             let held = self.hold(stop, now, &mut made);
-            if matches!(call, Call::Tick) || !matches!(held, Outcome::Made { .. }) {
+            if matches!(call, Call::Tick) || !matches!(held.outcome, Outcome::Made { .. }) {
                 return (held, made);
             }
         }
-        let outcome = match call {
+        let held = match call {
             Call::Stop => self.stop(now, &mut made),
             Call::Begin => self.begin(now, &mut made),
-            call if self.phase.is_stopped() && needs_tasks(call) => Outcome::Unable(Unable::Stopped),
-            call if self.is_too_early(call, now) => Outcome::Unable(Unable::Stopping),
+            call if self.phase.is_stopped() && needs_tasks(call) => self.hold_back(Outcome::Unable(Unable::Stopped)),
+            call if self.is_too_early(call, now) => self.hold_back(Outcome::Unable(Unable::Stopping)),
             Call::Restore { target: Target::Checkpoint(id), shape } => {
                 self.go_back(*id, shape.as_deref(), now, &mut made)
             }
+            Call::RestoreStopped { target, shape } => {
+                let restore = Call::Restore { target: *target, shape: shape.clone() };
+                if self.phase.is_stopped() {
+                    self.step(&restore, now, &mut made)
+                } else {
+                    self.hold_back(Outcome::Unable(Unable::NotStopped))
+                }
+            }
+            Call::TriggerFull => self.trigger_full(now, &mut made),
             call => self.step(call, now, &mut made),
         };
         self.settle(call, now, &mut made);
-        (outcome, made)
+        (held, made)
+    }
+
+    fn trigger_full(&mut self, now: u64, made: &mut Vec<Logged>) -> Held {
+        let held = self.step(&Call::Trigger, now, made);
+        if let Outcome::Made { seq: Some(seq), reply: Reply::Answered(Answer::Triggered { .. }), .. } = held.outcome {
+            let choice = self.engine().choice();
+            self.bases.note_full(seq, choice);
+        }
+        held
     }
 
     /// Triggers the savepoint with which the job stops.
-    fn stop(&mut self, now: u64, made: &mut Vec<Logged>) -> Outcome {
+    fn stop(&mut self, now: u64, made: &mut Vec<Logged>) -> Held {
         match self.phase {
-            Phase::Stopping(_) => return Outcome::Unable(Unable::Stopping),
-            Phase::Stopped(..) => return Outcome::Unable(Unable::Stopped),
+            Phase::Stopping(_) => return self.hold_back(Outcome::Unable(Unable::Stopping)),
+            Phase::Stopped(..) => return self.hold_back(Outcome::Unable(Unable::Stopped)),
             Phase::Running | Phase::NotStopped(..) => {}
         }
-        let outcome = self.step(&Call::Savepoint, now, made);
-        if let Outcome::Made { reply: Reply::Answered(Answer::SavepointTriggered(savepoint)), .. } = outcome {
+        let held = self.step(&Call::Savepoint, now, made);
+        if let Outcome::Made { reply: Reply::Answered(Answer::SavepointTriggered(savepoint)), .. } = held.outcome {
             self.phase = Phase::Stopping(Stop { savepoint, at: now });
         }
-        outcome
+        held
     }
 
     /// Begins the job again where it has stopped.
-    fn begin(&mut self, now: u64, made: &mut Vec<Logged>) -> Outcome {
+    fn begin(&mut self, now: u64, made: &mut Vec<Logged>) -> Held {
         if !self.phase.is_stopped() {
-            return Outcome::Unable(Unable::NotStopped);
+            return self.hold_back(Outcome::Unable(Unable::NotStopped));
         }
-        let outcome = self.step(&Call::Restore { target: Target::Latest, shape: None }, now, made);
-        if matches!(outcome, Outcome::Made { .. }) {
+        let held = self.step(&Call::Restore { target: Target::Latest, shape: None }, now, made);
+        if matches!(held.outcome, Outcome::Made { .. }) {
             self.phase = Phase::Running;
         }
-        outcome
+        held
     }
 
     /// Restores the job to the savepoint of a stop, which is complete: it has stopped. If there is no memory, the next call or tick does it.
-    fn hold(&mut self, stop: Stop, now: u64, made: &mut Vec<Logged>) -> Outcome {
+    fn hold(&mut self, stop: Stop, now: u64, made: &mut Vec<Logged>) -> Held {
         let restore = Call::Restore { target: Target::Savepoint(stop.savepoint), shape: None };
-        let outcome = self.step(&restore, now, made);
-        match outcome {
+        let held = self.step(&restore, now, made);
+        match held.outcome {
             Outcome::Made { .. } | Outcome::Detailed { .. } => self.phase = Phase::Stopped(stop, self.running_term()),
             Outcome::NoMemory | Outcome::NotMade => {}
             Outcome::Refused(_) | Outcome::Unable(_) => self.phase = Phase::NotStopped(stop, StopFailed::Failed),
         }
-        outcome
+        held
     }
 
     /// What a call made of a stop. An advance of a job that has stopped begins a later term, and leaves it stopped.
@@ -111,23 +130,23 @@ impl Job {
     /// Only the tick that is due goes through: the savepoint expires in it.
     fn is_too_early(&self, call: &Call, now: u64) -> bool {
         match (self.phase, call) {
-            (Phase::Stopping(_), Call::Trigger | Call::Savepoint) => true,
+            (Phase::Stopping(_), Call::Trigger | Call::TriggerFull | Call::Savepoint) => true,
             (Phase::Stopping(stop), Call::Tick) => now < self.stop_wakes(stop),
             _ => false,
         }
     }
 
     /// Makes one call, and keeps its row.
-    pub(super) fn step(&mut self, call: &Call, now: u64, made: &mut Vec<Logged>) -> Outcome {
-        let (outcome, logged) = self.call(call, now);
+    pub(super) fn step(&mut self, call: &Call, now: u64, made: &mut Vec<Logged>) -> Held {
+        let (held, logged) = self.call(call, now);
         made.extend(logged);
-        outcome
+        held
     }
 }
 
 /// Whether a call asks for what only tasks can do, which do not run once the job has stopped.
 fn needs_tasks(call: &Call) -> bool {
-    matches!(call, Call::Tick | Call::Trigger | Call::Savepoint | Call::Restore { .. })
+    matches!(call, Call::Tick | Call::Trigger | Call::TriggerFull | Call::Savepoint | Call::Restore { .. })
 }
 
 /// Why a stop failed whose savepoint ended with this call.
@@ -155,26 +174,27 @@ mod tests {
 
     /// A job of two subtasks that gives out names, with checkpoint 1, which is complete.
     fn running() -> Result<Job, Box<dyn Error>> {
-        let opening = Opening { number: 1, name: "orders".to_string(), settings: SETTINGS, shape: vec![2], started: 0 };
+        let opening =
+            Opening { number: 1, name: "orders".to_string(), settings: SETTINGS, shape: vec![2], started: 0, first: 1 };
         let mut job = Job::open(opening)?;
-        job.operate(&Call::Fence { first_name: 1 }, 0);
-        job.operate(&Call::Reserve { term: 1, count: 10 }, 0);
-        job.operate(&Call::Tick, 100);
-        (0..2).for_each(|index| assert!(is_made(&job.operate(&ack(1, index), 110).0)));
+        job.committed(&Call::Fence { first_name: 1 }, 0);
+        job.committed(&Call::Reserve { term: 1, count: 10 }, 0);
+        job.committed(&Call::Tick, 100);
+        (0..2).for_each(|index| assert!(is_made(&job.committed(&ack(1, index), 110).0)));
         assert_eq!(job.engine().choice(), Choice::Checkpoint(1));
         Ok(job)
     }
 
     fn stopping() -> Result<Job, Box<dyn Error>> {
         let mut job = running()?;
-        assert!(is_made(&job.operate(&Call::Stop, 150).0));
+        assert!(is_made(&job.committed(&Call::Stop, 150).0));
         assert_eq!(job.phase, Phase::Stopping(STOP));
         Ok(job)
     }
 
     fn stopped() -> Result<Job, Box<dyn Error>> {
         let mut job = stopping()?;
-        (0..2).for_each(|index| assert!(is_made(&job.operate(&ack(2, index), 160).0)));
+        (0..2).for_each(|index| assert!(is_made(&job.committed(&ack(2, index), 160).0)));
         assert_eq!(job.phase, Phase::Stopped(STOP, Some(2)));
         Ok(job)
     }
@@ -204,13 +224,27 @@ mod tests {
     fn the_last_acknowledgement_stops_the_job_in_its_commit() -> Result<(), Box<dyn Error>> {
         let mut job = stopping()?;
         assert_eq!(job.wake(), Some(5150));
-        let (_, made) = job.operate(&ack(2, 0), 160);
+        let (_, made) = job.committed(&ack(2, 0), 160);
         assert_eq!((lines(&made), job.phase), (vec!["in 1 ack 160 2 0.0 +4"], Phase::Stopping(STOP)));
-        let (outcome, made) = job.operate(&ack(2, 1), 170);
+        let (outcome, made) = job.committed(&ack(2, 1), 170);
         assert_eq!(lines(&made), ["in 1 ack 170 2 0.1 +5", "restore 170 2"]);
         assert_eq!(outcome.json()["ack"], "completed");
         assert_eq!((job.phase, job.engine().choice()), (Phase::Stopped(STOP, Some(2)), Choice::Savepoint(2)));
         assert_eq!(job.wake(), None);
+        Ok(())
+    }
+
+    #[test]
+    fn a_restore_that_is_for_it_leaves_the_job_stopped() -> Result<(), Box<dyn Error>> {
+        let restore = Call::RestoreStopped { target: Target::Latest, shape: Some(vec![3]) };
+        let mut job = stopping()?;
+        assert_eq!(job.committed(&restore, 160).0, Outcome::Unable(Unable::NotStopped));
+        let mut job = stopped()?;
+        let (outcome, made) = job.committed(&restore, 9_000_000);
+        assert_eq!((is_made(&outcome), lines(&made)), (true, vec!["restore 9000000 latest 3"]));
+        assert_eq!((job.phase, job.shape.clone()), (Phase::Stopped(STOP, Some(3)), vec![3]));
+        let (_, made) = job.committed(&Call::Begin, 9_000_001);
+        assert_eq!((lines(&made), job.phase, job.shape), (vec!["restore 9000001 latest"], Phase::Running, vec![3]));
         Ok(())
     }
 
@@ -220,16 +254,16 @@ mod tests {
         let (seq, image) = (job.seq, job.engine().image());
         let latest = Call::Restore { target: Target::Latest, shape: None };
         let older = Call::Restore { target: Target::Checkpoint(1), shape: None };
-        for call in [Call::Tick, Call::Trigger, Call::Savepoint, latest, older, Call::Stop] {
-            let (outcome, made) = job.operate(&call, 9_000_000);
+        for call in [Call::Tick, Call::Trigger, Call::TriggerFull, Call::Savepoint, latest, older, Call::Stop] {
+            let (outcome, made) = job.committed(&call, 9_000_000);
             assert_eq!((outcome, made.len()), (Outcome::Unable(Unable::Stopped), 0), "{call:?}");
         }
         assert_eq!((job.seq, job.engine().image()), (seq, image));
-        let (outcome, made) = job.operate(&Call::Begin, 9_000_000);
+        let (outcome, made) = job.committed(&Call::Begin, 9_000_000);
         assert_eq!((lines(&made), job.phase), (vec!["restore 9000000 latest"], Phase::Running));
         assert_eq!((&outcome.json()["restore"], &outcome.json()["id"]), (&"savepoint".into(), &2.into()));
         assert_eq!(job.wake(), Some(9_000_100));
-        assert_eq!(job.operate(&Call::Begin, 9_000_000).0, Outcome::Unable(Unable::NotStopped));
+        assert_eq!(job.committed(&Call::Begin, 9_000_000).0, Outcome::Unable(Unable::NotStopped));
         Ok(())
     }
 
@@ -239,18 +273,18 @@ mod tests {
         let (seq, image) = (job.seq, job.engine().image());
         for call in [Call::Trigger, Call::Savepoint, Call::Tick] {
             // the interval is long over, and the savepoint expires a moment later
-            let (outcome, made) = job.operate(&call, 5149);
+            let (outcome, made) = job.committed(&call, 5149);
             assert_eq!((outcome, made.len()), (Outcome::Unable(Unable::Stopping), 0), "{call:?}");
         }
         assert_eq!((job.seq, job.engine().image(), job.wake()), (seq, image, Some(5150)));
-        job.operate(&Call::Tick, 5150);
+        job.committed(&Call::Tick, 5150);
         assert_eq!(job.phase, Phase::NotStopped(STOP, StopFailed::Expired));
-        assert!(is_made(&job.operate(&Call::Savepoint, 5150).0));
+        assert!(is_made(&job.committed(&Call::Savepoint, 5150).0));
         // one that was triggered before still completes
         let mut job = running()?;
-        job.operate(&Call::Trigger, 140);
-        job.operate(&Call::Stop, 150);
-        (0..2).for_each(|index| assert!(is_made(&job.operate(&ack(2, index), 160).0)));
+        job.committed(&Call::Trigger, 140);
+        job.committed(&Call::Stop, 150);
+        (0..2).for_each(|index| assert!(is_made(&job.committed(&ack(2, index), 160).0)));
         assert_eq!((job.engine().choice(), job.phase.word()), (Choice::Checkpoint(2), "stopping"));
         Ok(())
     }
@@ -258,13 +292,13 @@ mod tests {
     #[test]
     fn settings_and_files_of_a_stopped_job_change() -> Result<(), Box<dyn Error>> {
         let mut job = stopped()?;
-        assert!(is_made(&job.operate(&Call::Configure { numbers: [500, 0, 1, 5000, 0, 1, 0] }, 200).0));
-        assert!(is_made(&job.operate(&Call::Take { most: 9 }, 200).0));
+        assert!(is_made(&job.committed(&Call::Configure { numbers: [500, 0, 1, 5000, 0, 1, 0] }, 200).0));
+        assert!(is_made(&job.committed(&Call::Take { most: 9 }, 200).0));
         assert!(job.phase.is_stopped() && job.wake().is_none());
-        job.operate(&Call::Begin, 1000);
+        job.committed(&Call::Begin, 1000);
         assert_eq!(job.wake(), Some(1500));
         let mut job = stopped()?;
-        assert!(is_made(&job.operate(&Call::Cancel, 200).0));
+        assert!(is_made(&job.committed(&Call::Cancel, 200).0));
         assert_eq!(job.phase, Phase::Running);
         Ok(())
     }
@@ -280,14 +314,14 @@ mod tests {
             (Call::Cancel, 160, StopFailed::Cancelled),
         ] {
             let mut job = stopping()?;
-            assert!(is_made(&job.operate(&call, now).0), "{call:?}");
+            assert!(is_made(&job.committed(&call, now).0), "{call:?}");
             assert_eq!((job.phase, job.phase.word()), (Phase::NotStopped(STOP, why), "running"));
         }
         // a checkpoint that was triggered before fails the job
         let mut job = running()?;
-        job.operate(&Call::Trigger, 140);
-        job.operate(&Call::Stop, 150);
-        job.operate(&decline(2), 160);
+        job.committed(&Call::Trigger, 140);
+        job.committed(&Call::Stop, 150);
+        job.committed(&decline(2), 160);
         assert_eq!(job.phase, Phase::NotStopped(Stop { savepoint: 3, at: 150 }, StopFailed::Failed));
         Ok(())
     }
@@ -295,11 +329,11 @@ mod tests {
     #[test]
     fn a_stop_is_asked_for_once() -> Result<(), Box<dyn Error>> {
         let mut job = stopping()?;
-        let (outcome, made) = job.operate(&Call::Stop, 155);
+        let (outcome, made) = job.committed(&Call::Stop, 155);
         assert_eq!((outcome, made.len()), (Outcome::Unable(Unable::Stopping), 0));
-        assert_eq!(job.operate(&Call::Begin, 155).0, Outcome::Unable(Unable::NotStopped));
-        job.operate(&Call::Cancel, 160);
-        let (outcome, made) = job.operate(&Call::Stop, 165);
+        assert_eq!(job.committed(&Call::Begin, 155).0, Outcome::Unable(Unable::NotStopped));
+        job.committed(&Call::Cancel, 160);
+        let (outcome, made) = job.committed(&Call::Stop, 165);
         assert_eq!((&outcome.json()["refused"], made.len()), (&"NotRunning".into(), 0));
         assert_eq!(job.phase, Phase::NotStopped(STOP, StopFailed::Cancelled));
         Ok(())
@@ -310,7 +344,7 @@ mod tests {
         let without_memory = || -> Result<Job, Box<dyn Error>> {
             let mut job = stopping()?;
             // as if the restore had found none
-            (0..2).for_each(|index| assert!(is_made(&job.call(&ack(2, index), 160).0)));
+            (0..2).for_each(|index| assert!(is_made(&job.call(&ack(2, index), 160).0.outcome)));
             assert_eq!((job.phase, job.wake()), (Phase::Stopping(STOP), Some(150)));
             Ok(job)
         };
@@ -318,7 +352,7 @@ mod tests {
             [(Call::Tick, vec!["restore 170 2"]), (Call::Take { most: 9 }, vec!["restore 170 2", "take 9"])]
         {
             let mut job = without_memory()?;
-            let (_, made) = job.operate(&call, 170);
+            let (_, made) = job.committed(&call, 170);
             assert_eq!((lines(&made), job.phase), (wanted, Phase::Stopped(STOP, Some(2))));
         }
         Ok(())

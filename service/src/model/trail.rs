@@ -133,8 +133,14 @@ mod tests {
 
     impl Tried {
         fn new() -> Result<Tried, Box<dyn Error>> {
-            let opening =
-                Opening { number: 1, name: "orders".to_string(), settings: SETTINGS, shape: vec![1], started: 0 };
+            let opening = Opening {
+                number: 1,
+                name: "orders".to_string(),
+                settings: SETTINGS,
+                shape: vec![1],
+                started: 0,
+                first: 1,
+            };
             let mut tried = Tried { job: Job::open(opening)?, trail: Trail::default(), now: 0 };
             tried.makes(&[Call::Fence { first_name: 1 }, Call::Reserve { term: 1, count: 10 }]);
             tried.completes(1, 1);
@@ -145,7 +151,7 @@ mod tests {
         fn makes(&mut self, calls: &[Call]) {
             for call in calls {
                 self.now += 10;
-                let (_, made) = self.job.operate(call, self.now);
+                let (_, made) = self.job.committed(call, self.now);
                 assert!(!made.is_empty(), "{call:?}");
                 for logged in &made {
                     self.trail.follow(&logged.entry);

@@ -2,6 +2,7 @@
 use super::error::DbError;
 use super::reader::Listed;
 use super::rows::{Keyed, SavedImage, UnderKey};
+use crate::files::JobStorage;
 use crate::model::{
     parse_config, parse_files, parse_sizes, AckBytes, AnswerRow, Entry, Figure, FileBytes, Given, Image, KeptImage,
     KeptSummary, Opening, PastRecord, Phase, Subtask, SubtaskState,
@@ -26,7 +27,7 @@ pub struct Row {
 
 impl Row {
     /// A row of SQLite.
-    pub fn of_lite(row: &rusqlite::Row) -> rusqlite::Result<Row> {
+    pub fn of_sqlite(row: &rusqlite::Row) -> rusqlite::Result<Row> {
         let cell = |place| match row.get_ref(place)? {
             ValueRef::Null => Ok(Cell::Null),
             ValueRef::Integer(number) => Ok(Cell::Number(number)),
@@ -134,6 +135,7 @@ impl FromRow for Opening {
             settings: row.parsed(parse_config)?,
             shape: row.parsed(|words| words.split(' ').map(|word| word.parse().ok()).collect())?,
             started: row.number()?,
+            first: row.number()?,
         })
     }
 }
@@ -301,6 +303,14 @@ impl FromRow for Phase {
     }
 }
 
+impl FromRow for JobStorage {
+    const TABLE: &'static str = "storage";
+
+    fn read(row: &mut Row) -> Option<JobStorage> {
+        row.parsed(|text| serde_json::from_str(text).ok())
+    }
+}
+
 /// A place in the log.
 impl FromRow for u64 {
     const TABLE: &'static str = "call";
@@ -332,7 +342,7 @@ impl<T: FromRow> FromRow for (i64, T) {
 /// An entry of SQLite's columns [`COLUMNS`](super::rows::COLUMNS).
 pub fn entry_of(row: &rusqlite::Row) -> rusqlite::Result<Entry> {
     let bad = |error| rusqlite::Error::FromSqlConversionFailure(0, Type::Null, Box::new(error));
-    Row::of_lite(row)?.read().map_err(bad)
+    Row::of_sqlite(row)?.read().map_err(bad)
 }
 
 #[cfg(test)]
@@ -344,9 +354,9 @@ mod tests {
         Row::of_pg(cells.into_iter().map(|cell| cell.map(str::to_string)).collect())
     }
 
-    fn of_lite(values: &str) -> Result<Row, DbError> {
+    fn of_sqlite(values: &str) -> Result<Row, DbError> {
         let connection = Connection::open_in_memory()?;
-        Ok(connection.query_row(&format!("select {values}"), [], Row::of_lite)?)
+        Ok(connection.query_row(&format!("select {values}"), [], Row::of_sqlite)?)
     }
 
     #[test]
@@ -364,13 +374,13 @@ mod tests {
             None,
             Some("0"),
         ];
-        let entry: Entry = of_lite("1, 9, 3010, null, 'take 2', 18, 2, -1, '7 8', null, 0")?.read()?;
+        let entry: Entry = of_sqlite("1, 9, 3010, null, 'take 2', 18, 2, -1, '7 8', null, 0")?.read()?;
         assert_eq!(entry, of_pg(cells).read()?);
         assert_eq!((entry.job, entry.seq, entry.at, entry.record), (1, 9, 3010, None));
         let told = AnswerRow { what: 18, a: 2, b: u64::MAX, files: Some("7 8".to_string()) };
         assert_eq!((entry.line.as_str(), &entry.told, &entry.ended, entry.bytes()), ("take 2", &told, &None, 9));
         let cells = [Some("1"), Some("9"), Some("3010"), Some("d"), Some("2 3"), None, Some("8"), Some("{}")];
-        let saved: SavedImage = of_lite("1, 9, 3010, 'd', '2 3', null, 8, '{}'")?.read()?;
+        let saved: SavedImage = of_sqlite("1, 9, 3010, 'd', '2 3', null, 8, '{}'")?.read()?;
         assert_eq!(saved, of_pg(cells).read()?);
         assert_eq!((saved.image.shape, saved.image.last_completed, saved.digest.as_str()), (vec![2, 3], None, "d"));
         Ok(())
@@ -381,11 +391,12 @@ mod tests {
         let told = of_pg([Some("1"), Some("x"), None, None, None, None, None, None]).read::<Entry>();
         let told = told.map_err(|error| error.to_string());
         assert_eq!(told, Err("a row of call has Text(\"x\") in column 2".to_string()));
-        let told = of_lite("1, -9, 0").and_then(Row::read::<(i64, KeptSummary)>).map_err(|error| error.to_string());
+        let told = of_sqlite("1, -9, 0").and_then(Row::read::<(i64, KeptSummary)>).map_err(|error| error.to_string());
         assert_eq!(told, Err("a row of summary has Number(-9) in column 2".to_string()));
-        let told = of_lite("1, cast(x'ff' as text)").and_then(Row::read::<(i64, u64)>).map_err(|error| error.bad_job());
+        let told =
+            of_sqlite("1, cast(x'ff' as text)").and_then(Row::read::<(i64, u64)>).map_err(|error| error.bad_job());
         assert_eq!(told, Err(Some(1)));
-        let told = of_lite("1").and_then(Row::read::<(i64, u64)>).map_err(|error| error.to_string());
+        let told = of_sqlite("1").and_then(Row::read::<(i64, u64)>).map_err(|error| error.to_string());
         assert_eq!(told, Err("a row of call has nothing in column 2".to_string()));
     }
 }

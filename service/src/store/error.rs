@@ -11,7 +11,7 @@ use thiserror::Error;
 pub enum DbError {
     /// What SQLite says.
     #[error("{0}")]
-    Lite(#[from] rusqlite::Error),
+    Sqlite(#[from] rusqlite::Error),
     /// What SQLite says of the file that it opens.
     #[error("{}: {why}", .path.display())]
     Unopened { path: PathBuf, why: rusqlite::Error },
@@ -29,11 +29,6 @@ pub enum DbError {
     NoSync,
     #[error("these are no tables of a service")]
     Foreign,
-    /// `relkvanu move` has marked it.
-    #[error(
-        "its log was moved to {to}: start the service over that database. `relkvanu move` with --to and that database completes a move that did not end, and with --back too it takes the move back, if no service ran there since"
-    )]
-    Moved { to: String },
     /// The database answered something else than the statement asks for.
     #[error("{0}")]
     Odd(&'static str),
@@ -54,8 +49,8 @@ impl DbError {
     /// Whether what the database has is damaged, so that a later read fails in the same way.
     pub fn is_damage(&self) -> bool {
         match self {
-            DbError::BadRow { .. } | DbError::Foreign | DbError::Moved { .. } => true,
-            DbError::Lite(why) | DbError::Unopened { why, .. } => is_damage(why),
+            DbError::BadRow { .. } | DbError::Foreign => true,
+            DbError::Sqlite(why) | DbError::Unopened { why, .. } => is_damage(why),
             // data_corrupted and index_corrupted
             DbError::Pg(failed) => matches!(failed.state.as_deref(), Some("XX001" | "XX002")),
             DbError::File { .. } | DbError::Unfit { .. } | DbError::NoSync => false,
@@ -142,9 +137,6 @@ pub enum Failure {
     /// Certainly rolled back, and it is too large ever to be written.
     #[error("{0}")]
     TooLarge(DbError),
-    /// Certainly rolled back: another process has opened a job of the name of one that it opens.
-    #[error("{0}")]
-    NameTaken(DbError),
     /// It may or may not have been committed, or this process no longer leads. The process ends, and its next start reads
     /// what was committed.
     #[error("{0}")]

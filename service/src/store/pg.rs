@@ -1,24 +1,23 @@
-//! The log in PostgreSQL. Each shard of the jobs has an owner among the members, whose lease decides for how long. Each group is one
-//! statement, which renews the lease and is fenced by it. So a leader that was stopped holds no lock.
+//! The log in PostgreSQL. One process leads, for as long as it renews its lease. Each group is one statement, which renews the lease and is
+//! fenced by it. So a leader that was stopped holds no lock.
 use super::cells::Row;
 use super::error::{DbError, Failure, Unusable};
 use super::parameter::Parameter;
 use super::pg_columns::Columns;
 use super::pg_commit::{Statements, CALLS};
-use super::pg_members::{self, Members, Shares, Watch};
+use super::pg_lease::{self, Leader, Watch};
 use super::pq::{Connection, Failed, Rows};
 use super::rows::{steps_after, Committed, Group, Lead, Store, UnderKey, Written, OF_JOBS, OLD_GONE, VERSION};
-use crate::model::{Held, Moment, Shards};
-use std::collections::BTreeMap;
+use crate::model::Moment;
 use std::ffi::CStr;
 use std::time::Duration;
 
 /// What makes the tables.
 pub const TABLES: &str = include_str!("../../sql/pg.sql");
 /// What makes each version of them from the one before.
-const STEPS: [&str; VERSION] = [TABLES];
-/// The constraint by which the names of jobs are unique.
-const NAMES: &str = "job_name_key";
+const STEPS: [&str; VERSION] = [TABLES, STORAGES];
+/// Where the files of jobs are, as JSON.
+const STORAGES: &str = "create table if not exists storage(job bigint primary key, text text not null)";
 /// A statement of the writer may take this long.
 const PATIENCE: Duration = Duration::from_secs(10);
 /// The answers under each of these keys.
@@ -26,17 +25,16 @@ const KEYED: &str = "select request.job, request.key, at, digest, answers
     from unnest($1::bigint[], $2::text[]) u(job, key) join request on request.job = u.job and request.key = u.key";
 const KEYED_NAME: &CStr = c"keyed";
 
-/// The writer's connection, its lease, and the shards that it may write.
+/// The writer's connection and its lease.
 pub struct Pg {
     connection: Connection,
     statements: Statements,
-    /// This process among the members. Each start has a name of its own.
+    /// This process. Each start has another name.
     name: String,
     address: String,
     lease: Duration,
     /// When the commit began that renewed the lease last.
     renewed: Option<Moment>,
-    epochs: BTreeMap<u8, u64>,
     watch: Watch,
 }
 
@@ -57,13 +55,7 @@ impl Pg {
             statements.name(&mut connection, parts, renews)?;
         }
         let (name, address) = (relkvanu_client::new_key(), address.to_string());
-        let (epochs, watch) = (BTreeMap::new(), Watch::default());
-        Ok(Pg { connection, statements, name, address, lease, renewed: None, epochs, watch })
-    }
-
-    /// The connection by which this process shares the jobs with others.
-    pub fn shares(&self, url: &str) -> Result<Shares, DbError> {
-        Shares::open(url, &self.name, self.lease)
+        Ok(Pg { connection, statements, name, address, lease, renewed: None, watch: Watch::default() })
     }
 
     /// Deletes in one transaction, and waits for no sync: what comes back after a loss of power is deleted again.
@@ -74,16 +66,9 @@ impl Pg {
         worked
     }
 
-    fn write(&mut self, columns: Columns, shards: Shards, renews: bool) -> Result<Rows, Failed> {
+    fn write(&mut self, columns: Columns, renews: bool) -> Result<Rows, Failed> {
         let name = self.statements.name(&mut self.connection, &columns.parts, renews)?;
-        // a shard that this process does not have has an epoch that never was
-        let epoch = |shard: u8| self.epochs.get(&shard).map_or(-1, |epoch| *epoch as i64);
-        let mut given = vec![
-            Parameter::text(&seconds(self.lease))?,
-            Parameter::text(&self.name)?,
-            Parameter::numbers(shards.iter().map(|shard| Some(i64::from(shard)))),
-            Parameter::numbers(shards.iter().map(|shard| Some(epoch(shard)))),
-        ];
+        let mut given = vec![Parameter::text(&seconds(self.lease))?, Parameter::text(&self.name)?];
         given.extend(columns.given);
         self.connection.run_prepared(&name, &given)
     }
@@ -91,46 +76,30 @@ impl Pg {
 
 impl Store for Pg {
     fn lead(&mut self) -> Result<Lead, DbError> {
-        let members = Members::read(&mut self.connection)?;
-        let committed = self.watch.note(&members.all);
-        if !members.all.iter().all(|member| self.watch.is_over(member, self.lease)) {
+        let leader = Leader::read(&mut self.connection)?;
+        let committed = self.watch.note(&leader);
+        if !self.watch.is_over(&leader, self.lease) {
             return Ok(Lead::Elsewhere { committed });
         }
-        for member in &members.all {
-            if !pg_members::expel(&mut self.connection, member)? {
-                self.watch.lives(member);
-            }
+        let length = seconds(self.lease);
+        let taken = pg_lease::take(&mut self.connection, &leader, [&self.name, &self.address, &length])?;
+        if let Some(epoch) = taken {
+            return Ok(Lead::Here { epoch });
         }
-        let held = pg_members::take_all(&mut self.connection, &self.name, &self.address, &seconds(self.lease))?;
-        if held.is_empty() {
-            return Ok(Lead::Elsewhere { committed: true });
-        }
-        self.hold(&held);
-        Ok(Lead::Here { held })
+        self.watch.lives(&leader);
+        Ok(Lead::Elsewhere { committed: true })
     }
 
-    fn join(&mut self) -> Result<(), DbError> {
-        Ok(pg_members::join(&mut self.connection, &self.name, &self.address, &seconds(self.lease))?)
-    }
-
-    fn hold(&mut self, held: &[Held]) {
-        self.epochs.extend(held.iter().map(|it| (it.shard, it.epoch)));
-    }
-
-    fn let_go(&mut self, shards: Shards) {
-        self.epochs.retain(|shard, _| !shards.has(*shard));
-    }
-
-    fn begin(&mut self, log: &str, held: &[Held], lengths: &[(i64, u64)]) -> Result<(), DbError> {
-        pg_members::begin(&mut self.connection, &self.name, log, held, lengths)
+    fn begin(&mut self, log: &str, lengths: &[(i64, u64)]) -> Result<(), DbError> {
+        pg_lease::begin(&mut self.connection, &self.name, log, lengths)
     }
 
     fn commit(&mut self, group: &Group) -> Written {
-        let (columns, shards) = (Columns::of(group), group.shards());
+        let columns = Columns::of(group);
         let wanted: Vec<usize> = std::iter::once(1).chain(columns.counts.iter().copied()).collect();
         let since = Moment::now();
         let renews = group.is_empty() || self.renewed.is_none_or(|renewed| renewed.elapsed() >= self.beat());
-        let rows = self.write(columns, shards, renews).map_err(failure)?;
+        let rows = self.write(columns, renews).map_err(failure)?;
         let written = (0..wanted.len()).map(|column| cell(&rows, column).and_then(|text| text.parse().ok()));
         if !written.eq(wanted.into_iter().map(Some)) {
             return Err(Failure::Lost(DbError::NotLeading));
@@ -186,7 +155,7 @@ impl Store for Pg {
     }
 
     fn note(&mut self, at: u64) -> Result<(), Failure> {
-        let sql = "insert into clock select true, $1::bigint from member where name = $2
+        let sql = "insert into clock select true, $1::bigint from leader where name = $2
             on conflict (one) do update set at = excluded.at";
         // a moment that is lost is written down again, and a commit tells what is wrong with the connection
         let noted = self.connection.query(sql, &[&at.to_string(), &self.name]);
@@ -203,12 +172,12 @@ impl Store for Pg {
 
     fn release(&mut self) {
         // if this fails, the lease expires by itself
-        let _ = pg_members::leave(&mut self.connection, &self.name);
+        let _ = pg_lease::leave(&mut self.connection, &self.name);
     }
 }
 
 /// Connects to a database that syncs its commits.
-pub(super) fn connected(url: &str) -> Result<Connection, DbError> {
+fn connected(url: &str) -> Result<Connection, DbError> {
     let mut connection = Connection::open(url)?;
     let fsync = connection.run("show fsync")?;
     if cell(&fsync, 0) != Some("on") {
@@ -239,12 +208,12 @@ fn upgrade(connection: &mut Connection) -> Result<(), Failed> {
 }
 
 /// Until the end of the transaction no other process makes or upgrades tables.
-pub(super) fn lock_tables(connection: &mut Connection) -> Result<(), Failed> {
+fn lock_tables(connection: &mut Connection) -> Result<(), Failed> {
     connection.run("set local lock_timeout = '5s'; select pg_advisory_xact_lock(7203146)").map(|_| ())
 }
 
 /// Makes the tables after a version, and writes down that they are there.
-pub(super) fn make_tables(connection: &mut Connection, found: i64) -> Result<(), Failed> {
+fn make_tables(connection: &mut Connection, found: i64) -> Result<(), Failed> {
     for step in steps_after(found, &STEPS) {
         connection.run(step)?;
     }
@@ -261,8 +230,6 @@ fn failure(failed: Failed) -> Failure {
         Some(state) if state.starts_with("53") || matches!(state, "57014" | "40001" | "40P01") => {
             Failure::Again(failed.into())
         }
-        // a job of this name is there: jobs have no other rows that two processes could write
-        Some("23505") if failed.text.contains(NAMES) => Failure::NameTaken(failed.into()),
         // a value that is longer than the database takes
         Some(state) if state.starts_with("54") => Failure::TooLarge(failed.into()),
         _ => Failure::Lost(failed.into()),
@@ -270,11 +237,11 @@ fn failure(failed: Failed) -> Failure {
 }
 
 /// The length of a lease as the database reads it.
-pub(super) fn seconds(lease: Duration) -> String {
+fn seconds(lease: Duration) -> String {
     lease.as_secs_f64().to_string()
 }
 
 /// A cell of the first row.
-pub(super) fn cell(rows: &Rows, column: usize) -> Option<&str> {
+fn cell(rows: &Rows, column: usize) -> Option<&str> {
     rows.first()?.get(column)?.as_deref()
 }

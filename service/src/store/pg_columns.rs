@@ -1,11 +1,13 @@
 //! The columns of a group, as the parameters of the statement that writes it to PostgreSQL.
 use super::parameter::Parameter;
 use super::rows::{GoneJob, Group, Keyed, SavedImage};
+use crate::files::JobStorage;
 use crate::model::{
     config_line, files_text, shape_words, sizes_text, AckBytes, Cut, Entry, Figure, ImagePart, Opening, PastRecord,
     Phase, SubtaskState, SummaryPart,
 };
 use std::collections::{BTreeMap, BTreeSet};
+use std::sync::Arc;
 
 /// What a statement has of a group: its parts by their places in `sql/pg_commit.sql`, and the columns of all of them.
 pub struct Columns {
@@ -36,6 +38,7 @@ impl Columns {
         columns.add(15, group.copied_states.len(), || copied_columns(&group.copied_states));
         columns.add(16, group.gone_states.len(), || gone_state_columns(&group.gone_states));
         columns.add(17, group.figures.len(), || figure_columns(&group.figures));
+        columns.add(18, group.storages.len(), || storage_columns(&group.storages));
         columns
     }
 
@@ -56,13 +59,14 @@ fn number(number: u64) -> i64 {
     i64::try_from(number).unwrap_or(i64::MAX)
 }
 
-fn job_columns(jobs: &[Opening]) -> [Parameter; 6] {
+fn job_columns(jobs: &[Opening]) -> [Parameter; 7] {
     [
         Parameter::numbers(jobs.iter().map(|job| Some(job.number))),
         Parameter::texts(jobs.iter().map(|job| Some(job.name.as_str()))),
         Parameter::texts(jobs.iter().map(|job| Some(config_line(&job.settings)))),
         Parameter::texts(jobs.iter().map(|job| Some(shape_words(&job.shape)))),
         Parameter::numbers(jobs.iter().map(|job| Some(number(job.started)))),
+        Parameter::numbers(jobs.iter().map(|job| Some(number(job.first)))),
         Parameter::texts(jobs.iter().map(|_| Some(env!("CARGO_PKG_VERSION")))),
     ]
 }
@@ -220,6 +224,13 @@ fn phase_columns(phases: &BTreeMap<i64, Phase>) -> [Parameter; 6] {
         Parameter::numbers(rows().map(|(_, _, at, ..)| at.map(number))),
         Parameter::numbers(rows().map(|(_, _, _, term, _)| term.map(number))),
         Parameter::texts(rows().map(|(.., failed)| failed)),
+    ]
+}
+
+fn storage_columns(storages: &BTreeMap<i64, Arc<JobStorage>>) -> [Parameter; 2] {
+    [
+        Parameter::numbers(storages.keys().map(|job| Some(*job))),
+        Parameter::texts(storages.values().map(|storage| Some(storage.text()))),
     ]
 }
 

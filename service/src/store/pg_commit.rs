@@ -8,19 +8,15 @@ use std::fmt::Write;
 const PARTS: &str = include_str!("../../sql/pg_commit.sql");
 /// What a part begins with.
 const PART: &str = "-- part ";
-/// The fence: $1 seconds of the lease, $2 the member, and $3 and $4 the shards that the group writes with their epochs. It locks the
-/// member's row, which has to go before another process gets a shard of it. A leader that was stopped holds no lock. It writes no version of
-/// the row: those of thousands of commits would stay beside a long read, as a dump is, and each commit would visit them all.
-const LEASE: &str = "select 1 from member where name = $2 and $1::float8 > 0
-    and not exists (select from unnest($3::bigint[], $4::bigint[]) u(number, epoch)
-    left join shard on shard.number = u.number and shard.epoch = u.epoch and shard.owner = $2 where shard.number is null)
-    for no key update";
+/// The fence: $1 seconds of the lease and $2 the leader's name. It locks the row of the leader, which another process changes as it takes the
+/// lead. A leader that was stopped holds no lock. It writes no version of the row: those of thousands of commits would stay beside a long
+/// read, as a dump is, and each commit would visit them all.
+const LEASE: &str = "select 1 from leader where name = $2 and $1::float8 > 0 for no key update";
 /// The same, which renews the lease too.
-const RENEWAL: &str = "update member set beat = beat + 1, until = clock_timestamp() + $1::float8 * interval '1 s' where name = $2
-    and not exists (select from unnest($3::bigint[], $4::bigint[]) u(number, epoch)
-    left join shard on shard.number = u.number and shard.epoch = u.epoch and shard.owner = $2 where shard.number is null) returning 1";
+const RENEWAL: &str = "update leader set beat = beat + 1, until = clock_timestamp() + $1::float8 * interval '1 s'
+    where name = $2 returning 1";
 /// How many parameters each has.
-const OF_LEASE: usize = 4;
+const OF_LEASE: usize = 2;
 
 /// The parts of a group with calls alone.
 pub const CALLS: &[usize] = &[1];
@@ -50,7 +46,7 @@ fn name(parts: &[usize], renews: bool) -> CString {
     CString::new(name).unwrap_or_else(|_| CStr::to_owned(c"commit"))
 }
 
-/// It answers how many members it locked, and how many rows it wrote of each of its parts that is counted.
+/// It answers whether it locked the leader, and how many rows it wrote of each of its parts that is counted.
 fn statement(parts: &[usize], renews: bool) -> String {
     let lease = if renews { RENEWAL } else { LEASE };
     let texts: Vec<&str> = PARTS.split(PART).skip(1).map(body).collect();
@@ -97,10 +93,10 @@ mod tests {
         assert!(calls.starts_with(&format!("with l as ({LEASE}), c as (")), "{calls}");
         assert!(
             calls.contains("insert into call select")
-                && calls.contains("delete from call using l, unnest($16::bigint[], $17")
+                && calls.contains("delete from call using l, unnest($14::bigint[], $15")
         );
         assert!(
-            calls.contains("$5::bigint[]")
+            calls.contains("$3::bigint[]")
                 && calls.ends_with("select (select count(*) from l), (select count(*) from c)")
         );
         assert!(!calls.contains('{') && !calls.contains("insert into job") && !calls.contains("--"), "{calls}");
@@ -120,11 +116,12 @@ mod tests {
             (14, "states of subtasks"),
             (16, "states that go"),
             (17, "figures"),
+            (18, "storages"),
         ];
-        assert_eq!(titles.len(), 18);
+        assert_eq!(titles.len(), 19);
         assert!(places.iter().all(|(place, title)| titles[*place].starts_with(title)), "{titles:?}");
         // in all the parameters of a row of each table
-        let parameters = (0..18).map(|part| numbered(body(PARTS.split(PART).nth(part + 1).unwrap_or("")), 0).1);
-        assert_eq!(parameters.collect::<Vec<_>>(), [6, 11, 5, 9, 4, 2, 3, 5, 3, 2, 5, 4, 3, 6, 8, 3, 2, 5]);
+        let parameters = (0..19).map(|part| numbered(body(PARTS.split(PART).nth(part + 1).unwrap_or("")), 0).1);
+        assert_eq!(parameters.collect::<Vec<_>>(), [7, 11, 5, 9, 4, 2, 3, 5, 3, 2, 5, 4, 3, 6, 8, 3, 2, 5, 2]);
     }
 }

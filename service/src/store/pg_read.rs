@@ -2,11 +2,10 @@
 use super::cells::{FromRow, Row};
 use super::error::DbError;
 use super::pq::{Connection, Failed, Rows};
-use super::reader::{Listed, Reader, Tried};
+use super::reader::{Listed, LogReader, Reader, Tried};
 use super::rows::{image_columns, whole, LogPage, SavedImage, Space, COLUMNS, IS_EVENT, PAGE_BYTES, STATE};
-use crate::model::{
-    shard_of, AckBytes, Entry, Figure, FileBytes, KeptImage, KeptSummary, PastRecord, Phase, Shards, SubtaskState,
-};
+use crate::files::JobStorage;
+use crate::model::{AckBytes, Entry, Figure, FileBytes, KeptImage, KeptSummary, PastRecord, Phase, SubtaskState};
 use std::time::Duration;
 
 /// A statement of a reader may take this long.
@@ -19,8 +18,6 @@ const TRY: Duration = Duration::from_secs(3);
 /// The text of a long image.
 const JOINED: &str = "select string_agg(part.text, '' order by part.part) from image_part part
     where part.job = image.job and part.seq = image.seq";
-/// The jobs of the shards whose bits $1 has.
-const OF_SHARDS: &str = "($1::bigint >> (job & 63)::int) & 1 = 1";
 /// The bytes of a call's texts.
 const BYTES: &str = "(octet_length(line) + coalesce(octet_length(files), 0))";
 
@@ -71,6 +68,27 @@ fn connect(url: &str) -> Result<Connection, DbError> {
     Ok(connection)
 }
 
+impl LogReader for PgReader {
+    fn log(&mut self, job: i64, after: u64, most: u32) -> Result<LogPage, DbError> {
+        let rest = "job = $1::bigint and seq > $2::bigint order by seq limit $3::bigint";
+        self.entries(rest, &[&job.to_string(), &signed(after), &most.to_string()])
+    }
+
+    fn first(&mut self, job: i64) -> Result<Option<u64>, DbError> {
+        Ok(self.one("select min(seq) from call where job = $1::bigint", &[&job.to_string()])?.flatten())
+    }
+
+    fn images(&mut self, job: i64) -> Result<Vec<KeptImage>, DbError> {
+        let sql = "select seq, at, bytes from image where job = $1::bigint order by seq";
+        self.all(sql, &[&job.to_string()])
+    }
+
+    fn image(&mut self, job: i64, after: u64) -> Result<Option<SavedImage>, DbError> {
+        let rest = "where job = $1::bigint and seq > $2::bigint order by seq limit 1";
+        self.one(&format!("select {} from image {rest}", image_columns(JOINED)), &[&job.to_string(), &signed(after)])
+    }
+}
+
 impl Reader for PgReader {
     fn version(&mut self) -> Result<i64, DbError> {
         let there = self.query("select to_regclass('call'), to_regclass('schema_version')", &[])?.pop();
@@ -90,12 +108,7 @@ impl Reader for PgReader {
     }
 
     fn listed(&mut self) -> Result<Vec<Listed>, DbError> {
-        self.all("select job, name, config, shape, started from job order by job", &[])
-    }
-
-    fn log(&mut self, job: i64, after: u64, most: u32) -> Result<LogPage, DbError> {
-        let rest = "job = $1::bigint and seq > $2::bigint order by seq limit $3::bigint";
-        self.entries(rest, &[&job.to_string(), &signed(after), &most.to_string()])
+        self.all("select job, name, config, shape, started, first from job order by job", &[])
     }
 
     fn events(&mut self, job: i64, after: u64, most: u32) -> Result<LogPage, DbError> {
@@ -110,16 +123,6 @@ impl Reader for PgReader {
 
     fn entry(&mut self, job: i64, seq: u64) -> Result<Option<Entry>, DbError> {
         Ok(self.entries("job = $1::bigint and seq = $2::bigint", &[&job.to_string(), &signed(seq)])?.pop())
-    }
-
-    fn image(&mut self, job: i64, after: u64) -> Result<Option<SavedImage>, DbError> {
-        let rest = "where job = $1::bigint and seq > $2::bigint order by seq limit 1";
-        self.one(&format!("select {} from image {rest}", image_columns(JOINED)), &[&job.to_string(), &signed(after)])
-    }
-
-    fn images(&mut self, job: i64) -> Result<Vec<KeptImage>, DbError> {
-        let sql = "select seq, at, bytes from image where job = $1::bigint order by seq";
-        self.all(sql, &[&job.to_string()])
     }
 
     fn summaries(&mut self, job: i64) -> Result<Vec<KeptSummary>, DbError> {
@@ -144,12 +147,15 @@ impl Reader for PgReader {
         self.all(sql, &[&job.to_string(), &signed(after), &signed(upto)])
     }
 
-    fn sizes(&mut self, shards: Shards, after: (i64, i64), most: u32) -> Result<Tried<FileBytes>, DbError> {
-        let sql = format!(
-            "select job, file, bytes from size where (job, file) > ($2::bigint, $3::bigint) and {OF_SHARDS}
-            order by job, file limit $4::bigint"
-        );
-        self.all(&sql, &[&shards.bits().to_string(), &after.0.to_string(), &after.1.to_string(), &most.to_string()])
+    fn sizes(&mut self, job: i64, after: i64, most: u32) -> Result<Vec<FileBytes>, DbError> {
+        let sql =
+            "select file, bytes from size where job = $1::bigint and file > $2::bigint order by file limit $3::bigint";
+        self.all(sql, &[&job.to_string(), &after.to_string(), &most.to_string()])
+    }
+
+    fn bytes_of(&mut self, job: i64, files: &[u64]) -> Result<Vec<FileBytes>, DbError> {
+        let sql = "select file, bytes from size where job = $1::bigint and file = any($2::bigint[])";
+        self.all(sql, &[&job.to_string(), &array(files.iter().map(|file| *file as i64))])
     }
 
     fn states(&mut self, job: i64, record: u64) -> Result<Vec<SubtaskState>, DbError> {
@@ -165,26 +171,26 @@ impl Reader for PgReader {
         self.all(sql, &[&job.to_string(), &signed(after), &signed(upto)])
     }
 
-    fn with_states(&mut self, shards: Shards) -> Result<Tried<u64>, DbError> {
-        let sql = format!("select distinct job, record from subtask_state where {OF_SHARDS}");
-        self.all(&sql, &[&shards.bits().to_string()])
+    fn with_states(&mut self, job: i64) -> Result<Vec<u64>, DbError> {
+        self.all("select distinct record from subtask_state where job = $1::bigint", &[&job.to_string()])
     }
 
     fn gone(&mut self) -> Result<Vec<(i64, u64)>, DbError> {
         self.all("select job, is_empty from gone_job", &[])
     }
 
-    fn phases(&mut self, shards: Shards) -> Result<Tried<Phase>, DbError> {
-        let sql = format!("select job, phase, record, at, term, failed from phase where {OF_SHARDS}");
-        self.all(&sql, &[&shards.bits().to_string()])
+    fn phases(&mut self) -> Result<Tried<Phase>, DbError> {
+        self.all("select job, phase, record, at, term, failed from phase", &[])
     }
 
-    fn call_bytes(&mut self, jobs: &[i64]) -> Result<Vec<(i64, u64)>, DbError> {
-        let sql = format!(
-            "select u.job, avg({BYTES})::bigint from unnest($1::bigint[]) u(job) cross join lateral (
-            select line, files from call where call.job = u.job order by seq desc limit 100) last group by u.job"
-        );
-        self.all(&sql, &[&array(jobs.iter())])
+    fn storages(&mut self) -> Result<Tried<JobStorage>, DbError> {
+        self.all("select job, text from storage", &[])
+    }
+
+    fn call_bytes(&mut self, job: i64) -> Result<Option<u64>, DbError> {
+        let last = "select line, files from call where job = $1::bigint order by seq desc limit 100";
+        let sql = format!("select avg({BYTES})::bigint from ({last}) last");
+        Ok(self.one::<Option<u64>>(&sql, &[&job.to_string()])?.flatten())
     }
 
     fn space(&mut self) -> Result<Space, DbError> {
@@ -192,20 +198,15 @@ impl Reader for PgReader {
         Ok(Space { bytes: bytes.ok_or(DbError::Odd("the database does not tell its size"))?, disk: None })
     }
 
-    fn first(&mut self, job: i64) -> Result<Option<u64>, DbError> {
-        Ok(self.one("select min(seq) from call where job = $1::bigint", &[&job.to_string()])?.flatten())
+    fn lengths(&mut self) -> Result<Vec<(i64, u64)>, DbError> {
+        let last = |table| format!("(select max(seq) from {table} it where it.job = job.job)");
+        self.all(&format!("select job, greatest({}, {}, 0) from job", last("call"), last("image")), &[])
     }
 
-    fn last(&mut self, job: i64) -> Result<u64, DbError> {
-        let sql = "select greatest((select max(seq) from call where job = $1::bigint), (select max(seq) from image where job = $1::bigint), 0)";
-        Ok(self.one(sql, &[&job.to_string()])?.unwrap_or(0))
-    }
-
-    fn lengths_after(&mut self, name: &str, job: i64) -> Result<Option<String>, DbError> {
-        // a process that got a shard twice has its name twice, and those that came from SQLite are of all shards
-        let sql = "with its as (select * from log_start where shard in ($2::bigint, -1))
-            select lengths from its where number > (select max(number) from its where name = $1) order by number limit 1";
-        let rows = self.query(sql, &[name, &shard_of(job).to_string()])?;
+    fn lengths_after(&mut self, name: &str) -> Result<Option<String>, DbError> {
+        let sql = "select lengths from log_start where number > (select number from log_start where name = $1)
+            order by number limit 1";
+        let rows = self.query(sql, &[name])?;
         Ok(rows.into_iter().next().and_then(|row| row.into_iter().next()?))
     }
 
@@ -213,20 +214,14 @@ impl Reader for PgReader {
         Ok(self.one::<Option<u64>>("select max(at) from clock", &[])?.flatten().unwrap_or(0))
     }
 
-    fn jobs_after(&mut self, shards: Shards, number: i64) -> Result<Vec<Listed>, DbError> {
-        let sql = format!(
-            "select job, name, config, shape, started from job where job > $2::bigint and {OF_SHARDS} order by job"
-        );
-        self.all(&sql, &[&shards.bits().to_string(), &number.to_string()])
-    }
-
-    fn number(&mut self, name: &str) -> Result<Option<i64>, DbError> {
-        let rows = self.query("select job from job where name = $1", &[name])?;
-        Ok(rows.into_iter().next().and_then(|row| row.into_iter().next()?).and_then(|job| job.parse().ok()))
+    fn jobs_after(&mut self, number: i64) -> Result<Vec<Listed>, DbError> {
+        let sql = "select job, name, config, shape, started, first from job where job > $1::bigint order by job";
+        self.all(sql, &[&number.to_string()])
     }
 
     fn last_moment(&mut self) -> Result<u64, DbError> {
-        Ok(self.one::<Option<u64>>("select max(at) from call", &[])?.flatten().unwrap_or(0))
+        let sql = "select greatest((select max(at) from call), (select max(at) from image), 0)";
+        Ok(self.one(sql, &[])?.unwrap_or(0))
     }
 
     fn changed(&mut self, since: u64) -> Result<Option<Vec<(i64, u64)>>, DbError> {
@@ -260,27 +255,14 @@ impl Reader for PgReader {
         self.all(sql, &[&array(jobs.iter())])
     }
 
-    fn summaries_of(&mut self, jobs: &[i64]) -> Result<Vec<(i64, KeptSummary)>, DbError> {
-        let sql = "select job, seq, max(whole) from summary where job = any($1::bigint[]) group by job, seq order by job, seq";
-        self.all(sql, &[&array(jobs.iter())])
-    }
-
     fn images_at(&mut self, places: &[(i64, u64)]) -> Result<Vec<SavedImage>, DbError> {
         let from = "image join unnest($1::bigint[], $2::bigint[]) u(job, seq) using (job, seq)";
         let [jobs, places] = arrays(places);
         self.all(&format!("select {} from {from}", image_columns(JOINED)), &[&jobs, &places])
     }
 
-    fn firsts(&mut self, jobs: &[i64]) -> Result<Vec<(i64, u64)>, DbError> {
-        let sql = "select u.job, first.seq from unnest($1::bigint[]) u(job) cross join lateral (
-            select min(seq) as seq from call where call.job = u.job) first where first.seq is not null";
-        self.all(sql, &[&array(jobs.iter())])
-    }
-
     fn leader(&mut self) -> Option<String> {
-        let sql =
-            "select address from member where until > clock_timestamp() and name in (select owner from shard) limit 1";
-        let rows = self.query(sql, &[]).ok()?;
+        let rows = self.query("select address from leader where until > clock_timestamp()", &[]).ok()?;
         rows.into_iter().next()?.into_iter().next()?
     }
 }

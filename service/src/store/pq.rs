@@ -2,10 +2,10 @@
 use super::parameter::{count, Packed, Parameter, TEXT};
 use crate::log;
 use pq_sys::{
-    ConnStatusType, PGconn, PGresult, PQclear, PQconnectdbParams, PQconsumeInput, PQdb, PQerrorMessage, PQfinish,
-    PQflush, PQgetResult, PQgetisnull, PQgetvalue, PQhost, PQisBusy, PQnfields, PQntuples, PQport, PQresultErrorField,
-    PQresultStatus, PQsendPrepare, PQsendQuery, PQsendQueryParams, PQsendQueryPrepared, PQsetNoticeReceiver,
-    PQsetnonblocking, PQsocket, PQstatus, PQuser,
+    ConnStatusType, PGconn, PGresult, PQclear, PQconnectdbParams, PQconsumeInput, PQerrorMessage, PQfinish, PQflush,
+    PQgetResult, PQgetisnull, PQgetvalue, PQisBusy, PQnfields, PQntuples, PQresultErrorField, PQresultStatus,
+    PQsendPrepare, PQsendQuery, PQsendQueryParams, PQsendQueryPrepared, PQsetNoticeReceiver, PQsetnonblocking,
+    PQsocket, PQstatus,
 };
 use std::ffi::{CStr, CString};
 use std::os::raw::{c_char, c_int, c_void};
@@ -121,15 +121,6 @@ impl Connection {
         let answers = self.run("select 1").is_ok();
         self.patience = patience;
         answers
-    }
-
-    /// The address of what it is connected to, without a password and other parameters.
-    pub fn place(&self) -> String {
-        // SAFETY: `raw` is valid and connected, so it has all four texts. They end with a zero byte, and live as long as it does.
-        let [user, host, port, name] =
-            unsafe { [PQuser(self.raw), PQhost(self.raw), PQport(self.raw), PQdb(self.raw)].map(|it| shown(it)) };
-        let host = if host.contains(':') { format!("[{host}]") } else { host.replace('/', "%2F") };
-        format!("postgres://{user}@{host}:{port}/{name}")
     }
 
     /// Prepares a statement under a name.

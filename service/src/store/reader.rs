@@ -1,8 +1,9 @@
 //! What a reader of the database does.
 use super::error::DbError;
 use super::rows::{LogPage, SavedImage, Space, PAGE_BYTES, VERSION};
+use crate::files::JobStorage;
 use crate::model::{
-    AckBytes, Entry, Figure, FileBytes, KeptImage, KeptSummary, Opening, PastRecord, Phase, Shards, SubtaskState,
+    AckBytes, Entry, Figure, FileBytes, KeptImage, KeptSummary, Opening, PastRecord, Phase, SubtaskState,
 };
 
 /// A job that the database has, and what it was opened with, if that can be read.
@@ -15,9 +16,24 @@ pub struct Listed {
 /// Rows of jobs, of which each can be read or not.
 pub type Tried<T> = Vec<(i64, Result<T, DbError>)>;
 
-/// A connection that only reads. A part of a log that it returns has one call at least, if there is one, and [`PAGE_BYTES`] or one call
+/// The logs of jobs, with their images. A part of a log that it returns has one call at least, if there is one, and [`PAGE_BYTES`] or one call
 /// more at most. So it is no sign of the end that there are fewer calls than were asked for.
-pub trait Reader: Send {
+pub trait LogReader {
+    /// The entries after `after`, at most `most`.
+    fn log(&mut self, job: i64, after: u64, most: u32) -> Result<LogPage, DbError>;
+
+    /// The first image after a place.
+    fn image(&mut self, job: i64, after: u64) -> Result<Option<SavedImage>, DbError>;
+
+    /// The images of a job, in order.
+    fn images(&mut self, job: i64) -> Result<Vec<KeptImage>, DbError>;
+
+    /// The first call that the log has.
+    fn first(&mut self, job: i64) -> Result<Option<u64>, DbError>;
+}
+
+/// A connection that only reads.
+pub trait Reader: LogReader + Send {
     /// The version of the tables. Fails if these are no tables of a service.
     fn version(&mut self) -> Result<i64, DbError> {
         Ok(VERSION as i64)
@@ -31,9 +47,6 @@ pub trait Reader: Send {
     /// All jobs, also one whose row is bad.
     fn listed(&mut self) -> Result<Vec<Listed>, DbError>;
 
-    /// The entries after `after`, at most `most`.
-    fn log(&mut self, job: i64, after: u64, most: u32) -> Result<LogPage, DbError>;
-
     /// The entries after `after` that are events, at most `most`.
     fn events(&mut self, job: i64, after: u64, most: u32) -> Result<LogPage, DbError>;
 
@@ -42,12 +55,6 @@ pub trait Reader: Send {
 
     /// The entry at a place.
     fn entry(&mut self, job: i64, seq: u64) -> Result<Option<Entry>, DbError>;
-
-    /// The first image after a place.
-    fn image(&mut self, job: i64, after: u64) -> Result<Option<SavedImage>, DbError>;
-
-    /// The images of a job, in order.
-    fn images(&mut self, job: i64) -> Result<Vec<KeptImage>, DbError>;
 
     /// The summaries of a job's history, in order.
     fn summaries(&mut self, job: i64) -> Result<Vec<KeptSummary>, DbError>;
@@ -61,9 +68,11 @@ pub trait Reader: Send {
     /// What acknowledgements said of sizes, of the calls after `after` up to `upto`, in order.
     fn ack_bytes(&mut self, job: i64, after: u64, upto: u64) -> Result<Vec<AckBytes>, DbError>;
 
-    /// The bytes of files of the jobs of shards, after a job and the number of its file, which a database keeps with a sign; at most `most`, in
-    /// order. A database whose only process has all shards gives those of all jobs.
-    fn sizes(&mut self, shards: Shards, after: (i64, i64), most: u32) -> Result<Tried<FileBytes>, DbError>;
+    /// The bytes of files of a job, after the number of one, which a database keeps with a sign; at most `most`, in order.
+    fn sizes(&mut self, job: i64, after: i64, most: u32) -> Result<Vec<FileBytes>, DbError>;
+
+    /// The bytes of those of these files of a job of which a task told them.
+    fn bytes_of(&mut self, job: i64, files: &[u64]) -> Result<Vec<FileBytes>, DbError>;
 
     /// What the subtasks of a record have beside their files, in their order.
     fn states(&mut self, job: i64, record: u64) -> Result<Vec<SubtaskState>, DbError>;
@@ -71,52 +80,44 @@ pub trait Reader: Send {
     /// What calls told for the history, of those after `after` up to `upto`, in order.
     fn figures(&mut self, job: i64, after: u64, upto: u64) -> Result<Vec<Figure>, DbError>;
 
-    /// The records of the jobs of shards of which it has such rows.
-    fn with_states(&mut self, shards: Shards) -> Result<Tried<u64>, DbError>;
+    /// The records of a job of which it has such rows.
+    fn with_states(&mut self, job: i64) -> Result<Vec<u64>, DbError>;
 
     /// The numbers of jobs that were deleted, and 1 if nothing is left of it.
     fn gone(&mut self) -> Result<Vec<(i64, u64)>, DbError>;
 
-    /// The phases of the jobs of shards that somebody has stopped.
-    fn phases(&mut self, shards: Shards) -> Result<Tried<Phase>, DbError>;
+    /// The phases of the jobs that somebody has stopped.
+    fn phases(&mut self) -> Result<Tried<Phase>, DbError>;
 
-    /// How many bytes the lines and files of the last calls of jobs have on average.
-    fn call_bytes(&mut self, jobs: &[i64]) -> Result<Vec<(i64, u64)>, DbError>;
+    /// Where the files of jobs are, as far as that was said.
+    fn storages(&mut self) -> Result<Tried<JobStorage>, DbError>;
+
+    /// How many bytes the lines and files of the last calls of a job have on average; `None` if it has none.
+    fn call_bytes(&mut self, job: i64) -> Result<Option<u64>, DbError>;
 
     /// How much room the database takes, and has.
     fn space(&mut self) -> Result<Space, DbError>;
 
-    /// The first call that the log has.
-    fn first(&mut self, job: i64) -> Result<Option<u64>, DbError>;
+    /// How many calls each job has had: the place of the last call or image. It needs no other column of its rows.
+    fn lengths(&mut self) -> Result<Vec<(i64, u64)>, DbError>;
 
-    /// How many calls a job has had: the place of the last call or image. It needs no other column of its rows.
-    fn last(&mut self, job: i64) -> Result<u64, DbError>;
-
-    /// How many calls jobs had, this one among them, when the identity `name` of its log ended; `None` if the log does not know that it
-    /// began, or ended.
-    fn lengths_after(&mut self, name: &str, job: i64) -> Result<Option<String>, DbError>;
+    /// How many calls jobs had when the identity `name` of the log ended; `None` if the log does not know that it began, or ended.
+    fn lengths_after(&mut self, name: &str) -> Result<Option<String>, DbError>;
 
     /// The last moment that a leader wrote down by [`Store::note`]; 0: none.
     fn noted(&mut self) -> Result<u64, DbError> {
         Ok(0)
     }
 
-    /// The jobs of shards with a number above `number`, in order.
-    fn jobs_after(&mut self, shards: Shards, number: i64) -> Result<Vec<Listed>, DbError> {
+    /// The jobs with a number above `number`, in order.
+    fn jobs_after(&mut self, number: i64) -> Result<Vec<Listed>, DbError> {
         let mut jobs = self.listed()?;
-        jobs.retain(|job| shards.has_job(job.number) && job.number > number);
+        jobs.retain(|job| job.number > number);
         Ok(jobs)
     }
 
-    /// The number of the job of this name.
-    fn number(&mut self, name: &str) -> Result<Option<i64>, DbError> {
-        Ok(self.listed()?.iter().find(|job| job.name == name).map(|job| job.number))
-    }
-
     /// The last moment of all logs, from which on [`Reader::changed`] tells what is new.
-    fn last_moment(&mut self) -> Result<u64, DbError> {
-        Ok(0)
-    }
+    fn last_moment(&mut self) -> Result<u64, DbError>;
 
     /// The jobs that have calls or images of this moment or a later one, each with the last moment of these. A database whose only
     /// process leads need not know: then it is `None`.
@@ -150,31 +151,12 @@ pub trait Reader: Send {
         Ok(found)
     }
 
-    /// The summaries of jobs, in order.
-    fn summaries_of(&mut self, jobs: &[i64]) -> Result<Vec<(i64, KeptSummary)>, DbError> {
-        let mut found = Vec::new();
-        for job in jobs {
-            let summaries = self.summaries(*job).map_err(|why| why.of_job(*job))?;
-            found.extend(summaries.into_iter().map(|summary| (*job, summary)));
-        }
-        Ok(found)
-    }
-
     /// The images at these places. One that is gone is left out.
     fn images_at(&mut self, places: &[(i64, u64)]) -> Result<Vec<SavedImage>, DbError> {
         let mut found = Vec::new();
         for (job, seq) in places {
             let image = self.image(*job, seq.saturating_sub(1)).map_err(|why| why.of_job(*job))?;
             found.extend(image.filter(|saved| saved.image.seq == *seq));
-        }
-        Ok(found)
-    }
-
-    /// The first calls that the logs of jobs have.
-    fn firsts(&mut self, jobs: &[i64]) -> Result<Vec<(i64, u64)>, DbError> {
-        let mut found = Vec::new();
-        for job in jobs {
-            found.extend(self.first(*job).map_err(|why| why.of_job(*job))?.map(|first| (*job, first)));
         }
         Ok(found)
     }

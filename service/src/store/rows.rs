@@ -1,10 +1,12 @@
 //! What a database of the service does: commits groups, and reads the log.
 use super::error::{DbError, Failure};
+use crate::files::JobStorage;
 use crate::model::{
-    AckBytes, Cut, Entry, Figure, Held, Image, ImagePart, Logged, Opening, PastRecord, Phase, Shards, StateChange,
-    SubtaskState, SummaryPart,
+    AckBytes, Cut, Entry, Figure, Image, ImagePart, Logged, Opening, PastRecord, Phase, StateChange, SubtaskState,
+    SummaryPart,
 };
 use std::collections::{BTreeMap, BTreeSet};
+use std::sync::Arc;
 use std::time::Duration;
 
 /// What one transaction commits, in this order.
@@ -37,6 +39,8 @@ pub struct Group {
     pub figures: Vec<Figure>,
     /// The phases of jobs as they are after all calls.
     pub phases: BTreeMap<i64, Phase>,
+    /// Where the files of jobs are, of those for which it is said anew.
+    pub storages: BTreeMap<i64, Arc<JobStorage>>,
     /// Jobs to delete.
     pub gone: Vec<GoneJob>,
 }
@@ -51,7 +55,7 @@ pub struct GoneJob {
 }
 
 /// The tables with rows of jobs, by which columns, and how many rows of it one piece of a deletion has at most: some are large.
-pub const OF_JOBS: [(&str, &str, u64); 11] = [
+pub const OF_JOBS: [(&str, &str, u64); 12] = [
     ("call", "job, seq", 1000),
     ("ack_size", "job, seq", 1000),
     ("request", "job, key", 1000),
@@ -61,6 +65,7 @@ pub const OF_JOBS: [(&str, &str, u64); 11] = [
     ("image", "job, seq", 1),
     ("image_part", "job, seq, part", 8),
     ("phase", "job", 1000),
+    ("storage", "job", 1000),
     ("subtask_state", "job, record, vertex, place", 1000),
     ("figure", "job, seq", 1000),
 ];
@@ -94,40 +99,13 @@ impl Group {
         }
     }
 
-    /// The shards of all jobs of which it writes something.
-    pub fn shards(&self) -> Shards {
-        let calls = self.entries.iter().map(|it| it.job).chain(self.requests.iter().map(|it| it.job));
-        let jobs = self.jobs.iter().map(|it| it.number).chain(self.gone.iter().map(|it| it.job));
-        let images = self.images.iter().map(|it| it.image.job).chain(self.image_parts.iter().map(|it| it.job));
-        let dropped = self.dropped.iter().chain(&self.dropped_summaries).map(|(job, _)| *job);
-        let history = self.summaries.iter().map(|it| it.job).chain(self.past.iter().map(|it| it.job));
-        let sizes = self.sizes.keys().map(|(job, _)| *job).chain(self.said.iter().map(|it| it.job));
-        let cuts = self.cuts.iter().map(|it| it.job).chain(self.phases.keys().copied());
-        Shards::of_jobs(calls.chain(jobs).chain(images).chain(dropped).chain(history).chain(sizes).chain(cuts))
-    }
-
-    /// Takes the jobs that it opens out of it, with all that it writes of them, and returns their numbers.
-    pub fn take_new(&mut self) -> Vec<i64> {
-        let new: Vec<i64> = std::mem::take(&mut self.jobs).into_iter().map(|job| job.number).collect();
-        let stays = |job: i64| !new.contains(&job);
-        self.entries.retain(|it| stays(it.job));
-        self.requests.retain(|it| stays(it.job));
-        self.sizes.retain(|(job, _), _| stays(*job));
-        self.said.retain(|it| stays(it.job));
-        self.states.retain(|it| stays(it.job));
-        self.figures.retain(|it| stays(it.job));
-        self.copied_states.retain(|(job, _, _)| stays(*job));
-        self.gone_states.retain(|(job, _)| stays(*job));
-        self.phases.retain(|job, _| stays(*job));
-        new
-    }
-
     pub fn is_empty(&self) -> bool {
         let has_calls =
             !(self.gone.is_empty() && self.jobs.is_empty() && self.entries.is_empty() && self.requests.is_empty());
         let has_history = !(self.summaries.is_empty() && self.past.is_empty() && self.dropped_summaries.is_empty());
         let has_images = !(self.images.is_empty() && self.image_parts.is_empty() && self.dropped.is_empty());
-        !has_calls && !has_history && !has_images && self.cuts.is_empty() && self.phases.is_empty()
+        let has_jobs = !(self.phases.is_empty() && self.storages.is_empty());
+        !has_calls && !has_history && !has_images && !has_jobs && self.cuts.is_empty()
     }
 }
 
@@ -158,14 +136,14 @@ pub struct SavedImage {
     pub digest: String,
 }
 
-/// Jobs that were deleted before a moment, but for the last one of each shard. What is left of them is deleted.
-pub const OLD_GONE: &str = "is_empty = 1 and at < $1 and job not in (select max(job) from gone_job group by job & 63)";
+/// Jobs that were deleted before a moment, but for the last one. What is left of them is deleted.
+pub const OLD_GONE: &str = "is_empty = 1 and at < $1 and job <> (select max(job) from gone_job)";
 
 /// How many identities the log keeps.
 pub const MOST_STARTS: i64 = 64;
 
 /// The version of the tables. Each database has a step of SQL for each: only a start over tables of an earlier version runs it.
-pub const VERSION: usize = 1;
+pub const VERSION: usize = 2;
 
 /// The steps after a version, each of which makes or changes tables. They can be run again.
 pub fn steps_after<'a>(found: i64, steps: &'a [&'a str]) -> &'a [&'a str] {
@@ -185,8 +163,8 @@ pub type Written = Result<Committed, Failure>;
 /// Which process leads.
 #[derive(Clone, Debug, PartialEq, Eq)]
 pub enum Lead {
-    /// This one, which may write the jobs of all shards from now on.
-    Here { held: Vec<Held> },
+    /// This one from now on, as the process number `epoch` that leads.
+    Here { epoch: u64 },
     /// Another one, and whether it has renewed its lease since this was last asked.
     Elsewhere { committed: bool },
 }
@@ -196,20 +174,9 @@ pub trait Store: Send {
     /// Tries to lead. The lease counts from before this was called.
     fn lead(&mut self) -> Result<Lead, DbError>;
 
-    /// Joins the processes that share the jobs, as one that has no shard yet. Only a database that several processes use can do so.
-    fn join(&mut self) -> Result<(), DbError> {
-        Err(DbError::Odd("one process alone uses this database"))
-    }
-
-    /// This process may commit for these shards from now on: it got them on another connection.
-    fn hold(&mut self, _held: &[Held]) {}
-
-    /// It commits for these shards no more.
-    fn let_go(&mut self, _shards: Shards) {}
-
-    /// Gives the log of these shards the identity `name`, now that this process has them and each of their jobs has this many calls, and
-    /// deletes parts of images that an earlier owner did not write whole. Fails if it no longer has them.
-    fn begin(&mut self, name: &str, held: &[Held], lengths: &[(i64, u64)]) -> Result<(), DbError>;
+    /// Gives the log the identity `name`, now that this process leads and each job has this many calls, and deletes parts of images that
+    /// an earlier leader did not write whole. Fails if it no longer leads.
+    fn begin(&mut self, name: &str, lengths: &[(i64, u64)]) -> Result<(), DbError>;
 
     /// Commits a group. Renews the lease if that is due, or the group is empty.
     fn commit(&mut self, group: &Group) -> Written;
@@ -223,7 +190,7 @@ pub trait Store: Send {
     /// Deletes records of a job that ended and whose numbers are at most `upto`, at most `most` of them.
     fn forget_past(&mut self, job: i64, upto: u64, most: u64) -> Result<(), DbError>;
 
-    /// Forgets jobs that were deleted before a moment, of which nothing is left. The last of each shard stays: its number is given to no other.
+    /// Forgets jobs that were deleted before a moment, of which nothing is left. The last one stays: its number is given to no other.
     fn forget_gone(&mut self, before: u64) -> Result<(), DbError>;
 
     /// Deletes a piece of what is left of a job that was deleted. Returns whether there may be more; if not, the job counts as empty.

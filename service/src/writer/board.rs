@@ -2,7 +2,8 @@
 use super::damaged::KeptOut;
 use super::lag::Lag;
 use super::lease::Lease;
-use crate::model::{shard_of, wall, Answer, Bases, Choice, Held, Job, Moment, Outcome, Reply, Shards, SHARDS};
+use super::pool::Replay;
+use crate::model::{wall, Answer, Bases, Choice, Job, Moment, Outcome, Reply};
 use serde_json::Value;
 use std::collections::{BTreeMap, HashMap};
 use std::fmt::Write;
@@ -14,10 +15,8 @@ use tokio::sync::watch;
 /// Whether this process leads, which jobs there are, and how far each is.
 pub struct Board {
     ready: AtomicBool,
-    /// Whether all jobs have been served, here or elsewhere, since this process serves.
-    settled: AtomicBool,
-    /// The epoch of each shard that this process has; 0 of one that it has not.
-    epochs: [AtomicU64; SHARDS as usize],
+    /// How many processes have led until this one does; 0 before.
+    epoch: AtomicU64,
     /// The log's identity since this process leads.
     log: OnceLock<String>,
     /// When this process no longer leads, in milliseconds since the machine's start.
@@ -28,8 +27,10 @@ pub struct Board {
     stopping: watch::Sender<bool>,
     started: Instant,
     jobs: RwLock<HashMap<String, Watched>>,
-    /// The jobs of this process that are kept out since their logs can't be replayed, and why.
+    /// The jobs that are kept out since their logs can't be replayed, and why.
     kept_out: RwLock<BTreeMap<String, String>>,
+    /// The jobs that are not replayed yet.
+    pub replay: Replay,
 }
 
 /// That this process serves a job.
@@ -60,8 +61,7 @@ impl Board {
         let jobs = RwLock::new(HashMap::new());
         Board {
             ready: AtomicBool::new(false),
-            settled: AtomicBool::new(false),
-            epochs: [const { AtomicU64::new(0) }; SHARDS as usize],
+            epoch: AtomicU64::new(0),
             log: OnceLock::new(),
             lease_until: AtomicU64::new(0),
             beat: AtomicU64::new(0),
@@ -70,21 +70,17 @@ impl Board {
             started: Instant::now(),
             jobs,
             kept_out: RwLock::default(),
+            replay: Replay::default(),
         }
     }
 
-    /// These jobs are kept out, too.
+    /// These jobs are kept out.
     pub fn keep_out(&self, jobs: &KeptOut) {
         let mut kept_out = self.kept_out.write().unwrap_or_else(PoisonError::into_inner);
         kept_out.extend(jobs.iter().map(|damaged| (damaged.name.clone(), damaged.why.to_string())));
     }
 
-    /// Another process may have this job, which is kept out here.
-    pub fn forget_kept_out(&self, job: &str) {
-        self.kept_out.write().unwrap_or_else(PoisonError::into_inner).remove(job);
-    }
-
-    /// Why a job is kept out; `None` if it is not, or is none of this process.
+    /// Why a job is kept out; `None` if it is not.
     pub fn damage(&self, job: &str) -> Option<String> {
         self.kept_out.read().unwrap_or_else(PoisonError::into_inner).get(job).cloned()
     }
@@ -95,47 +91,15 @@ impl Board {
         kept_out.iter().map(|(name, why)| (name.clone(), why.clone())).collect()
     }
 
-    /// This process leads, and the log of its shards has this identity.
-    pub fn lead(&self, log: String) {
+    /// This process leads in this epoch, and the log has this identity.
+    pub fn lead(&self, epoch: u64, log: String) {
         self.log.get_or_init(|| log);
+        self.epoch.store(epoch, Ordering::SeqCst);
     }
 
-    /// It has these shards.
-    pub fn hold(&self, held: &[Held]) {
-        for Held { shard, epoch } in held {
-            self.epochs[usize::from(*shard)].store(*epoch, Ordering::SeqCst);
-        }
-    }
-
-    /// It has these shards no more.
-    pub fn let_go(&self, shards: Shards) {
-        for shard in shards.iter() {
-            self.epochs[usize::from(shard)].store(0, Ordering::SeqCst);
-        }
-    }
-
-    /// The shards that this process has.
-    pub fn shards(&self) -> Shards {
-        (0..SHARDS).filter(|shard| self.epoch_of((*shard).into()) > 0).collect()
-    }
-
-    /// How often the shard of a job has changed its owner; 0 if this process does not have it.
-    pub fn epoch_of(&self, job: i64) -> u64 {
-        self.epochs[usize::from(shard_of(job))].load(Ordering::SeqCst)
-    }
-
-    /// All jobs are published. From now on requests are accepted.
+    /// From now on requests are accepted. Those for jobs that are not replayed yet wait.
     pub fn open(&self) {
         self.ready.store(true, Ordering::SeqCst);
-    }
-
-    /// All jobs are served, here or by other processes. So a load balancer may send requests here.
-    pub fn settle(&self) {
-        self.settled.store(true, Ordering::SeqCst);
-    }
-
-    pub fn is_settled(&self) -> bool {
-        self.settled.load(Ordering::SeqCst)
     }
 
     /// The lease was renewed, until then.
@@ -153,9 +117,9 @@ impl Board {
         self.ready.load(Ordering::SeqCst) && Moment::now().millis() < self.lease_until.load(Ordering::SeqCst)
     }
 
-    /// The last epoch of all shards that this process has.
+    /// How often another process began to lead, until this one did; 0 if it does not lead yet.
     pub fn epoch(&self) -> u64 {
-        self.epochs.iter().map(|epoch| epoch.load(Ordering::SeqCst)).max().unwrap_or(0)
+        self.epoch.load(Ordering::SeqCst)
     }
 
     /// The log's identity; empty before this process leads.
@@ -212,16 +176,17 @@ impl Board {
         self.started.elapsed().saturating_sub(Duration::from_millis(self.beat.load(Ordering::SeqCst)))
     }
 
-    /// The body that answers a request for a job whose shard has this epoch.
-    pub fn answers(&self, epoch: u64, outcomes: &[Outcome]) -> String {
-        let mut body = String::with_capacity(128 + 64 * outcomes.len());
+    /// The body that answers a request.
+    pub fn answers<'a>(&self, outcomes: impl IntoIterator<Item = &'a Outcome>) -> String {
+        let outcomes = outcomes.into_iter();
+        let mut body = String::with_capacity(128 + 64 * outcomes.size_hint().0);
         body.push_str(r#"{"answers":["#);
-        for (place, outcome) in outcomes.iter().enumerate() {
+        for (place, outcome) in outcomes.enumerate() {
             body.push_str(if place > 0 { "," } else { "" });
             write_answer(&mut body, outcome);
         }
         // a write to a text does not fail
-        let _ = write!(body, r#"],"epoch":{},"log":{}}}"#, epoch, Value::from(self.log()));
+        let _ = write!(body, r#"],"epoch":{},"log":{}}}"#, self.epoch(), Value::from(self.log()));
         body
     }
 
@@ -340,14 +305,11 @@ mod tests {
         let outcomes = [made, Outcome::NoMemory, Outcome::NotMade];
         let told = outcomes.each_ref().map(Outcome::json);
         let board = Board::new();
-        board.lead("a\"b".to_string());
-        board.hold(&[Held { shard: 3, epoch: 4 }, Held { shard: 7, epoch: 9 }]);
+        board.lead(4, "a\"b".to_string());
         assert_eq!(
-            serde_json::from_str(&board.answers(board.epoch_of(67), &outcomes)).ok(),
+            serde_json::from_str(&board.answers(&outcomes)).ok(),
             Some(serde_json::json!({"answers": told, "epoch": 4, "log": "a\"b"}))
         );
-        assert_eq!(board.answers(4, &outcomes[1..2]), r#"{"answers":[{"no_memory":true}],"epoch":4,"log":"a\"b"}"#);
-        board.let_go([7].into_iter().collect());
-        assert_eq!((board.shards().len(), board.epoch(), board.epoch_of(7)), (1, 4, 0));
+        assert_eq!(board.answers(&outcomes[1..2]), r#"{"answers":[{"no_memory":true}],"epoch":4,"log":"a\"b"}"#);
     }
 }

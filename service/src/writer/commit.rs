@@ -1,6 +1,6 @@
 //! Commits a round, and then answers its requests.
-use super::message::ForKeeping;
-use super::round::{Done, Round};
+use super::message::{CallsDone, ForKeeping};
+use super::round::{Done, Round, Untold};
 use super::{state, Writer};
 use crate::exit;
 use crate::log;
@@ -37,12 +37,6 @@ impl Writer {
                     log::warn(&format!("jobs are not deleted: {why}"));
                     round.group.gone.clear();
                 }
-                Err(Failure::NameTaken(why)) if !round.group.jobs.is_empty() => {
-                    log::info(&format!("a job is not opened here: {why}"));
-                    for place in round.uncreate(&mut self.jobs) {
-                        self.timer.set(place, None);
-                    }
-                }
                 Err(Failure::Again(why)) if first.elapsed() < RETRY_FOR => {
                     log::warn(&format!("commit is tried again: {why}"));
                     self.board.beat();
@@ -74,13 +68,14 @@ impl Writer {
             self.renew();
         }
         for place in &round.touched {
+            self.jobs.at(*place).synced().unwrap_or_else(|why| lose(&why));
             self.publish(*place);
         }
         for (place, moment) in round.postponed {
             self.timer.set(place, Some(moment));
         }
-        for Done { done, reply, .. } in round.done {
-            let _ = reply.send(done);
+        for Done { untold, reply } in round.done {
+            let _ = reply.send(self.tell(untold));
         }
         for (created, reply) in round.created {
             let _ = reply.send(created);
@@ -95,11 +90,27 @@ impl Writer {
         }
     }
 
+    /// What is told of calls that are committed: the answers that the library tells, and no others.
+    fn tell(&mut self, untold: Untold) -> CallsDone {
+        let (place, calls, is_keyed) = match untold {
+            Untold::Known(done) => return done,
+            Untold::Held { place, calls, is_keyed } => (place, calls, is_keyed),
+        };
+        let job = self.jobs.at(place);
+        let told = calls.into_iter().map(|held| job.tell(held)).collect::<Result<Vec<_>, _>>();
+        let outcomes = told.unwrap_or_else(|why| lose(&why));
+        if is_keyed {
+            CallsDone::Known(self.board.answers(&outcomes))
+        } else {
+            CallsDone::Made(outcomes)
+        }
+    }
+
     /// Commits what the history gives, apart from calls, so that these neither wait for it nor fail with it.
     pub(super) fn keep(&mut self, given: Vec<(ForKeeping, Sender<bool>)>) {
         for (one, reply) in given {
             // a job may be deleted by now
-            if !self.jobs.has(&one) {
+            if !self.jobs.has(&one) || !self.keeper.can_tell() {
                 let _ = reply.send(false);
                 continue;
             }
@@ -118,7 +129,7 @@ impl Writer {
                     log::warn(&format!("a summary of the history was not written: {why}"));
                     false
                 }
-                Err(Failure::Lost(why) | Failure::NameTaken(why)) => lose(&why),
+                Err(Failure::Lost(why)) => lose(&why),
             };
             if let (true, Some((job, upto, most))) = (is_written, old) {
                 self.store

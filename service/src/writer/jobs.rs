@@ -1,10 +1,10 @@
-//! The jobs of this process, or all of the service, brought up to date with the log.
+//! The jobs of the service, brought up to date with the log.
 mod catch_up;
 
 use super::damaged::KeptOut;
 use super::message::ForKeeping;
 use super::replay::StartError;
-use crate::model::{Job, NoJob, Opening, Shards};
+use crate::model::{Job, NoJob, Opening};
 use crate::store::Reader;
 use std::collections::{BTreeMap, HashMap, HashSet};
 use std::ops::Bound;
@@ -12,15 +12,16 @@ use std::ops::Bound;
 /// Reports that the work goes on. An error ends it.
 pub type Beat<'a> = &'a mut dyn FnMut() -> Result<(), StartError>;
 
-/// The jobs of some shards, each at its place, with their names and numbers.
+/// The jobs, each at its place, with their names and numbers.
 #[derive(Default)]
 pub struct Jobs {
-    shards: Shards,
     jobs: Vec<Job>,
     places: HashMap<String, usize>,
     numbers: BTreeMap<i64, usize>,
-    /// Places of jobs that were deleted or given up, which others may get.
+    /// Places of jobs that were deleted, which others may get.
     empty: Vec<usize>,
+    /// How many calls of logs were made again.
+    pub made: u64,
     last_number: i64,
     last_moment: u64,
     /// The last moment of the logs when they were read.
@@ -33,51 +34,8 @@ pub struct Jobs {
 }
 
 impl Jobs {
-    /// The jobs of these shards, of which none is read yet.
-    pub fn of(shards: Shards) -> Jobs {
-        Jobs { shards, ..Jobs::default() }
-    }
-
     pub fn len(&self) -> usize {
         self.jobs.len()
-    }
-
-    pub fn shards(&self) -> Shards {
-        self.shards
-    }
-
-    /// Takes in the jobs of other shards, when the writer's clock says `now`. Returns their places. Each goes on from its own last moment, so that
-    /// the clock of another process takes no time from the records of other jobs.
-    pub fn adopt(&mut self, others: Jobs, now: u64) -> Vec<usize> {
-        self.shards = self.shards.with(others.shards);
-        self.last_number = self.last_number.max(others.last_number);
-        self.last_gone = self.last_gone.max(others.last_gone);
-        self.last_moment = self.last_moment.max(others.last_moment);
-        self.kept_out.extend(others.kept_out);
-        let mut places = Vec::with_capacity(others.places.len());
-        for mut job in others.jobs.into_iter().filter(|job| !job.is_deleted) {
-            job.ahead = job.at.saturating_sub(now);
-            places.push(self.add(job));
-        }
-        places
-    }
-
-    /// The places of jobs whose moments are ahead of the writer's clock.
-    pub fn ahead(&self) -> Vec<usize> {
-        (0..self.jobs.len()).filter(|place| self.jobs[*place].ahead > 0).collect()
-    }
-
-    /// Gives up the jobs of shards. Returns their places and names.
-    pub fn give_up(&mut self, shards: Shards) -> Vec<(usize, String)> {
-        self.shards = self.shards.without(shards);
-        let places: Vec<usize> =
-            self.places().into_iter().filter(|place| shards.has_job(self.number_at(*place))).collect();
-        let mut given_up = Vec::with_capacity(places.len());
-        for place in places {
-            given_up.push((place, self.jobs[place].opening.name.clone()));
-            self.unopen(place);
-        }
-        given_up
     }
 
     /// The jobs that are kept out.
@@ -85,14 +43,14 @@ impl Jobs {
         &self.kept_out
     }
 
-    /// Gives up the jobs of shards that are kept out, and returns their names.
-    pub fn give_up_kept_out(&mut self, shards: Shards) -> Vec<String> {
-        self.kept_out.give_up(shards)
-    }
-
     /// Why none of the jobs can be replayed, if there is any. Then this program, or the database, is the wrong one.
     pub fn take_hopeless(&mut self) -> Option<StartError> {
         self.places.is_empty().then(|| std::mem::take(&mut self.kept_out).into_first()).flatten()
+    }
+
+    /// Keeps a job out whose log can't be replayed.
+    pub fn keep_out_job(&mut self, number: i64, name: String, why: StartError) {
+        self.kept_out.add(number, name, why);
     }
 
     /// Keeps a job out, of which nothing is served or written then. An error that is not of one job alone ends the start.
@@ -101,7 +59,7 @@ impl Jobs {
             return Err(why);
         }
         let (number, name) = (self.number_at(place), self.jobs[place].opening.name.clone());
-        self.kept_out.add(number, name, why);
+        self.keep_out_job(number, name, why);
         self.unopen(place);
         Ok(())
     }
@@ -110,7 +68,8 @@ impl Jobs {
         self.jobs[place].opening.number
     }
 
-    fn add(&mut self, job: Job) -> usize {
+    /// Adds a job that is as its log says, and returns its place.
+    pub fn add(&mut self, job: Job) -> usize {
         let (name, number) = (job.opening.name.clone(), job.opening.number);
         self.last_moment = self.last_moment.max(job.at);
         self.last_number = self.last_number.max(number);
@@ -169,7 +128,6 @@ impl Jobs {
     /// Forgets the jobs that the database has as deleted. Returns whether there was one.
     fn delete_gone(&mut self, reader: &mut dyn Reader) -> Result<bool, StartError> {
         let gone = reader.gone()?;
-        let gone: Vec<(i64, u64)> = gone.into_iter().filter(|(job, _)| self.shards.has_job(*job)).collect();
         for (job, _) in &gone {
             self.kept_out.forget(*job);
         }
@@ -196,25 +154,14 @@ impl Jobs {
         Some(self.jobs[self.place(name)?].opening.number)
     }
 
-    /// Each job's number, and how many calls it has; those too that are kept out.
-    pub fn lengths(&self) -> Vec<(i64, u64)> {
-        let there = self.jobs.iter().filter(|job| !job.is_deleted);
-        there.map(|job| (job.opening.number, job.seq)).chain(self.kept_out.lengths()).collect()
-    }
-
-    /// How many jobs there are that are not deleted.
-    pub fn count(&self) -> usize {
-        self.places.len()
-    }
-
     /// The last moment of the log.
     pub fn last_moment(&self) -> u64 {
         self.last_moment
     }
 
-    /// The number that a new job gets, in one of these shards; `None` if there is no shard.
-    pub fn next_number(&self) -> Option<i64> {
-        self.shards.next_number(self.last_number.max(self.last_gone))
+    /// The number that a new job gets.
+    pub fn next_number(&self) -> i64 {
+        self.last_number.max(self.last_gone) + 1
     }
 
     /// Forgets a job that was opened, as if it had not been. Its number is passed over.

@@ -50,11 +50,10 @@ pub struct Upkeep {
 }
 
 impl Keeper {
-    /// Looks at all jobs first.
-    pub fn new(keeping: Keeping, jobs: usize) -> Keeper {
-        let attend = (0..jobs).collect();
-        let (failing, last_failure, images) = (BTreeMap::new(), None, Images::default());
-        Keeper { keeping, attend, failing, last_failure, images, level: u64::MAX, reckoned: None }
+    pub fn new(keeping: Keeping) -> Keeper {
+        let (attend, failing) = (BTreeSet::new(), BTreeMap::new());
+        let (last_failure, images, reckoned) = (None, Images::default(), None);
+        Keeper { keeping, attend, failing, last_failure, images, level: u64::MAX, reckoned }
     }
 
     /// How many records of a job are kept once they have ended.
@@ -66,6 +65,11 @@ impl Keeper {
     pub fn keeping(&self, job: &Job) -> Keeping {
         let calls = self.keeping.keep_calls.min(job.retention.calls_in(self.level));
         Keeping { keep_calls: calls, ..self.keeping }
+    }
+
+    /// Whether it can tell what is kept of a job: that may depend on the logs of all jobs, which are not all replayed at first.
+    pub fn can_tell(&self) -> bool {
+        self.keeping.keep_bytes == 0 || self.reckoned.is_some()
     }
 
     /// Reckons how many bytes the log of each job may take, and attends to those that take more.
@@ -87,7 +91,7 @@ impl Keeper {
         }
     }
 
-    /// These jobs were called.
+    /// These jobs were called, or are new here.
     pub fn called(&mut self, places: &BTreeSet<usize>) {
         self.attend.extend(places);
     }
@@ -96,6 +100,9 @@ impl Keeper {
     /// calls were written in the last one.
     pub fn work(&mut self, jobs: &mut Jobs, board: &Board, added: usize) -> Round {
         let mut round = Round::default();
+        if self.keeping.keep_bytes > 0 && board.replay.of_all().is_some() {
+            return round;
+        }
         self.reckon(jobs);
         if self.last_failure.is_some_and(|at| at.elapsed() < PAUSE) || self.work_on_image(jobs, &mut round) {
             return round;

@@ -66,7 +66,6 @@ impl Lease {
 #[cfg(test)]
 mod tests {
     use super::*;
-    use crate::model::Held;
     use crate::store::{DbError, Lead, UnderKey};
 
     /// What a commit of [`Slow`] takes.
@@ -85,7 +84,7 @@ mod tests {
             unreachable!("{ASKED}")
         }
 
-        fn begin(&mut self, _: &str, _: &[Held], _: &[(i64, u64)]) -> Result<(), DbError> {
+        fn begin(&mut self, _: &str, _: &[(i64, u64)]) -> Result<(), DbError> {
             unreachable!("{ASKED}")
         }
 

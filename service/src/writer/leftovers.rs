@@ -1,6 +1,5 @@
 //! Deletion of what is left of jobs that were deleted, in pieces between two commits.
 use crate::log;
-use crate::model::Shards;
 use crate::store::Store;
 use std::collections::VecDeque;
 use std::time::{Duration, Instant};
@@ -27,16 +26,6 @@ impl Leftovers {
     /// Those of jobs that an earlier process left.
     pub fn of(jobs: Vec<i64>) -> Leftovers {
         Leftovers { jobs: jobs.into(), next: None, forgot: None }
-    }
-
-    /// Those of jobs of other shards.
-    pub fn extend(&mut self, jobs: Vec<i64>) {
-        self.jobs.extend(jobs);
-    }
-
-    /// Another process deletes those of these shards.
-    pub fn forget(&mut self, shards: Shards) {
-        self.jobs.retain(|job| !shards.has_job(*job));
     }
 
     pub fn add(&mut self, job: i64) {

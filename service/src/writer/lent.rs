@@ -14,8 +14,7 @@ impl Lent {
 
     /// Keeps a message that may need the coordinator; gives back any other.
     pub fn hold(&mut self, message: Message) -> Option<Message> {
-        let is_given_up = matches!(&message, Message::GiveUp(shards, _) if shards.has_job(self.state.opening.number));
-        if !is_given_up && needs(&message) != Some(&self.state.opening.name) {
+        if needs(&message) != Some(&self.state.opening.name) {
             return Some(message);
         }
         self.held.push(message);
@@ -32,13 +31,14 @@ impl Lent {
 fn needs(message: &Message) -> Option<&String> {
     match message {
         Message::Calls { job, .. } | Message::Configure { job, .. } | Message::Create { name: job, .. } => Some(job),
+        // the state that is there meanwhile has the storage too
+        Message::Locate { job, .. } => Some(job),
         Message::Delete(delete) => Some(&delete.job),
         Message::Read(read, _) => match read {
             Read::Record { job, .. } | Read::File { job, .. } | Read::Garbage { job, .. } => Some(job),
             Read::Taken(job) | Read::Term(job) => Some(job),
             Read::Jobs { .. } | Read::Job(_) => None,
         },
-        Message::Keep(..) | Message::Returned(_) | Message::Imaged(_) | Message::Stop => None,
-        Message::Adopt(_) | Message::GiveUp(..) => None,
+        Message::Keep(..) | Message::Returned(_) | Message::Imaged(_) | Message::Replayed(_) | Message::Stop => None,
     }
 }

@@ -1,11 +1,13 @@
 //! The messages to the writer, and its answers.
 use super::delete::Delete;
 use super::imager::{Imaged, Returned};
-use super::moves::Adoption;
+use super::pool::Replayed;
 use super::state::{JobState, RecordState};
+use crate::files::JobStorage;
 use crate::model::{
-    Call, Change, Fault, FileCounts, Garbage, NoJob, Outcome, PastRecord, RunningTerm, Settings, Shards, SummaryPart,
+    Call, Change, Fault, FileCounts, Garbage, NoJob, Outcome, PastRecord, RunningTerm, Settings, SummaryPart,
 };
+use std::sync::Arc;
 use thiserror::Error;
 use tokio::sync::oneshot;
 
@@ -36,19 +38,25 @@ pub enum Message {
         settings: Settings,
         shape: Vec<u64>,
         names: NamesWanted,
+        /// Where its files are. A job that is there takes it if it knows none.
+        storage: Option<JobStorage>,
         reply: oneshot::Sender<Created>,
+    },
+    /// Where the files of a job are from now on. The answer is the state of the job.
+    Locate {
+        job: String,
+        storage: JobStorage,
+        reply: oneshot::Sender<ReadDone>,
     },
     Read(Read, oneshot::Sender<ReadDone>),
     /// What the history gives to the database. The answer says whether it was committed.
     Keep(ForKeeping, oneshot::Sender<bool>),
     Delete(Delete),
-    /// Jobs of shards that this process got.
-    Adopt(Box<Adoption>),
-    /// Shards that this process gives up. The answer names their jobs, of which it writes nothing more.
-    GiveUp(Shards, oneshot::Sender<Vec<String>>),
     /// The coordinator of a job, of which an image was made.
     Returned(Returned),
     Imaged(Imaged),
+    /// A job that was replayed.
+    Replayed(Replayed),
     Stop,
 }
 
@@ -88,8 +96,7 @@ pub enum ForKeeping {
 
 #[derive(Debug)]
 pub enum CallsDone {
-    /// In this epoch of the job's shard.
-    Made(u64, Vec<Outcome>),
+    Made(Vec<Outcome>),
     /// The body of the answer, which was given under the request's key, now or before.
     Known(String),
     /// The key was used with another body.
@@ -102,6 +109,8 @@ pub enum CallsDone {
 /// Whether a job gives out names: what its creation wants, and what a new one has if that says nothing.
 #[derive(Clone, Copy, Debug)]
 pub struct NamesWanted {
+    /// The number of its first record.
+    pub first: u64,
     pub wanted: Option<bool>,
     pub by_default: bool,
 }
@@ -111,19 +120,20 @@ pub enum Created {
     New {
         names: bool,
     },
-    /// A job of this name and these settings was there, with this shape now or at first.
-    Same {
+    /// A job of this name was there, with these settings and this shape.
+    Found {
         names: bool,
+        settings: Settings,
+        shape: Vec<u64>,
+        storage: Option<Arc<JobStorage>>,
     },
-    /// A job of this name has other settings or another shape.
-    Other,
-    /// A job of this name, settings and shape gives out names, or none, and the other was wanted.
+    /// A recovery makes a job of this name, and has not made it whole.
+    Making,
+    /// A job of this name gives out names, or none, and the other was wanted.
     OtherNames {
         names: bool,
     },
     NotOpened(NoJob),
-    /// Another process has a job of this name, or has to open it.
-    Elsewhere,
     /// A job of this name is kept out, and why.
     Damaged(String),
 }
@@ -160,8 +170,7 @@ pub enum Read {
 
 #[derive(Debug)]
 pub enum ReadDone {
-    /// Jobs of this process, and the shards that it has.
-    Jobs(Shards, Vec<JobState>),
+    Jobs(Vec<JobState>),
     Job(Box<JobState>),
     /// A live record, or `None` if none has the number.
     Record(Option<RecordState>),

@@ -13,8 +13,8 @@ mod lease;
 mod leftovers;
 mod lent;
 mod message;
-mod moves;
 mod old_keys;
+mod pool;
 mod queue;
 pub mod replay;
 mod round;
@@ -27,14 +27,16 @@ pub use imager::Imager;
 pub use jobs::Jobs;
 pub use lease::Lease;
 pub use message::{CallsDone, Created, Deletion, ForKeeping, Key, Message, NamesWanted, Read, ReadDone, MOST_JOBS};
-pub use moves::Adoption;
+pub use pool::{OpenReader, Pool, Progress};
 pub use queue::{queue, Inbox, Messages, NotSent};
 pub use replay::StartError;
 pub use state::{JobState, RecordState};
 
+use crate::exit;
 use crate::log;
 use crate::metrics::Metrics;
-use crate::model::{kind, millis, nearer, Call, Change, Clock, Entry, Keeping, Moment, Outcome};
+use crate::model::{kind, Call, Change, Clock, Entry, Held, Keeping, Moment, Outcome};
+use crate::stop::Stop;
 use crate::store::{Failure, Store};
 use batch::{calls_of, Answered};
 use commit::lose;
@@ -42,7 +44,8 @@ use keeper::Keeper;
 use leftovers::Leftovers;
 use lent::Lent;
 use old_keys::OldKeys;
-use round::{Done, Round};
+use pool::Replayed;
+use round::{Done, Round, Untold};
 use std::collections::VecDeque;
 use std::sync::mpsc::RecvTimeoutError;
 use std::sync::Arc;
@@ -79,7 +82,7 @@ pub struct Writer {
 }
 
 impl Writer {
-    /// A writer over jobs that are as the log says.
+    /// A writer that has no jobs yet: each comes as it is replayed.
     pub fn new(
         store: Box<dyn Store>,
         jobs: Jobs,
@@ -89,10 +92,11 @@ impl Writer {
         metrics: Arc<Metrics>,
         keeping: Keeping,
     ) -> Writer {
-        let (timer, keeper, next) = (Timer::default(), Keeper::new(keeping, jobs.len()), Round::default());
+        let (timer, keeper, next) = (Timer::default(), Keeper::new(keeping), Round::default());
         let (old_keys, leftovers, now) = (OldKeys::new(), Leftovers::of(jobs.leftovers()), Moment::now());
         board.set_lease(&lease);
-        let mut writer = Writer {
+        board.keep_out(jobs.kept_out());
+        Writer {
             store,
             jobs,
             clock,
@@ -108,12 +112,7 @@ impl Writer {
             followed: now,
             noted: now,
             lease,
-        };
-        for place in writer.jobs.places() {
-            writer.publish(place);
         }
-        writer.board.keep_out(writer.jobs.kept_out());
-        writer
     }
 
     /// Works until a message says to stop. Images are made by the imager.
@@ -137,12 +136,9 @@ impl Writer {
             self.keeper.called(&round.touched);
             let (given, deletions) = (std::mem::take(&mut round.given), std::mem::take(&mut round.deletions));
             let gone = std::mem::take(&mut round.group.gone);
-            let (adoptions, given_up) = (std::mem::take(&mut round.adoptions), std::mem::take(&mut round.given_up));
             self.answer(round);
             self.keep(given);
             self.delete(deletions, &gone);
-            self.give_up(given_up);
-            self.adopt(adoptions);
             if stop {
                 self.board.end_lease();
                 self.store.release();
@@ -189,10 +185,44 @@ impl Writer {
                 self.keeper.image_made(&mut self.jobs, imaged, &self.metrics);
                 None
             }
+            Message::Replayed(replayed) => {
+                self.take_replayed(replayed);
+                None
+            }
             message => match &mut self.lent {
                 Some(lent) => lent.hold(message),
                 None => Some(message),
             },
+        }
+    }
+
+    /// From now on a job is served, or kept out.
+    fn take_replayed(&mut self, Replayed { number, name, job }: Replayed) {
+        match job {
+            Ok(job) => {
+                let place = self.jobs.add(*job);
+                self.keeper.called(&[place].into());
+                self.publish(place);
+            }
+            Err(why) => {
+                self.jobs.keep_out_job(number, name.clone(), why);
+                self.board.keep_out(self.jobs.kept_out());
+            }
+        }
+        self.board.replay.done(&name);
+        if self.board.replay.of_all().is_none() {
+            self.end_without_hope();
+        }
+    }
+
+    /// Ends the process if not one job can be replayed: then this program, or the database, is the wrong one.
+    fn end_without_hope(&mut self) {
+        if let Some(why) = self.jobs.take_hopeless() {
+            self.board.end_lease();
+            self.store.release();
+            let stop = Stop::from(why);
+            log::error(&stop.to_string());
+            exit::now(stop.status())
         }
     }
 
@@ -213,14 +243,8 @@ impl Writer {
         if self.followed.elapsed() < SLEEP {
             return;
         }
-        let passed = millis(std::mem::replace(&mut self.followed, Moment::now()).elapsed());
+        self.followed = Moment::now();
         self.metrics.clock(self.clock.follow());
-        for place in self.jobs.ahead() {
-            let job = self.jobs.at(place);
-            job.ahead = nearer(job.ahead, passed);
-            let wake = job.wake();
-            self.timer.set(place, wake);
-        }
         if self.noted.elapsed() >= NOTE_EACH {
             self.noted = Moment::now();
             match self.store.note(self.clock.now()) {
@@ -248,27 +272,29 @@ impl Writer {
         match message {
             Message::Stop => round.stop = true,
             // taken in as the batch was gathered
-            Message::Returned(_) | Message::Imaged(_) => {}
+            Message::Returned(_) | Message::Imaged(_) | Message::Replayed(_) => {}
             Message::Read(read, reply) => round.reads.push((read, reply)),
             Message::Keep(given, reply) => round.given.push((given, reply)),
             Message::Delete(delete) => round.deletions.push(delete),
-            Message::Adopt(adoption) => round.adoptions.push(*adoption),
-            Message::GiveUp(shards, reply) => round.given_up.push((shards, reply)),
-            Message::Create { name, settings, shape, names, reply } => {
+            Message::Create { name, settings, shape, names, storage, reply } => {
                 let created = round.create(&mut self.jobs, &name, settings, shape, names, self.clock.now());
+                let created = round.created_at(&mut self.jobs, &name, created, storage);
                 round.created.push((created, reply));
             }
+            Message::Locate { job, storage, reply } => {
+                round.locate(&mut self.jobs, &job, storage);
+                round.reads.push((Read::Job(job), reply));
+            }
             Message::Configure { job, change, reply } => {
-                let (number, done) = (self.jobs.number(&job), self.configure(round, &job, change));
-                round.done.push(Done { done, job: number, reply });
+                let untold = self.configure(round, &job, change);
+                round.done.push(Done { untold, reply });
             }
             Message::Calls { job, calls, tells, key, reply } => {
-                let number = self.jobs.number(&job);
-                let done = match self.jobs.place(&job) {
-                    None => CallsDone::NoJob,
+                let untold = match self.jobs.place(&job) {
+                    None => Untold::Known(CallsDone::NoJob),
                     Some(place) => self.keyed_calls(round, answered, place, (&calls, tells), key),
                 };
-                round.done.push(Done { done, job: number, reply });
+                round.done.push(Done { untold, reply });
             }
         }
     }
@@ -281,73 +307,72 @@ impl Writer {
         place: usize,
         (calls, tells): (&[Call], bool),
         key: Option<Key>,
-    ) -> CallsDone {
+    ) -> Untold {
         let Some(key) = key else {
-            let epoch = self.board.epoch_of(self.jobs.at(place).opening.number);
-            return CallsDone::Made(epoch, self.calls(round, place, calls, tells));
+            return Untold::Held { place, calls: self.calls(round, place, calls, tells), is_keyed: false };
         };
         let job = self.jobs.at(place).opening.number;
         match round.keyed(job, &key.name).map(Ok).or_else(|| answered.get(job, &key.name)) {
-            Some(Ok(known)) if known.digest == key.digest => CallsDone::Known(known.answers),
-            Some(Ok(_)) => CallsDone::KeyUsed,
-            Some(Err(why)) => CallsDone::BadKey(why),
+            Some(Ok(known)) if known.digest == key.digest => Untold::Known(CallsDone::Known(known.answers)),
+            Some(Ok(_)) => Untold::Known(CallsDone::KeyUsed),
+            Some(Err(why)) => Untold::Known(CallsDone::BadKey(why)),
             None => {
-                let outcomes = self.calls(round, place, calls, tells);
-                let answers = self.board.answers(self.board.epoch_of(job), &outcomes);
+                let calls = self.calls(round, place, calls, tells);
                 // if nothing was made, a repeat makes nothing twice
-                if outcomes.iter().any(Outcome::has_row) {
-                    round.keep(job, key, self.clock.now(), answers.clone());
+                if calls.iter().any(|held| held.outcome.has_row()) {
+                    let answers = self.board.answers(calls.iter().map(|held| &held.outcome));
+                    round.keep(job, key, self.clock.now(), answers);
                 }
-                CallsDone::Known(answers)
+                Untold::Held { place, calls, is_keyed: true }
             }
         }
     }
 
     /// Gives a job the settings that it has with this change. A repeat gives it the same.
-    fn configure(&mut self, round: &mut Round, job: &str, change: Change) -> CallsDone {
+    fn configure(&mut self, round: &mut Round, job: &str, change: Change) -> Untold {
         let Some(place) = self.jobs.place(job) else {
-            return CallsDone::NoJob;
+            return Untold::Known(CallsDone::NoJob);
         };
         let job = self.jobs.at(place);
-        let (number, numbers) = (job.opening.number, change.of(&job.settings).numbers());
-        let outcome = self.call(round, place, &Call::Configure { numbers });
-        CallsDone::Made(self.board.epoch_of(number), vec![outcome])
+        let numbers = change.of(&job.settings).numbers();
+        let calls = vec![self.call(round, place, &Call::Configure { numbers })];
+        Untold::Held { place, calls, is_keyed: false }
     }
 
     /// Makes calls in order. After one that found no memory, the others are not made.
-    fn calls(&mut self, round: &mut Round, place: usize, calls: &[Call], tells: bool) -> Vec<Outcome> {
-        let mut outcomes = Vec::with_capacity(calls.len());
+    fn calls(&mut self, round: &mut Round, place: usize, calls: &[Call], tells: bool) -> Vec<Held> {
+        let mut all: Vec<Held> = Vec::with_capacity(calls.len());
         for call in calls {
-            let outcome = match outcomes.last() {
-                Some(Outcome::NoMemory | Outcome::NotMade) => Outcome::NotMade,
+            let held = match all.last().map(|held| &held.outcome) {
+                Some(Outcome::NoMemory | Outcome::NotMade) => Held::without_memory(Outcome::NotMade),
                 _ if tells => self.telling_call(round, place, call),
                 _ => self.call(round, place, call),
             };
-            outcomes.push(outcome);
+            all.push(held);
         }
-        outcomes
+        all
     }
 
     /// Makes a call, and tells the kind of its record and which ones it has ended.
-    fn telling_call(&mut self, round: &mut Round, place: usize, call: &Call) -> Outcome {
+    fn telling_call(&mut self, round: &mut Round, place: usize, call: &Call) -> Held {
         let live = self.jobs.at(place).live();
         let named = call.record().and_then(|id| live.get(&id)).map(|live| live.kind.to_string());
         let first = round.group.entries.len();
-        let made = self.call(round, place, call);
-        let Outcome::Made { reply, .. } = &made else {
-            return made;
+        let held = self.call(round, place, call);
+        let Outcome::Made { reply, .. } = &held.outcome else {
+            return held;
         };
         let kind = kind(reply).filter(|word| *word != "fresh").map(str::to_string).or(named);
         let mut ended: Vec<u64> = round.group.entries[first..].iter().flat_map(Entry::ended_records).collect();
         ended.sort_unstable();
-        Outcome::Detailed { made: Box::new(made), kind, ended }
+        held.map(|made| Outcome::Detailed { made: Box::new(made), kind, ended })
     }
 
-    fn call(&mut self, round: &mut Round, place: usize, call: &Call) -> Outcome {
+    fn call(&mut self, round: &mut Round, place: usize, call: &Call) -> Held {
         let job = self.jobs.at(place);
         let (now, phase) = (job.moment(self.clock.now()), job.phase);
-        let (outcome, logged) = job.operate(call, now);
-        self.metrics.call(&job.opening.name, call.name(), &outcome);
+        let (held, logged) = job.operate(call, now);
+        self.metrics.call(&job.opening.name, call.name(), &held.outcome);
         for logged in logged {
             round.group.log(logged);
         }
@@ -355,7 +380,7 @@ impl Writer {
             round.group.phases.insert(job.opening.number, job.phase);
         }
         round.touched.insert(place);
-        outcome
+        held
     }
 
     /// Ticks each job in which a checkpoint is due or a record expires.
@@ -364,7 +389,7 @@ impl Writer {
         self.set_timer(round);
         for (moment, place) in self.timer.take_due(now) {
             self.metrics.queue.late(now.saturating_sub(moment));
-            let outcome = self.call(round, place, &Call::Tick);
+            let outcome = self.call(round, place, &Call::Tick).outcome;
             if !did_its_work(&outcome) {
                 log::warn(&format!("tick job={} outcome={}", self.jobs.at(place).opening.name, outcome.json()));
                 round.postponed.push((place, now + TICK_AGAIN));

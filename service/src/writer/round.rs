@@ -3,20 +3,27 @@ use super::delete::Delete;
 use super::jobs::Jobs;
 use super::keeper::Upkeep;
 use super::message::{CallsDone, Created, Deletion, ForKeeping, Key, NamesWanted, Read, ReadDone};
-use super::moves::Adoption;
-use crate::model::{Call, NoJob, Opening, Settings, Shards};
+use crate::files::JobStorage;
+use crate::model::{Call, Held, NoJob, Opening, Settings, MAKING};
 use crate::store::{Group, Keyed};
 use std::collections::{BTreeSet, HashMap};
+use std::sync::Arc;
 use tokio::sync::oneshot::Sender;
 
 /// The first name that a new job gives out.
 const FIRST_NAME: u64 = 1;
 
-/// An answer to calls of a job.
+/// A request for calls of a job, which is answered once the round is committed.
 pub struct Done {
-    pub done: CallsDone,
-    pub job: Option<i64>,
+    pub untold: Untold,
     pub reply: Sender<CallsDone>,
+}
+
+pub enum Untold {
+    /// What the calls gave of the job at this place. What is kept under a key is told as a whole body.
+    Held { place: usize, calls: Vec<Held>, is_keyed: bool },
+    /// Nothing was called.
+    Known(CallsDone),
 }
 
 #[derive(Default)]
@@ -31,8 +38,6 @@ pub struct Round {
     pub deletions: Vec<Delete>,
     /// Deletions that are not made, and why.
     pub undeleted: Vec<(Deletion, Sender<Deletion>)>,
-    pub adoptions: Vec<Adoption>,
-    pub given_up: Vec<(Shards, Sender<Vec<String>>)>,
     /// The places of jobs that were called.
     pub touched: BTreeSet<usize>,
     /// Jobs whose tick did nothing, and when it is tried again.
@@ -54,27 +59,6 @@ impl Round {
         self.group.requests.push(Keyed { job, key: key.name, at, digest: key.digest, answers });
     }
 
-    /// Takes the new jobs out of it, since another process has one of their names. Returns their places, where nothing is to be ticked.
-    pub fn uncreate(&mut self, jobs: &mut Jobs) -> Vec<usize> {
-        let gone = self.group.take_new();
-        let places: Vec<usize> = gone.iter().filter_map(|number| jobs.place_of(*number)).collect();
-        for place in &places {
-            jobs.unopen(*place);
-            self.touched.remove(place);
-        }
-        self.postponed.retain(|(place, _)| !places.contains(place));
-        for (created, _) in &mut self.created {
-            // one that differs may have been compared with a job that is taken out
-            if !matches!(created, Created::NotOpened(_) | Created::Damaged(_)) {
-                *created = Created::Elsewhere;
-            }
-        }
-        for done in self.done.iter_mut().filter(|done| done.job.is_some_and(|job| gone.contains(&job))) {
-            done.done = CallsDone::NoJob;
-        }
-        places
-    }
-
     /// Opens a job of this name, unless there is one.
     pub fn create(
         &mut self,
@@ -85,26 +69,21 @@ impl Round {
         names: NamesWanted,
         now: u64,
     ) -> Created {
-        let Some(number) = jobs.next_number() else {
-            return Created::Elsewhere;
-        };
         if let Some(place) = jobs.place(name) {
             let job = jobs.at(place);
-            // an engine that has rescaled its job knows the shape of now, and one whose job has other settings may know these
-            let has_shape = job.opening.shape == shape || job.shape == shape;
-            let has_settings = job.opening.settings == settings || job.settings == settings;
-            let (is_alike, has) = (has_settings && has_shape, job.engine().term().is_some());
+            let has = job.engine().term().is_some();
             return match names.wanted {
-                _ if !is_alike => Created::Other,
+                _ if job.settings == MAKING && settings != MAKING => Created::Making,
                 Some(wanted) if wanted != has => Created::OtherNames { names: has },
-                _ => Created::Same { names: has },
+                _ => Created::Found { names: has, settings: job.settings, shape: job.shape.clone(), storage: None },
             };
         }
         if let Some(why) = jobs.kept_out().why(name) {
             return Created::Damaged(why);
         }
+        let (number, first) = (jobs.next_number(), names.first);
         let names = names.wanted.unwrap_or(names.by_default);
-        let opening = Opening { number, name: name.to_string(), settings, shape, started: now };
+        let opening = Opening { number, name: name.to_string(), settings, shape, started: now, first };
         let place = match jobs.open(opening.clone()) {
             Ok(place) => place,
             Err(why) => return Created::NotOpened(why),
@@ -121,5 +100,32 @@ impl Round {
         self.group.jobs.push(opening);
         self.touched.insert(place);
         Created::New { names }
+    }
+
+    /// Says where the files of a job are that was opened or found. One that knows it keeps what it knows, which may be an operator's.
+    pub fn created_at(&mut self, jobs: &mut Jobs, name: &str, created: Created, said: Option<JobStorage>) -> Created {
+        let is_there = matches!(created, Created::New { .. } | Created::Found { .. });
+        let Some(place) = jobs.place(name).filter(|_| is_there) else {
+            return created;
+        };
+        if let Some(said) = said.filter(|_| jobs.at(place).storage.is_none()) {
+            self.locate(jobs, name, said);
+        }
+        match created {
+            Created::Found { names, settings, shape, .. } => {
+                Created::Found { names, settings, shape, storage: jobs.at(place).storage.clone() }
+            }
+            other => other,
+        }
+    }
+
+    /// Says where the files of a job are, if there is such a job.
+    pub fn locate(&mut self, jobs: &mut Jobs, name: &str, storage: JobStorage) {
+        if let Some(place) = jobs.place(name) {
+            let job = jobs.at(place);
+            let storage = Arc::new(storage);
+            self.group.storages.insert(job.opening.number, Arc::clone(&storage));
+            job.storage = Some(storage);
+        }
     }
 }

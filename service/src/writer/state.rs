@@ -1,9 +1,11 @@
 //! The state of a job, as reads return it between two commits.
 use super::jobs::Jobs;
 use super::message::{Read, ReadDone};
+use crate::files::JobStorage;
 use crate::model::{
     Bytes, Choice, FileCounts, Job, KeptImage, Kind, LiveRecord, Mode, Opening, Phase, RunningTerm, Settings,
 };
+use std::sync::Arc;
 
 #[derive(Clone, Debug)]
 pub struct JobState {
@@ -14,6 +16,7 @@ pub struct JobState {
     pub shape: Vec<u64>,
     pub mode: Mode,
     pub phase: Phase,
+    pub storage: Option<Arc<JobStorage>>,
     pub seq: u64,
     pub now: u64,
     pub due: u64,
@@ -58,7 +61,7 @@ pub fn read(jobs: &mut Jobs, read: Read, now: u64, lent: Option<&JobState>) -> R
     match read {
         Read::Jobs { after, most } => {
             let places = jobs.places_after(after, most);
-            ReadDone::Jobs(jobs.shards(), places.into_iter().map(|place| state(jobs.at(place))).collect())
+            ReadDone::Jobs(places.into_iter().map(|place| state(jobs.at(place))).collect())
         }
         Read::Job(name) => of(jobs, &name, |job| ReadDone::Job(Box::new(state(job)))),
         Read::Record { job, id } => of(jobs, &job, |job| ReadDone::Record(record(job, id))),
@@ -99,6 +102,7 @@ pub fn state(job: &mut Job, now: u64) -> JobState {
         shape: job.shape.clone(),
         mode,
         phase: job.phase,
+        storage: job.storage.clone(),
         seq: job.seq,
         now: job.moment(now),
         due,
@@ -129,7 +133,7 @@ mod tests {
     #[test]
     fn a_job_that_has_gone_since_it_was_read_gets_no_metrics() -> Result<(), Box<dyn std::error::Error>> {
         let settings = parse_config("config 1000 0 1 600000 0 1 delete").ok_or("settings")?;
-        let opening = Opening { number: 1, name: "orders".to_string(), settings, shape: vec![1], started: 5 };
+        let opening = Opening { number: 1, name: "orders".to_string(), settings, shape: vec![1], started: 5, first: 1 };
         let mut job = Job::open(opening).map_err(|_| "a job")?;
         let (read, metrics) = ([state(&mut job, 5)], Metrics::new()?);
         let has_it = |text: Vec<u8>| String::from_utf8_lossy(&text).contains("orders");

@@ -76,6 +76,11 @@ pub enum Call {
         checkpoint: u64,
         shape: Option<Vec<u64>>,
     },
+    /// The same of a job that has stopped, which stays stopped.
+    RestoreStopped {
+        savepoint: Option<u64>,
+        shape: Option<Vec<u64>>,
+    },
     Take {
         most: u64,
     },
@@ -135,6 +140,10 @@ impl Call {
             Call::GoBack { checkpoint, shape } => {
                 let from = json!({"checkpoint": checkpoint});
                 json!({"call": "restore", "from": from, "accept_published": true, "shape": shape})
+            }
+            Call::RestoreStopped { savepoint, shape } => {
+                let from = savepoint.map_or(json!("latest"), |id| json!(id));
+                json!({"call": "restore", "from": from, "shape": shape, "stopped": true})
             }
             Call::Restore { savepoint, shape } => {
                 json!({"call": "restore", "from": savepoint.map_or(json!("latest"), |id| json!(id)), "shape": shape})

@@ -1,8 +1,9 @@
 //! Requests over HTTP, which are made again until they are answered.
 use crate::addresses::{jittered, Addresses};
+use crate::sockets::{is_socket, url_of, Sockets};
 use hyper::body::HttpBody;
 use hyper::client::HttpConnector;
-use hyper::header::{HeaderMap, HeaderValue, AUTHORIZATION, CONTENT_TYPE, RETRY_AFTER};
+use hyper::header::{HeaderMap, HeaderValue, AUTHORIZATION, CONTENT_TYPE, HOST, RETRY_AFTER};
 use hyper::{Body, Client, Method, Request, Uri};
 use hyper_tls::HttpsConnector;
 use serde_json::Value;
@@ -114,7 +115,7 @@ impl Default for Manner {
 }
 
 pub struct Requests {
-    client: Client<HttpsConnector<HttpConnector>>,
+    client: Client<HttpsConnector<Sockets>>,
     addresses: Addresses,
     token: Option<HeaderValue>,
 }
@@ -146,6 +147,10 @@ impl ApiRequest {
         ApiRequest { method: Method::PATCH, body: Some(body.to_string()), ..ApiRequest::get(path) }
     }
 
+    pub fn put(path: String, body: &Value) -> ApiRequest {
+        ApiRequest { method: Method::PUT, ..ApiRequest::patch(path, body) }
+    }
+
     pub fn post(path: String, body: &Value, key: Option<&str>) -> ApiRequest {
         ApiRequest {
             method: Method::POST,
@@ -173,14 +178,14 @@ pub fn new_key() -> String {
 impl Requests {
     pub fn new(urls: &[&str], token: Option<&str>) -> Result<Requests, Error> {
         let bad = |why: &dyn fmt::Display| Error::Address(why.to_string());
-        let urls: Vec<String> = urls.iter().map(|url| url.trim_end_matches('/').to_string()).collect();
+        let urls: Vec<String> = urls.iter().map(|url| url_of(url.trim_end_matches('/'))).collect();
         if urls.is_empty() {
             return Err(bad(&"there is none"));
         }
         for url in &urls {
             let uri = url.parse::<Uri>().map_err(|error| bad(&format!("{url}: {error}")))?;
             if !matches!(uri.scheme_str(), Some("http" | "https")) || uri.host().is_none() {
-                return Err(bad(&format!("{url}: is no address such as http://127.0.0.1:7780")));
+                return Err(bad(&format!("{url}: is no address such as http://127.0.0.1:7780 or unix:job.sock")));
             }
         }
         let token = token.map(|token| HeaderValue::from_str(&format!("Bearer {token}")).map_err(|error| bad(&error)));
@@ -188,7 +193,7 @@ impl Requests {
         connector.set_connect_timeout(Some(CONNECT));
         connector.enforce_http(false);
         let tls = native_tls::TlsConnector::new().map_err(|error| bad(&error))?;
-        let client = Client::builder().build(HttpsConnector::from((connector, tls.into())));
+        let client = Client::builder().build(HttpsConnector::from((Sockets { tcp: connector }, tls.into())));
         Ok(Requests { client, addresses: Addresses::new(urls), token: token.transpose()? })
     }
 
@@ -199,8 +204,8 @@ impl Requests {
 
     /// Makes a request until it is answered.
     pub async fn ask(&self, manner: &Manner, asked: ApiRequest) -> Result<ApiAnswer, Error> {
-        let until = manner.patience.and_then(|patience| Instant::now().checked_add(patience + asked.wait));
-        let mut pause = FIRST_PAUSE;
+        let patience_ends = || Instant::now().checked_add(manner.patience? + asked.wait);
+        let (mut until, mut pause, mut replayed) = (patience_ends(), FIRST_PAUSE, None);
         loop {
             let (place, url) = self.addresses.current();
             let told = self.once(&asked, url, self.one_try(manner, &asked)).await;
@@ -209,7 +214,14 @@ impl Requests {
                     self.addresses.answered(place);
                     return Ok(told);
                 }
-                Ok(told) => (told.error(), told.later(), told.leader()),
+                Ok(told) => {
+                    // a service that starts is waited for while it replays more
+                    let more = told.replayed();
+                    if more > replayed {
+                        (replayed, until) = (more, patience_ends());
+                    }
+                    (told.error(), told.later(), told.leader())
+                }
                 Err(error) if error.is_tried_again() => (error, Duration::ZERO, None),
                 Err(error) => return Err(error),
             };
@@ -247,6 +259,9 @@ impl Requests {
     fn request(&self, asked: &ApiRequest, url: &str) -> Result<Request<Body>, Error> {
         let mut request = Request::builder().method(&asked.method).uri(format!("{url}{}", asked.path));
         request = request.header(CONTENT_TYPE, "application/json");
+        if is_socket(url) {
+            request = request.header(HOST, "localhost");
+        }
         if let Some(token) = &self.token {
             request = request.header(AUTHORIZATION, token);
         }
@@ -282,6 +297,12 @@ impl ApiAnswer {
         let seconds = text.parse().ok().map(Duration::from_secs);
         let moment = || httpdate::parse_http_date(text).ok()?.duration_since(SystemTime::now()).ok();
         seconds.or_else(moment).unwrap_or(Duration::ZERO).min(LONGEST_LATER)
+    }
+
+    /// How much a service that starts has replayed, of jobs and of calls.
+    fn replayed(&self) -> Option<u64> {
+        let value: Value = serde_json::from_slice(&self.bytes).ok()?;
+        Some(value["replay"]["replayed"].as_u64()? + value["replay"]["calls"].as_u64()?)
     }
 
     fn leader(&self) -> Option<String> {

@@ -18,17 +18,26 @@
 //! certificates are trusted, or those of the file that `SSL_CERT_FILE` names.
 mod addresses;
 mod call;
+#[cfg(feature = "commands")]
+pub mod commands;
 mod follow;
 mod http;
+#[cfg(feature = "runner")]
+mod runner;
 mod session;
+mod sockets;
 mod start;
+#[cfg(any(feature = "sqlite", feature = "postgres"))]
+pub mod table;
 mod whole;
 
 pub use call::{Answer, Beside, Call};
 pub use follow::Follower;
 pub use http::{new_key, Error};
+#[cfg(feature = "runner")]
+pub use runner::ServiceJob;
 pub use session::Session;
-pub use start::{file_numbers, Start};
+pub use start::Start;
 pub use whole::{Part, Whole};
 
 use call::texts;
@@ -54,15 +63,40 @@ pub struct Job {
     requests: Arc<Requests>,
     manner: Manner,
     path: String,
+    opened: Option<Arc<Opened>>,
+}
+
+/// A job as it was opened or found.
+#[derive(Clone, Debug, PartialEq)]
+pub struct Opened {
+    pub settings: Value,
+    pub shape: Vec<u64>,
+    /// Whether it has other settings or another shape than were given.
+    pub settings_differ: bool,
+    /// Where its files are, if it knows that.
+    pub storage: Option<Value>,
+}
+
+impl Opened {
+    fn of(told: &Value) -> Result<Opened, Error> {
+        let shape = told["shape"].as_array().and_then(|shape| shape.iter().map(Value::as_u64).collect());
+        Ok(Opened {
+            settings: told["settings"].clone(),
+            shape: shape.ok_or_else(|| Error::Answer("to open a job has no shape".to_string()))?,
+            settings_differ: told["settings_differ"] == true,
+            storage: Some(told["storage"].clone()).filter(|said| !said.is_null()),
+        })
+    }
 }
 
 impl Service {
-    /// A service at these addresses, as `http://127.0.0.1:7780`, with a token if it needs one.
+    /// A service at these addresses, as `http://127.0.0.1:7780`, or a running job at `unix:PATH` of its socket, with a token if it needs one.
     pub fn new(urls: &[&str], token: Option<&str>) -> Result<Service, Error> {
         Ok(Service { requests: Arc::new(Requests::new(urls, token)?), manner: Manner::default() })
     }
 
-    /// The same service, which makes a request again for this long, or for ever.
+    /// The same service, which makes a request again for this long, or for ever; and for as long as a service that starts replays more of its
+    /// jobs within this time.
     #[must_use]
     pub fn within(&self, patience: Option<Duration>) -> Service {
         let manner = Manner { patience, ..self.manner.clone() };
@@ -76,28 +110,29 @@ impl Service {
         Service { requests: Arc::clone(&self.requests), manner }
     }
 
-    /// Opens a job, or finds it: the same name and settings give the same job, with its first shape or its last. Settings are those of the
-    /// API, as `{"interval": 60000}`. A new job gives out names, unless the service is set otherwise.
+    /// Opens a job, or finds it. A job that is there keeps its settings and its shape, which an operator may have changed:
+    /// [`Job::opened`] has them, and an engine goes on with these. Settings are those of the API, as `{"interval": 60000}`. A new job
+    /// gives out names, unless the service is set otherwise.
     pub async fn open(&self, name: &str, settings: Value, shape: &[u64]) -> Result<Job, Error> {
         self.opened(name, json!({"name": name, "settings": settings, "shape": shape})).await
     }
 
-    /// The same for an engine that numbers its files itself. A service of an earlier version refuses it, and [`open`](Self::open) does as
-    /// much there.
-    pub async fn open_without_names(&self, name: &str, settings: Value, shape: &[u64]) -> Result<Job, Error> {
-        self.opened(name, json!({"name": name, "settings": settings, "shape": shape, "names": false})).await
+    /// The same of a job that says where its files are, for cleaners, as `{"folder": "/srv/orders", "prefix": "state-"}`. A job that knows it
+    /// keeps what it knows.
+    pub async fn open_at(&self, name: &str, settings: Value, shape: &[u64], storage: &Value) -> Result<Job, Error> {
+        self.opened(name, json!({"name": name, "settings": settings, "shape": shape, "storage": storage})).await
     }
 
     async fn opened(&self, name: &str, body: Value) -> Result<Job, Error> {
-        self.requests.body(&self.manner, ApiRequest::post("/v1/jobs".to_string(), &body, None)).await?;
-        Ok(self.job(name))
+        let told = self.requests.body(&self.manner, ApiRequest::post("/v1/jobs".to_string(), &body, None)).await?;
+        Ok(Job { opened: Some(Arc::new(Opened::of(&told)?)), ..self.job(name) })
     }
 
     /// A job that exists.
     #[must_use]
     pub fn job(&self, name: &str) -> Job {
         let (requests, manner) = (Arc::clone(&self.requests), self.manner.clone());
-        Job { requests, manner, path: format!("/v1/jobs/{name}") }
+        Job { requests, manner, path: format!("/v1/jobs/{name}"), opened: None }
     }
 
     /// Deletes a job that was cancelled or has failed, with its log and its history. The service refuses it with status 409 if files of
@@ -118,6 +153,12 @@ impl Service {
 }
 
 impl Job {
+    /// What the job had when it was opened or found; `None` of one that was not opened here.
+    #[must_use]
+    pub fn opened(&self) -> Option<&Opened> {
+        self.opened.as_deref()
+    }
+
     /// The same job, which makes a request again for this long, or for ever.
     #[must_use]
     pub fn within(&self, patience: Option<Duration>) -> Job {
@@ -140,6 +181,14 @@ impl Job {
     async fn send_calls(&self, calls: &[Call], key: &str) -> Result<Value, Error> {
         let body = json!({"calls": calls.iter().map(Call::json).collect::<Vec<_>>()});
         self.requests.body(&self.manner, ApiRequest::post(format!("{}/calls", self.path), &body, Some(key))).await
+    }
+
+    /// The same, whose answers have the kind of each call's record and the records that the call has ended.
+    #[cfg(feature = "runner")]
+    pub(crate) async fn tell_calls(&self, calls: &[Call]) -> Result<Value, Error> {
+        let body = json!({"calls": calls.iter().map(Call::json).collect::<Vec<_>>(), "ended": true});
+        let asked = ApiRequest::post(format!("{}/calls", self.path), &body, Some(&new_key()));
+        self.requests.body(&self.manner, asked).await
     }
 
     /// Begins the job again, from the latest record or from a savepoint, in a new shape if one is given, once all its tasks
@@ -169,22 +218,26 @@ impl Job {
         self.get("/term").await
     }
 
-    /// Makes the job give out names, from this one on: all numbers of files that it ever used are below. The call is made between the end of
-    /// all tasks and [`begin`](Self::begin).
-    pub async fn fence(&self, first_name: u64) -> Result<Value, Error> {
-        self.posted("fence", &json!({"first_name": first_name.to_string()})).await
-    }
-
     /// Triggers a checkpoint now, whatever the interval and the pause. Returns its number. Fails with [`Error::Refused`] if as many are
     /// pending as may be, or the job does not run.
     pub async fn checkpoint(&self) -> Result<Value, Error> {
         self.operate("checkpoints").await
     }
 
+    /// The same of a checkpoint whose barrier names no base, so the tasks write all their state anew.
+    pub async fn full_checkpoint(&self) -> Result<Value, Error> {
+        self.posted("checkpoints", &json!({"full": true})).await
+    }
+
     /// Changes settings of the job, while it runs: those that are given, as `{"interval": 30000}`. Returns all that it has then, under
     /// `settings`. Fails with [`Error::Refused`] if more checkpoints are pending than may be from then on, or the job is cancelled.
     pub async fn set(&self, settings: &Value) -> Result<Value, Error> {
         self.requests.body(&self.manner, ApiRequest::patch(format!("{}/settings", self.path), settings)).await
+    }
+
+    /// Says where the job's files are, as [`Service::open_at`] does, whatever it knew. Returns the state of the job.
+    pub async fn set_storage(&self, storage: &Value) -> Result<Value, Error> {
+        self.requests.body(&self.manner, ApiRequest::put(format!("{}/storage", self.path), storage)).await
     }
 
     /// Stops the job with a savepoint, whose number is the answer's `id`: the timer rests, and with the last acknowledgement the job has stopped

@@ -1,9 +1,6 @@
-//! What a job begins from, and the numbers that its new files get.
-use crate::{new_key, Answer, Error, Follower, Job};
+//! What a job begins from.
+use crate::{Answer, Error, Follower, Job};
 use serde_json::Value;
-
-/// How many bits of a file's number count. Random ones are above them.
-const COUNT_BITS: u32 = 24;
 
 /// What a job begins from.
 pub struct Start {
@@ -47,36 +44,10 @@ fn held(record: &Value, id: u64) -> Result<Vec<(String, Vec<u64>)>, Error> {
     acks.iter().map(files).collect::<Option<_>>().ok_or_else(|| Error::Answer(format!("has no files of record {id}")))
 }
 
-/// Numbers for new files of a job without names: 40 random bits, and a count in the 24 bits below. So no two tasks give the same, and none comes
-/// twice after a backup of the service was restored, as numbers of records do then.
-pub fn file_numbers() -> impl Iterator<Item = u64> {
-    std::iter::repeat_with(random).flat_map(|begin| begin..=begin | ((1 << COUNT_BITS) - 1))
-}
-
-/// Random bits above those that count.
-fn random() -> u64 {
-    let bits = u64::from_str_radix(&new_key()[..16], 16).unwrap_or_default();
-    bits >> COUNT_BITS << COUNT_BITS
-}
-
 #[cfg(test)]
 mod tests {
     use super::*;
     use serde_json::json;
-
-    #[test]
-    fn numbers_of_two_tasks_differ() {
-        let begins = || file_numbers().next().unwrap_or_default();
-        let (first, second) = (begins(), begins());
-        assert!(
-            first != second && first % (1 << COUNT_BITS) == 0 && second % (1 << COUNT_BITS) == 0,
-            "{first} {second}"
-        );
-        let numbers: Vec<u64> = file_numbers().take(3).collect();
-        assert_eq!((numbers[1], numbers[2]), (numbers[0] + 1, numbers[0] + 2));
-        let turn = file_numbers().nth(1 << COUNT_BITS).unwrap_or_default();
-        assert_eq!(turn % (1 << COUNT_BITS), 0);
-    }
 
     #[test]
     fn a_record_that_has_ended_holds_no_files() {

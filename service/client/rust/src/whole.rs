@@ -21,6 +21,8 @@ pub struct Part {
     pub subtask: String,
     /// In the order in which [`Call::AckWith`](crate::Call::AckWith) gave them; else ascending.
     pub files: Vec<u64>,
+    /// The bytes of each file, as its task told them.
+    pub sizes: Vec<Option<u64>>,
     pub payload: Vec<u8>,
     pub bytes: u64,
     pub millis: u64,
@@ -48,9 +50,12 @@ impl Whole {
 
 impl Part {
     fn read(told: &Value) -> Option<Part> {
-        let files = told["files"].as_array()?.iter().map(|file| file.as_str()?.parse().ok()).collect::<Option<_>>()?;
+        let files: Vec<u64> =
+            told["files"].as_array()?.iter().map(|file| file.as_str()?.parse().ok()).collect::<Option<_>>()?;
+        let sizes = told["sizes"].as_array().map(|sizes| sizes.iter().map(Value::as_u64).collect());
         Some(Part {
             subtask: told["subtask"].as_str()?.to_string(),
+            sizes: sizes.unwrap_or_else(|| vec![None; files.len()]),
             files,
             payload: decode_block(told["payload"].as_str()?).ok()?,
             bytes: told["bytes"].as_u64()?,
@@ -66,12 +71,15 @@ mod tests {
 
     #[test]
     fn a_record_is_read() {
-        let part = json!({"subtask": "0.1", "files": ["9", "18446744073709551615"], "payload": "eA==", "bytes": 7, "millis": 8});
+        let part = json!({"subtask": "0.1", "files": ["9", "18446744073709551615"], "sizes": [70, null], "payload": "eA==", "bytes": 7, "millis": 8});
         let told = json!({"id": 3, "kind": "savepoint", "shape": [2], "subtasks": [part]});
         let whole = Whole::of(&told).ok();
         let part = whole.as_ref().and_then(|whole| whole.part((0, 1)));
-        let wanted = (vec![9, u64::MAX], b"x".to_vec(), 7, 8);
-        assert_eq!(part.map(|it| (it.files.clone(), it.payload.clone(), it.bytes, it.millis)), Some(wanted));
+        let wanted = (vec![9, u64::MAX], vec![Some(70), None], b"x".to_vec(), 7, 8);
+        assert_eq!(
+            part.map(|it| (it.files.clone(), it.sizes.clone(), it.payload.clone(), it.bytes, it.millis)),
+            Some(wanted)
+        );
         assert_eq!(whole.as_ref().and_then(|whole| whole.part((0, 0))), None);
         assert!(matches!(Whole::of(&json!({"id": 3})), Err(Error::Answer(_))));
     }

@@ -140,6 +140,29 @@ async fn retry_after_is_waited_for() {
     assert_eq!(first.count(), 2);
 }
 
+/// A service that starts says how far it is. It is waited for as long as that rises, and no longer than that and the patience.
+#[tokio::test]
+async fn a_service_that_replays_is_waited_for() {
+    let replaying = |calls: u64| {
+        let replay = json!({"jobs": 9, "replayed": 0, "calls": calls});
+        response(503, "", &json!({"error": "not yet", "reason": "replaying", "replay": replay}))
+    };
+    let patience = Some(Duration::from_secs(3));
+    let mut answers: Answers = (0..12).map(replaying).collect();
+    answers.push(good());
+    let stub = Stub::new(answers).await;
+    let begun = Instant::now();
+    assert!(service(&[&stub.url]).within(patience).jobs().await.is_ok());
+    // its pauses alone are longer than its patience
+    assert!(stub.count() == 13 && begun.elapsed() > Duration::from_secs(3), "{:?}", begun.elapsed());
+    // it does no more, or has begun anew
+    let mut answers: Answers = vec![replaying(7)];
+    answers.extend((0..7).map(replaying));
+    let stub = Stub::new(answers).await;
+    let told = service(&[&stub.url]).within(patience).jobs().await;
+    assert!(matches!(told, Err(Error::Status { status: 503, .. })), "{told:?}");
+}
+
 #[tokio::test]
 async fn the_leader_that_a_standby_names_is_asked_next() {
     let (second, leader) = (Stub::new(vec![bad(503)]).await, Stub::new(vec![good()]).await);

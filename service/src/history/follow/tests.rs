@@ -1,8 +1,9 @@
 //! A history that goes on from a summary, and tables of other versions.
 use super::super::version::{upgrade, STEPS};
 use super::*;
-use crate::model::{parse_config, AnswerRow, Figure, FileBytes, PastRecord, Phase, Shards, SubtaskState};
-use crate::store::{Listed, SavedImage, Space, Tried};
+use crate::files::JobStorage;
+use crate::model::{parse_config, AnswerRow, Figure, FileBytes, PastRecord, Phase, SubtaskState};
+use crate::store::{Listed, LogReader, SavedImage, Space, Tried};
 use std::path::PathBuf;
 
 /// A log in memory, with what the database keeps of a history.
@@ -24,12 +25,24 @@ impl Memory {
     }
 }
 
+impl LogReader for Memory {
+    fn log(&mut self, _: i64, after: u64, most: u32) -> Result<Vec<Entry>, DbError> {
+        Ok(self.page(|entry| entry.seq > after, most))
+    }
+    fn first(&mut self, _: i64) -> Result<Option<u64>, DbError> {
+        Ok(self.log.first().map(|entry| entry.seq))
+    }
+    fn images(&mut self, _: i64) -> Result<Vec<crate::model::KeptImage>, DbError> {
+        Ok(vec![])
+    }
+    fn image(&mut self, _: i64, _: u64) -> Result<Option<SavedImage>, DbError> {
+        Ok(None)
+    }
+}
+
 impl Reader for Memory {
     fn listed(&mut self) -> Result<Vec<Listed>, DbError> {
         Ok(vec![])
-    }
-    fn log(&mut self, _: i64, after: u64, most: u32) -> Result<Vec<Entry>, DbError> {
-        Ok(self.page(|entry| entry.seq > after, most))
     }
     fn events(&mut self, _: i64, _: u64, _: u32) -> Result<Vec<Entry>, DbError> {
         Ok(vec![])
@@ -39,12 +52,6 @@ impl Reader for Memory {
     }
     fn entry(&mut self, _: i64, seq: u64) -> Result<Option<Entry>, DbError> {
         Ok(self.page(|entry| entry.seq == seq, 1).pop())
-    }
-    fn image(&mut self, _: i64, _: u64) -> Result<Option<SavedImage>, DbError> {
-        Ok(None)
-    }
-    fn images(&mut self, _: i64) -> Result<Vec<crate::model::KeptImage>, DbError> {
-        Ok(vec![])
     }
     fn summaries(&mut self, _: i64) -> Result<Vec<KeptSummary>, DbError> {
         Ok(self.summaries.iter().map(|(kept, _)| *kept).collect())
@@ -58,7 +65,10 @@ impl Reader for Memory {
     fn ack_bytes(&mut self, _: i64, after: u64, upto: u64) -> Result<Vec<AckBytes>, DbError> {
         Ok(self.said.iter().filter(|one| one.seq > after && one.seq <= upto).cloned().collect())
     }
-    fn sizes(&mut self, _: Shards, _: (i64, i64), _: u32) -> Result<Tried<FileBytes>, DbError> {
+    fn sizes(&mut self, _: i64, _: i64, _: u32) -> Result<Vec<FileBytes>, DbError> {
+        Ok(vec![])
+    }
+    fn bytes_of(&mut self, _: i64, _: &[u64]) -> Result<Vec<FileBytes>, DbError> {
         Ok(vec![])
     }
     fn states(&mut self, _: i64, _: u64) -> Result<Vec<SubtaskState>, DbError> {
@@ -67,29 +77,32 @@ impl Reader for Memory {
     fn figures(&mut self, _: i64, _: u64, _: u64) -> Result<Vec<Figure>, DbError> {
         Ok(vec![])
     }
-    fn with_states(&mut self, _: Shards) -> Result<Tried<u64>, DbError> {
+    fn with_states(&mut self, _: i64) -> Result<Vec<u64>, DbError> {
         Ok(vec![])
     }
     fn gone(&mut self) -> Result<Vec<(i64, u64)>, DbError> {
         Ok(vec![])
     }
-    fn phases(&mut self, _: Shards) -> Result<Tried<Phase>, DbError> {
+    fn phases(&mut self) -> Result<Tried<Phase>, DbError> {
+        Ok(Vec::new())
+    }
+    fn storages(&mut self) -> Result<Tried<JobStorage>, DbError> {
         Ok(Vec::new())
     }
 
-    fn call_bytes(&mut self, _: &[i64]) -> Result<Vec<(i64, u64)>, DbError> {
-        Ok(vec![])
+    fn call_bytes(&mut self, _: i64) -> Result<Option<u64>, DbError> {
+        Ok(None)
     }
     fn space(&mut self) -> Result<Space, DbError> {
         Err(DbError::Odd("there is none"))
     }
-    fn first(&mut self, _: i64) -> Result<Option<u64>, DbError> {
-        Ok(self.log.first().map(|entry| entry.seq))
+    fn lengths(&mut self) -> Result<Vec<(i64, u64)>, DbError> {
+        Ok(vec![])
     }
-    fn last(&mut self, _: i64) -> Result<u64, DbError> {
-        Ok(self.log.last().map_or(0, |entry| entry.seq))
+    fn last_moment(&mut self) -> Result<u64, DbError> {
+        Ok(0)
     }
-    fn lengths_after(&mut self, _: &str, _: i64) -> Result<Option<String>, DbError> {
+    fn lengths_after(&mut self, _: &str) -> Result<Option<String>, DbError> {
         Ok(None)
     }
     fn leader(&mut self) -> Option<String> {
@@ -100,7 +113,7 @@ impl Reader for Memory {
 fn opening() -> Opening {
     let settings = parse_config("config 1000 0 1 600000 0 1 delete");
     let settings = settings.unwrap_or_else(|| panic!("it is a configuration"));
-    Opening { number: 1, name: "a".to_string(), settings, shape: vec![2], started: 1 }
+    Opening { number: 1, name: "a".to_string(), settings, shape: vec![2], started: 1, first: 1 }
 }
 
 const COMPLETED: Answer = Answer::AckCompleted { dropped: 0, released: 0 };

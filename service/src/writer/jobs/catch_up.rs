@@ -1,9 +1,11 @@
 //! How jobs are brought up to date with the log, in a number of statements that does not depend on that of the jobs.
 use super::super::replay::{missing, repeat, resume, StartError};
 use super::{Beat, Jobs};
-use crate::model::{Entry, FileBytes, Keeping, KeptImage, KeptSummary, Retention};
+use crate::log;
+use crate::model::{Entry, Job, KeptImage};
 use crate::store::{DbError, Listed, Reader};
-use std::collections::{BTreeMap, BTreeSet, HashMap};
+use std::collections::{BTreeMap, BTreeSet};
+use std::sync::Arc;
 
 const PAGE: u32 = 10_000;
 /// From which job on: all.
@@ -14,13 +16,28 @@ const BEAT_EACH: usize = 256;
 const BATCH_BYTES: u64 = 16 << 20;
 
 impl Jobs {
-    /// Makes the calls of the log that these jobs have not made, and returns how many there were. Compares each answer.
+    /// Makes the calls of the log that these jobs have not made. Compares each answer.
     /// The number of statements does not depend on that of the jobs. Calls `beat` between them and between calls, and ends if that fails.
-    pub fn catch_up(&mut self, reader: &mut dyn Reader, beat: Beat) -> Result<u64, StartError> {
+    pub fn catch_up(&mut self, reader: &mut dyn Reader, beat: Beat) -> Result<(), StartError> {
         let after = if self.read_to.is_some() { self.last_number } else { 0 };
         let changed = self.changed(reader)?;
         beat()?;
-        let openings = reader.jobs_after(self.shards, after)?;
+        let opened = self.open_new(reader, after)?;
+        self.resume_all(opened.iter().copied(), reader, beat)?;
+        // the place of a job that was deleted may be that of a new one
+        let behind: BTreeSet<usize> = changed.into_iter().chain(opened).collect();
+        self.read_logs(behind.into_iter().collect(), reader, beat)?;
+        if !self.kept_out.is_empty() {
+            // standbys look for calls from the last moment on, of whichever job it is
+            self.last_moment = self.last_moment.max(self.read_to.unwrap_or(0));
+        }
+        Ok(())
+    }
+
+    /// Opens the jobs with numbers above this one that the database has and that are not there, and forgets those that were deleted. Returns
+    /// the places of the former.
+    fn open_new(&mut self, reader: &mut dyn Reader, after: i64) -> Result<Vec<usize>, StartError> {
+        let openings = reader.jobs_after(after)?;
         if after == 0 {
             self.delete_all_but(&openings.iter().map(|opening| opening.number).collect());
         }
@@ -32,15 +49,21 @@ impl Jobs {
         }
         self.delete_gone(reader)?;
         opened.retain(|place| !self.jobs[*place].is_deleted);
-        self.resume_all(opened.iter().copied(), reader, beat)?;
-        // the place of a job that was deleted may be that of a new one
-        let behind: BTreeSet<usize> = changed.into_iter().chain(opened).collect();
-        let made = self.read_logs(behind.into_iter().collect(), reader, beat)?;
-        if !self.kept_out.is_empty() {
-            // standbys look for calls from the last moment on, of whichever job it is
-            self.last_moment = self.last_moment.max(self.read_to.unwrap_or(0));
-        }
-        Ok(made)
+        Ok(opened)
+    }
+
+    /// This process leads from now on, and nobody else writes. Takes out all jobs, those too that were kept out: each is brought up to date
+    /// before it comes [back](Jobs::add). Only what few statements tell of all jobs is read here.
+    pub fn take_over(&mut self, reader: &mut dyn Reader, beat: Beat) -> Result<Vec<Job>, StartError> {
+        self.kept_out.clear();
+        self.open_new(reader, 0)?;
+        beat()?;
+        self.take_phases(reader)?;
+        self.take_storages(reader)?;
+        beat()?;
+        self.last_moment = self.last_moment.max(reader.last_moment()?);
+        (self.places, self.numbers, self.empty) = Default::default();
+        Ok(std::mem::take(&mut self.jobs).into_iter().filter(|job| !job.is_deleted).collect())
     }
 
     /// Opens a job that the database has, and returns its place; `None` if it is kept out.
@@ -61,7 +84,7 @@ impl Jobs {
 
     /// Reads the phases of jobs, whose calls have all been made here.
     fn take_phases(&mut self, reader: &mut dyn Reader) -> Result<(), StartError> {
-        for (number, phase) in reader.phases(self.shards)? {
+        for (number, phase) in reader.phases()? {
             if let Some(place) = self.place_of(number) {
                 match phase {
                     Ok(phase) => self.jobs[place].phase = phase,
@@ -72,11 +95,14 @@ impl Jobs {
         Ok(())
     }
 
-    /// The next time all jobs and all logs are looked at, those too that are kept out. Where several processes wrote, neither the numbers of
-    /// jobs nor the moments of calls rise in the order of the commits.
-    pub fn look_at_all(&mut self) {
-        self.read_to = None;
-        self.kept_out.clear();
+    /// Reads where the files of jobs are. A row that can't be read is as none: an operator says it again, and the job goes on.
+    fn take_storages(&mut self, reader: &mut dyn Reader) -> Result<(), StartError> {
+        for (number, storage) in reader.storages()? {
+            let Some(place) = self.place_of(number) else { continue };
+            let said = storage.map_err(|why| log::warn(&format!("job {}: {why}", self.jobs[place].opening.name)));
+            self.jobs[place].storage = said.ok().map(Arc::new);
+        }
+        Ok(())
     }
 
     /// Reads rows of several jobs. A job whose row is bad is kept out, and those of the others are read again.
@@ -95,11 +121,6 @@ impl Jobs {
                 None => return Err(why.into()),
             }
         }
-    }
-
-    /// The numbers of the jobs that are there.
-    fn there(&self) -> Vec<i64> {
-        self.numbers.keys().copied().collect()
     }
 
     /// The places of jobs that may have calls which were not made here.
@@ -121,19 +142,18 @@ impl Jobs {
         self.numbers.get(&number).copied()
     }
 
-    /// Makes the calls of several jobs, and goes on from images where calls were cut. Returns how many calls there were.
-    fn read_logs(&mut self, behind: Vec<usize>, reader: &mut dyn Reader, beat: Beat) -> Result<u64, StartError> {
-        let (mut behind, mut made) = (behind, 0);
+    /// Makes the calls of several jobs, and goes on from images where calls were cut.
+    fn read_logs(&mut self, mut behind: Vec<usize>, reader: &mut dyn Reader, beat: Beat) -> Result<(), StartError> {
         while !behind.is_empty() {
             behind.retain(|place| !self.jobs[*place].is_deleted);
-            let stopped = self.read_pages(&behind, &mut made, reader, beat)?;
+            let stopped = self.read_pages(&behind, reader, beat)?;
             // the leader may have cut faster than this process reads
             behind = self.resume_all(stopped.keys().copied(), reader, beat)?;
             let gaps = stopped.iter().filter_map(|(place, found)| Some((*place, (*found)?)));
             let gaps: Vec<(usize, u64)> = gaps.filter(|(place, _)| !behind.contains(place)).collect();
             self.keep_out_gaps(&gaps, reader)?;
         }
-        Ok(made)
+        Ok(())
     }
 
     /// Keeps jobs out whose next call is missing, though the log has a later one.
@@ -144,7 +164,7 @@ impl Jobs {
         }
         for (place, seq) in gaps.iter().copied().filter(|(place, _)| !self.jobs[*place].is_deleted).collect::<Vec<_>>()
         {
-            let (job, why) = (self.jobs[place].opening.name.clone(), missing(&self.jobs[place]));
+            let (job, why) = (self.jobs[place].opening.name.clone(), missing(self.jobs[place].seq));
             self.keep_out(place, StartError::Damaged { job, seq, why })?;
         }
         Ok(())
@@ -155,7 +175,6 @@ impl Jobs {
     fn read_pages(
         &mut self,
         places: &[usize],
-        made: &mut u64,
         reader: &mut dyn Reader,
         beat: Beat,
     ) -> Result<BTreeMap<usize, Option<u64>>, StartError> {
@@ -193,12 +212,9 @@ impl Jobs {
                     stopped.insert(place, Some(first));
                     continue;
                 }
-                match self.make_all(place, entries, beat) {
-                    Ok(()) => *made += entries.len() as u64,
-                    Err(why) => {
-                        behind.remove(&number);
-                        self.keep_out(place, why)?;
-                    }
+                if let Err(why) = self.make_all(place, entries, beat) {
+                    behind.remove(&number);
+                    self.keep_out(place, why)?;
                 }
                 stopped.remove(&place);
             }
@@ -210,6 +226,7 @@ impl Jobs {
         for piece in entries.chunks(BEAT_EACH) {
             beat()?;
             piece.iter().try_for_each(|entry| repeat(job, entry))?;
+            self.made += piece.len() as u64;
         }
         self.last_moment = self.last_moment.max(job.at);
         Ok(())
@@ -251,82 +268,6 @@ impl Jobs {
             match resume(&mut self.jobs[place], &saved) {
                 Ok(()) => self.last_moment = self.last_moment.max(saved.image.at),
                 Err(why) => self.keep_out(place, why)?,
-            }
-        }
-        Ok(())
-    }
-
-    /// Reads what the database has of each job's log.
-    pub fn take_stock(&mut self, reader: &mut dyn Reader, keeping: Keeping, beat: Beat) -> Result<(), StartError> {
-        let mut images: HashMap<i64, Vec<KeptImage>> = HashMap::new();
-        for (job, image) in self.read_of(reader, |jobs, reader| reader.images_of(&jobs.there()))? {
-            images.entry(job).or_default().push(image);
-        }
-        beat()?;
-        let mut summaries: HashMap<i64, Vec<KeptSummary>> = HashMap::new();
-        for (job, summary) in self.read_of(reader, |jobs, reader| reader.summaries_of(&jobs.there()))? {
-            summaries.entry(job).or_default().push(summary);
-        }
-        beat()?;
-        let firsts = self.read_of(reader, |jobs, reader| reader.firsts(&jobs.there()))?;
-        let firsts: HashMap<i64, u64> = firsts.into_iter().collect();
-        for job in &mut self.jobs {
-            let number = job.opening.number;
-            let images = images.remove(&number).unwrap_or_default();
-            let summaries = summaries.remove(&number).unwrap_or_default();
-            job.retention = Retention::of(images, &summaries, firsts.get(&number).copied(), keeping);
-        }
-        self.take_phases(reader)?;
-        for (job, record) in reader.with_states(self.shards)? {
-            let Some(place) = self.place_of(job) else { continue };
-            match record {
-                Ok(record) => self.jobs[place].states.note(record),
-                Err(why) => self.keep_out(place, why.into())?,
-            }
-        }
-        if keeping.keep_bytes > 0 {
-            beat()?;
-            let means = self.read_of(reader, |jobs, reader| reader.call_bytes(&jobs.there()))?;
-            self.take_means(means);
-        }
-        self.take_sizes(reader, beat)?;
-        self.kept_out.count_calls(reader)
-    }
-
-    fn take_means(&mut self, means: Vec<(i64, u64)>) {
-        for (job, bytes) in means {
-            if let Some(place) = self.place_of(job) {
-                self.jobs[place].retention.set_mean(bytes);
-            }
-        }
-    }
-
-    /// Reads the bytes of files that the database has.
-    fn take_sizes(&mut self, reader: &mut dyn Reader, beat: Beat) -> Result<(), StartError> {
-        let (mut sizes, mut after) = (HashMap::<i64, Vec<FileBytes>>::new(), (i64::MIN, i64::MIN));
-        loop {
-            beat()?;
-            let page = reader.sizes(self.shards, after, PAGE)?;
-            match page.last() {
-                Some((job, Ok((file, _)))) => after = (*job, *file as i64),
-                // its job is kept out
-                Some((job, Err(_))) => after = (*job, i64::MAX),
-                None => break,
-            }
-            for (job, size) in page {
-                match (size, self.place_of(job)) {
-                    (Ok(size), Some(_)) => sizes.entry(job).or_default().push(size),
-                    (Err(why), Some(place)) => self.keep_out(place, why.into())?,
-                    (_, None) => {}
-                }
-            }
-        }
-        for (job, sizes) in sizes {
-            beat()?;
-            if let Some(place) = self.place_of(job) {
-                let job = &mut self.jobs[place];
-                let (name, seq) = (job.opening.name.clone(), job.seq);
-                job.take_sizes(&sizes).ok_or(StartError::NoMemory { job: name, seq })?;
             }
         }
         Ok(())
