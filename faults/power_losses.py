@@ -1,11 +1,8 @@
-"""power_losses.py: the samples of checks/build_samples lose power (power.py), at any call that writes and in each way.
+"""power_losses.py: the samples in examples lose power (power.py), at any call that writes and in each way.
 `faults/run` builds them and calls this. ROUNDS in the environment has so many times as many losses; 0 is each.
 
-- Those that begin anew tell each acknowledgement and each report of a deletion. What was acknowledged is whole after a loss, and what was
-  reported as deleted does not come back. Those in C, C++, Rust, Python and Java run under faults/shim.c. Go makes its system
-  calls itself, so what strace sees of its sample is made a journal.
-- Those with a log, and those over the durable coordinator, go on after a loss as the page says, from what they told last or from
-  something later; the folder has what the job knows then, and no other file.
+Those with a log, and those over the durable coordinator, go on after a loss, from what they told last or from something later; the folder has what the
+job knows then, and no other file.
 
 In each one sync after the other is left out, as it were: then a loss has to do harm."""
 import functools
@@ -22,12 +19,12 @@ import threading
 import time
 
 import lost_jobs
-from power import Journal, Kind, Loss, Record, Trials, read_tree, settle, tell, write_tree
+from power import Journal, Loss, Trials, read_tree, settle, tell, write_tree
 
 HERE = pathlib.Path(__file__).resolve().parent
+PYTHON = HERE.parent / "examples/python"
 SECONDS = 600  # of a process, on a busy machine
 ROUNDS = int(os.environ.get("ROUNDS", "1"))
-LEAST = 15  # losses of a sample that begins anew that have an effect
 CONTROLLED = 600  # losses from which one that does harm is looked for
 EACH_GOES_ON = 4  # one in so many losses of a job over the durable coordinator: the others are opened alone
 
@@ -45,60 +42,6 @@ def shimmed(samples, root, journal, **more):
 def is_state(path):
     return path.rpartition("/")[2].partition(".")[0].isdecimal()
 
-
-# Samples that begin anew.
-
-def told_files(lost, word):
-    return {int(file) for told in lost.told for file in re.findall(rb"^%s (\d+)$" % word, told, re.M)}
-
-
-def keeps_acknowledged(lost, _):
-    for file in told_files(lost, b"ack"):
-        was, found = lost.whole.get(str(file)), lost.tree.get(str(file))
-        assert was is None or found == was, f"file {file} was acknowledged: it had {was!r}, and has {found!r}"  # None: it was deleted since
-    back = {file for file in told_files(lost, b"deleted") if str(file) in lost.tree}
-    assert not back, f"files {sorted(back)} were reported as deleted, and are there"
-
-
-def journal_of_go(told):
-    """What faults/trace_go tells, as a journal."""
-    kinds = {"make": Kind.MAKES, "write": Kind.WRITES, "sync": Kind.SYNCS, "delete": Kind.REMOVES}
-    records = []
-    for place, line in enumerate(told):
-        what, _, name = line.partition(" ")
-        if line == "sync folder":
-            record = Record(place, Kind.SYNCS_FOLDER, "", place, b"")
-        elif what in kinds:
-            record = Record(place, kinds[what], name, place if what == "sync" else 0, b"state" if what == "write" else b"")
-        else:
-            record = Record(place, Kind.TELLS, "", 0, line.encode() + b"\n")
-        records.append(record)
-    return Journal(records)
-
-
-def begins_anew(samples, name, command):
-    with_told = {"TOLD": str(samples.work / f"told-{name}")}
-    told = pathlib.Path(with_told["TOLD"])
-    folder = samples.work / f"power-{name}"
-    folder.mkdir()
-    if name == "Go":
-        known = {**os.environ, **with_told}
-        status = subprocess.run([*map(str, command), str(folder)], env=known, stdout=subprocess.DEVNULL, timeout=SECONDS).returncode
-        journal = journal_of_go(told.read_text().split("\n"))
-    else:
-        path = samples.work / f"journal-{name}"
-        known = shimmed(samples, folder, path, STORE_TOLD=str(told), **with_told)
-        status = subprocess.run([*map(str, command), str(folder)], env=known, stdout=subprocess.DEVNULL, timeout=SECONDS).returncode
-        journal = Journal.read(path, folder)
-    assert status == 0, f"status {status}"
-    chance, trials = random.Random(name), Trials(samples.work / f"losses of {name}", keeps_acknowledged, 1)
-    trials.all(journal, some_of(journal, 200, chance), chance)
-    for what, ignored in (("its state files", is_state), ("its folder", lambda path: path == "")):
-        trials.control(what, journal, journal.points(), chance, ignored)
-    return f"{trials.told(LEAST)}; both syncs are missed"
-
-
-# Jobs that go on.
 
 def life(command, known, journal, most):
     """Runs a process of a job, and notes in the journal what it prints, when it does. After so many lines the process is killed; None: it
@@ -118,8 +61,14 @@ def life(command, known, journal, most):
     assert len(printed) >= (most or 0), f"it was killed after {SECONDS} s, and had told this alone: {told}"
 
 
+def last_of(log):
+    """The last record that a log has, and its file."""
+    found = re.findall(r"^in [0-9]+ ack [0-9]+ ([0-9]+) 0.0 [+]([0-9]+)\n", log.decode(), re.M)
+    return (int(found[-1][0]), found[-1][1]) if found else (0, "")
+
+
 class LogJob:
-    """The job of log.c or loop.py: its log is its only file beside the state files."""
+    """The job of log.c: its log is its only file beside the state files."""
 
     syncs = (("the log", lambda path: path == "log"), ("the new log", lambda path: path == "log.new"), ("its state files", is_state),
              ("its folder", lambda path: path == ""))
@@ -141,9 +90,9 @@ class LogJob:
     def look(self, lost, _):
         """What has to hold of the files that are left. Returns the last record of the log."""
         told, log = lost_jobs.told_record(lost), lost.tree.get("log")
-        last = max((int(it) for it in re.findall(rb"^ack \d+ (\d+) .*\n", log or b"", re.M)), default=0)
+        last, file = last_of(log or b"")
         assert last >= told, f"record {told} was complete, and the last one of the log is {last}"
-        assert last == 0 or lost.tree.get(str(last)) == lost.whole[str(last)], f"file {last} is in use: it has {lost.tree.get(str(last))!r}"
+        assert last == 0 or lost.tree.get(file) == lost.whole[file], f"file {file} is in use: it has {lost.tree.get(file)!r}"
         back = [file for file in re.findall(r"^deleted (\d+)\n", (log or b"").decode(), re.M) if file in lost.tree]
         assert not back, f"files {back} were reported as deleted, and are there"
         return last
@@ -154,7 +103,7 @@ class LogJob:
         complete = [int(one or other) for one, other in lost_jobs.COMPLETE.findall(ran.stdout)]
         is_told_again = complete[:1] == [last] or last == 0  # a start tells of the last record of its log once more
         assert ran.returncode == 0 and complete and is_told_again and complete[-1] > last, ran.stdout.decode()
-        assert {it.name for it in folder.iterdir()} == {"log", str(complete[-1])}, list(folder.iterdir())
+        assert {it.name for it in folder.iterdir()} == {"log", last_of((folder / "log").read_bytes())[1]}, list(folder.iterdir())
 
     def lost(self):
         chance = random.Random(self.name)
@@ -241,8 +190,8 @@ class StoreJob(LogJob):
         return choice + 3
 
 
-class ReadmeJob(StoreJob):
-    """The job of README.md: each process begins with the record that the last one completed, and makes three more. A loss while the job
+class FirstJob(StoreJob):
+    """The job of first.py: each process begins with the record that the last one completed, and makes three more. A loss while the job
     is made may leave none, so each process may make it. Its discarder is a thread that ends with the process, so the last deletion may be
     one that was not reported: the next process deletes that file once more."""
 
@@ -257,10 +206,10 @@ class ReadmeJob(StoreJob):
 
 
 class PutBack:
-    """`relkvanu-store put-back`, over the job of stored.py that has run on after back_up.py. Once it has told the record an engine goes on from that.
+    """`relkvanu put-back`, over the job of stored.py that has run on after back_up.py. Once it has told the record an engine goes on from that.
     A loss before leaves what it can put back again."""
 
-    name = "relkvanu-store put-back"
+    name = "relkvanu put-back"
     syncs = (("the new file", lambda path: path.startswith(".job.db.relkvanu-new")), ("its folder", lambda path: path == ""))
 
     def __init__(self, samples):
@@ -270,12 +219,12 @@ class PutBack:
         del self.env["LD_PRELOAD"]
 
     def run(self, name, folder, *words):
-        ran = subprocess.run([sys.executable, self.samples.work / name, folder, *words], env=self.env, stdout=subprocess.PIPE, stderr=subprocess.STDOUT,
+        ran = subprocess.run([sys.executable, PYTHON / name, folder, *words], env=self.env, stdout=subprocess.PIPE, stderr=subprocess.STDOUT,
                              timeout=SECONDS)
         assert ran.returncode == 0, ran.stdout.decode()
 
     def command(self, folder):
-        return [self.samples.library / "relkvanu-store", "put-back", self.copy, folder / "job.db", folder / "state"]
+        return [sys.executable, "-m", "relkvanu", "put-back", self.copy, folder / "job.db", folder / "state"]
 
     def check(self, lost, folder):
         if not any(b" goes on from " in it for it in lost.told):
@@ -306,11 +255,10 @@ class PutBack:
 def jobs(samples):
     python = [sys.executable]
     yield LogJob(samples, "log.c", ["stdbuf", "-oL", samples.work / "log"], 60)
-    yield LogJob(samples, "loop.py", [*python, samples.work / "loop.py"], 12)
-    yield ReadmeJob(samples, "readme.py", [*python, samples.work / "readme.py"], 24)
+    yield FirstJob(samples, "first.py", [*python, PYTHON / "first.py"], 24)
     for name, command in samples.durable.items():
         yield StoreJob(samples, name, command, 24)
-    yield StoreJob(samples, "files.py", [*python, samples.work / "files.py"], 24, is_marked=False)
+    yield StoreJob(samples, "files.py", [*python, PYTHON / "files.py"], 24, is_marked=False)
     if samples.durable:
         yield PutBack(samples)
 
@@ -319,8 +267,6 @@ def tests(samples):
     """The words of each test, and what runs it."""
     flags = ["-std=gnu11", "-O2", "-Wall", "-Wextra", "-Werror", "-shared", "-fPIC"]
     subprocess.run(["cc", *flags, HERE / "shim.c", "-o", samples.work / "shim.so"], check=True)
-    for name, command in samples.commands.items():
-        yield f"losses of power in {name}", functools.partial(print_result, name, functools.partial(begins_anew, samples, name, command))
     for job in jobs(samples):
         yield f"losses of power in {job.name}", functools.partial(print_result, job.name, job.lost)
 

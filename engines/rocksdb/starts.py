@@ -12,7 +12,6 @@ import sys
 import tempfile
 import time
 
-sys.path.insert(0, str(pathlib.Path(__file__).resolve().parent.parent.parent / "faults"))
 import damaged_starts
 
 ENDLESS = "600"  # seconds

@@ -2,7 +2,9 @@
 #include "steps.hpp"
 
 static std::string lost(const State &state, const Facts &facts) {
-    if (const Files gone = facts.done & ~(state.visible & state.kept)) {
+    // What somebody else deleted is missed only if the job begins from it.
+    const Files missed = facts.base[0] | facts.base[1] | ~state.gone;
+    if (const Files gone = facts.done & ~(state.visible & state.kept) & missed) {
         return "lost " + std::to_string(least(gone));
     }
     if (const Files wrong = state.wrong & facts.done) {

@@ -62,6 +62,7 @@ struct Facts {
     u8 choice;                                          // the number of the record that a restore would begin from, or 0
     Files base[2];                                      // its files, by subtask
     u8 pending[MOST_RECORDS], savepoints[MOST_RECORDS]; // numbers, of done savepoints
+    Files saved[MOST_RECORDS];                          // the files of the savepoints
     u8 checkpoints[MOST_RECORDS];                       // numbers, of done checkpoints
     Files parts[MOST_RECORDS][2];                       // the files of these, by subtask
     u64 due, expiry;

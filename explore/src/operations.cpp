@@ -117,7 +117,7 @@ void Steps::end_way_back() {
 void Steps::of_ways_back() {
     const bool may = !from->is_down && facts->is_running && from->current.stop == 0 && from->back_with == 0 && !facts->pending[1];
     for (unsigned place = 0; place < MOST_RECORDS && facts->checkpoints[place]; place++) {
-        if (offer_fault(may && may_use(BACKS))) {
+        if (offer_fault(may && may_use(BACKS) && may_go_back_to(facts->parts[place][0] | facts->parts[place][1]))) {
             use(BACKS);
             seen[WAYS_BACK]++;
             if (scope.is_on[GO_BACK_ALONE]) {

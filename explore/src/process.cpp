@@ -78,7 +78,8 @@ void Steps::of_restores() {
     const bool may = !from->is_down && !facts->is_cancelled && !has_stopped(from->current.stop) && may_use(RESTORES);
     for (unsigned place = 0; place <= MOST_RECORDS && (place == 0 || facts->savepoints[place - 1]); place++) {
         const u8 savepoint = place == 0 ? 0 : facts->savepoints[place - 1];
-        if (offer_fault(may && is_whole(*from, savepoint))) {
+        const Files files = place == 0 ? 0 : facts->saved[place - 1];
+        if (offer_fault(may && is_whole(*from, savepoint) && may_go_back_to(files))) {
             use(RESTORES);
             restore(savepoint, from->current.width);
             take_back(savepoint);
@@ -135,7 +136,9 @@ void Steps::report_taken() {
 void Steps::recover() {
     next.is_down = next.is_lost = 0;
     seen[RECOVERIES]++;
-    next.current.number = ++next.processes;
+    const bool goes_on = from->looked && next.old.number == 0; // it has looked at the marker
+    next.current.number = goes_on ? from->looked : ++next.processes;
+    next.looked = goes_on ? u8(0) : from->looked;
     tell("process %u starts", next.current.number);
     report_taken();
     sync_log();

@@ -63,6 +63,13 @@ static void append_checkpoint(relkvanu *handle, Facts *facts, u64 record) {
     }
 }
 
+static void append_savepoint(relkvanu *handle, Facts *facts, u64 record) {
+    const unsigned place = append(facts->savepoints, record);
+    if (place < MOST_RECORDS) {
+        facts->saved[place] = files_of(handle, record, 0) | files_of(handle, record, 1);
+    }
+}
+
 static void read_records(relkvanu *handle, Facts *facts) {
     for (u64 from = 0;;) {
         const relkvanu_answer live = relkvanu_live_from(handle, from);
@@ -77,7 +84,7 @@ static void read_records(relkvanu *handle, Facts *facts) {
         facts->done_records |= u32(1) << live.a;
         facts->done |= files_of(handle, live.a, 0) | files_of(handle, live.a, 1);
         if (live.what == RELKVANU_LIVE_SAVEPOINT) {
-            append(facts->savepoints, live.a);
+            append_savepoint(handle, facts, live.a);
         } else {
             append_checkpoint(handle, facts, live.a);
         }

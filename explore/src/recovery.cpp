@@ -34,8 +34,7 @@ void Steps::end_behind(unsigned place) {
     note_accepted(message, false);
     seen[UNTOLD]++;
     if (scope.is_on[COMMIT_FIRST]) {
-        sync_now();
-        next.manifests = from->manifests;
+        commit();
     } else {
         tell("manifest %u", message.record());
         next.old = next.current;
@@ -56,7 +55,7 @@ void Steps::lose_log() {
         end_process();
     }
     tell("log lost");
-    if (!scope.is_on[LOST_LOG]) {
+    if (!scope.is_on[LOST_LOG] || from->looked) {
         next.old = from->durable;
     }
     if (log) {
@@ -131,6 +130,9 @@ void Steps::make_again(u8 choice, const Files *parts) {
 
 // The old log is in its place again when the process has ended that had the new one.
 void Steps::put_lost_log_back() {
+    if (!from->is_down) {
+        end_process();
+    }
     next.current = next.durable = from->old;
     next.old = Process{};
     tell("log comes back");
@@ -139,7 +141,22 @@ void Steps::put_lost_log_back() {
         log->durable = log->lines.size();
         log->first = log->first_of_lost;
     }
-    made();
+}
+
+// Without LOCKED_MARKER: a process that starts has seen that the marker is its log's. It writes the marker later, also when a recovery has
+// written it since, whose process ends then.
+void Steps::of_openings() {
+    const bool may = !scope.is_on[LOCKED_MARKER] && from->is_lost == 0;
+    if (offer_fault(may && from->is_down && from->looked == 0)) {
+        next.looked = ++next.processes;
+        tell("process %u looks", next.looked);
+        made();
+    }
+    if (offer_fault(may && from->looked != 0 && from->old.number != 0)) {
+        put_lost_log_back();
+        recover();
+        made();
+    }
 }
 
 void Steps::of_recoveries() {
@@ -167,5 +184,7 @@ void Steps::of_recoveries() {
     }
     if (offer_fault(!scope.is_on[LOST_LOG] && from->is_down && from->is_lost == 0 && from->old.number != 0)) {
         put_lost_log_back();
+        made();
     }
+    of_openings();
 }

@@ -45,6 +45,8 @@ static const Named RULE[RULES] = {
     {"new-terms", "17: the terms of a recovered job are above all that the lost log told"},
     {"new-names", "17: the names that a recovered job gives out are above all that the lost log told"},
     {"lost-log", "18: a log that was lost is refused if it comes back"},
+    {"look-first", "15: a way back looks into the storage for the files of its record before it drops the others"},
+    {"locked-marker", "18: a process that starts looks at the marker and writes it under one lock"},
 };
 
 static const Named BUDGET[BUDGETS] = {
@@ -70,6 +72,7 @@ static const Named BUDGET[BUDGETS] = {
     {"elem",
         "elements of the source, at most 7, with a sink that publishes them, and without files. Of two subtasks the first is the source"},
     {"lose", "losses of the log, after which the job is made again from the manifests"},
+    {"gone", "files of older records that somebody else deletes"},
 };
 
 Scope scope;

@@ -37,6 +37,8 @@ enum Rule {
     NEW_TERMS,
     NEW_NAMES,
     LOST_LOG,
+    LOOK_FIRST,
+    LOCKED_MARKER,
     RULES
 };
 
@@ -63,6 +65,7 @@ enum Budget {
     BACKS,
     ELEMENTS,
     LOSSES,
+    GONE,
     BUDGETS
 };
 
@@ -71,7 +74,7 @@ constexpr unsigned LAST_RECORD = 7;
 
 struct Scope {
     bool is_on[RULES];
-    unsigned limit[BUDGETS] = {3, 0, 0, 1, 0, 1, 0, 0, 1, 0, 0, 0, 4, 3, 0, 0, 0, 0, 0, 0, 0};
+    unsigned limit[BUDGETS] = {3, 0, 0, 1, 0, 1, 0, 0, 1, 0, 0, 0, 4, 3, 0, 0, 0, 0, 0, 0, 0, 0};
     bool names = false;       // the coordinator has terms and gives the names
     bool checks_leaks = true; // else only lost files and mixed records are looked for
     bool may_write_nothing = true, may_keep = true;

@@ -122,15 +122,16 @@ struct State {
     Files accepted;                // files that an accepted acknowledgement named, of the log that the job has
     u32 mixed;                     // records with a part of a task that was replaced
     Files wrong;                   // accepted files that another task has written over
-    u32 unused_word;
-    u8 writer[LAST_FILE + 1];    // who wrote each file last
-    Task tasks[MOST_TASKS];      // the running ones first, by subtask
-    u64 messages[MOST_MESSAGES]; // descending
-    u8 used[24];                 // by Budget
+    Files gone;                    // files of records that somebody else deleted
+    u8 writer[LAST_FILE + 1];      // who wrote each file last
+    Task tasks[MOST_TASKS];        // the running ones first, by subtask
+    u64 messages[MOST_MESSAGES];   // descending
+    u8 used[24];                   // by Budget
     u8 is_down, incarnation, name, is_away, messages_len, has_old, processes;
     u8 is_lost; // 1: the log; `durable` is what it held, and `current` what the manifests say; 2: a new log is there, and no process yet
     u8 back_to, back_with; // without GO_BACK_ALONE: a way back that is not done, its checkpoint and its savepoint
-    u8 unused[6];
+    u8 looked;             // without LOCKED_MARKER: the number of a process that has looked at the marker and not written it yet
+    u8 unused[5];
     // With elements:
     Flow flows[MOST_TASKS];
     Target target;

@@ -96,12 +96,16 @@ void Steps::tell_task(const Task &task, const char *format, ...) {
     }
 }
 
-void Steps::sync_now() {
+void Steps::commit() {
     next.durable = next.current;
     if (log) {
         log->durable = log->lines.size();
     }
     tell("log synced");
+}
+
+void Steps::sync_now() {
+    commit();
     if (scope.has_manifests() && (scope.is_on[MANIFEST_FIRST] || !untold())) {
         write_manifests();
     }

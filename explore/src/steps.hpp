@@ -58,6 +58,8 @@ private:
     // Without the rule the log is synced later, by a step of its own.
     void sync_log();
     void sync_now();
+    // The same without the manifests.
+    void commit();
 
     // process.cpp: ticks, savepoints, restores, and the end and the start of the process
     void of_process();
@@ -85,6 +87,8 @@ private:
     void end_way_back();
     void acknowledge_as(u8 checkpoint, u8 record, const Files *parts);
     void take_back(u8 record);
+    // Whether a way back to a record with these files may begin.
+    bool may_go_back_to(Files files) const { return !scope.is_on[LOOK_FIRST] || !(files & ~(from->is_away ? 0 : from->visible)); }
 
     // recovery.cpp: manifests, and a log that is lost
     void of_recoveries();
@@ -93,6 +97,7 @@ private:
     void write_manifests();
     void lose_log();
     void put_lost_log_back();
+    void of_openings();
     void make_again(u8 choice, const Files *parts);
     void must(const Call &call);
     void adopt(u8 choice, const Files *parts, u8 below);
@@ -139,6 +144,7 @@ private:
     void of_deletions();
     void of_sweepers();
     void of_faults();
+    void of_strangers();
     void unlink(Files files, const char *who);
 };
 

@@ -85,9 +85,26 @@ void Steps::of_faults() {
     }
 }
 
+// Somebody else deletes a file of a record from which nobody begins now, or puts a copy of the storage back that lacks it.
+void Steps::of_strangers() {
+    const bool may = !from->is_down && from->current.image == from->durable.image && !facts->pending[0] && may_use(GONE);
+    for (unsigned file = 1; file <= LAST_FILE; file++) {
+        const Files it = only(file);
+        if (offer_fault(may && it & facts->done & from->visible & ~(facts->base[0] | facts->base[1]))) {
+            use(GONE);
+            next.visible &= ~it;
+            next.kept &= ~it;
+            next.gone |= it;
+            tell("storage lacks %u", file);
+            made();
+        }
+    }
+}
+
 void Steps::of_storage() {
     of_takes();
     of_deletions();
     of_sweepers();
     of_faults();
+    of_strangers();
 }

@@ -3,7 +3,7 @@ does not. (A kernel's own delay, netem, is not everywhere.) It runs under `unsha
 
 machines.py cut CUTS SEED FOLDER: the job of words.py, with the driver and the scheduler on one machine and two workers on the other. The line is
 cut CUTS times, in turn for a moment and for longer than Dask waits. At the end the results are exact.
-machines.py page FOLDER: the first program of docs/DASK.md in FOLDER/first.py, by the page's commands of two machines."""
+machines.py first FOLDER: FOLDER/first.py, by the commands of examples/dask for two machines."""
 import collections
 import ctypes
 import fcntl
@@ -129,11 +129,11 @@ def cut(cuts, seed, folder):
           f"times; {check_files(job)}")
 
 
-def page(folder):
-    """The page says by which commands each of these addresses takes part."""
+def first(folder):
+    """Each of these addresses has its commands."""
     make_machines(random.Random(1))
-    text = (pathlib.Path(__file__).resolve().parent.parent.parent / "docs/DASK.md").read_text(encoding="utf-8")
-    commands = dict(re.findall(r"^```sh on ([0-9.]+)\n(.*?)^```$", text, re.M | re.S))
+    text = (pathlib.Path(__file__).resolve().parent.parent.parent / "examples/dask/commands").read_text(encoding="utf-8")
+    commands = dict(re.findall(r"^# on ([0-9.]+)\n((?:.+\n)*)", text, re.M))
     ends = "trap 'kill $(jobs -p); wait' EXIT\n"
     workers = subprocess.Popen([*THERE.enter, "bash", "-ec", f"{ends}{commands[THERE.address]}wait"], cwd=folder, start_new_session=True)
     try:
@@ -144,4 +144,4 @@ def page(folder):
 
 
 if __name__ == "__main__":
-    {"cut": cut, "page": page}[sys.argv[1]](*sys.argv[2:])
+    {"cut": cut, "first": first}[sys.argv[1]](*sys.argv[2:])

@@ -4,7 +4,7 @@ import os
 import threading
 
 PATH = os.environ.get("ENGINE_TRACE")
-IS_WHOLE = PATH is not None and "ENGINE_CUTS" not in os.environ  # otherwise the log may be cut
+IS_WHOLE = PATH is not None  # otherwise the log may be cut
 _lock = threading.Lock()
 _answered = 0  # the greatest place in the log that this process was answered
 

@@ -1,11 +1,9 @@
 #!/usr/bin/env python3
-"""faults/kill_chained.py KILLS [SEED]: runs chained.py of docs/CUT.md and mini.py and mini-rust of docs/RUNNER-MINI.md, kills a process of theirs KILLS times, and
+"""faults/kill_engines.py KILLS [SEED]: runs mini.py and mini-rust of examples/engine, kills a process of theirs KILLS times, and
 looks at what they published: each number of each source once, in its order, and the sums of one run. A job whose files were put back, as a backup is, has to
 refuse to publish a number again, and one whose transaction is lost has to refuse to start. Its status tells a supervisor when to start it again. One that
-dies between a stop and its publication publishes at the next start. A worker that stands still keeps its target: the start beside it ends, and names it.
-SIGTERM and Ctrl-C stop an engine by the runner with all published, and savepoints that
-it is asked for meanwhile publish nothing. Then wrong engines have to be found wrong: of the first one that does not align, one that publishes at its cut, and
-one that does not publish again at its start, and of the second one that publishes what it prepared for records after the one that it begins from.
+dies between a stop and its publication publishes at the next start. SIGTERM and Ctrl-C stop an engine with all published, and savepoints that
+it is asked for meanwhile publish nothing. Then engines that break a row of the checklist in docs/ALIGNMENT.md have to be found wrong.
 RELKVANU_LIB names the folder of the library."""
 import json
 import os
@@ -20,29 +18,96 @@ import time
 
 HERE = pathlib.Path(__file__).resolve().parent
 SECONDS = 300  # that a start may take to publish something, on a busy machine
-KEYS = {"chained.py": 1, "mini.py": 4, "mini-rust": 4}  # sums of a sample
+KEYS = {"mini.py": 4, "mini-rust": 4}  # sums of a sample
 BESIDE = {"mini.py": "target.py"}  # what a sample imports
-# One that is wrong only between two steps waits there: on a fast machine a kill would seldom hit that moment.
+# For each row of the checklist in docs/ALIGNMENT.md. One that is wrong only between two steps waits there: on a fast machine a kill would seldom hit that
+# moment.
 WRONG = {
-    "it does not align": [
-        "chained.py",
-        ("            self.held[source].append(item)\n",
-         "            self.total += item['number']\n            self.sink.process([source, item['number'], self.total])\n"),
+    "1: it acknowledges what it has not cut": [
+        "mini.py",
+        ("        self.runner.spawn(self.sum, states.get(SUM, [0] * KEYS))\n",
+         "        self.totals = states.get(SUM, [0] * KEYS)\n        self.runner.spawn(self.sum, self.totals)\n"),
+        ("    def barrier(self, it):\n", "    def barrier(self, it):\n        self.cut(it, SUM, 0, self.totals)\n"),
+        ("                self.cut(item, SUM, 0, totals)\n", ""),
     ],
-    "it publishes at its cut": [
-        "chained.py",
-        ("        return self.prepared\n", "        self.target.publish([id])\n        time.sleep(0.02)\n        return self.prepared\n"),
+    "2: it does not align": [
+        "mini.py",
+        ("        self.inputs = Inputs(2, room=20)\n",
+         "        self.inputs = Inputs(2, room=20)\n        self.inputs._asked = lambda: self.inputs._left\n        self.inputs._free = [0, 1]\n"),
+        ("                self.inputs.put(source, item)\n                self.cut(",
+         "                import time; time.sleep(0.1 * source)\n                self.inputs.put(source, item)\n                self.cut("),
     ],
-    "it does not publish again": [
-        "chained.py",
-        ("        target.publish(prepared)", "        pass"),
-        ("        self.target.publish([it for it in self.prepared if it <= id])\n",
-         "        time.sleep(0.05 * (id % 3))\n        self.target.publish([it for it in self.prepared if it <= id])\n"),
+    "3: it sends elements before the barrier": [
+        "mini.py",
+        ("                self.inputs.put(source, item)\n                self.cut(",
+         "                for number in self.next(source):\n                    self.inputs.put(source, number)\n"
+         "                self.inputs.put(source, item)\n                self.cut("),
     ],
-    "it gives nothing up": [
+    "4: its snapshot has what came behind its cut": [
+        "mini.py",
+        ("                self.cut(item, SUM, 0, totals)\n", ""),
+        ("                lines = []\n            else", "                lines = []\n                threading.Timer(0.05, self.cut, (item, SUM, 0, totals)).start()\n            else"),
+    ],
+    "5: a channel doubles an element": [
+        "mini.py",
+        ("                for number in item:\n", "                for number in [*item, *(it for it in item if it == 9)]:\n"),
+    ],
+    "6: its sum depends on its process": [
+        "mini.py",
+        ("                totals[item % KEYS] += item\n", "                totals[item % KEYS] += item + ('new' not in sys.argv)\n"),
+    ],
+    "7: a source reads on one split later": [
+        "mini.py",
+        ("states.get(ENUMERATOR, [0, 0]), ([], [])", "[it + 1 for it in states.get(ENUMERATOR, [-1, -1])], ([], [])"),
+    ],
+    "8: a task begins with its own last state": [
+        "mini.py",
+        ("        self.runner.spawn(self.sum, states.get(SUM, [0] * KEYS))\n",
+         "        with open(self.target.folder / 'own', 'a+') as own:\n            own.seek(0)\n"
+         "            self.runner.spawn(self.sum, json.loads(([json.dumps([0] * KEYS)] + own.readlines())[-1]))\n"),
+        ("                self.cut(item, SUM, 0, totals)\n",
+         "                print(json.dumps(totals), file=open(self.target.folder / 'own', 'a'))\n                import time; time.sleep(0.05)\n"
+         "                self.cut(item, SUM, 0, totals)\n"),
+    ],
+    "9: it restores a record before the last one that it published": [
+        "mini.py",
+        ("Settings(interval=20)", "Settings(interval=20, retained=2)"),
+        ("        self.runner = Runner(self.store, self)\n",
+         "        if len(self.store.live()) > 1:\n            self.store.go_back(min(it.id for it in self.store.live() if it.done), True)\n"
+         "        self.runner = Runner(self.store, self)\n"),
+    ],
+    "10: it writes over what it has saved": [
+        "mini.py",
+        ("        self.runner.spawn(self.sum, states.get(SUM, [0] * KEYS))\n",
+         "        self.saved = self.target.folder / 'saved'\n        self.runner.spawn(self.sum, json.loads(self.saved.read_text()) if record else [0] * KEYS)\n"),
+        ("                self.cut(item, SUM, 0, totals)\n",
+         "                new = self.saved.with_suffix('.new')\n                new.write_text(json.dumps(totals))\n                new.replace(self.saved)\n"
+         "                import time; time.sleep(0.05)\n                self.cut(item, SUM, 0, None)\n"),
+    ],
+    "11: it publishes at its cut": [
+        "mini.py",
+        ("                self.cut(item, SUM, 0, totals)\n                self.cut(item, SINK, 0, self.target.prepare(item.id, lines))\n",
+         "                told = self.target.prepare(item.id, lines)\n                self.target.publish(item.id)\n                import time; time.sleep(0.02)\n"
+         "                self.cut(item, SUM, 0, totals)\n                self.cut(item, SINK, 0, told)\n"),
+    ],
+    "11: it does not publish again": [
+        "target.py",
+        ("        self.publish(max(prepared, default=0))  #", "        self.prepared = []  #"),
+        ("    def publish(self, up_to):\n", "    def publish(self, up_to):\n        import time; time.sleep(0.05 * (up_to % 3))\n"),
+    ],
+    "11: it gives nothing up": [
         "target.py",
         ("            it.unlink()  #", "            os.rename(it, it.with_suffix('.published'))  #"),
         ("            return list(self.prepared)\n", "            import time; time.sleep(0.02)\n            return list(self.prepared)\n"),
+    ],
+    "12: its target takes a transaction twice": [
+        "target.py",
+        ("                    it.with_suffix(\".published\").stat()  #", "                    os.link(it.with_suffix('.published'), self.folder / f'{10**9 + int(it.stem)}.published')  #"),
+    ],
+    "13: a task of it is in no record": [
+        "mini.py",
+        ("SOURCE, SUM, SINK = range(4)\nSHAPE, KEYS, SPLIT = [1, 2, 1, 1]", "SOURCE, SINK, SUM = range(4)\nSHAPE, KEYS, SPLIT = [1, 2, 1]"),
+        ("                self.cut(item, SUM, 0, totals)\n", ""),
     ],
 }
 
@@ -50,7 +115,7 @@ WRONG = {
 def in_rust(samples):
     """Builds the sample in Rust over the crates of the repository."""
     manifest = samples / "mini-rust/Cargo.toml"
-    manifest.write_text(manifest.read_text(encoding="utf-8").replace('"../bindings/', f'"{HERE.parent}/bindings/'), encoding="utf-8")
+    manifest.write_text(manifest.read_text(encoding="utf-8").replace('"../../../bindings/', f'"{HERE.parent}/bindings/'), encoding="utf-8")
     environment = {**os.environ, "CARGO_TARGET_DIR": str(samples / "built")}
     subprocess.run(["cargo", "build", "--offline", "--quiet", "--manifest-path", manifest], env=environment, check=True)
 
@@ -103,13 +168,12 @@ class Job:
         self.cycle = time.monotonic() - began
 
     def kill_one(self, dice):
-        """Starts it, waits until it has published once more, and kills its driver or its worker in the two cycles that follow. What is left ends by itself."""
+        """Starts it, waits until it has published once more, and kills it in the two cycles that follow."""
         process = self.publishing()
         if self.cycle is None or dice.random() < 0.1:
             self.measure(process)
         time.sleep(dice.random() * max(0.06, 2 * self.cycle))
-        if dice.random() < 0.5 or subprocess.run(["pkill", "-KILL", "-P", str(process.pid)], check=False).returncode:
-            process.kill()
+        process.kill()
         process.wait(SECONDS)
 
     def fault(self):
@@ -245,29 +309,6 @@ it.runner.run()"""
     return fault is None
 
 
-def names_a_worker(samples, texts):
-    """Whether a start of chained.py ends and names the worker that stands still and has the target, and a start goes on once that one was ended."""
-    job = Job(samples / "stands", "chained.py", samples, texts)
-    driver = job.publishing()
-    worker = int(subprocess.run(["pgrep", "-P", str(driver.pid)], check=True, stdout=subprocess.PIPE).stdout)
-    os.kill(worker, signal.SIGSTOP)
-    driver.kill()
-    driver.wait(SECONDS)
-    before, beside = job.published(), job.start(1 << 62, stderr=subprocess.PIPE)
-    try:
-        _, told = beside.communicate(timeout=SECONDS)
-        after = job.published()
-    finally:
-        beside.kill()
-        os.kill(worker, signal.SIGKILL)
-    status = job.start(before[-1] + 5).wait(SECONDS)
-    fault = job.fault()
-    right = beside.returncode == 1 and f"process {worker}, has not ended".encode() in told and (after, status, fault) == (before, 0, None)
-    said = "the next start names it, and goes on once it was ended" if right else f"statuses {beside.returncode}, {status}, {fault}: {told}"
-    print(f"chained.py, beside a worker that stands still: {said}", flush=True)
-    return right
-
-
 def is_stopped(samples, sample, texts, dice):
     """Whether each signal stops an engine by the runner with all published, and the job stays stopped until it is begun."""
     job, statuses, left = Job(samples / f"signals {sample}", sample, samples, texts), [], []
@@ -314,9 +355,9 @@ def main(kills, seed=None):
     print(f"seed {seed}", flush=True)
     dice = random.Random(seed)
     with tempfile.TemporaryDirectory() as work:
-        samples = pathlib.Path(work)
-        subprocess.run([HERE.parent / "checks/build_samples", "--write", samples], check=True)
-        texts = {"chained.py": read(samples, "chained.py"), "mini.py": read(samples, "mini.py", BESIDE["mini.py"])}
+        samples = pathlib.Path(work) / "engine"
+        shutil.copytree(HERE.parent / "examples/engine", samples)
+        texts = {"mini.py": read(samples, "mini.py", BESIDE["mini.py"])}
         if shutil.which("cargo"):
             in_rust(samples)
             texts["mini-rust"] = None
@@ -324,12 +365,11 @@ def main(kills, seed=None):
             print("skipped: cargo: the engine in Rust")
         good = [is_short(samples, it) for it in ("mini.py", "mini-rust/src/main.rs") if it in texts or "mini-rust" in texts]
         good += [is_right(samples, it, of, int(kills), dice) for it, of in texts.items()]
-        good += [refuses(samples, it, of) for it, of in texts.items() if it != "chained.py"]  # which refuses an earlier term
-        good.append(names_a_worker(samples, texts["chained.py"]))
+        good += [refuses(samples, it, of) for it, of in texts.items()]
         good.append(is_started_again(samples, texts["mini.py"]))
         good.append(publishes_a_stop(samples, texts["mini.py"]))
         good.append(takes_savepoints(samples, texts["mini.py"], int(kills), dice))
-        good += [is_stopped(samples, it, of, dice) for it, of in texts.items() if it != "chained.py"]
+        good += [is_stopped(samples, it, of, dice) for it, of in texts.items()]
         good += [is_found(samples, why, texts, dice) for why in WRONG]
     print(f"{good.count(True)} engines passed, {good.count(False)} failed")
     return 0 if all(good) else 1

@@ -1,5 +1,5 @@
 """What the job's file or the storage folder of an engine may have become when the engine is started again: each has to stop the start with a
-message, and no file may be touched. The tests of engines/rocksdb and engines/dask use it. FOLDER/job.db is the file of the durable
+message, and no file may be touched. engines/rocksdb/starts.py uses it. FOLDER/job.db is the file of the durable
 coordinator, and FOLDER/storage has the state files."""
 import contextlib
 import shutil
@@ -35,7 +35,7 @@ def change(folder, what):
         assert database.execute(what).rowcount == 1, what
 
 
-def remove_job(folder):
+def remove_job(folder, *_):
     for name in PARTS:
         (folder / name).unlink(missing_ok=True)
 
@@ -46,10 +46,6 @@ def put_job(folder, other):
     for name in PARTS:
         if (other / name).exists():
             shutil.copy(other / name, folder / name)
-
-
-def missing(folder, *_):
-    remove_job(folder)
 
 
 def empty(folder, *_):
@@ -67,30 +63,6 @@ def older(folder, _, first):
 
 
 LAST = "SELECT max(place) FROM log WHERE line LIKE "
-
-
-def with_a_file_changed(folder, *_):
-    change(folder, f"UPDATE log SET line = replace(line, '+', '+1') WHERE place = ({LAST} '%ack %+%')")
-
-
-def with_an_image_changed(folder, *_):
-    change(folder, "UPDATE image SET text = CAST(replace(text, '1', '2') AS BLOB) WHERE place = (SELECT max(place) FROM image)")
-
-
-def with_a_moment_changed(folder, *_):
-    change(folder, f"UPDATE log SET line = line || '0' WHERE place = ({LAST} 'tick %')")
-
-
-def with_an_answer_changed(folder, *_):
-    change(folder, f"UPDATE log SET a = a + 1 WHERE place = ({LAST} '%ack %')")
-
-
-def with_a_checksum_changed(folder, *_):
-    change(folder, f"UPDATE log SET chain = chain + 1 WHERE place = ({LAST} '%')")
-
-
-def without_a_line(folder, *_):
-    change(folder, "DELETE FROM log WHERE place = (SELECT max(place) - 1 FROM log)")
 
 
 def with_a_page_changed(folder, *_):
@@ -118,21 +90,21 @@ def not_mounted(folder, *_):
     (folder / "storage").mkdir()
 
 
-# What is not as it was, and what the engine says.
+# What is not as it was, by a change of one row or a function, and what the engine says.
 DAMAGES = [
-    (missing, "has the marker of another job, and this one is new"),
-    (empty, "has the marker of another job, and this one is new"),
-    (of_another_job, "has the marker of another job than"),
-    (older, "is an older copy"),
-    (with_a_file_changed, "is damaged"),
-    (with_an_image_changed, "is damaged"),
-    (with_a_moment_changed, "is damaged"),
-    (with_an_answer_changed, "is damaged"),
-    (with_a_checksum_changed, "is damaged"),
-    (without_a_line, "lacks call"),
-    (with_a_page_changed, "is damaged"),
-    (with_a_call_that_is_refused, "the coordinator answers"),
-    (not_mounted, "has no marker"),
+    ("missing", remove_job, "has the marker of another job, and this one is new"),
+    ("empty", empty, "has the marker of another job, and this one is new"),
+    ("of another job", of_another_job, "has the marker of another job than"),
+    ("older", older, "is an older copy"),
+    ("with a file changed", f"UPDATE log SET line = replace(line, '+', '+1') WHERE place = ({LAST} '%ack %+%')", "is damaged"),
+    ("with an image changed", "UPDATE image SET text = CAST(replace(text, '1', '2') AS BLOB) WHERE place = (SELECT max(place) FROM image)", "is damaged"),
+    ("with a moment changed", f"UPDATE log SET line = line || '0' WHERE place = ({LAST} 'tick %')", "is damaged"),
+    ("with an answer changed", f"UPDATE log SET a = a + 1 WHERE place = ({LAST} '%ack %')", "is damaged"),
+    ("with a checksum changed", f"UPDATE log SET chain = chain + 1 WHERE place = ({LAST} '%')", "is damaged"),
+    ("without a line", "DELETE FROM log WHERE place = (SELECT max(place) - 1 FROM log)", "lacks call"),
+    ("with a page changed", with_a_page_changed, "is damaged"),
+    ("with a call that is refused", with_a_call_that_is_refused, "the coordinator answers"),
+    ("not mounted", not_mounted, "has no marker"),
 ]
 
 
@@ -140,13 +112,13 @@ def check(killed, other, first, work, start):
     """Copies the folder of an engine that was killed, damages it, and starts the engine there twice, in turn for each damage. start(FOLDER) returns
     what the engine said as it ended by itself. `other` is the folder of another job, and `first` has the job's file as it was before its
     last process."""
-    for damage, words in DAMAGES:
-        folder = work / damage.__name__
+    for name, damage, words in DAMAGES:
+        folder = work / name
         shutil.copytree(killed, folder)
-        damage(folder, other, first)
+        damage(folder, other, first) if callable(damage) else change(folder, damage)
         before = files(folder)
         for told in (start(folder), start(folder)):
-            assert words in told, f"a job {damage.__name__}: {told}"
-            assert files(folder) == before, f"a job {damage.__name__}: files were touched"
+            assert words in told, f"a job {name}: {told}"
+            assert files(folder) == before, f"a job {name}: files were touched"
         assert damage is not_mounted or len(before) > 10
     return f"{len(DAMAGES)} jobs and folders that were not as they had been stopped the start, and no file was touched"

@@ -1,6 +1,7 @@
 """Tests of relkvanu.dask, relkvanu.daskstream and relkvanu.outputs over a cluster in this process."""
 import asyncio
 import contextlib
+import io
 import os
 import pathlib
 import pickle
@@ -20,7 +21,7 @@ import pandas
 import streamz
 from distributed import Client, LocalCluster
 
-import words
+import graph
 from relkvanu import daskstream, outputs, records
 from relkvanu.dask import Checkpoints, NotPersisted, Place, Stopped
 from relkvanu.daskstream import GraphError
@@ -74,6 +75,12 @@ def wait_until(condition):
         time.sleep(0.01)
 
 
+def record(checkpoints, element):
+    """A checkpoint behind an element, whose position it is too."""
+    checkpoints.emit(element, element)
+    checkpoints.checkpoint()
+
+
 class Base(unittest.TestCase):
     @classmethod
     def setUpClass(cls):
@@ -100,6 +107,11 @@ class Collections(Base):
     def opened(self, create=True, **more):
         return Checkpoints(self.client, self.state, self.folder / "job.db", create=create, **more)
 
+    def loaded(self):
+        checkpoints = self.opened()
+        checkpoints.load()
+        return checkpoints
+
     def test_unchanged_partitions_are_not_written(self):
         with self.opened() as checkpoints:
             self.assertIsNone(checkpoints.load())
@@ -118,8 +130,7 @@ class Collections(Base):
 
     def test_a_stop_and_a_begin(self):
         """A second stop comes before any checkpoint. Each savepoint is gone once a later record is complete."""
-        with self.opened() as checkpoints:
-            checkpoints.load()
+        with self.loaded() as checkpoints:
             x = da.arange(4, chunks=1).persist()
             checkpoints.save("one", x=x)
             self.assertEqual(checkpoints.stop("two", x=x)[:3], (2, 0, 4))
@@ -183,8 +194,7 @@ class Collections(Base):
         raise OSError
 
     def test_the_same_partition_twice(self):
-        with self.opened() as checkpoints:
-            checkpoints.load()
+        with self.loaded() as checkpoints:
             (one,) = self.client.map(add, [1], [2])
             self.assertEqual(checkpoints.save(None, x=[one, one], y=one)[1:3], (1, 0))
             self.assertEqual(len(self.files()), 2)
@@ -192,8 +202,7 @@ class Collections(Base):
             self.assertEqual(self.client.gather([*found["x"], found["y"]]), [3, 3, 3])
 
     def test_what_fails_is_declined(self):
-        with self.opened() as checkpoints:
-            checkpoints.load()
+        with self.loaded() as checkpoints:
             checkpoints.save(1, x=[self.client.submit(add, 1, 2)])
             self.assertRaises(ZeroDivisionError, checkpoints.save, 2, x=[self.client.submit(fails, 13), self.client.submit(fails, 14)])
             self.assertRaises(Failed, checkpoints.save, 2, x=[])
@@ -202,8 +211,7 @@ class Collections(Base):
             self.assertEqual(len(self.files()), 2)
 
     def test_files_that_are_damaged_or_gone(self):
-        with self.opened() as checkpoints:
-            checkpoints.load()
+        with self.loaded() as checkpoints:
             checkpoints.save(1, x=self.client.map(add, [1, 2], [3, 4]))
         files = self.files()
         for file in files:
@@ -234,6 +242,18 @@ class Collections(Base):
             self.assertEqual((number, list(found["x"].compute())), (8, [28.0] * 4))
         self.assertEqual(len(self.files()), 3)
 
+    def test_workers_that_lack_the_package(self):
+        """They have it no later, so the first error ends the run."""
+        steps = []
+
+        def step(number, x):
+            steps.append(number)
+            raise ModuleNotFoundError("No module named 'relkvanu'")
+
+        with self.opened() as checkpoints:
+            self.assertRaises(ImportError, checkpoints.run, step, lambda: (0, {"x": da.zeros(2, chunks=2)}))
+        self.assertEqual(steps, [0])
+
     def test_what_failed_is_computed_anew(self):
         """What a step gives has another key after load(): Dask still knows that of before as failed, while somebody holds it."""
         falls_once.left, held = 1, []
@@ -249,8 +269,7 @@ class Collections(Base):
             self.assertEqual((number, list(found["x"].compute()), len(held)), (2, [2.0] * 2, 3))
 
     def test_what_is_cancelled_is_an_ordinary_exception(self):
-        with self.opened() as checkpoints:
-            checkpoints.load()
+        with self.loaded() as checkpoints:
             checkpoints.save(1, x=[self.client.submit(add, 1, 2)])
             lost = self.client.submit(add, 3, 4)
             lost.cancel()
@@ -265,8 +284,7 @@ class Collections(Base):
             self.assertEqual(len(self.files()), 2)
 
     def test_the_coordinator_is_lost(self):
-        with self.opened() as checkpoints:
-            checkpoints.load()
+        with self.loaded() as checkpoints:
             for number in (1, 2):
                 checkpoints.save(number, x=da.arange(4 * number, chunks=4).persist())
         before = self.files()
@@ -299,8 +317,7 @@ class Collections(Base):
     def test_a_function_that_is_not_pure(self):
         """Dask gives the same key twice, and another value, once nobody has held it meanwhile."""
         impure.calls = 0
-        with self.opened() as checkpoints:
-            checkpoints.load()
+        with self.loaded() as checkpoints:
             one = self.client.submit(impure)
             self.assertEqual((one.result(), checkpoints.save(1, x=one)[1:3]), (1, (1, 0)))
             key = one.key
@@ -314,8 +331,7 @@ class Collections(Base):
         a = "".join(["a", "b"])
         one, two = (a, a), (a, "".join(["a", "b"]))
         self.assertNotEqual(pickled(one), pickled(two))
-        with self.opened() as checkpoints:
-            checkpoints.load()
+        with self.loaded() as checkpoints:
             checkpoints.save(1, x=self.client.scatter([{one: 1}], hash=False))
             checkpoints.save(2, x=self.client.scatter([{two: 1}], hash=False))
             self.assertEqual(checkpoints.load()[1]["x"][0].result(), {("ab", "ab"): 1})
@@ -378,26 +394,22 @@ class Streams(Base):
         """The exception comes up below a buffer, whose loop streamz would end."""
         source, total, sink, gathered = self.graph()
         with self.opened(source) as checkpoints:
-            checkpoints.emit(1, 1)
-            checkpoints.checkpoint()
+            record(checkpoints, 1)
             checkpoints.emit(13, 2)
             self.assertRaises(ZeroDivisionError, checkpoints.checkpoint)
             self.assertRaises(ZeroDivisionError, checkpoints.emit, 3, 3)
             self.assertEqual(checkpoints.restore(), 1)
-            checkpoints.emit(3, 3)
-            checkpoints.checkpoint()
+            record(checkpoints, 3)
             self.assertEqual(checkpoints.state("total"), 4)
             self.assertEqual(gathered, [1, 4])
 
     def test_what_is_cancelled_goes_back(self):
         source, total, *kept = self.graph()
         with self.opened(source) as checkpoints:
-            checkpoints.emit(1, 1)
-            checkpoints.checkpoint()
+            record(checkpoints, 1)
             total.state.cancel()
             with self.assertRaises(Exception):
-                checkpoints.emit(2, 2)
-                checkpoints.checkpoint()
+                record(checkpoints, 2)
             checkpoints.run(lambda position: [(it, it) for it in range(position + 1, 5)])
             self.assertEqual((checkpoints.position, checkpoints.state("total")), (4, 10))
 
@@ -499,8 +511,7 @@ class Streams(Base):
             self.assertEqual((checkpoints.restore(), rows.rows), (2, []))
         source, rows, kept = graph()
         with self.opened(source, client=None, outputs=[rows]) as checkpoints:
-            checkpoints.emit(3, 3)
-            checkpoints.checkpoint()
+            record(checkpoints, 3)
             self.assertEqual((checkpoints.state("total"), checkpoints.state("none")), (6, 6))
             checkpoints.emit(4, 4)
             checkpoints.stop()
@@ -510,6 +521,56 @@ class Streams(Base):
         self.assertRaises(daskstream.Stopped, self.opened, source, client=None, outputs=[rows])
         with self.opened(source, client=None, outputs=[rows], begin=True) as checkpoints:
             self.assertEqual((checkpoints.position, checkpoints.state("total")), (4, 10))
+
+    def test_graphs_that_one_process_refuses(self):
+        for build in (
+            lambda it: it.accumulate(add).buffer(3), lambda it: it.sliding_window(2).accumulate(add), lambda it: it.map(abs),
+            lambda it: [it.accumulate(add), it.accumulate(add)], lambda it: it.accumulate(add, stream_name="a").accumulate(add, stream_name="a"),
+            lambda it: it.union(streamz.Stream()).accumulate(add), lambda it: it.unique().accumulate(add),
+        ):
+            source = streamz.Stream()
+            kept = build(source)
+            self.assertRaises(GraphError, self.opened, source, client=None)
+            self.assertIsNotNone(kept)
+            self.assertFalse((self.folder / "job.db").exists())
+
+    def test_one_process_that_is_killed(self):
+        """Until one comes to its end, a bit later each time: the state and the rows are exact, and the storage has what the last record uses."""
+        kills = 0
+        while True:
+            process = subprocess.Popen([sys.executable, "-c", ALONE, self.folder], stdout=subprocess.PIPE, text=True)
+            told = process.stdout.readline()  # it begins
+            threading.Timer(0.1 + 0.3 * kills, process.kill).start()
+            told += process.communicate()[0]
+            if process.returncode == 0:
+                break
+            self.assertEqual(process.returncode, -9)
+            kills += 1
+        self.assertGreater(kills, 2)
+        self.assertEqual(told.split()[-1], str(sum(range(ELEMENTS))))
+        rows = [int(it) for path in sorted(self.folder.glob("*.jsonl")) for it in path.read_text().split()]
+        self.assertEqual(rows, list(range(ELEMENTS)))
+        self.assertEqual(len(self.files()), 2)
+
+
+ELEMENTS = 600
+ALONE = f"""
+import sys, time
+import streamz
+from relkvanu.daskstream import Checkpoints
+from relkvanu.outputs import Files
+def read(position):
+    for it in range(position or 0, {ELEMENTS}):
+        time.sleep(0.002)
+        yield it, it + 1
+folder, source = sys.argv[1], streamz.Stream()
+rows = Files(folder, "rows")
+kept = [source.accumulate(lambda total, it: total + it, start=0, stream_name="total"), source.sink(rows)]
+with Checkpoints(source, folder + "/state", folder + "/job.db", create=True, every=0.05, outputs=[rows]) as checkpoints:
+    print("begins", flush=True)
+    checkpoints.run(read)
+    print(checkpoints.state("total"))
+"""
 
 
 class Outputs(Base):
@@ -523,190 +584,123 @@ class Outputs(Base):
     def rows(self):
         return [it for it, in sqlite3.connect(self.folder / "rows.db").execute("SELECT it FROM rows ORDER BY it")]
 
-    def test_a_table(self):
-        table = self.table()
-        table.publish("a", 1, [(1,), (2,)], "x")
-        table.publish("a", 1, [(1,), (2,)], "x")
-        self.assertRaises(outputs.OutputError, table.publish, "a", 1, [(3,)], "y")
-        table.publish("a", 3, [(3,)], "z")
-        self.assertRaises(outputs.OutputError, table.publish, "a", 2, [(9,)], "y")
-        table.publish("b", 1, [(4,)], "x")
-        self.assertEqual(self.rows(), [1, 2, 3, 4])
-
-    def test_a_row_that_the_database_refuses(self):
-        table = self.table()
-        self.assertRaises(sqlite3.Error, table.publish, "a", 1, [(1,), (2, 3)], "x")
-        self.assertEqual(self.rows(), [])
-        table.publish("a", 1, [(1,)], "z")
-        self.assertEqual(self.rows(), [1])
-
-    def test_files(self):
-        files = outputs.Files(str(self.folder))
-        files.publish("a", 1, [[1], [2]], "x")
-        files.publish("a", 1, [[1], [2]], "x")
-        self.assertRaises(outputs.OutputError, files.publish, "a", 1, [[3]], "y")
-        (self.folder / f"a-{2:020}.jsonl.part").write_text("half")
-        files.publish("a", 2, [[4]], "z")
-        self.assertEqual([it.read_text() for it in sorted(self.folder.glob("*.jsonl"))], ["[1]\n[2]\n", "[4]\n"])
-        self.assertEqual(list(self.folder.glob("*.part")), [])
-
-    def test_files_by_two_drivers(self):
-        """One that has lost the job publishes its last record while the other does so."""
-        late, rename = threading.Thread(target=lambda: done.append(outputs.Files(str(self.folder)).publish("a", 1, [[1], [2]], "x"))), os.rename
-        done = []
-
-        def slowly(old, new):
-            late.start()
-            wait_until(lambda: self.waits_for_a_lock(late))
-            rename(old, new)
-
-        with mock.patch("os.rename", slowly):
-            outputs.Files(str(self.folder)).publish("a", 1, [[1], [2]], "x")
-        late.join()
-        self.assertEqual(done, [None])
-        self.assertEqual([it.read_text() for it in self.folder.glob("a-*")], ["[1]\n[2]\n"])
-
-    @staticmethod
-    def waits_for_a_lock(thread):
-        with open(f"/proc/self/task/{thread.native_id}/syscall") as it:
-            return it.read().startswith("73 ")  # flock
-
+    @contextlib.contextmanager
     def opened(self, **more):
         source, table = streamz.Stream(), self.table()
         kept = source.scatter().accumulate(add, start=0, stream_name="total").gather().map(row).sink(table)
-        return source, kept, table, daskstream.Checkpoints(
-            source, self.state, self.folder / "job.db", client=self.client, create=True, outputs=[table], **more)
+        with daskstream.Checkpoints(source, self.state, self.folder / "job.db", client=self.client, create=True, outputs=[table], **more) as checkpoints:
+            yield table, checkpoints
+        self.assertIsNotNone(kept)
 
     def test_a_checkpoint_that_is_complete_and_not_published(self):
-        source, kept, table, checkpoints = self.opened()
-        with checkpoints:
-            checkpoints.emit(1, 1)
-            checkpoints.checkpoint()
+        with self.opened() as (table, checkpoints):
+            record(checkpoints, 1)
             checkpoints.emit(2, 2)
             table.publish = None
-            self.assertRaises(TypeError, checkpoints.checkpoint)  # complete, and the process ends before it is published
+            self.assertRaises(outputs.SinkFailed, checkpoints.checkpoint)  # complete, and the process ends before it is published
             self.assertEqual(self.rows(), [1])
-        source, kept, table, checkpoints = self.opened()
-        with checkpoints:
+        with self.opened() as (table, checkpoints):
             self.assertEqual((checkpoints.position, self.rows()), (2, [1, 3]))
-            checkpoints.emit(3, 3)
-            checkpoints.checkpoint()
+            record(checkpoints, 3)
             self.assertEqual(self.rows(), [1, 3, 6])
 
     def test_the_coordinator_is_lost(self):
         """Also where the last record was not published, and where the driver that lost its place still publishes."""
-        source, kept, table, checkpoints = self.opened()
-        with checkpoints:
-            checkpoints.emit(1, 1)
-            checkpoints.checkpoint()
+        with self.opened() as (table, checkpoints):
+            record(checkpoints, 1)
             checkpoints.emit(2, 2)
             with mock.patch.object(table, "publish", side_effect=OSError):
-                self.assertRaises(OSError, checkpoints.checkpoint)
+                self.assertRaises(outputs.SinkFailed, checkpoints.checkpoint)
             identity = checkpoints._records.identity
         old, self.state = Place(str(self.state), "job"), self.folder / "other"
         self.state.mkdir()
         (self.folder / "job.db").unlink()
         for position in (2, 3):
-            source, kept, table, checkpoints = self.opened(begin_from=old)
-            with checkpoints:
+            with self.opened(begin_from=old) as (table, checkpoints):
                 self.assertEqual(checkpoints.position, position)
                 if position == 2:
-                    checkpoints.emit(3, 3)
-                    checkpoints.checkpoint()
+                    record(checkpoints, 3)
                 self.assertEqual(self.rows(), [1, 3, 6])
-            self.assertRaises(outputs.OutputError, table.publish, identity, 3, [(9,)], "zombie")
+            self.assertRaises(outputs.OutputError, table.publish, outputs.Entry(3, identity, "rows", pickle.dumps([(9,)])))
         self.assertEqual(self.rows(), [1, 3, 6])
 
     def test_rows_after_the_last_checkpoint_are_given_up(self):
-        source, kept, table, checkpoints = self.opened()
-        with checkpoints:
-            checkpoints.emit(1, 1)
-            checkpoints.checkpoint()
+        with self.opened() as (table, checkpoints):
+            record(checkpoints, 1)
             checkpoints.emit(2, 2)
             self.assertEqual((checkpoints.restore(), table.rows), (1, []))
-            checkpoints.emit(3, 3)
-            checkpoints.checkpoint()
+            record(checkpoints, 3)
             self.assertEqual(self.rows(), [1, 4])
 
     def test_a_stop_publishes_and_a_begin_goes_on(self):
-        source, kept, table, checkpoints = self.opened()
-        with checkpoints:
+        with self.opened() as (table, checkpoints):
             checkpoints.emit(1, 1)
             self.assertEqual(checkpoints.stop().id, 1)
             self.assertEqual(self.rows(), [1])
             for refused in (lambda: checkpoints.emit(2, 2), checkpoints.checkpoint, checkpoints.restore, checkpoints.stop):
                 self.assertRaises(daskstream.Stopped, refused)
-        self.assertRaisesRegex(daskstream.Stopped, "savepoint 1: .*begin=True", self.opened)
-        source, kept, table, checkpoints = self.opened(begin=True)
-        with checkpoints:
+        self.assertRaisesRegex(daskstream.Stopped, "savepoint 1: .*begin=True", self.opened().__enter__)
+        with self.opened(begin=True) as (table, checkpoints):
             self.assertEqual((checkpoints.position, checkpoints.state("total")), (1, 1))
-            checkpoints.emit(2, 2)
-            checkpoints.checkpoint()
+            record(checkpoints, 2)
             self.assertEqual((self.rows(), savepoints(checkpoints)), ([1, 3], 0))
         self.assertEqual(len(self.files()), 2)
 
     def test_a_stop_that_is_complete_and_not_published(self):
         """The process ends between the commit and the publication: whoever finds the job stopped tells the outputs."""
-        source, kept, table, checkpoints = self.opened()
-        with checkpoints:
+        with self.opened() as (table, checkpoints):
             checkpoints.emit(1, 1)
             table.publish = None
-            self.assertRaises(TypeError, checkpoints.stop)
+            self.assertRaises(outputs.SinkFailed, checkpoints.stop)
             self.assertEqual(self.rows(), [])
         for _ in range(2):
-            self.assertRaises(daskstream.Stopped, self.opened)
+            self.assertRaises(daskstream.Stopped, self.opened().__enter__)
             self.assertEqual(self.rows(), [1])
 
     def test_a_stop_whose_output_is_away_for_a_while(self):
         """run() tells it again, and takes no record more."""
-        source, kept, table, checkpoints = self.opened()
-        publish, falls = table.publish, [OSError(), OSError()]
+        falls = [OSError(), OSError()]
 
         def late(*words):
             if falls:
                 raise falls.pop()
             publish(*words)
 
-        table.publish = late
-        with checkpoints:
+        with self.opened() as (table, checkpoints):
+            publish, table.publish = table.publish, late
             checkpoints.ask_to_stop()
             self.assertRaises(daskstream.Stopped, checkpoints.run, lambda _: [(1, 1), (2, 2)])
             self.assertEqual((self.rows(), checkpoints._records.last().meta[0]), ([1], 1))
 
     def test_a_stop_that_fails(self):
         """A lost element declines its savepoint: nothing is published, and run() goes back, and stops the job after that."""
-        source, kept, table, checkpoints = self.opened()
-        with checkpoints:
-            checkpoints.emit(1, 1)
-            checkpoints.checkpoint()
+        with self.opened() as (table, checkpoints):
+            record(checkpoints, 1)
             with mock.patch.object(records, "wait", side_effect=OSError):
                 checkpoints.emit(2, 2)
                 self.assertRaises(OSError, checkpoints.stop)
-            self.assertEqual((self.rows(), checkpoints._records._job._store.phase().stop_failed.name), ([1], "DECLINED"))
+            self.assertEqual((self.rows(), checkpoints._records._job._job.phase().stop_failed.name), ([1], "DECLINED"))
             self.assertRaises(daskstream.Stopped, checkpoints.run, lambda position: [(it, it) for it in range(position + 1, 9)])
         self.assertEqual(self.rows(), [1, 3])  # with the next element, which comes again
         self.assertEqual(len(self.files()), 2)
 
     def test_a_driver_that_is_killed_in_a_stop(self):
         """Before the savepoint is complete: nothing is published, and the job goes on from its last checkpoint."""
-        source, kept, table, checkpoints = self.opened()
-        with checkpoints:
-            checkpoints.emit(1, 1)
-            checkpoints.checkpoint()
+        with self.opened() as (table, checkpoints):
+            record(checkpoints, 1)
             checkpoints.emit(2, 2)
             with mock.patch.object(checkpoints._records, "_acknowledge", side_effect=OSError), mock.patch.object(checkpoints._records, "_give_up"):
                 self.assertRaises(OSError, checkpoints.stop)
-        source, kept, table, checkpoints = self.opened()
-        with checkpoints:
+        with self.opened() as (table, checkpoints):
             self.assertEqual((checkpoints.position, self.rows(), savepoints(checkpoints)), (1, [1], 0))
-            self.assertEqual(checkpoints._records._job._store.phase().stop_failed.name, "RESTORED")
+            self.assertEqual(checkpoints._records._job._job.phase().stop_failed.name, "RESTORED")
         self.assertEqual(len(self.files()), 2)
 
 
 def savepoints(checkpoints):
     """How many savepoints the coordinator has."""
     count, next = 0, 0
-    with checkpoints._records._job._store.read() as reads:
+    with checkpoints._records._job._job.read() as reads:
         while (live := reads.live_from(next)) is not None:
             count, next = count + (live.kind.name == "SAVEPOINT"), live.id + 1
     return count
@@ -868,21 +862,21 @@ class Many(Base):
 
 
 HERE = pathlib.Path(__file__).resolve().parent
-PAGE = HERE.parent.parent / "docs/DASK.md"
+SAMPLES = HERE.parent.parent / "examples/dask"
 TOLD = "50 1225000000.0\n"  # 0 + 1 + .. + 49 is 1225
 
 
-def block(language):
-    """The only block of the page that begins so."""
-    (found,) = re.findall(rf"^```{language}\n(.*?)^```$", PAGE.read_text(encoding="utf-8"), re.M | re.S)
+def commands_of(title):
+    """The paragraph of examples/dask/commands with this title."""
+    (found,) = re.findall(rf"^# {title}\n((?:.+\n)*)", (SAMPLES / "commands").read_text(encoding="utf-8"), re.M)
     return found
 
 
-class Page(Base):
+class Samples(Base):
     def first(self, *command):
-        """The first program, word for word, by a command in a folder that has nothing else. Its last state has ten files and a list."""
-        program = block("python first.py")
-        self.assertLessEqual(len(program.splitlines()), 15)
+        """The first program, by a command in a folder that has nothing else. Its last state has ten files and a list."""
+        program = (SAMPLES / "first.py").read_text(encoding="utf-8")
+        self.assertLessEqual(sum(1 for it in program.splitlines() if it), 15)
         (self.folder / "first").mkdir()
         (self.folder / "first/first.py").write_text(program)
         told = subprocess.run(command, cwd=self.folder / "first", stdout=subprocess.PIPE, stderr=subprocess.PIPE, text=True, timeout=900,
@@ -892,17 +886,17 @@ class Page(Base):
         return told.stdout
 
     def test_the_first_program_word_for_word(self):
-        """In a network of its own, where nobody has the page's port. The second time it goes on from its end."""
-        commands = f"ip link set lo up; trap 'kill $(jobs -p); wait' EXIT\n{block('sh')}python3 first.py 127.0.0.1:8786\n"
+        """In a network of its own, where nobody has its port. The second time it goes on from its end."""
+        commands = f"ip link set lo up; trap 'kill $(jobs -p); wait' EXIT\n{commands_of('on one machine')}python3 first.py 127.0.0.1:8786\n"
         self.assertEqual(self.first("unshare", "-rn", "bash", "-ec", commands), TOLD * 2)
 
-    def test_the_stop_of_the_page(self):
+    def test_the_stop_of_the_first_program(self):
         """It stops some steps before its end, and goes on from there."""
         (self.folder / "first").mkdir()
         for name in ("first.py", "stopped.py"):
-            (self.folder / "first" / name).write_text(block(f"python {name}"))
-        starts = block("sh").rpartition("python3 first.py")[0]
-        commands = f"ip link set lo up; trap 'kill $(jobs -p); wait' EXIT\n{starts}{block('sh stop')}"
+            (self.folder / "first" / name).write_text((SAMPLES / name).read_text(encoding="utf-8"))
+        starts = commands_of("on one machine").rpartition("python3 first.py")[0]
+        commands = f"ip link set lo up; trap 'kill $(jobs -p); wait' EXIT\n{starts}{commands_of('to stop the job, and to begin it again')}"
         told = subprocess.run(("unshare", "-rn", "bash", "-ec", commands), cwd=self.folder / "first", stdout=subprocess.PIPE, stderr=subprocess.PIPE, text=True,
                               timeout=900, env={**os.environ, "PATH": f"/usr/bin:/bin:{os.environ['PATH']}"})
         self.assertEqual(told.returncode, 0, told.stderr[-2000:])
@@ -911,23 +905,15 @@ class Page(Base):
 
     @unittest.skipUnless(os.path.exists("/dev/net/tun"), "no /dev/net/tun: two machines")
     def test_the_first_program_on_two_machines(self):
-        self.assertEqual(self.first("unshare", "-rnm", sys.executable, str(HERE / "machines.py"), "page", "."), TOLD)
+        self.assertEqual(self.first("unshare", "-rnm", sys.executable, str(HERE / "machines.py"), "first", "."), TOLD)
 
-    def test_the_stream_of_the_page(self):
+    def test_the_graph(self):
         text = self.folder / "text"
         text.write_text("a word of a text\n" * 1000)
-        rows = self.folder / "rows.db"
-        sqlite3.connect(rows).execute("CREATE TABLE lines (number INTEGER, words INTEGER)").connection.commit()
-        found = {"words": words.words, "lengths": words.lengths, "count": words.count, "read": words.batches(text), "streamz": streamz,
-                 "Client": lambda _: self.client, "connect": lambda: sqlite3.connect(rows), "Table": outputs.Table, "keyed": daskstream.keyed,
-                 "Checkpoints": daskstream.Checkpoints}
-        program = block("python")
-        for name in ("state", "words.db"):
-            self.assertEqual(program.count(f'"{name}"'), 1)
-            program = program.replace(f'"{name}"', repr(str(self.folder / name)))
-        exec(program, found)
-        self.assertEqual(sum(it.state.result().value.get("a", 0) for it in found["counts"]), 2000)
-        self.assertEqual(sqlite3.connect(rows).execute("SELECT count(*), sum(words) FROM lines").fetchone(), (1000, 5000))
+        with contextlib.chdir(self.folder), mock.patch.object(graph, "Client", lambda _: self.client), contextlib.redirect_stdout(io.StringIO()) as printed:
+            graph.main("scheduler", str(text), "new")
+        self.assertEqual(printed.getvalue(), "5000 words\n")
+        self.assertEqual(sqlite3.connect(self.folder / "lines.db").execute("SELECT count(*), sum(words) FROM lines").fetchone(), (1000, 5000))
 
 
 if __name__ == "__main__":

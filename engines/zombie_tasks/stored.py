@@ -9,12 +9,10 @@ import os
 import pathlib
 import signal
 import sys
-import tempfile
 import threading
 import time
 from typing import Any, Callable, Dict, Optional, Sequence, Set, Tuple
 
-import bookkeeping
 from cluster import wait_for
 import tracing
 from relkvanu import AckLate, Error, Fenced, Live, OutOfMemory, Refused, Reply, Settings, Taken, Triggered, header, lines
@@ -68,32 +66,22 @@ def used_by(reads: Any, wanted: Callable[[Live], bool]) -> Set[int]:
 
 class Stored:
     def __init__(self, folder: pathlib.Path, storage: Storage, settings: Dict[str, int], shape: Sequence[int], dies_after: int = 0) -> None:
-        """Opens FOLDER/job.db, or makes it if the storage has no file. Compares the coordinator with what the lines of its calls say. The process is
-        killed after so many calls of its own, once the last of them is committed; 0: it is not."""
-        self.folder, self.dies_after = folder, dies_after
-        with tempfile.TemporaryDirectory() as copy:
-            bookkeeping.copy_job(folder, copy)
-            try:
-                image_calls = None if tracing.IS_WHOLE else IMAGE_CALLS
-                self.job = Store(folder / "job.db", Settings(**settings), shape, storage=storage.path, create=True, image_calls=image_calls)
-            except StoreError as fault:
-                raise SystemExit(f"the job is not opened: {fault}") from None
-            books = bookkeeping.of_job(pathlib.Path(copy))
+        """Opens FOLDER/job.db, or makes it if the storage has no file. The process is killed after so many calls of its own, once the last of them is
+        committed; 0: it is not."""
+        self.dies_after = dies_after
+        try:
+            image_calls = None if tracing.IS_WHOLE else IMAGE_CALLS
+            self.job = Store(folder / "job.db", Settings(**settings), shape, storage=storage.path, create=True, image_calls=image_calls)
+        except StoreError as fault:
+            raise SystemExit(f"the job is not opened: {fault}") from None
         self.term = self.job.report.term
         assert self.term != 0, "the job has no names"
         tracing.answered(self.job.report.image_place + self.job.report.replayed)
         tracing.tell(f"process {self.job.report.epoch} starts")
         self.looks = 0
         self.calls = itertools.count(1)
-        self.made: Dict[int, Reply] = {}  # replies of this process, by the places of their calls
         self.discarder: Optional[threading.Thread] = None
-        if books is not None:
-            self.check(books, storage)
-
-    def check(self, books: bookkeeping.Bookkeeping, storage: Storage) -> None:
-        with self.job.read() as reads:
-            bookkeeping.check(books, reads)
-        missing = [file for file in books.uses() if not storage.has(file)]
+        missing = self.used() - storage.numbers()
         assert not missing, f"files in use are missing: {missing}"
 
     def made_call(self, call: Call) -> Made:
@@ -105,7 +93,6 @@ class Stored:
         tracing.answered(made.place)
         if next(self.calls) == self.dies_after:
             os.kill(os.getpid(), signal.SIGKILL)
-        self.made[made.place] = made.reply
         return made
 
     def call(self, call: Call) -> Reply:
@@ -230,15 +217,9 @@ class Stored:
             return None
         if made is not None:
             tracing.answered(made.place)
-            self.made[made.place] = made.reply
             job.note(made.reply)
         return made
 
     def close(self) -> None:
-        """Closes the store, and compares the job, and what this process was answered, with what its lines say."""
         self.job.close()
         tracing.tell(f"process {self.job.report.epoch} ends")
-        books = bookkeeping.of_job(self.folder)
-        assert books is not None
-        for place, reply in self.made.items():  # those before were cut off
-            bookkeeping.same(books.answers.get(place, reply), reply, f"the answer of call {place}")
