@@ -8,6 +8,8 @@ set -uo pipefail
 
 # The least count of each part: a line 'NAME: COUNT' for each.
 FLOORS=${FLOORS:-.ci/floors}
+# The last lines of the last whole run, by which the gate tells how long a part takes, and what is left.
+LAST_RUN=${LAST_RUN:-docs/gate-last-run.txt}
 # The longest time of a part and of the whole gate in seconds, as the clock of `watch` counts them, and of single parts. Two slow processors have room
 # for all of it: only what hangs takes as long.
 MOST_OF_PART=${MOST_OF_PART:-3600}
@@ -189,6 +191,35 @@ judge() {
     fi
 }
 
+# tell LINE: shows a line at once, and not within what another part says.
+tell() {
+    (
+        flock 9
+        echo "gate: $(date +%T) $1"
+    ) 9> "$work/lock" >&3
+}
+
+# last_minutes NAME: how many minutes a part, or the whole, took in the last whole run; nothing if it had no such part.
+last_minutes() {
+    [ ! -f "$LAST_RUN" ] || sed -nE "s/^gate: $1: .* processor minutes, ([0-9.]+) minutes\$/\1/p" "$LAST_RUN" | tail -n 1
+}
+
+# tell_begin NAME: says that a part begins, and how long it took last time.
+tell_begin() {
+    local last
+    last=$(last_minutes "$1")
+    tell "$1 begins${last:+ (it took $last minutes in the last whole run)}"
+}
+
+# tell_left NAME: says that a part has ended, how many have, which ones run, and how long that may take by the last whole run.
+tell_left() {
+    local whole running
+    whole=$(last_minutes whole)
+    running=$(find "$work/running" -type f -printf '%f\n' | sort | paste -s -d , | sed 's/,/, /g')
+    whole=$(awk -v whole="${whole:-0}" -v seconds="$SECONDS" 'BEGIN { left = whole - seconds / 60; if (left > 0) printf "; some %.0f minutes are left by the last whole run", left }')
+    tell "$1 has ended: $(wc -l < "$work/counts") of ${#PARTS[@]} parts after $(minutes "$SECONDS") minutes$whole; running: ${running:-none}"
+}
+
 # show LOG LINE: shows what a part said, unless that was shown, and its line.
 show() {
     (
@@ -207,6 +238,7 @@ part() {
     began_used=$used
     : > "$log"
     : > "$work/running/$name"
+    tell_begin "$name"
     run_part "$name" "$log" "$@"
     status=$?
     rm -f "$work/running/$name"
@@ -220,6 +252,7 @@ part() {
     show "$log" "$line"
     # (others wait for this line)
     echo "$name|$good|$bad|$(grep -c '^skipped: ' "$log")" >> "$work/counts"
+    tell_left "$name"
 }
 
 # await_count NAME: waits until a part has ended.
