@@ -2,16 +2,14 @@
 import contextlib
 import os
 import shutil
-import signal
 import sqlite3
 import subprocess
-import sys
 import threading
 import time
 
-from harness import COMMAND, ENGINE, SETTINGS, TOP, Server, configured, folder, raised, served, slowed, until
+from harness import COMMAND, ENGINE, SETTINGS, Server, configured, folder, raised, served, slowed, until
 from postgres import postgres
-from relkvanu_service import Gone, OtherLog, Service, ack, cancel, deleted, dispose, reserve, restore, savepoint
+from relkvanu_service import Gone, OtherLog, Service, ack, cancel, deleted, dispose, restore, savepoint
 from run import Skipped
 from slow import Slow
 from test_images import read_and_cut
@@ -212,95 +210,3 @@ def test_an_engine_in_rust_hears_of_others():
         job.call(cancel())
         told = run.communicate(timeout=COMMAND)[0]
         assert run.returncode == 1 and "cancelled" in told, told
-
-
-def test_the_dask_fault_test_over_a_cut():
-    """Its driver is suspended while its job fails over and the log is cut behind that. It restores the job, and completes checkpoints."""
-    if subprocess.run(["/usr/bin/python3", "-c", "import distributed"], stderr=subprocess.DEVNULL, check=False).returncode:
-        raise Skipped("python3-distributed", "it is not here")
-    with served(args=CUTTING) as server:
-        # for longer than this may take on a busy machine
-        words = [f"{TOP}/engines/zombie_tasks/run", "3000", "--service", server.url, "--storage", f"{server.folder}/storage"]
-        with open(f"{server.folder}/said", "wb") as said:
-            engine = subprocess.Popen(words, stdout=said, stderr=said, start_new_session=True)
-        try:
-            job = Service(server.url).job("dask")
-            until(lambda: (server.get("/v1/jobs/dask")[2] or {}).get("seq", 0) > 40, 90)
-            os.kill(engine.pid, signal.SIGSTOP)
-            until(lambda: job.state()["mode"] == "failed")
-            # a poll that it had begun may tell it of that. It hears nothing of what comes now: somebody restores the job, which fails again
-            job.call(restore())
-            until(lambda: job.state()["mode"] == "failed")
-            term = job.term()["term"]
-            state = cut_behind(job, lambda: job.calls([reserve(term, 1)] * 20))
-            before = state["choice"].get("id", 0)
-            os.kill(engine.pid, signal.SIGCONT)
-            after = until(lambda: (it := job.state()["choice"].get("id", 0)) > before and it, 60)
-            assert engine.poll() is None
-        except AssertionError:
-            with open(f"{server.folder}/said", encoding="utf-8", errors="replace") as said:
-                print(f"the fault test said: {said.read()[-3000:]}")
-            raise
-        finally:
-            os.killpg(engine.pid, signal.SIGKILL)  # its workers are there, even if it has ended
-            engine.wait()
-        assert polls(server).get("410", 0) >= 1, polls(server)
-        return f"it missed the failure at {state['last_event']}, cut to {state['first']}; then it completed checkpoint {after}"
-
-
-class Driver:
-    """What the coordinator of engines/zombie_tasks needs of its job: a job of one task, which acknowledges each barrier with a new file."""
-
-    def __init__(self, coordinator, refused):
-        self.coordinator, self.lock, self.stream, self.is_over = coordinator, threading.RLock(), threading.Lock(), threading.Event()
-        self.channels, self.cuts, self.barriers, self.failures, self.refused = [], {}, [], [], refused
-
-    def send_barriers(self, number, _channels):
-        self.cuts[number] = {}
-        self.barriers.append(number)
-        term = self.coordinator.term
-        try:
-            self.coordinator.ack(term, number, (0, 0), list(self.coordinator.reserve(term, 1)), [])
-        except self.refused:
-            pass  # somebody has restored the job, or the service has another log, which has no such record. The next event says so
-
-    def note(self, reply):
-        self.failures.append(reply)
-
-
-def test_the_dask_fault_test_over_a_restored_backup():
-    sys.path += [f"{TOP}/engines/zombie_tasks", f"{TOP}/bindings/python"]
-    from over_service import OverService
-    from relkvanu import Fenced, Refused
-
-    with served() as server:
-        driver = Driver(OverService(server.url, "dask", {"interval": 50, "retained": 2}, [1]), (Fenced, Refused))
-        copy, job, ended = Copy(server, None), Service(server.url).job("dask"), []
-
-        def run():
-            try:
-                driver.coordinator.run(driver)
-            except OtherLog as why:
-                ended.append(why)
-
-        running = threading.Thread(target=run)
-        driver.coordinator.restore((1,))
-        running.start()
-        try:
-            until(lambda: len(driver.barriers) > 5)
-            # somebody restores the job: the driver begins again
-            job.call(restore())
-            until(lambda: len(driver.failures) == 1)
-            with driver.lock:  # as its job does: the events of its own restore are known as such
-                driver.coordinator.restore((1,))
-            count = len(driver.barriers)
-            until(lambda: len(driver.barriers) > count + 5)
-            copy.make()
-            until(lambda: len(driver.barriers) > count + 20)
-            copy.restore()
-            running.join(COMMAND)
-        finally:
-            driver.is_over.set()
-        # its process ends by this: no barrier is sent, and nothing restores the job
-        assert len(ended) == 1 and len(driver.failures) == 1, (ended, driver.failures)
-        assert len(restores_of(job)) == 3, restores_of(job)
