@@ -1,23 +1,17 @@
-#!/usr/bin/env python3
-"""engines.py KILLS COMMAND..: starts the engine `COMMAND FOLDER`, and kills it at a random moment, KILLS times. After each kill each file that the
-coordinator names as in use is there. After each second one, and in the end, the engine recovers and runs to a checkpoint: then the folder has what
-the coordinator knows, and nothing else. TASKS is their number in the environment, MARKER that of a folder which the store does not know. A process that is
-killed may not have made the job yet, so each gets the word `new`."""
+"""What the tests of the engines of the pages (durable.c, stored.py) share: what the coordinator knows of a job, what its folder has, waits for a process, and
+a run that goes on to a checkpoint."""
 import os
 import pathlib
-import random
-import signal
 import subprocess
-import sys
 import tempfile
 import time
 
 from relkvanu import Settings
-from relkvanu.store import Store, StoreError
+from relkvanu.store import Store
 
-TASKS = int(os.environ.get("TASKS", 3))
+TASKS = 3
 FILES = 4 * TASKS
-MARKER = os.environ.get("MARKER", ".relkvanu-job")
+MARKER = ".relkvanu-job"
 SEED = os.environ.get("SEED", str(time.time()))
 NEW = "new"  # makes the job, if there is none
 LONGEST = 600  # seconds of a process, on a busy machine
@@ -25,8 +19,7 @@ LONGEST = 600  # seconds of a process, on a busy machine
 
 def known(folder):
     """The files in use, those that wait, those that are taken, and the number of the last record."""
-    storage = None if "MARKER" in os.environ else folder / "state"
-    with Store(folder / "job.db", Settings(interval=10), [TASKS], storage=storage) as job, job.read() as reads:
+    with Store(folder / "job.db", Settings(interval=10), [TASKS], storage=folder / "state") as job, job.read() as reads:
         used, place, last = set(), 0, 0
         while (live := reads.live(place)) is not None:
             place, last = place + 1, live.id
@@ -37,19 +30,6 @@ def known(folder):
         assert counts.in_use == len(used), (counts, used)
         waiting, taken = {reads.waiting_file(it) for it in range(counts.waiting)}, set(reads.taken_files())
     return used, waiting, taken, last
-
-
-def has_job(folder):
-    """Whether a killed process has made the job. Its file comes first, and may be empty."""
-    if not (folder / "job.db").exists() or not (folder / "state" / MARKER).exists():
-        return False
-    try:
-        known(folder)
-    except StoreError as error:
-        if error.name == "Absent":
-            return False
-        raise
-    return True
 
 
 def listed(folder):
@@ -82,35 +62,6 @@ def recovers(folder, command, last):
     return used
 
 
-def main(kills, *command):
-    chance = random.Random(SEED)
-    with tempfile.TemporaryDirectory() as name:
-        folder = pathlib.Path(name)
-        (folder / "state").mkdir()
-        reached, exact = [], 0
-        for nth in range(int(kills)):
-            before = listed(folder)
-            with subprocess.Popen([*command, folder, NEW], stderr=subprocess.PIPE, text=True) as process:
-                await_opening(folder, process)
-                if nth % 2 == 1:
-                    await_checkpoints(folder, process, before)
-                time.sleep(chance.random() * chance.choice((0.02, 0.8)))
-                process.send_signal(signal.SIGKILL)
-                _, told = process.communicate()
-            assert process.returncode == -signal.SIGKILL, (process.returncode, told)
-            if has_job(folder):
-                used, _, _, last = known(folder)
-                assert used <= listed(folder), used - listed(folder)
-                reached.append(last)
-                if nth % 2 == 1:
-                    recovers(folder, command, last + 5)
-                    exact += 1
-        last = max(reached, default=0) + 20
-        used = recovers(folder, command, last)
-        assert reached and max(reached) > 3, f"no checkpoint was completed: {reached}"
-        print(f"{kills} kills, {exact + 1} recoveries to an exact folder, {last} checkpoints, {len(used)} files in use")
-
-
 def run_tests(tests, made):
     """Runs each test over what `made` makes of a new folder. The last line has the counts."""
     failed = 0
@@ -123,11 +74,3 @@ def run_tests(tests, made):
                 failed += 1
     print(f"{len(tests) - failed} passed, {failed} failed")
     return failed != 0
-
-
-if __name__ == "__main__":
-    try:
-        main(*sys.argv[1:])
-    except BaseException:
-        print(f"engines.py: with SEED={SEED}", file=sys.stderr)
-        raise
