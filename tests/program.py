@@ -66,9 +66,26 @@ def forget(path):
         os.remove(path)
 
 
-class Tests:
+class Verdicts:
+    """What was tried. It names what does not hold, and its last line has the counts."""
+
     def __init__(self, name):
         self.name, self.passed, self.failed = name, 0, 0
+
+    def check(self, what, holds, run=None):
+        self.passed += bool(holds)
+        self.failed += not holds
+        if not holds and self.failed <= 20:
+            print(f"{self.name}: {what}", *([run.returncode, run.stderr[:80], (run.stdout or b"")[-80:]] if run else []), flush=True)
+
+    def end(self):
+        print(f"{self.passed} {self.name} passed, {self.failed} failed")
+        sys.exit(self.failed > 0)
+
+
+class Tests(Verdicts):
+    def __init__(self, name):
+        super().__init__(name)
         self.program = program()
         self.folder = tempfile.TemporaryDirectory()
         self.devices = built("faults/devices.c", f"{self.folder.name}/devices.so", "-shared", "-fPIC", "-ldl")
@@ -87,16 +104,6 @@ class Tests:
             # it was killed, so nothing can be said of what it asked for
             sys.exit(f"{sys.argv[0]}: {given} of {script[:200]}: the program left no counts. It ended with {run.returncode}: {run.stderr[-300:]}")
         return run, Counts(bytes_of(counts).decode())
-
-    def check(self, what, holds, run=None):
-        self.passed += bool(holds)
-        self.failed += not holds
-        if not holds and self.failed <= 20:
-            print(f"{self.name}: {what}", *([run.returncode, run.stderr[:80], (run.stdout or b"")[-80:]] if run else []))
-
-    def end(self):
-        print(f"{self.passed} {self.name} passed, {self.failed} failed")
-        sys.exit(self.failed > 0)
 
 
 def is_end(run, status, error, output):
