@@ -1,13 +1,17 @@
-"""Runs the explorer, and the reader of traces by its command or here."""
+"""Builds and runs the explorer, and the reader of traces by its command or here. Knows the traces of docs/protocol."""
 import ast
+import contextlib
 import importlib
+import os
 import pathlib
 import re
 import subprocess
 import sys
+import tempfile
 from dataclasses import dataclass
 
 TOP = pathlib.Path(__file__).resolve().parent.parent
+TRACES = TOP / "docs/protocol"
 # Far more than a search of the gate takes on a busy machine: only what hangs takes as long.
 MOST_SECONDS = 3600
 PYTHON = TOP / "bindings/python"
@@ -37,6 +41,17 @@ class Explored:
     trace: str
     fault: str  # such as "lost 1", or empty
     told: str
+
+
+@contextlib.contextmanager
+def built(arguments):
+    """The explorer over the library of an archive, which the reader of traces finds too."""
+    with tempfile.TemporaryDirectory() as work:
+        library, program = f"{work}/lib", f"{work}/explore"
+        subprocess.run([TOP / "bindings/build_library", library, *arguments], check=True)
+        subprocess.run([TOP / "explore/build", program, library], check=True)
+        os.environ["RELKVANU_LIB"] = library
+        yield program
 
 
 def table(name):
@@ -88,3 +103,15 @@ def conform_here(trace):
     except reader.NoTrace as fault:
         return 2, f"relkvanu-conform: {fault}\n"
     return (1, "".join(f"{it}\n" for it in findings)) if findings else (0, "the trace obeys the rules\n")
+
+
+def verdict(told):
+    """What is wrong, as comments at the end of a trace."""
+    return "".join(f"# {line}\n" for line in told.splitlines())
+
+
+def differences(kept):
+    """What docs/protocol has otherwise than what was found."""
+    found = {f"{name}.trace": trace for name, trace in kept.items()}
+    there = {path.name: path.read_text(encoding="utf-8") for path in TRACES.iterdir()}
+    return [f"docs/protocol/{name} is not what was found: explore/write_traces" for name in sorted(found.keys() | there.keys()) if found.get(name) != there.get(name)]

@@ -77,7 +77,7 @@ struct Scope {
     unsigned limit[BUDGETS] = {3, 0, 0, 1, 0, 1, 0, 0, 1, 0, 0, 0, 4, 3, 0, 0, 0, 0, 0, 0, 0, 0};
     bool names = false;       // the coordinator has terms and gives the names
     bool checks_leaks = true; // else only lost files and mixed records are looked for
-    bool may_write_nothing = true, may_keep = true;
+    bool may_keep = true;
     unsigned subtasks = 1, at_once = 1, retained = 1, tolerable = 1000;
     u64 most_states = 40000000;
     u64 runs = 0, seed = 1; // random runs instead of a search

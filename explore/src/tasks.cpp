@@ -46,7 +46,7 @@ void Steps::begin_record(unsigned place) {
         }
         made();
     }
-    if (offer(may && scope.may_write_nothing && task.file == 0)) {
+    if (offer(may && task.file == 0)) {
         Task &mine = next.tasks[place];
         take_up(&mine);
         mine.written = 2;
