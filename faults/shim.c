@@ -9,7 +9,6 @@
  * STORE_COUNT=FILE: at the end of the process gets how many calls were counted for STORE_DIE or STORE_AT.
  * STORE_JOURNAL=FILE: appends what the process does to the files, and faults/power.py makes of it what a loss of power leaves. Processes may
  * share it. What one writes to the file STORE_TOLD is in it too: others have learned that then.
- * STORE_DELAY: a sync takes so many microseconds longer.
  * STORE_RAW=1: sees the names that the program makes, changes and removes by system calls of its own, as Rust's crate rustix does.
  *
  * No preloaded library sees what the C library writes by itself, for fwrite or fprintf. So at the sync of a file that has more than was seen
@@ -251,9 +250,6 @@ static int sync_of(int fd, long call) {
     char path[PATH];
     bool is_ours = path_of(fd, path), is_dir = is_folder(fd);
     if (is_ours) {
-        if (getenv("STORE_DELAY") != NULL) {
-            usleep((useconds_t)number("STORE_DELAY", 0));
-        }
         may_die(false);
         tell_unseen(fd, path);
     }

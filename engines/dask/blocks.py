@@ -17,7 +17,7 @@ from relkvanu.dask import Checkpoints, Stopped
 from where import CONNECT, coordinator_of, place_of
 
 BLOCKS = 16
-SIZE = int(os.environ.get("SIZE", "20000"))  # numbers in a block
+SIZE = 20000  # numbers in a block
 PACE = float(os.environ.get("PACE", "0"))
 
 

@@ -1,13 +1,12 @@
-"""kills.py JOB KILLS SEED FOLDER [URL] [--postgres] [--service PROGRAM] [--minutes N] [--stops N]: a scheduler and two workers as plain commands, and drivers of JOB (words or
+"""kills.py JOB KILLS SEED FOLDER [URL] [--postgres] [--service PROGRAM] [--stops N]: a scheduler and two workers as plain commands, and drivers of JOB (words or
 blocks). The driver, the workers and the scheduler are killed (-9) KILLS times each at random moments, alone or with others, and started again, as
-systemd would do; with --minutes fewer times, if these are over. With --service the coordinator is this program, which is killed as often; then no driver has a file or a library of its own. At
+systemd would do. With --service the coordinator is this program, which is killed as often; then no driver has a file or a library of its own. At
 the end a driver comes to its end: the results are exact, each row is in the table once, and the storage has no other files than those in use.
 
 With --stops the job is stopped and begun as often besides: by SIGTERM to the driver, or by `relkvanu stop`. Then most kills come in a stop, and a new
 driver either begins the job, or finds it stopped and ends, if `relkvanu begin` did not begin it before."""
 import argparse
 import contextlib
-import math
 import os
 import pathlib
 import random
@@ -89,10 +88,9 @@ class Cluster:
 class Job:
     """The drivers of a job, one at a time."""
 
-    def __init__(self, name, folder, url, cluster, minutes=math.inf):
+    def __init__(self, name, folder, url, cluster):
         self.name, self.folder, self.url, self.cluster, self.count, self.process = name, folder, url, cluster, 0, None
         self.stops, self.found, self.begins = set(), 0, False  # savepoints of stops; drivers that found one; whether a driver begins a job that has stopped
-        self.minutes = minutes  # until no more are killed
 
     def command(self, size):
         """With a service each driver is as the first one."""
@@ -185,10 +183,10 @@ def kill_each(job, names, killed):
         killed[kind_of(it)] += 1
 
 
-def kill_some(job, chance, kills, size, end):
-    """Until each kind was killed often enough, or a moment. Returns how often."""
+def kill_some(job, chance, kills, size):
+    """Until each kind was killed often enough. Returns how often."""
     killed = {"driver": 0, "worker": 0, "scheduler": 0, **({"service": 0} if job.cluster.service else {})}
-    while min(killed.values()) < kills and time.monotonic() < end:
+    while min(killed.values()) < kills:
         job.cluster.revive()
         job.start(size)
         if chance.random() < 0.7:
@@ -202,10 +200,10 @@ def kill_some(job, chance, kills, size, end):
     return killed
 
 
-def stop_some(job, chance, stops, size, end):
-    """Until the job has stopped so often, or a moment. Returns how often each kind was killed."""
+def stop_some(job, chance, stops, size):
+    """Until the job has stopped so often. Returns how often each kind was killed."""
     killed = {"driver": 0, "worker": 0, "scheduler": 0, "service": 0}
-    while len(job.stops) < stops and time.monotonic() < end:
+    while len(job.stops) < stops:
         job.cluster.revive()
         job.begins = chance.random() < 0.7
         if job.cluster.service and chance.random() < 0.3:
@@ -254,11 +252,10 @@ def run_blocks(job, chance, kills, stops):
 
 
 def job_of(job, chance, kills, stops, size):
-    killed = kill_some(job, chance, kills, size, time.monotonic() + 60 * job.minutes) if kills or not stops else {}
+    killed = kill_some(job, chance, kills, size) if kills or not stops else {}
     if stops:
-        more = stop_some(job, chance, stops, size, time.monotonic() + 60 * job.minutes)
+        more = stop_some(job, chance, stops, size)
         killed = {it: killed.get(it, 0) + more[it] for it in more if killed.get(it, 0) + more[it]}
-        assert job.stops, job.logs()[-1][-2000:]
     backs = sum(it.count("back to the last checkpoint") for it in job.logs())
     return f"killed {killed}; {job.count} drivers, which went back {backs} times besides" + (
         f"; stopped {len(job.stops)} times, found so {job.found} times" if stops else "")
@@ -323,7 +320,7 @@ def main(given):
         os.mkdir(url)
     with postgres(given.postgres):
         cluster = Cluster(folder, service=given.service)
-        job = Job(given.job, folder, url, cluster, given.minutes)
+        job = Job(given.job, folder, url, cluster)
         try:
             told = {"words": run_words, "blocks": run_blocks}[given.job](job, chance, given.kills, given.stops)
             told += f"; {check_files(job)}"
@@ -342,7 +339,6 @@ def parser():
     it.add_argument("url", nargs="?", default="")
     it.add_argument("--postgres", action="store_true")
     it.add_argument("--service", metavar="PROGRAM")
-    it.add_argument("--minutes", type=float, default=math.inf)
     it.add_argument("--stops", type=int, default=0)
     return it
 

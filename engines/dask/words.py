@@ -14,10 +14,9 @@ from relkvanu.daskstream import Checkpoints, Stopped, keyed
 from relkvanu.outputs import Table
 from where import CONNECT, coordinator_of, place_of
 
-PARTS = int(os.environ.get("PARTS", "8"))
-LINES = int(os.environ.get("LINES", "20"))  # of an element
+PARTS, LINES = 8, 20  # of the counts; of an element
 PACE = float(os.environ.get("PACE", "0"))
-EVERY = float(os.environ.get("EVERY", "1"))
+EVERY = 1  # seconds between two checkpoints
 
 
 def words(numbered):

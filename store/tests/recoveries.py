@@ -7,7 +7,7 @@
 - So do an export and an import. The first job is as it was. So does a claim, after which the first job is refused.
 - What a command says when there is nothing to do.
 
-LOSSES in the environment is 10 unless it says another number. ONLY has the names of some of the tests. SEED chooses the moments; it is printed."""
+LOSSES in the environment is 10 unless it says another number. SEED chooses the moments; it is printed."""
 import os
 import pathlib
 import random
@@ -393,8 +393,8 @@ TESTS = (what_it_says, after_a_whole_one, with_its_name_alone, at_each_end, at_e
 
 def main(shim, *engines):
     print(f"store: the recoveries have SEED={SEED}")
-    only, given = os.environ.get("ONLY", "").split(), (str(pathlib.Path(shim).resolve()), [it.split() for it in engines])
-    return run_tests([it for it in TESTS if not only or it.__name__ in only], lambda work: Recoveries(*given, work))
+    given = str(pathlib.Path(shim).resolve()), [it.split() for it in engines]
+    return run_tests(TESTS, lambda work: Recoveries(*given, work))
 
 
 if __name__ == "__main__":
