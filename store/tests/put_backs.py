@@ -113,6 +113,21 @@ def from_an_older_savepoint(it):
     recovers(folder, it.engine, 50)
 
 
+def from_a_savepoint_alone(it):
+    """No checkpoint was complete. A put-back may run again, as when a machine stops before the engine runs."""
+    folder, copy = it.folder(), it.work / "alone.db"
+    with Store(folder / "job.db", Settings(interval=10), [3], storage=folder / "state", create=True) as job:
+        record = job.savepoint().reply.id
+        for index in range(3):
+            (name,) = job.reserve(job.report.term, 1)
+            job.put(name, b"1")
+            job.ack_in(job.report.term, record, 0, index, [name])
+        job.backup(copy)
+    for _ in range(2):
+        assert it.puts_back(folder, copy) == record
+    recovers(folder, it.engine, 4)
+
+
 def far_above_the_names(it):
     folder, copy = it.job_behind()
     far = folder / "state" / str((1 << 24) + (1 << 20))
@@ -266,8 +281,8 @@ def a_look(it):
         assert why in looks(backup, storage, status=1), why
 
 
-TESTS = (a_look, with_a_savepoint, from_an_older_savepoint, far_above_the_names, a_stray_file, without_a_savepoint, no_backup, back_again, while_an_engine_runs,
-         a_forgotten_engine, at_each_end)
+TESTS = (a_look, with_a_savepoint, from_an_older_savepoint, from_a_savepoint_alone, far_above_the_names, a_stray_file, without_a_savepoint, no_backup,
+         back_again, while_an_engine_runs, a_forgotten_engine, at_each_end)
 
 
 def main(samples, shim):
