@@ -327,40 +327,6 @@ static std::string not_opened(const std::string &path, const relkvanu_store_opti
     return std::get<ckpt::not_opened>(opening).message;
 }
 
-/* The message names what is wrong and what is allowed. */
-static void limits(const std::string &path) {
-    struct bad {
-        std::uint64_t relkvanu_settings::*field;
-        std::uint64_t value;
-        const char *words;
-    };
-    const bad all[] = {{&relkvanu_settings::interval, 9, "settings.interval is 9, and has to be 10 to 2^40 ms"},
-        {&relkvanu_settings::pause, (std::uint64_t{1} << 40) + 1, "settings.pause is 1099511627777, and has to be 0 to 2^40 ms"},
-        {&relkvanu_settings::at_once, 65, "settings.at_once is 65, and has to be 1 to 64"},
-        {&relkvanu_settings::timeout, 0, "settings.timeout is 0, and has to be 1 to 2^40 ms"},
-        {&relkvanu_settings::tolerable, 1001, "settings.tolerable is 1001, and has to be 0 to 1000"},
-        {&relkvanu_settings::retained, 0, "settings.retained is 0, and has to be 1 to 1000"}};
-    for (const bad &it : all) {
-        relkvanu_store_options with = options(RELKVANU_STORE_CREATE);
-        with.settings.*it.field = it.value;
-        CHECK(not_opened(path, with, ckpt::store_error::bad_argument) == path + ": " + it.words);
-    }
-    relkvanu_store_options with = options(RELKVANU_STORE_CREATE);
-    const std::uint64_t empty[] = {1, 0}, large[] = {4096, 1};
-    std::vector<std::uint64_t> wide(257, 1);
-    with.shape = wide.data();
-    with.shape_len = wide.size();
-    CHECK(not_opened(path, with, ckpt::store_error::bad_argument) == path + ": the shape has 257 vertices, and has to have 1 to 256");
-    with.shape_len = 0;
-    CHECK(not_opened(path, with, ckpt::store_error::bad_argument) == path + ": the shape has 0 vertices, and has to have 1 to 256");
-    with.shape_len = 2;
-    with.shape = empty;
-    CHECK(not_opened(path, with, ckpt::store_error::bad_argument) ==
-          path + ": the shape has 0 subtasks in vertex 1, and has to have at least 1 in each");
-    with.shape = large;
-    CHECK(not_opened(path, with, ckpt::store_error::bad_argument) == path + ": the shape has 4097 subtasks, and has to have at most 4096");
-}
-
 static void backups(const std::string &path) {
     std::string copy = path + ".copy";
     ckpt::Store job = opened(path, RELKVANU_STORE_CREATE);
@@ -529,7 +495,6 @@ int main(int argc, char **argv) {
     puts(path);
     storage(path);
     names(path);
-    limits(path + "11");
     backups(path + "10");
     commands(path + "13");
     portable(std::string(argv[1]) + "/portable");
