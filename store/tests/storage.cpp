@@ -1,22 +1,15 @@
-// storage FOLDER: relkvanu_storage.hpp: a folder, its errors, its moves, ends in the middle, and a storage of the engine's own behind
-// functions of C.
+// storage FOLDER: relkvanu_storage.hpp: a folder, its errors, its moves, and a storage of the engine's own behind functions of C.
 #include "../../include/relkvanu_storage.hpp"
 
 #include <atomic>
-#include <csignal>
 #include <cstdio>
 #include <cstdlib>
 #include <cstring>
-#include <fcntl.h>
 #include <filesystem>
 #include <fstream>
-#include <iterator>
 #include <map>
 #include <mutex>
 #include <stdexcept>
-#include <sys/resource.h>
-#include <sys/wait.h>
-#include <unistd.h>
 
 #define CHECK(condition)                                                    \
     do {                                                                    \
@@ -121,54 +114,6 @@ static void files_of_a_folder(const fs::path &at) {
           outcomes[3] == deletion::deleted);
     CHECK(outcomes[4] == deletion::deleted && listed(it).empty() && fs::exists(at / "9") && fs::exists(at / "a \xff%s-09\n.bin"));
     CHECK(it.remove(files(all, 2), outcomes) == storage_error::bad_argument);
-}
-
-static void links(const fs::path &at) {
-    Folder it = opened(at);
-    std::string found;
-    write_file(at / "notes", "state");
-    fs::create_symlink("notes", at / "7");
-    CHECK(
-        listed(it).empty() && it.get(7, found) == std::errc::too_many_symbolic_link_levels && it.put(7, "other") == storage_error::present);
-    const std::uint64_t file[] = {7};
-    deletion outcome[1];
-    CHECK(!it.remove(file, outcome) && outcome[0] == deletion::deleted && fs::exists(at / "notes") && !fs::is_symlink(at / "7"));
-}
-
-// It stays open, so another one at its path is not reached.
-static void a_folder_that_is_removed(const fs::path &at) {
-    Folder it = opened(at);
-    const std::uint64_t file[] = {7};
-    deletion outcome[1];
-    fs::rename(at, at.string() + "-away");
-    fs::create_directory(at);
-    write_file(at / "7", "");
-    CHECK(!it.remove(file, outcome) && outcome[0] == deletion::missing && fs::exists(at / "7"));
-    fs::remove_all(at.string() + "-away");
-    CHECK(it.check() == storage_error::not_there && it.put(8, "") == storage_error::not_there &&
-          it.remove(file, outcome) == storage_error::not_there);
-    CHECK(outcome[0] == deletion::undeleted && fs::exists(at / "7") && !fs::exists(at / "8"));
-}
-
-// A put that is killed before its rename: the kernel kills it at the first byte beyond a thousand.
-static void killed_in_a_put(const fs::path &at) {
-    Folder it = opened(at);
-    const std::string contents(2000, 'x');
-    pid_t child = fork();
-    if (child == 0) {
-        rlimit limit = {1000, 1000}, none = {0, 0};
-        setrlimit(RLIMIT_CORE, &none);
-        signal(SIGXFSZ, SIG_DFL);
-        setrlimit(RLIMIT_FSIZE, &limit);
-        _exit(it.put(7, contents) ? 1 : 0);
-    }
-    int status = 0;
-    CHECK(waitpid(child, &status, 0) == child && WIFSIGNALED(status) && WTERMSIG(status) == SIGXFSZ);
-    CHECK((listed(it) == std::map<std::uint64_t, std::uint64_t>{{7, 1000}}) && !fs::exists(at / "7") &&
-          it.put(7, contents) == storage_error::present);
-    const std::uint64_t file[] = {7};
-    deletion outcome[1];
-    CHECK(!it.remove(file, outcome) && outcome[0] == deletion::deleted && !it.put(7, contents));
 }
 
 static void pages(const fs::path &at) {
@@ -301,9 +246,6 @@ int main(int argc, char **argv) {
     const fs::path folder = argv[1];
     whose_it_is(folder / "whose");
     files_of_a_folder(folder / "files");
-    links(folder / "links");
-    a_folder_that_is_removed(folder / "removed");
-    killed_in_a_put(folder / "killed");
     pages(folder / "pages");
     an_own_storage(folder);
     without_memory(folder / "memory");
