@@ -15,19 +15,23 @@ static char folder[400];
 relkvanu_store_report report;
 
 const char *in(const char *name) {
-    static char names[4][PATHS];
-    static unsigned next;
+    static _Thread_local char names[4][PATHS];
+    static _Thread_local unsigned next;
     char *text = names[next++ % 4];
     snprintf(text, PATHS, "%s/%s", folder, name);
     return text;
 }
 
-relkvanu_store *opens(const relkvanu_store_options *options, int status) {
+relkvanu_store *opens_at(const char *name, const relkvanu_store_options *options, int status) {
     relkvanu_store *store;
-    int got = relkvanu_store_open(&store, in("x.db"), options, &report);
+    int got = relkvanu_store_open(&store, in(name), options, &report);
     CHECK(got == status, "status %d, not %d: %s", got, status, report.message);
     CHECK((store != NULL) == (got == RELKVANU_STORE_OK) && (report.message[0] == 0) == (got == RELKVANU_STORE_OK), "status %d", got);
     return store;
+}
+
+relkvanu_store *opens(const relkvanu_store_options *options, int status) {
+    return opens_at("x.db", options, status);
 }
 
 relkvanu_store *opens_with(relkvanu_store_options options) {
@@ -51,6 +55,31 @@ void make_empty(const char *name) {
     int file = open(in(name), O_CREAT | O_WRONLY | O_EXCL, 0600);
     CHECK(file >= 0, "%s", name);
     close(file);
+}
+
+void write_text(const char *name, const char *text) {
+    FILE *to = fopen(in(name), "w");
+    CHECK(to != NULL && fputs(text, to) >= 0 && fclose(to) == 0, "%s", name);
+}
+
+const char *stored(uint64_t file) {
+    static _Thread_local char names[4][40];
+    static _Thread_local unsigned next;
+    char *name = names[next++ % 4];
+    snprintf(name, sizeof names[0], "storage/%" PRIu64, file);
+    return name;
+}
+
+pthread_t starts(void *(*run)(void *with), void *with) {
+    pthread_t thread;
+    CHECK(pthread_create(&thread, NULL, run, with) == 0, "a thread");
+    return thread;
+}
+
+relkvanu *begins_read(relkvanu_store *store) {
+    relkvanu *handle;
+    CHECK(relkvanu_store_read(store, &handle) == RELKVANU_STORE_OK, "no read");
+    return handle;
 }
 
 void lose_job(void) {
@@ -78,19 +107,53 @@ relkvanu_store_job_phase phase_of(relkvanu_store *store) {
 }
 
 uint64_t due_of(relkvanu_store *store) {
-    relkvanu *handle;
-    CHECK(relkvanu_store_read(store, &handle) == RELKVANU_STORE_OK, "no read");
-    uint64_t due = relkvanu_due(handle).a;
+    uint64_t due = relkvanu_due(begins_read(store)).a;
     relkvanu_store_read_end(store);
     return due;
 }
 
 relkvanu_counts counts_of(relkvanu_store *store) {
-    relkvanu *handle;
-    CHECK(relkvanu_store_read(store, &handle) == RELKVANU_STORE_OK, "no read");
-    relkvanu_counts counts = relkvanu_file_counts(handle);
+    relkvanu_counts counts = relkvanu_file_counts(begins_read(store));
     relkvanu_store_read_end(store);
     return counts;
+}
+
+uint64_t unreported(relkvanu_store *store) {
+    relkvanu_counts counts = counts_of(store);
+    return counts.waiting + counts.taken;
+}
+
+uint64_t term_of(relkvanu_store *store) {
+    relkvanu_answer term;
+    CHECK(relkvanu_store_term(store, &term) == RELKVANU_STORE_OK && term.what == RELKVANU_TERM, "no term");
+    return term.a;
+}
+
+relkvanu_store_counts totals_of(relkvanu_store *store) {
+    relkvanu_store_counts counts;
+    relkvanu_store_count(store, &counts);
+    return counts;
+}
+
+relkvanu_store_measures measures_of(relkvanu_store *store) {
+    relkvanu_store_measures found;
+    relkvanu_store_measure(store, &found, sizeof found);
+    return found;
+}
+
+uint64_t reserved(relkvanu_store *store, uint64_t term, uint64_t count) {
+    relkvanu_answer answer;
+    CHECK(relkvanu_store_reserve(store, term, count, &answer) == RELKVANU_STORE_OK && answer.code == RELKVANU_DONE &&
+              answer.what == RELKVANU_RESERVED && answer.b == count,
+        "code %" PRIu32 ", what %" PRIu32, answer.code, answer.what);
+    return answer.a;
+}
+
+relkvanu_store_call made(relkvanu_store *store, relkvanu_call call) {
+    relkvanu_store_call it = {.call = call};
+    int status = relkvanu_store_calls(store, &it, 1);
+    CHECK(status == RELKVANU_STORE_OK, "kind %" PRIu32 ": status %d", call.kind, status);
+    return it;
 }
 
 relkvanu_answer acked_at_0(relkvanu_store *store, uint64_t term, uint64_t id, uint16_t index, uint64_t file) {
@@ -100,11 +163,9 @@ relkvanu_answer acked_at_0(relkvanu_store *store, uint64_t term, uint64_t id, ui
 }
 
 relkvanu_answer done(relkvanu_store *store, uint32_t kind, uint64_t now, uint64_t number) {
-    relkvanu_store_call call = {.call = {.kind = kind, .now = now, .number = number}};
-    int status = relkvanu_store_calls(store, &call, 1);
-    CHECK(status == RELKVANU_STORE_OK && call.answer.code == RELKVANU_DONE, "kind %" PRIu32 ": status %d, code %" PRIu32 ", what %" PRIu32,
-        kind, status, call.answer.code, call.answer.what);
-    return call.answer;
+    relkvanu_answer answer = made(store, (relkvanu_call){.kind = kind, .now = now, .number = number}).answer;
+    CHECK(answer.code == RELKVANU_DONE, "kind %" PRIu32 ": code %" PRIu32 ", what %" PRIu32, kind, answer.code, answer.what);
+    return answer;
 }
 
 /* Reserves the names that were not given out up to this one. Returns the term. */
@@ -131,6 +192,23 @@ uint64_t checkpoint(relkvanu_store *store, uint64_t file) {
             answer.code, answer.what);
     }
     return ticked.b;
+}
+
+relkvanu_store_record records[MOST_RECORDS];
+size_t records_len;
+
+bool note_record(void *with, const relkvanu_store_record *record) {
+    CHECK(with == records && records_len < MOST_RECORDS, "a record");
+    records[records_len++] = *record;
+    return true;
+}
+
+size_t list_records(const char *folder) {
+    char message[RELKVANU_STORE_MESSAGE];
+    records_len = 0;
+    int status = relkvanu_store_records(in(folder), note_record, records, message, sizeof message);
+    CHECK(status == RELKVANU_STORE_OK && message[0] == 0, "status %d: %s", status, message);
+    return records_len;
 }
 
 void limit_files(size_t bytes) {
@@ -170,11 +248,8 @@ void hold_syncs(const char *end) {
     held = end;
 }
 
-bool awaits_a_held_sync(void) {
-    for (int i = 0; i < 3000 && held_now == 0; i++) {
-        usleep(10000);
-    }
-    return held_now != 0;
+void await_held_sync(void) {
+    AWAIT(held_now != 0);
 }
 
 /* Whether the path of an open file or folder ends so. */
@@ -212,15 +287,15 @@ bool has_text(const char *name, const char *words) {
     return strstr(text, words) != NULL;
 }
 
-/* The status of a case, in a folder of its own. */
-static int runs(const char *within, const struct test *test, const char *which) {
+/* The status of a case, in a folder of its own, by whose name some fail syncs. */
+static int runs(const char *within, const struct test *test) {
     int status;
-    snprintf(folder, sizeof folder, "%s/%s%s", within, test->name, which);
+    snprintf(folder, sizeof folder, "%s/%s", within, test->name);
     CHECK(mkdir(folder, 0700) == 0, "%s", folder);
     fflush(NULL);
     pid_t child = fork();
     if (child == 0) {
-        alarm(getenv("STORE_EVERY_BIT") != NULL ? 14400 : 900); /* on a busy machine, or under valgrind */
+        alarm(900); /* on a busy machine, or under valgrind */
         test->run();
         exit(0);
     }
@@ -234,9 +309,12 @@ static int runs(const char *within, const struct test *test, const char *which) 
 /* A case whose check failed may have lost a race with a busy machine: two of them get a second try. What a sanitizer has ended has another status. */
 static bool passes(const char *within, const struct test *test) {
     static unsigned again;
-    int status = runs(within, test, "");
+    char second[300];
+    int status = runs(within, test);
     if (status == SIGABRT && again++ < 2) {
-        status = runs(within, test, "-again");
+        snprintf(second, sizeof second, "%s/again", within);
+        CHECK(mkdir(second, 0700) == 0 || errno == EEXIST, "%s", second);
+        status = runs(second, test);
         printf("store: second try: the case %s failed, and %s then\n", test->name, status == 0 ? "passed" : "failed");
     }
     return status == 0;

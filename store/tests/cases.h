@@ -3,11 +3,15 @@
 #define STORE_TESTS_CASES_H
 #include "common.h"
 
-/* A name in the folder of the case; it stays until four more were asked for. */
+#include <pthread.h>
+#include <unistd.h>
+
+/* A name in the folder of the case; it stays until the thread has asked for four more. */
 const char *in(const char *name);
 
-/* Opens FOLDER/x.db with these options, and expects the status. Returns NULL unless it is RELKVANU_STORE_OK. */
+/* Opens FOLDER/x.db, or another file there, with these options, and expects the status. Returns NULL unless it is RELKVANU_STORE_OK. */
 relkvanu_store *opens(const relkvanu_store_options *options, int status);
+relkvanu_store *opens_at(const char *name, const relkvanu_store_options *options, int status);
 relkvanu_store *opens_with(relkvanu_store_options options);
 extern relkvanu_store_report report; /* of the last opening */
 
@@ -15,17 +19,40 @@ relkvanu_store_options storage_options(uint32_t flags, uint64_t image_calls);
 
 bool exists(const char *name);     /* in the folder of the case */
 void make_empty(const char *name); /* a file, which is not there yet */
+void write_text(const char *name, const char *text);
+const char *stored(uint64_t file); /* storage/FILE, as long */
 void lose_job(void);               /* removes x.db and what SQLite has beside it */
 void lose_job_of(relkvanu_store *store);
 
-/* What a store says of itself: how long a timer waits, when the next checkpoint is due, whether the job has stopped, and how many files there are. */
+/* Waits until so. On no machine that takes five minutes. */
+#define AWAIT(condition)                              \
+    for (int turns = 300000; !(condition); turns--) { \
+        CHECK(turns > 0, "it does not come");         \
+        usleep(1000);                                 \
+    }
+
+pthread_t starts(void *(*run)(void *with), void *with); /* a thread */
+relkvanu *begins_read(relkvanu_store *store);           /* up to relkvanu_store_read_end */
+
+/* What a store says of itself: how long a timer waits, when the next checkpoint is due, whether the job has stopped, which term runs, how many files there are,
+ * and what it has counted. */
 uint64_t wait_of(relkvanu_store *store);
 uint64_t due_of(relkvanu_store *store);
 relkvanu_store_job_phase phase_of(relkvanu_store *store);
 relkvanu_counts counts_of(relkvanu_store *store);
+uint64_t unreported(relkvanu_store *store); /* files that were released, and are not reported as deleted */
+uint64_t term_of(relkvanu_store *store);
+relkvanu_store_counts totals_of(relkvanu_store *store);
+relkvanu_store_measures measures_of(relkvanu_store *store);
 
 /* The acknowledgement of subtask 0.index at the moment 0, with one file. */
 relkvanu_answer acked_at_0(relkvanu_store *store, uint64_t term, uint64_t id, uint16_t index, uint64_t file);
+
+/* So many names of a term: the first of them. */
+uint64_t reserved(relkvanu_store *store, uint64_t term, uint64_t count);
+
+/* A call, with whatever answer. */
+relkvanu_store_call made(relkvanu_store *store, relkvanu_call call);
 
 /* A call of one kind with a number, and its answer, which has to be RELKVANU_DONE. */
 relkvanu_answer done(relkvanu_store *store, uint32_t kind, uint64_t now, uint64_t number);
@@ -34,6 +61,13 @@ relkvanu_answer done(relkvanu_store *store, uint32_t kind, uint64_t now, uint64_
  * the last of them are reserved first, mostly in one call. Returns its number. */
 uint64_t checkpoint(relkvanu_store *store, uint64_t file);
 enum { CHECKPOINT_CALLS = 2 + SUBTASKS };
+
+/* The records that a folder of the case has told last. */
+enum { MOST_RECORDS = 32 };
+extern relkvanu_store_record records[MOST_RECORDS];
+extern size_t records_len;
+bool note_record(void *with, const relkvanu_store_record *record); /* one of them, with a pointer to them */
+size_t list_records(const char *folder);                           /* how many there are */
 
 /* Runs the function in a child, and returns its exit status. */
 int in_child(int (*run)(void *with), void *with);
@@ -50,9 +84,9 @@ void fail_syncs(const char *end, int error);
 void fail_opens(const char *name, int error);
 void fail_next_open(const char *name, int error);
 
-/* From now on the sync of a file whose path ends so waits until this is called again; NULL: none waits. And whether one waits, or does soon. */
+/* From now on the sync of a file whose path ends so waits until this is called again; NULL: none waits. And waits until one does. */
 void hold_syncs(const char *end);
-bool awaits_a_held_sync(void);
+void await_held_sync(void);
 
 struct test {
     const char *name;

@@ -16,12 +16,6 @@ static relkvanu_store_more with_payload(const char *payload) {
         .payload = payload, .payload_len = strlen(payload), .bytes = BYTES, .millis = MILLIS, .ended = ended, .ended_room = ENDED};
 }
 
-static uint64_t term_of(relkvanu_store *store) {
-    relkvanu_answer term;
-    CHECK(relkvanu_store_term(store, &term) == RELKVANU_STORE_OK, "no term");
-    return term.a;
-}
-
 /* A call that has to be made, which tells of records. */
 static relkvanu_answer tells(relkvanu_store *store, uint32_t kind, uint64_t number) {
     more = (relkvanu_store_more){.ended = ended, .ended_room = ENDED};
@@ -44,16 +38,9 @@ static void acks(relkvanu_store *store, uint64_t id, uint16_t index, const char 
     CHECK(status == RELKVANU_STORE_OK && answer.code == RELKVANU_DONE, "status %d, what %" PRIu32, status, answer.what);
 }
 
-/* The payload of a subtask in a record. */
-static const char *text_of(uint64_t id, uint16_t index) {
-    static char text[40];
-    snprintf(text, sizeof text, "state %" PRIu64 " of %d", id, index);
-    return text;
-}
-
 static void acks_all(relkvanu_store *store, uint64_t id) {
     for (uint16_t i = 0; i < SUBTASKS; i++) {
-        acks(store, id, i, text_of(id, i));
+        acks(store, id, i, payload_of(id, i).text);
     }
     CHECK(answer.what == RELKVANU_ACK_COMPLETED, "what %" PRIu32, answer.what);
 }
@@ -74,9 +61,9 @@ static struct {
 
 static bool note_part(void *with, const relkvanu_store_part *part) {
     CHECK(with == &loaded && part->vertex == 0 && part->index == loaded.parts, "subtask %d.%d", part->vertex, part->index);
-    const char *payload = text_of(loaded.of, part->index);
-    CHECK(part->payload_len == (loaded.of == 0 ? 0 : strlen(payload)), "%zu bytes", part->payload_len);
-    CHECK(part->payload_len == 0 || memcmp(part->payload, payload, part->payload_len) == 0, "%.*s", (int)part->payload_len,
+    struct payload payload = payload_of(loaded.of, part->index);
+    CHECK(part->payload_len == (loaded.of == 0 ? 0 : payload.len), "%zu bytes", part->payload_len);
+    CHECK(part->payload_len == 0 || memcmp(part->payload, payload.text, part->payload_len) == 0, "%.*s", (int)part->payload_len,
         (const char *)part->payload);
     CHECK(part->bytes == (loaded.of == 0 ? 0 : BYTES) && part->millis == (loaded.of == 0 ? 0 : MILLIS), "%" PRIu64 " bytes, %" PRIu64 " ms",
         part->bytes, part->millis);
@@ -169,7 +156,7 @@ static void payloads_of_lists(void) {
         uint64_t id = triggers(store), term = term_of(store);
         relkvanu_store_call calls[SUBTASKS] = {0};
         for (uint16_t i = 0; i < SUBTASKS; i++) {
-            strcpy(texts[i], text_of(id, i));
+            strcpy(texts[i], payload_of(id, i).text);
             of[i] = with_payload(texts[i]);
             of[i].ended_room = is_submit ? 0 : ENDED; /* how many have ended is told without a buffer too */
             calls[i].call = (relkvanu_call){.kind = RELKVANU_CALL_ACK, .now = RELKVANU_STORE_NOW, .number = id, .term = term, .index = i};
@@ -178,9 +165,7 @@ static void payloads_of_lists(void) {
         if (is_submit) {
             relkvanu_store_completion completion = {0};
             CHECK(relkvanu_store_submit(store, calls, SUBTASKS, 7) == RELKVANU_STORE_OK, "no submit");
-            while (relkvanu_store_completed(store, &completion, 1) == 0) {
-                usleep(1000);
-            }
+            AWAIT(relkvanu_store_completed(store, &completion, 1) != 0);
             CHECK(completion.token == 7 && completion.status == RELKVANU_STORE_OK, "status %d", completion.status);
         } else {
             CHECK(relkvanu_store_calls(store, calls, SUBTASKS) == RELKVANU_STORE_OK, "no list");
@@ -264,8 +249,7 @@ static void acks_files(relkvanu_store *store, uint64_t id, uint16_t index, const
 }
 
 static uint64_t reserves(relkvanu_store *store, size_t files) {
-    CHECK(relkvanu_store_reserve(store, term_of(store), files, &answer) == RELKVANU_STORE_OK, "no names");
-    uint64_t first = answer.a;
+    uint64_t first = reserved(store, term_of(store), files);
     for (uint64_t name = first; name < first + files; name++) {
         CHECK(relkvanu_store_put(store, name, "x", 1) == RELKVANU_STORE_OK, "no file");
     }
@@ -299,14 +283,13 @@ static void the_order_of_files(void) {
 static void a_lost_file(void) {
     relkvanu_store *store = new_job(1);
     uint64_t id = triggers(store), names = reserves(store, SUBTASKS);
-    char name[40], words[100];
+    char words[100];
     for (uint16_t i = 0; i < SUBTASKS; i++) {
         uint64_t fresh = names + i;
         acks_files(store, id, i, &fresh, 1, NULL, 0);
     }
     loads_as(store, 0, 0, RELKVANU_STORE_OK);
-    snprintf(name, sizeof name, "storage/%" PRIu64, names + 3);
-    CHECK(unlink(in(name)) == 0, "%s", name);
+    CHECK(unlink(in(stored(names + 3))) == 0, "file %" PRIu64, names + 3);
     loads_as(store, id, 0, RELKVANU_STORE_FILE_LOST);
     relkvanu_store_why(words, sizeof words);
     CHECK(loaded.is.lost == names + 3 && strstr(words, "is missing") != NULL, "file %" PRIu64 ": %s", loaded.is.lost, words);
@@ -459,10 +442,11 @@ static void payloads_of_manifests(void) {
     acks_all(store, savepoint);
     uint64_t id = triggers(store), names = reserves(store, 2);
     const uint64_t fresh[] = {names + 1, names};
-    more = with_payload(text_of(id, 0));
+    struct payload payload = payload_of(id, 0);
+    more = with_payload(payload.text);
     relkvanu_store_ack_with(store, term_of(store), RELKVANU_STORE_NOW, id, 0, 0, fresh, 2, NULL, 0, &more, &answer);
     for (uint16_t i = 1; i < SUBTASKS; i++) {
-        acks(store, id, i, text_of(id, i));
+        acks(store, id, i, payload_of(id, i).text);
     }
     relkvanu_store_close(store);
     CHECK(manifest_has(id, "\"bytes\":10,\"millis\":3}") && !manifest_has(id, "\"millis\":0"), "no figures");
@@ -480,7 +464,7 @@ static void payloads_of_manifests(void) {
     CHECK(status == RELKVANU_STORE_OK, "status %d: %s", status, recovered.message);
     relkvanu_store_options elsewhere = job_options(0, 0);
     elsewhere.storage = in("other");
-    CHECK(relkvanu_store_open(&store, in("y.db"), &elsewhere, &report) == RELKVANU_STORE_OK, "%s", report.message);
+    store = opens_at("y.db", &elsewhere, RELKVANU_STORE_OK);
     loads_as(store, 0, savepoint, RELKVANU_STORE_OK);
     CHECK(loaded.parts == SUBTASKS, "%zu parts", loaded.parts);
     relkvanu_store_close(store);

@@ -28,8 +28,7 @@ static void most_calls_of_a_commit(void) {
     enum { MANY = RELKVANU_STORE_MOST_CALLS + 100 };
     static relkvanu_store_call calls[MANY];
     relkvanu_store *store = opens_with(job_options(RELKVANU_STORE_CREATE, 0));
-    relkvanu *handle;
-    CHECK(relkvanu_store_read(store, &handle) == RELKVANU_STORE_OK, "no read");
+    begins_read(store);
     for (uint64_t i = 0; i < MANY; i++) {
         bool is_decline = i % 2 != 0;
         calls[i].call.kind = is_decline ? RELKVANU_CALL_DECLINE : RELKVANU_CALL_SAVEPOINT;
@@ -43,8 +42,7 @@ static void most_calls_of_a_commit(void) {
     for (size_t found = 0; found < MANY; usleep(100)) {
         found += relkvanu_store_completed(store, some, 64);
     }
-    relkvanu_store_counts counts;
-    relkvanu_store_count(store, &counts);
+    relkvanu_store_counts counts = totals_of(store);
     CHECK(counts.largest == RELKVANU_STORE_MOST_CALLS && counts.commits == 2, "%" PRIu64 " calls, %" PRIu64 " commits",
         (uint64_t)counts.largest, (uint64_t)counts.commits);
     relkvanu_store_close(store);
@@ -96,18 +94,15 @@ static int list_three(void *with, size_t most, relkvanu_storage_page page, void 
 }
 
 static void check_unissued(relkvanu_store *store, const char *after) {
-    relkvanu_store_counts counts;
-    relkvanu_store_count(store, &counts);
-    CHECK(counts.unissued == 3, "%" PRIu64 " after %s", counts.unissued, after);
+    CHECK(totals_of(store).unissued == 3, "%" PRIu64 " after %s", totals_of(store).unissued, after);
 }
 
 /* A sweep that fails changes nothing of what the last whole one counted. */
 static void sweep_that_fails(void) {
     relkvanu_store *store = opens_with(storage_options(RELKVANU_STORE_CREATE, 0));
     relkvanu_storage storage = {.check = is_storage_there, .list = list_three, .delete_files = delete_none};
-    relkvanu_answer answer;
     size_t left;
-    CHECK(relkvanu_store_reserve(store, report.term, 5, &answer) == RELKVANU_STORE_OK && answer.code == RELKVANU_DONE, "no names");
+    reserved(store, report.term, 5);
     CHECK(relkvanu_store_sweep_storage(store, &storage, &left) == RELKVANU_STORE_OK, "no sweep");
     check_unissued(store, "a whole sweep");
     is_cut = true;

@@ -126,12 +126,6 @@ static void errors_of_an_opening(void) {
     relkvanu_store_close(store);
 }
 
-static relkvanu_store_measures measures_of(relkvanu_store *store) {
-    relkvanu_store_measures found;
-    relkvanu_store_measure(store, &found, sizeof found);
-    return found;
-}
-
 static void measures(void) {
     relkvanu_store *store = opens_with(job_options(RELKVANU_STORE_CREATE, RELKVANU_STORE_NO_IMAGES));
     CHECK(measures_of(store).last_commit == 0 && measures_of(store).log_rows == 0, "a new job");
@@ -331,8 +325,7 @@ static void a_write_in_a_read(void) {
 }
 
 static void *reserves_beside(void *store) {
-    relkvanu_answer answer;
-    CHECK(relkvanu_store_reserve(store, 1, 2, &answer) == RELKVANU_STORE_OK && answer.code == RELKVANU_DONE, "another thread");
+    reserved(store, 1, 2);
     return NULL;
 }
 
@@ -344,10 +337,9 @@ static void a_call_in_a_read(void) {
     relkvanu_store_completion done_of[2];
     relkvanu_store_call call = {.call = {.kind = RELKVANU_CALL_RESERVE, .number = 1, .term = 1}}, tick;
     char words[RELKVANU_STORE_MESSAGE];
-    pthread_t thread;
     size_t completed = 0;
     CHECK(relkvanu_store_read(store, &handle) == RELKVANU_STORE_OK, "a read");
-    CHECK(pthread_create(&thread, NULL, reserves_beside, store) == 0, "a thread");
+    pthread_t thread = starts(reserves_beside, store);
     CHECK(relkvanu_store_reserve(store, 1, 5, &answer) == RELKVANU_STORE_BAD_ARGUMENT && answer.code == RELKVANU_STORE_NOT_MADE, "a call");
     relkvanu_store_why(words, sizeof words);
     CHECK(strstr(words, "this thread reads") != NULL, "%s", words);
@@ -411,13 +403,10 @@ static void *opens_one(void *store) {
 /* While a disk does not answer an opening, a fork goes on. The child goes on too, and does not keep the lock of the job. */
 static void a_fork_beside_a_hung_disk(void) {
     relkvanu_store *store = NULL;
-    pthread_t thread;
     int status;
     hangs = true;
-    CHECK(pthread_create(&thread, NULL, opens_one, &store) == 0, "a thread");
-    while (!has_hung) {
-        usleep(1000);
-    }
+    pthread_t thread = starts(opens_one, &store);
+    AWAIT(has_hung);
     fflush(NULL);
     pid_t child = fork();
     if (child == 0) {

@@ -13,11 +13,6 @@ enum { CALLERS = 4, BACKUPS = 5, LISTS = 10 };
 
 static char message[RELKVANU_STORE_MESSAGE];
 
-static void write_file(const char *name, const char *text) {
-    FILE *to = fopen(in(name), "w");
-    CHECK(to != NULL && fputs(text, to) >= 0 && fclose(to) == 0, "%s", name);
-}
-
 static bool contains(const char *name, const char *text) {
     char found[64] = "";
     FILE *from = fopen(in(name), "r");
@@ -40,34 +35,14 @@ static void check_no_part(void) {
         "a part is left");
 }
 
-/* Opens a file of the case's folder. */
-static relkvanu_store *opens_at(const char *name, const relkvanu_store_options *options, int status) {
-    relkvanu_store *store;
-    int got = relkvanu_store_open(&store, in(name), options, &report);
-    CHECK(got == status, "status %d, not %d: %s", got, status, report.message);
-    return store;
-}
-
 static uint64_t calls_of(const relkvanu_store_report *it) {
     return it->image_place + it->replayed;
 }
 
-static uint8_t *image_of(relkvanu_store *store, size_t *len) {
-    relkvanu *handle;
-    CHECK(relkvanu_store_read(store, &handle) == RELKVANU_STORE_OK, "a read");
-    *len = relkvanu_save(handle, NULL, 0).a;
-    uint8_t *image = malloc(*len + 1);
-    CHECK(image != NULL && relkvanu_save(handle, image, *len).code == RELKVANU_DONE, "no image");
-    relkvanu_store_read_end(store);
-    return image;
-}
-
 static bool has_same_state(relkvanu_store *one, relkvanu_store *other) {
-    size_t len, other_len;
-    uint8_t *image = image_of(one, &len), *second = image_of(other, &other_len);
-    bool is_same = len == other_len && memcmp(image, second, len) == 0;
-    free(image);
-    free(second);
+    bool is_same = has_same_image(begins_read(one), begins_read(other));
+    relkvanu_store_read_end(one);
+    relkvanu_store_read_end(other);
     return is_same;
 }
 
@@ -108,12 +83,11 @@ static void a_backup(void) {
 /* With images, whose log is cut. */
 static void a_backup_with_images(void) {
     relkvanu_store *store = opens_with(job_options(RELKVANU_STORE_CREATE, 7));
-    relkvanu_answer answer = {0};
     for (uint64_t i = 0; i < 40; i++) {
-        CHECK(relkvanu_store_reserve(store, 1, 1, &answer) == RELKVANU_STORE_OK && answer.a == i + 1, "name %" PRIu64, answer.a);
+        CHECK(reserved(store, 1, 1) == i + 1, "name %" PRIu64, i + 1);
     }
     backs_up(store, "b.db", RELKVANU_STORE_OK);
-    CHECK(relkvanu_store_reserve(store, 1, 1, &answer) == RELKVANU_STORE_OK, "a name");
+    reserved(store, 1, 1);
     relkvanu_store_close(store);
     CHECK(recovers("b.db", RELKVANU_STORE_BACKUP) == 40 && report.next_name == 41 && report.term == 1 && report.image_place >= 33,
         "next name %" PRIu64 ", image of call %" PRIu64, report.next_name, report.image_place);
@@ -151,19 +125,19 @@ static void no_backup(void) {
     checkpoint(store, 1);
     backs_up(store, "nowhere/b.db", RELKVANU_STORE_NOT_PUT);
     CHECK(errno == ENOENT && strstr(message, "nowhere/b.db") != NULL, "%d: %s", errno, message);
-    write_file("b.db", "other");
+    write_text("b.db", "other");
     backs_up(store, "b.db", RELKVANU_STORE_PRESENT);
     CHECK(contains("b.db", "other"), "it was changed");
     unlink(in("b.db"));
     CHECK(symlink("nothing", in("b.db")) == 0, "a link");
     backs_up(store, "b.db", RELKVANU_STORE_PRESENT);
     unlink(in("b.db"));
-    write_file("target", "other");
+    write_text("target", "other");
     CHECK(symlink("target", in("b.db.part")) == 0, "a link");
     backs_up(store, "b.db", RELKVANU_STORE_NOT_PUT);
     CHECK(errno == ELOOP && contains("target", "other"), "%d: %s", errno, message);
     unlink(in("b.db.part"));
-    write_file("b.db.part", "other");
+    write_text("b.db.part", "other");
     int file = open(in("b.db.part"), O_RDWR);
     CHECK(file >= 0 && flock(file, LOCK_EX) == 0, "a lock");
     backs_up(store, "b.db", RELKVANU_STORE_NOT_NOW);
@@ -194,9 +168,9 @@ static void a_job_in_the_way(void) {
 static void a_part_that_was_left(void) {
     relkvanu_store *store = opens_with(job_options(RELKVANU_STORE_CREATE, 0));
     checkpoint(store, 1);
-    write_file("b.db.part", "SQLite format 3 and other bytes that are no part of a backup");
-    write_file("b.db.part-wal", "other");
-    write_file("b.db.part-journal", "other");
+    write_text("b.db.part", "SQLite format 3 and other bytes that are no part of a backup");
+    write_text("b.db.part-wal", "other");
+    write_text("b.db.part-journal", "other");
     CHECK(chmod(in("b.db.part"), 0666) == 0, "mode");
     backs_up(store, "b.db", RELKVANU_STORE_OK);
     struct stat is;
@@ -240,10 +214,8 @@ struct load {
 static void *reserves(void *with) {
     struct load *load = with;
     while (!atomic_load(&load->is_over)) {
-        relkvanu_answer answer;
-        CHECK(relkvanu_store_reserve(load->store, 1, 1, &answer) == RELKVANU_STORE_OK && answer.what == RELKVANU_RESERVED, "a name");
-        uint64_t before = atomic_load(&load->answered);
-        while (before < answer.a && !atomic_compare_exchange_weak(&load->answered, &before, answer.a)) {}
+        uint64_t name = reserved(load->store, 1, 1), before = atomic_load(&load->answered);
+        while (before < name && !atomic_compare_exchange_weak(&load->answered, &before, name)) {}
     }
     return NULL;
 }
@@ -268,7 +240,7 @@ static void under_load(void) {
     struct load load = {.store = opens(&options, RELKVANU_STORE_OK), .answered = LISTS * RELKVANU_STORE_MOST_CALLS};
     make_long(load.store);
     for (size_t i = 0; i < CALLERS; i++) {
-        CHECK(pthread_create(&callers[i], NULL, reserves, &load) == 0, "a thread");
+        callers[i] = starts(reserves, &load);
     }
     for (size_t i = 0; i < BACKUPS; i++) {
         char name[20];
@@ -311,7 +283,7 @@ static void at_once(void) {
     struct load load = {.store = opens(&options, RELKVANU_STORE_OK), .path = in("b.db")};
     make_long(load.store);
     for (size_t i = 0; i < CALLERS; i++) {
-        CHECK(pthread_create(&threads[i], NULL, backs_up_too, &load) == 0, "a thread");
+        threads[i] = starts(backs_up_too, &load);
     }
     for (size_t i = 0; i < CALLERS; i++) {
         void *is_made;
@@ -324,23 +296,21 @@ static void at_once(void) {
     CHECK(recovers("b.db", RELKVANU_STORE_BACKUP) == LISTS * RELKVANU_STORE_MOST_CALLS, "%" PRIu64 " calls", calls_of(&report));
 }
 
-static relkvanu_answer acked(relkvanu_store *store, uint64_t term, uint64_t id, uint16_t index, uint64_t file) {
+static void acked(relkvanu_store *store, uint64_t term, uint64_t id, uint16_t index, uint64_t file) {
     relkvanu_answer answer;
     CHECK(relkvanu_store_put(store, file, "state", 5) == RELKVANU_STORE_OK, "file %" PRIu64, file);
     CHECK(relkvanu_store_ack_in(store, term, RELKVANU_STORE_NOW, id, 0, index, &file, 1, NULL, 0, &answer) == RELKVANU_STORE_OK &&
               answer.code == RELKVANU_DONE,
         "an acknowledgement: %" PRIu32 " %" PRIu32, answer.code, answer.what);
-    return answer;
 }
 
 /* A record of this kind, whose files have names that are reserved for it. Returns its number. */
 static uint64_t record(relkvanu_store *store, uint64_t term, uint32_t kind) {
-    relkvanu_answer names;
-    CHECK(relkvanu_store_reserve(store, term, SUBTASKS, &names) == RELKVANU_STORE_OK && names.code == RELKVANU_DONE, "names");
+    uint64_t file = reserved(store, term, SUBTASKS);
     relkvanu_answer begun = done(store, kind, due_of(store), 0);
     uint64_t id = kind == RELKVANU_CALL_TICK ? begun.b : begun.a;
     for (uint16_t i = 0; i < SUBTASKS; i++) {
-        acked(store, term, id, i, names.a + i);
+        acked(store, term, id, i, file + i);
     }
     return id;
 }
@@ -348,9 +318,7 @@ static uint64_t record(relkvanu_store *store, uint64_t term, uint32_t kind) {
 static bool has_files(uint64_t first) {
     unsigned found = 0;
     for (uint64_t file = first; file < first + SUBTASKS; file++) {
-        char name[40];
-        snprintf(name, sizeof name, "storage/%" PRIu64, file);
-        found += exists(name);
+        found += exists(stored(file));
     }
     CHECK(found == 0 || found == SUBTASKS, "%u files from %" PRIu64 " on", found, first);
     return found != 0;
@@ -433,11 +401,11 @@ static void put_back_again(void) {
     record(store, 1, RELKVANU_CALL_TICK);
     relkvanu_store_close(store);
     options.flags = RELKVANU_STORE_BACKUP;
-    write_file("storage/16777217", "");
+    write_text("storage/16777217", "");
     opens_at("b.db", &options, RELKVANU_STORE_STORAGE);
     CHECK(says("2^24"), "%s", report.message);
     unlink(in("storage/16777217"));
-    write_file("storage/200000", "");
+    write_text("storage/200000", "");
     run_sql(in("b.db"), "CREATE TRIGGER no BEFORE UPDATE OF epoch ON job BEGIN SELECT RAISE(ABORT, 'no'); END");
     opens_at("b.db", &options, RELKVANU_STORE_FAILED); /* the names are given out, and it still is a backup */
     options.flags = RELKVANU_STORE_RECOVER;
@@ -459,7 +427,7 @@ static void put_back_elsewhere(void) {
     CHECK(rename(in("storage/.relkvanu-job"), in("marker")) == 0, "the marker");
     opens_at("b.db", &options, RELKVANU_STORE_STORAGE);
     CHECK(says("no marker"), "%s", report.message);
-    write_file("storage/.relkvanu-job", "relkvanu job 00000000000000000000000000000001\nepoch 1\n");
+    write_text("storage/.relkvanu-job", "relkvanu job 00000000000000000000000000000001\nepoch 1\n");
     opens_at("b.db", &options, RELKVANU_STORE_STORAGE);
     CHECK(says("another job"), "%s", report.message);
     options.storage = NULL;
@@ -475,7 +443,7 @@ static void of_a_cancelled_job(void) {
     done(store, RELKVANU_CALL_CANCEL, RELKVANU_STORE_NOW, 0);
     backs_up(store, "b.db", RELKVANU_STORE_OK);
     relkvanu_store_close(store);
-    write_file("storage/100", "");
+    write_text("storage/100", "");
     options.flags = RELKVANU_STORE_BACKUP;
     relkvanu_store_close(opens_at("b.db", &options, RELKVANU_STORE_OK));
     CHECK(report.mode.what == RELKVANU_MODE_CANCELLED && report.next_name == SUBTASKS + 1, "next name %" PRIu64, report.next_name);

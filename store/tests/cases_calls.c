@@ -12,8 +12,7 @@ static relkvanu_store *new_job(uint64_t image_calls) {
 static void lists(void) {
     relkvanu_store *store = new_job(0);
     uint64_t fresh[] = {1, 2}, files[4] = {0};
-    relkvanu_answer names;
-    CHECK(relkvanu_store_reserve(store, 1, 2, &names) == RELKVANU_STORE_OK && names.a == 1, "names");
+    CHECK(reserved(store, 1, 2) == 1, "names");
     relkvanu_store_call calls[] = {{.call = {.kind = RELKVANU_CALL_TICK, .now = 10}},
         {.call = {.kind = RELKVANU_CALL_DISPOSE, .number = 9}},
         {.call = {.kind = RELKVANU_CALL_ACK, .now = 11, .number = 1, .index = 3, .term = 1}, .first = fresh, .first_len = 2},
@@ -57,17 +56,15 @@ static void bad_arguments(void) {
         files[i] = UINT64_MAX - i;
     }
     bad(store, (relkvanu_store_call){.call = {.kind = RELKVANU_CALL_ACK}, .first = files, .first_len = 20000}, 1); /* no line has so many */
-    relkvanu_store_counts counts;
-    relkvanu_store_count(store, &counts);
+    relkvanu_store_counts counts = totals_of(store);
     CHECK(counts.calls == 0 && counts.commits == 0, "calls");
     relkvanu_store_close(store);
 }
 
 static uint32_t tick_code(relkvanu_store *store, uint64_t now) {
-    relkvanu_store_call call = {.call = {.kind = RELKVANU_CALL_TICK, .now = now}};
-    CHECK(relkvanu_store_calls(store, &call, 1) == RELKVANU_STORE_OK, "a tick");
-    CHECK(call.answer.code == RELKVANU_DONE || call.answer.what == RELKVANU_MOMENT_TOO_LARGE, "what %" PRIu32, call.answer.what);
-    return call.answer.code;
+    relkvanu_answer answer = made(store, (relkvanu_call){.kind = RELKVANU_CALL_TICK, .now = now}).answer;
+    CHECK(answer.code == RELKVANU_DONE || answer.what == RELKVANU_MOMENT_TOO_LARGE, "what %" PRIu32, answer.what);
+    return answer.code;
 }
 
 static const uint64_t DAY = 86400000;
@@ -89,10 +86,8 @@ static void moments(void) {
     CHECK(now >= report.moment && now < report.moment + 60000, "the clock goes on from the greatest moment, and not from %" PRIu64, now);
     usleep(20000);
     CHECK(relkvanu_store_now(store) >= now + 15, "the clock stands");
-    relkvanu_store_call call = {.call = {.kind = RELKVANU_CALL_SAVEPOINT, .now = RELKVANU_STORE_NOW}};
-    CHECK(relkvanu_store_calls(store, &call, 1) == RELKVANU_STORE_OK && call.answer.what == RELKVANU_SAVEPOINT_TRIGGERED, "a savepoint");
-    relkvanu *handle;
-    CHECK(relkvanu_store_read(store, &handle) == RELKVANU_STORE_OK && relkvanu_moment(handle).a >= now + 15, "the moment of the call");
+    CHECK(done(store, RELKVANU_CALL_SAVEPOINT, RELKVANU_STORE_NOW, 0).what == RELKVANU_SAVEPOINT_TRIGGERED, "a savepoint");
+    CHECK(relkvanu_moment(begins_read(store)).a >= now + 15, "the moment of the call");
     relkvanu_store_read_end(store);
     relkvanu_store_close(store);
 }
@@ -113,8 +108,8 @@ static void the_next_tick(void) {
     CHECK(done(store, RELKVANU_CALL_TICK, 120000, 0).what == RELKVANU_TICK_HELD_AT_ONCE, "held");
     wait = wait_of(store);
     CHECK(wait > 7000000 && wait <= 7200000, "it is held until the expiry, and not for %" PRIu64, wait);
-    relkvanu_store_call again = {.call = {.kind = RELKVANU_CALL_DECLINE, .now = 120000, .number = 1, .term = report.term}};
-    CHECK(relkvanu_store_calls(store, &again, 1) == RELKVANU_STORE_OK && again.answer.what == RELKVANU_DECLINE_FAILED, "fails over");
+    relkvanu_call again = {.kind = RELKVANU_CALL_DECLINE, .now = 120000, .number = 1, .term = report.term};
+    CHECK(made(store, again).answer.what == RELKVANU_DECLINE_FAILED, "fails over");
     CHECK(wait_of(store) == UINT64_MAX, "ticks are refused");
     const uint64_t longest[] = {600000, 30}; /* told at once, and then it does not spin */
     for (size_t i = 0; i < 2; i++) {
@@ -146,11 +141,9 @@ static void a_moment_ahead(void) {
     options.settings.interval = 1000;
     options.settings.at_once = 3;
     relkvanu_store_call tick = {.place = 0};
-    pthread_t timer;
     awaited = opens(&options, RELKVANU_STORE_OK);
-    CHECK(pthread_create(&timer, NULL, awaits_a_tick, &tick) == 0, "a timer");
-    relkvanu_store_call ahead = {.call = {.kind = RELKVANU_CALL_SAVEPOINT, .now = AHEAD}};
-    CHECK(relkvanu_store_calls(awaited, &ahead, 1) == RELKVANU_STORE_OK && ahead.answer.code == RELKVANU_DONE, "20 hours ahead");
+    pthread_t timer = starts(awaits_a_tick, &tick);
+    done(awaited, RELKVANU_CALL_SAVEPOINT, AHEAD, 0); /* 20 hours ahead */
     CHECK(relkvanu_store_now(awaited) >= AHEAD, "now %" PRIu64, relkvanu_store_now(awaited));
     pthread_join(timer, NULL);
     CHECK(tick.answer.what == RELKVANU_TICK_TRIGGERED, "what %" PRIu32, tick.answer.what);
@@ -197,8 +190,7 @@ static void images_and_cuts(void) {
     for (; calls < 1800; calls += CHECKPOINT_CALLS, file += 100) {
         checkpoint(store, file);
     }
-    relkvanu_store_counts counts;
-    relkvanu_store_count(store, &counts);
+    relkvanu_store_counts counts = totals_of(store);
     CHECK(counts.images >= 15 && counts.failed_images == 0 && counts.calls == calls && counts.largest == 1, "%" PRIu64 " images",
         counts.images);
     relkvanu_store_close(store);

@@ -33,11 +33,11 @@ static void is_in(relkvanu_store *store, uint32_t phase, uint32_t failed, uint64
 
 /* Acknowledges a record for the first subtasks, with a new file each. */
 static relkvanu_answer acks(relkvanu_store *store, uint64_t term, uint64_t id, uint16_t subtasks) {
-    relkvanu_answer names, answer = {0};
-    CHECK(relkvanu_store_reserve(store, term, subtasks, &names) == RELKVANU_STORE_OK && names.code == RELKVANU_DONE, "names");
+    relkvanu_answer answer = {0};
+    uint64_t file = reserved(store, term, subtasks);
     for (uint16_t i = 0; i < subtasks; i++) {
-        CHECK(relkvanu_store_put(store, names.a + i, "x", 1) == RELKVANU_STORE_OK, "a file");
-        answer = acked_at_0(store, term, id, i, names.a + i);
+        CHECK(relkvanu_store_put(store, file + i, "x", 1) == RELKVANU_STORE_OK, "a file");
+        answer = acked_at_0(store, term, id, i, file + i);
         CHECK(answer.code == RELKVANU_DONE, "subtask %u: code %" PRIu32 ", what %" PRIu32, i, answer.code, answer.what);
     }
     return answer;
@@ -81,9 +81,7 @@ static void refused(relkvanu_answer answer, uint32_t what) {
 }
 
 static relkvanu_answer asks(relkvanu_store *store, uint32_t kind, uint64_t now) {
-    relkvanu_store_call call = {.call = {.kind = kind, .now = now}};
-    CHECK(relkvanu_store_calls(store, &call, 1) == RELKVANU_STORE_OK, "kind %" PRIu32, kind);
-    return call.answer;
+    return made(store, (relkvanu_call){.kind = kind, .now = now}).answer;
 }
 
 /* The log and the state are those of a second coordinator. */
@@ -139,14 +137,13 @@ static void *awaits_long(void *tick) {
 static void timers_wake(void) {
     relkvanu_store_call tick = {.place = 0}, call;
     relkvanu_settings settings = options_of(0).settings;
-    pthread_t timer;
     awaited = new_job();
-    CHECK(pthread_create(&timer, NULL, awaits_long, &tick) == 0, "a timer");
+    pthread_t timer = starts(awaits_long, &tick);
     uint64_t id = triggered(awaited);
     pthread_join(timer, NULL);
     CHECK(tick.answer.what == RELKVANU_TICK_TRIGGERED && tick.answer.b == id, "what %" PRIu32, tick.answer.what);
     uint64_t before = relkvanu_store_now(awaited);
-    CHECK(pthread_create(&timer, NULL, awaits_long, &tick) == 0, "a timer");
+    timer = starts(awaits_long, &tick);
     settings.interval = 200;
     CHECK(relkvanu_store_configure(awaited, &settings, &call) == RELKVANU_STORE_OK && call.answer.what == RELKVANU_CONFIGURED, "settings");
     pthread_join(timer, NULL);
@@ -257,7 +254,7 @@ static void nothing_begins(relkvanu_store *store) {
 static void a_stop(void) {
     relkvanu_store *store = new_job();
     relkvanu_store_call tick, call;
-    relkvanu_store_counts before, after;
+    relkvanu_store_counts after;
     completed(store, 1);
     CHECK(relkvanu_store_begin_job(store, &call) == RELKVANU_STORE_NOT_NOW, "a job that runs can't begin");
     uint64_t id = stopping(store), wait = wait_of(store);
@@ -269,10 +266,9 @@ static void a_stop(void) {
     CHECK(relkvanu_store_begin_job(store, &call) == RELKVANU_STORE_NOT_NOW, "a job that is being stopped can't begin");
     acks(store, 1, id, SUBTASKS - 1);
     is_in(store, RELKVANU_STORE_PHASE_STOPPING, 0, id, 0);
-    relkvanu_answer name;
-    CHECK(relkvanu_store_reserve(store, 1, 1, &name) == RELKVANU_STORE_OK, "a name");
-    relkvanu_store_count(store, &before);
-    CHECK(acked_at_0(store, 1, id, SUBTASKS - 1, name.a).what == RELKVANU_ACK_COMPLETED, "the last acknowledgement");
+    uint64_t name = reserved(store, 1, 1);
+    relkvanu_store_counts before = totals_of(store);
+    CHECK(acked_at_0(store, 1, id, SUBTASKS - 1, name).what == RELKVANU_ACK_COMPLETED, "the last acknowledgement");
     relkvanu_store_count(store, &after);
     CHECK(after.commits == before.commits + 1 && after.calls == before.calls + 2, "one commit has both");
     is_in(store, RELKVANU_STORE_PHASE_STOPPED, 0, id, 2);
@@ -323,7 +319,8 @@ static void an_hour(void) {
 }
 
 /* A stop that fails in this way, and is told of once. The job runs, and can be stopped again. */
-static void fails(void (*end)(relkvanu_store *store, uint64_t id), uint32_t why, bool is_told) {
+static void fails(void (*end)(relkvanu_store *store, uint64_t id), uint32_t why) {
+    char left[40];
     relkvanu_store_call tick;
     relkvanu_store *store = new_job();
     completed(store, 1);
@@ -332,7 +329,7 @@ static void fails(void (*end)(relkvanu_store *store, uint64_t id), uint32_t why,
     CHECK(awaits(store, LONG, &tick) == RELKVANU_STORE_OK && tick.answer.a == id, "the barrier");
     end(store, id);
     is_in(store, RELKVANU_STORE_PHASE_RUNNING, why, id, 0);
-    CHECK(!is_told || awaits(store, LONG, &tick) == RELKVANU_STORE_NOT_STOPPED, "it is told");
+    CHECK(awaits(store, LONG, &tick) == RELKVANU_STORE_NOT_STOPPED, "it is told");
     store = reopened(store);
     CHECK(report.phase == RELKVANU_STORE_PHASE_RUNNING && report.stop_failed == why && report.savepoint == id, "why %" PRIu32,
         report.stop_failed);
@@ -340,7 +337,9 @@ static void fails(void (*end)(relkvanu_store *store, uint64_t id), uint32_t why,
     if (report.mode.what == RELKVANU_MODE_RUNNING) {
         stopping(store);
     }
-    relkvanu_store_close(store);
+    lose_job_of(store);
+    snprintf(left, sizeof left, "storage of %" PRIu32, why);
+    CHECK(rename(in("storage"), in(left)) == 0, "the folder");
 }
 
 static void expires(relkvanu_store *store, uint64_t id) {
@@ -350,8 +349,8 @@ static void expires(relkvanu_store *store, uint64_t id) {
 }
 
 static void declines(relkvanu_store *store, uint64_t id) {
-    relkvanu_store_call call = {.call = {.kind = RELKVANU_CALL_DECLINE, .index = 5, .number = id, .term = 1}};
-    CHECK(relkvanu_store_calls(store, &call, 1) == RELKVANU_STORE_OK && call.answer.what == RELKVANU_DECLINE_ABORTED, "a decline");
+    relkvanu_call call = {.kind = RELKVANU_CALL_DECLINE, .index = 5, .number = id, .term = 1};
+    CHECK(made(store, call).answer.what == RELKVANU_DECLINE_ABORTED, "a decline");
 }
 
 static void restores(relkvanu_store *store, uint64_t id) {
@@ -364,20 +363,11 @@ static void cancels(relkvanu_store *store, uint64_t id) {
     done(store, RELKVANU_CALL_CANCEL, 0, 0);
 }
 
-static void a_stop_that_expires(void) {
-    fails(expires, RELKVANU_STORE_STOP_EXPIRED, true);
-}
-
-static void a_stop_that_is_declined(void) {
-    fails(declines, RELKVANU_STORE_STOP_DECLINED, true);
-}
-
-static void a_stop_that_is_restored(void) {
-    fails(restores, RELKVANU_STORE_STOP_RESTORED, true);
-}
-
-static void a_stop_that_is_cancelled(void) {
-    fails(cancels, RELKVANU_STORE_STOP_CANCELLED, true);
+static void stops_that_fail(void) {
+    fails(expires, RELKVANU_STORE_STOP_EXPIRED);
+    fails(declines, RELKVANU_STORE_STOP_DECLINED);
+    fails(restores, RELKVANU_STORE_STOP_RESTORED);
+    fails(cancels, RELKVANU_STORE_STOP_CANCELLED);
 }
 
 /* A checkpoint that was pending before the stop fails the job. */
@@ -385,8 +375,8 @@ static void a_stop_of_a_job_that_fails(void) {
     relkvanu_store *store = new_job();
     relkvanu_store_call tick, call;
     uint64_t pending = triggered(store), id = stopping(store);
-    call = (relkvanu_store_call){.call = {.kind = RELKVANU_CALL_DECLINE, .number = pending, .term = 1}};
-    CHECK(relkvanu_store_calls(store, &call, 1) == RELKVANU_STORE_OK && call.answer.what == RELKVANU_DECLINE_FAILED, "a decline");
+    call = made(store, (relkvanu_call){.kind = RELKVANU_CALL_DECLINE, .number = pending, .term = 1});
+    CHECK(call.answer.what == RELKVANU_DECLINE_FAILED, "a decline");
     is_in(store, RELKVANU_STORE_PHASE_RUNNING, RELKVANU_STORE_STOP_FAILED, id, 0);
     CHECK(awaits(store, LONG, &tick) == RELKVANU_STORE_NOT_STOPPED, "it is told");
     CHECK(awaits(store, LONG, &tick) == RELKVANU_STORE_NOT_RUNNING && tick.answer.a == 1, "and so is the failure");
@@ -469,14 +459,13 @@ static void goes_back(relkvanu_store *store, uint64_t id, relkvanu_store_call *c
 static void an_older_checkpoint(void) {
     relkvanu_store *store = new_job();
     relkvanu_store_call call, tick;
-    relkvanu_store_counts before, after;
     for (int i = 0; i < 3; i++) {
         completed(store, 1);
     }
     triggered(store); /* it is dropped */
-    relkvanu_store_count(store, &before);
+    relkvanu_store_counts before = totals_of(store);
     goes_back(store, 1, &call);
-    relkvanu_store_count(store, &after);
+    relkvanu_store_counts after = totals_of(store);
     CHECK(call.answer.what == RELKVANU_RESTORED_SAVEPOINT && call.answer.b == 5 && call.term == 2, "what %" PRIu32 " %" PRIu64,
         call.answer.what, call.answer.b);
     CHECK(after.commits == before.commits + 1 && after.calls == before.calls + SUBTASKS + 2, "one commit");
@@ -507,13 +496,12 @@ static void no_way_back(void) {
     CHECK(
         relkvanu_store_go_back(store, 1, 0, &call) == RELKVANU_STORE_BAD_ARGUMENT && call.answer.code == RELKVANU_STORE_NOT_MADE, "flags");
     CHECK(relkvanu_store_why(why, sizeof why) != 0 && strstr(why, "RELKVANU_STORE_ACCEPT_PUBLISHED") != NULL, "%s", why);
-    relkvanu_store_counts before, after;
-    relkvanu_store_count(store, &before);
+    relkvanu_store_counts before = totals_of(store);
     for (size_t i = 0; i < 4; i++) {
         goes_back(store, ids[i], &call);
         refused(call.answer, RELKVANU_NO_SUCH_RECORD);
     }
-    relkvanu_store_count(store, &after);
+    relkvanu_store_counts after = totals_of(store);
     CHECK(before.commits == after.commits, "a commit");
     call = (relkvanu_store_call){.call = {.kind = RELKVANU_CALL_RESTORE}, .first = shape, .first_len = 1};
     CHECK(relkvanu_store_calls(store, &call, 1) == RELKVANU_STORE_OK && call.term == 2, "another shape");
@@ -526,14 +514,19 @@ static void no_way_back(void) {
     relkvanu_store_close(store);
 }
 
-/* The files of each record in use, by what the core counts. */
-static uint64_t live_records(relkvanu_store *store) {
+/* How many records are live, and the number of one of them that is pending; 0: none is. */
+struct live {
+    uint64_t records, pending;
+};
+
+static struct live live_of(relkvanu_store *store) {
     relkvanu_reads *reads;
-    uint64_t found = 0;
+    struct live found = {0};
     CHECK(relkvanu_store_look(store, &reads) == RELKVANU_STORE_OK, "a look");
     for (relkvanu_answer it = relkvanu_reads_live_from(reads, 0); it.what != RELKVANU_LIVE_NONE;
          it = relkvanu_reads_live_from(reads, it.a + 1)) {
-        found++;
+        found.records++;
+        found.pending = it.b == 0 ? it.a : found.pending;
     }
     relkvanu_store_read_end(store);
     return found;
@@ -543,9 +536,7 @@ static uint64_t live_records(relkvanu_store *store) {
 static int submitted(relkvanu_store *store, relkvanu_store_call *call) {
     relkvanu_store_completion completion = {0};
     CHECK(relkvanu_store_submit(store, call, 1, 7) == RELKVANU_STORE_OK, "a submit");
-    while (relkvanu_store_completed(store, &completion, 1) == 0) {
-        usleep(1000);
-    }
+    AWAIT(relkvanu_store_completed(store, &completion, 1) != 0);
     return completion.status;
 }
 
@@ -553,7 +544,6 @@ static int submitted(relkvanu_store *store, relkvanu_store_call *call) {
 static void a_way_back_looks_first(void) {
     relkvanu_store *store = new_job();
     relkvanu_store_call call, tick, list[2];
-    relkvanu_store_counts before, after;
     relkvanu_counts files;
     char why[200];
     uint64_t oldest = completed(store, 1), savepoint = done(store, RELKVANU_CALL_SAVEPOINT, 0, 0).a;
@@ -561,7 +551,7 @@ static void a_way_back_looks_first(void) {
     completed(store, 1);
     uint64_t latest = completed(store, 1);
     CHECK(unlink(in("storage/1")) == 0 && unlink(in("storage/12")) == 0, "the files");
-    relkvanu_store_count(store, &before);
+    relkvanu_store_counts before = totals_of(store);
     files = counts_of(store);
     CHECK(relkvanu_store_go_back(store, oldest, RELKVANU_STORE_ACCEPT_PUBLISHED, &call) == RELKVANU_STORE_FILE_LOST, "it goes back");
     CHECK(call.answer.code == RELKVANU_STORE_NOT_MADE && relkvanu_store_why(why, sizeof why) != 0 &&
@@ -573,15 +563,15 @@ static void a_way_back_looks_first(void) {
     CHECK(relkvanu_store_why(why, sizeof why) != 0 && strcmp(why, "file 12 of record 2 is missing") == 0, "%s", why);
     call = (relkvanu_store_call){.call = {.kind = RELKVANU_CALL_RESTORE, .number = savepoint}};
     CHECK(submitted(store, &call) == RELKVANU_STORE_FILE_LOST && call.answer.code == RELKVANU_STORE_NOT_MADE, "a submit");
-    relkvanu_store_count(store, &after);
-    CHECK(before.commits == after.commits && live_records(store) == 4 && counts_of(store).in_use == files.in_use && files.waiting == 0,
+    relkvanu_store_counts after = totals_of(store);
+    CHECK(before.commits == after.commits && live_of(store).records == 4 && counts_of(store).in_use == files.in_use && files.waiting == 0,
         "something has changed");
     CHECK(awaits(store, 0, &tick) == RELKVANU_STORE_TIMED_OUT, "something is handed over");
     is_as_logged(&store);
     make_empty("storage/1");
     make_empty("storage/12");
     CHECK(submitted(store, &call) == RELKVANU_STORE_OK && call.answer.b == savepoint && call.term == 2, "the savepoint is whole");
-    CHECK(latest == 4 && live_records(store) == 1, "%" PRIu64 " records", live_records(store));
+    CHECK(latest == 4 && live_of(store).records == 1, "%" PRIu64 " records", live_of(store).records);
     relkvanu_store_close(store);
 }
 
@@ -596,7 +586,7 @@ static void a_way_back_is_given_up(void) {
     goes_back(store, older, &call);
     CHECK(call.answer.code == RELKVANU_FENCED && call.answer.what == RELKVANU_TERMS_USED_UP && call.place == 0,
         "code %" PRIu32 ", what %" PRIu32, call.answer.code, call.answer.what);
-    CHECK(live_records(store) == 2 && counts_of(store).in_use == 2 * files, "%" PRIu64 " records", live_records(store));
+    CHECK(live_of(store).records == 2 && counts_of(store).in_use == 2 * files, "%" PRIu64 " records", live_of(store).records);
     CHECK(awaits(store, 0, &tick) == RELKVANU_STORE_TIMED_OUT, "it is handed over");
     is_as_logged(&store);
     CHECK(completed(store, last) == older + 2, "a number was given out");
@@ -607,11 +597,11 @@ static void a_way_back_is_given_up(void) {
 /* A job that has failed runs again; one that is stopped stays so; a stop under way is dropped; a cancelled one stays cancelled. */
 static void ways_back_in_each_mode(void) {
     relkvanu_store *store = new_job();
-    relkvanu_store_call call = {.call = {.kind = RELKVANU_CALL_DECLINE, .term = 1}}, tick;
+    relkvanu_store_call call, tick;
     completed(store, 1);
     completed(store, 1);
-    call.call.number = triggered(store);
-    CHECK(relkvanu_store_calls(store, &call, 1) == RELKVANU_STORE_OK && call.answer.what == RELKVANU_DECLINE_FAILED, "it fails");
+    call = made(store, (relkvanu_call){.kind = RELKVANU_CALL_DECLINE, .number = triggered(store), .term = 1});
+    CHECK(call.answer.what == RELKVANU_DECLINE_FAILED, "it fails");
     goes_back(store, 1, &call);
     CHECK(call.answer.what == RELKVANU_RESTORED_SAVEPOINT && call.term == 3, "term %" PRIu64, call.term);
     CHECK(awaits(store, LONG, &tick) == RELKVANU_STORE_OK && tick.term == 3, "it runs");
@@ -631,12 +621,11 @@ static void ways_back_in_each_mode(void) {
 static void an_advance(void) {
     relkvanu_store *store = new_job();
     relkvanu_store_call call, tick;
-    relkvanu_answer names;
     completed(store, 1);
     CHECK(relkvanu_store_advance(store, 40, 5000, &call) == RELKVANU_STORE_OK && call.answer.what == RELKVANU_RESTORED_CHECKPOINT &&
               call.answer.b == 1 && call.term == 41,
         "what %" PRIu32 ", term %" PRIu64, call.answer.what, call.term);
-    CHECK(relkvanu_store_reserve(store, 41, 1, &names) == RELKVANU_STORE_OK && names.a == 5000, "name %" PRIu64, names.a);
+    CHECK(reserved(store, 41, 1) == 5000, "the first name");
     CHECK(awaits(store, 0, &tick) == RELKVANU_STORE_TIMED_OUT, "it is not handed over");
     CHECK(relkvanu_store_advance(store, 1, 0, &call) == RELKVANU_STORE_OK && call.answer.code == RELKVANU_BAD_ARGUMENT &&
               call.answer.what == RELKVANU_BAD_NAME,
@@ -652,23 +641,10 @@ static struct {
     atomic_bool has_ended;
 } crowd;
 
-/* The number of a record that is pending; 0: none is. */
-static uint64_t pending(relkvanu_store *store) {
-    relkvanu_reads *reads;
-    uint64_t found = 0;
-    CHECK(relkvanu_store_look(store, &reads) == RELKVANU_STORE_OK, "a look");
-    for (relkvanu_answer it = relkvanu_reads_live_from(reads, 0); it.what != RELKVANU_LIVE_NONE;
-         it = relkvanu_reads_live_from(reads, it.a + 1)) {
-        found = it.b == 0 ? it.a : found;
-    }
-    relkvanu_store_read_end(store);
-    return found;
-}
-
 /* Acknowledges what is pending, without files. What came too late is refused. */
 static void *tasks(void *with) {
     while (!crowd.has_ended) {
-        uint64_t id = pending(crowd.store);
+        uint64_t id = live_of(crowd.store).pending;
         for (uint16_t i = 0; i < SUBTASKS && id != 0; i++) {
             relkvanu_answer answer;
             int status = relkvanu_store_ack_in(crowd.store, crowd.term, RELKVANU_STORE_NOW, id, 0, i, NULL, 0, NULL, 0, &answer);
@@ -708,12 +684,9 @@ static void *operates(void *with) {
 
 static void commands_of_a_crowd(void) {
     unsigned done[6] = {0};
-    pthread_t threads[3];
     crowd.store = new_job();
     crowd.term = 1;
-    CHECK(pthread_create(&threads[0], NULL, tasks, done) == 0 && pthread_create(&threads[1], NULL, tasks, done) == 0 &&
-              pthread_create(&threads[2], NULL, operates, done) == 0,
-        "threads");
+    pthread_t threads[] = {starts(tasks, done), starts(tasks, done), starts(operates, done)};
     while (!crowd.has_ended) {
         relkvanu_store_call tick;
         int status = awaits(crowd.store, SHORT, &tick);
@@ -735,7 +708,6 @@ static void commands_of_a_crowd(void) {
 }
 
 const struct test command_cases[] = {CASE(a_checkpoint_now), CASE(timers_wake), CASE(settings_stay), CASE(bad_settings), CASE(more_at_once),
-    CASE(a_stop), CASE(an_hour), CASE(a_stop_that_expires), CASE(a_stop_that_is_declined), CASE(a_stop_that_is_restored),
-    CASE(a_stop_that_is_cancelled), CASE(a_stop_of_a_job_that_fails), CASE(a_crash_while_it_stops), CASE(calls_while_it_is_stopped),
-    CASE(rows_of_the_phase), CASE(an_older_checkpoint), CASE(no_way_back), CASE(a_way_back_looks_first), CASE(a_way_back_is_given_up),
-    CASE(ways_back_in_each_mode), CASE(an_advance), CASE(commands_of_a_crowd), {NULL, NULL}};
+    CASE(a_stop), CASE(an_hour), CASE(stops_that_fail), CASE(a_stop_of_a_job_that_fails), CASE(a_crash_while_it_stops),
+    CASE(calls_while_it_is_stopped), CASE(rows_of_the_phase), CASE(an_older_checkpoint), CASE(no_way_back), CASE(a_way_back_looks_first),
+    CASE(a_way_back_is_given_up), CASE(ways_back_in_each_mode), CASE(an_advance), CASE(commands_of_a_crowd), {NULL, NULL}};

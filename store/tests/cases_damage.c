@@ -97,9 +97,7 @@ static void other_names(void) {
     relkvanu_store_options options = job_options(RELKVANU_STORE_CREATE, RELKVANU_STORE_NO_IMAGES);
     relkvanu_store *store = opens(&options, RELKVANU_STORE_OK);
     for (uint64_t i = 1; i <= CALLS; i++) {
-        relkvanu_answer answer;
-        CHECK(relkvanu_store_reserve(store, 1, 1, &answer) == RELKVANU_STORE_OK && answer.what == RELKVANU_RESERVED && answer.a == i,
-            "name %" PRIu64, answer.a);
+        CHECK(reserved(store, 1, 1) == i, "name %" PRIu64, i);
     }
     relkvanu_store_close(store);
     replace_last("reserve 1 1", RELKVANU_RESERVED, LAST, 1);
@@ -165,10 +163,9 @@ static void an_earlier_image(void) {
 /* Reserves names one by one, with an image after each tenth call or so, and ends without a close. */
 static int leave_open(void *with) {
     relkvanu_store *store = opens_with(job_options(RELKVANU_STORE_CREATE, IMAGE_CALLS));
-    relkvanu_answer answer;
     (void)with;
     for (uint64_t name = 1; name <= LEFT; name++) {
-        CHECK(relkvanu_store_reserve(store, 1, 1, &answer) == RELKVANU_STORE_OK && answer.a == name, "name %" PRIu64, answer.a);
+        CHECK(reserved(store, 1, 1) == name, "name %" PRIu64, name);
     }
     return 0;
 }
@@ -188,12 +185,11 @@ enum { LARGE = 2000, FORFEITED = 65536 };
 
 /* A savepoint whose subtasks have many files, so that an image is large. */
 static void save_many(relkvanu_store *store) {
-    relkvanu_answer names, answer;
-    uint64_t fresh[LARGE], id = done(store, RELKVANU_CALL_SAVEPOINT, RELKVANU_STORE_NOW, 0).a;
-    CHECK(relkvanu_store_reserve(store, 1, SUBTASKS * LARGE, &names) == RELKVANU_STORE_OK && names.code == RELKVANU_DONE, "names");
+    relkvanu_answer answer;
+    uint64_t fresh[LARGE], id = done(store, RELKVANU_CALL_SAVEPOINT, RELKVANU_STORE_NOW, 0).a, first = reserved(store, 1, SUBTASKS * LARGE);
     for (uint16_t index = 0; index < SUBTASKS; index++) {
         for (uint64_t i = 0; i < LARGE; i++) {
-            fresh[i] = names.a + index * LARGE + i;
+            fresh[i] = first + index * LARGE + i;
         }
         int status = relkvanu_store_ack_in(store, 1, RELKVANU_STORE_NOW, id, 0, index, fresh, LARGE, NULL, 0, &answer);
         CHECK(status == RELKVANU_STORE_OK && answer.code == RELKVANU_DONE, "status %d", status);
@@ -203,19 +199,13 @@ static void save_many(relkvanu_store *store) {
 /* Reserves the most names at once, and gives them up: lines of half a million bytes. */
 static void forfeit_many(relkvanu_store *store) {
     static uint64_t names[FORFEITED];
-    relkvanu_answer reserved, answer;
-    CHECK(relkvanu_store_reserve(store, 1, FORFEITED, &reserved) == RELKVANU_STORE_OK && reserved.code == RELKVANU_DONE, "names");
+    relkvanu_answer answer;
+    uint64_t first = reserved(store, 1, FORFEITED);
     for (uint64_t i = 0; i < FORFEITED; i++) {
-        names[i] = reserved.a + i;
+        names[i] = first + i;
     }
     int status = relkvanu_store_forfeit(store, 1, names, FORFEITED, &answer);
     CHECK(status == RELKVANU_STORE_OK && answer.code == RELKVANU_DONE, "status %d", status);
-}
-
-static uint64_t images_of(relkvanu_store *store) {
-    relkvanu_store_counts counts;
-    relkvanu_store_count(store, &counts);
-    return counts.images;
 }
 
 /* A large image waits until the log has several times its bytes, however many calls these are. */
@@ -223,18 +213,19 @@ static void large_images(void) {
     static relkvanu_store_call calls[RELKVANU_STORE_MOST_CALLS];
     relkvanu_store *store = opens_with(job_options(RELKVANU_STORE_CREATE, IMAGE_CALLS));
     save_many(store);
-    uint64_t images = images_of(store), forfeits = 0;
+    uint64_t images = totals_of(store).images, forfeits = 0;
     CHECK(images != 0, "no image has all these files");
     for (size_t i = 0; i < RELKVANU_STORE_MOST_CALLS; i++) {
         calls[i].call = (relkvanu_call){.kind = RELKVANU_CALL_RESERVE, .number = 1, .term = 1};
     }
     CHECK(relkvanu_store_calls(store, calls, RELKVANU_STORE_MOST_CALLS) == RELKVANU_STORE_OK, "a list");
-    CHECK(images_of(store) == images, "an image after %d short calls", RELKVANU_STORE_MOST_CALLS);
-    while (images_of(store) == images && forfeits < 8) {
+    CHECK(totals_of(store).images == images, "an image after %d short calls", RELKVANU_STORE_MOST_CALLS);
+    while (totals_of(store).images == images && forfeits < 8) {
         forfeit_many(store);
         forfeits++;
     }
-    CHECK(images_of(store) == images + 1 && forfeits != 8, "%" PRIu64 " images after %" PRIu64 " forfeits", images_of(store), forfeits);
+    CHECK(totals_of(store).images == images + 1 && forfeits != 8, "%" PRIu64 " images after %" PRIu64 " forfeits", totals_of(store).images,
+        forfeits);
     relkvanu_store_close(store);
     relkvanu_store_close(opens_with(job_options(RELKVANU_STORE_CREATE, IMAGE_CALLS)));
 }

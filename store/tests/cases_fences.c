@@ -63,7 +63,7 @@ static void begins(struct call *call, void *(*run)(void *), const char *path, co
     snprintf(call->storage, sizeof call->storage, "%s", in("storage"));
     snprintf(call->path, sizeof call->path, "%s", in(path));
     snprintf(call->folder, sizeof call->folder, "%s", in(folder));
-    CHECK(pthread_create(&call->thread, NULL, run, call) == 0, "a thread");
+    call->thread = starts(run, call);
 }
 
 static void ends_with(struct call *call, int status, const char *words) {
@@ -75,9 +75,8 @@ static void ends_with(struct call *call, int status, const char *words) {
 static void has_record(const char *path, const char *folder, uint64_t record) {
     relkvanu_store_options options = options_of(RELKVANU_STORE_RECOVER);
     relkvanu_store_loaded loaded;
-    relkvanu_store *store;
     options.storage = in(folder);
-    CHECK(relkvanu_store_open(&store, in(path), &options, &report) == RELKVANU_STORE_OK, "%s", report.message);
+    relkvanu_store *store = opens_at(path, &options, RELKVANU_STORE_OK);
     CHECK(relkvanu_store_load(store, 0, &loaded, NULL, NULL) == RELKVANU_STORE_OK && loaded.id == record, "the record");
     relkvanu_store_close(store);
 }
@@ -88,7 +87,7 @@ static void holds_an_opening(struct call *opening, const char *name) {
     CHECK(mkdir(in("apart"), 0700) == 0, "a folder");
     hold_syncs(name); /* that of the folder of x.db */
     begins(opening, opens_it, "x.db", "storage");
-    CHECK(awaits_a_held_sync(), "the opening");
+    await_held_sync();
 }
 
 static void is_refused(struct call *opening) {
@@ -126,7 +125,7 @@ static void holds_a_claim(struct call *claim) {
     relkvanu_store_close(store);
     hold_syncs("/apart/one.part");
     begins(claim, claims, "apart/one.db", "apart/one");
-    CHECK(awaits_a_held_sync(), "the first claim");
+    await_held_sync();
 }
 
 static const char WORDS[] = "/apart/one: repeat that command or start its job, or give the number of an earlier record";
@@ -188,7 +187,7 @@ static void two_recoveries_at_once(void) {
     CHECK(mkdir(in("one"), 0700) == 0 && mkdir(in("other"), 0700) == 0, "folders");
     hold_syncs("/one");
     begins(&one, recovers, "one/x.db", "storage");
-    CHECK(awaits_a_held_sync(), "the first recovery");
+    await_held_sync();
     int status = relkvanu_store_recover(in("other/x.db"), in("storage"), 0, &recovered);
     CHECK(status == RELKVANU_STORE_OK && recovered.record == 1, "status %d: %s", status, recovered.message);
     hold_syncs(NULL);
@@ -257,12 +256,10 @@ static void *acks_last(void *with) {
 
 /* The same of a caller who is not alone: another thread writes the manifest. */
 static void a_claim_beside_a_crowd(void) {
-    pthread_t thread;
-    relkvanu *handle;
     relkvanu_store *store = claimed();
     struct ack ack = {.store = store};
-    CHECK(relkvanu_store_read(store, &handle) == RELKVANU_STORE_OK, "a read");
-    CHECK(pthread_create(&thread, NULL, acks_last, &ack) == 0, "a thread");
+    begins_read(store);
+    pthread_t thread = starts(acks_last, &ack);
     usleep(MOMENT / 2);
     relkvanu_store_read_end(store);
     CHECK(pthread_join(thread, NULL) == 0, "a thread");
@@ -272,7 +269,6 @@ static void a_claim_beside_a_crowd(void) {
 
 /* A claim that fences the folder while a manifest is written, and has listed the others before: the record is complete for nobody. */
 static void a_claim_beside_a_manifest(void) {
-    pthread_t thread;
     relkvanu_store_recovered recovered;
     relkvanu_answer answer;
     struct ack ack = {.store = opens_with(options_of(RELKVANU_STORE_CREATE))};
@@ -280,7 +276,8 @@ static void a_claim_beside_a_manifest(void) {
     acks_all_but_one(ack.store);
     CHECK(mkdir(in("apart"), 0700) == 0, "a folder");
     hold_syncs("/record-2.manifest.part");
-    CHECK(pthread_create(&thread, NULL, acks_last, &ack) == 0 && awaits_a_held_sync(), "a manifest");
+    pthread_t thread = starts(acks_last, &ack);
+    await_held_sync();
     int status = relkvanu_store_claim(in("storage"), 0, in("apart/y.db"), in("apart/state"), &recovered);
     CHECK(status == RELKVANU_STORE_OK && recovered.record == 1, "status %d: %s", status, recovered.message);
     hold_syncs(NULL);

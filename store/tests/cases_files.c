@@ -88,8 +88,7 @@ static void sweeps(void) {
     relkvanu_store *store = opened();
     char name[PATHS];
     size_t left;
-    relkvanu_answer names;
-    CHECK(relkvanu_store_reserve(store, 1, 600, &names) == RELKVANU_STORE_OK && names.a == 1, "names");
+    CHECK(reserved(store, 1, 600) == 1, "names");
     checkpoint(store, 100);
     for (uint64_t file = 100; file < 500 + 2 * SUBTASKS; file++) {
         snprintf(name, sizeof name, "storage/%" PRIu64 "%s", file, file % 2 == 0 || file < 100 + 2 * SUBTASKS ? "" : ".part");

@@ -20,12 +20,6 @@ static bool has(const char *name) {
     return lstat(in(name), &found) == 0;
 }
 
-static void make_file(const char *name, const char *text) {
-    int file = open(in(name), O_CREAT | O_WRONLY | O_TRUNC, 0600);
-    CHECK(file >= 0 && write(file, text, strlen(text)) == (ssize_t)strlen(text), "%s", name);
-    close(file);
-}
-
 static relkvanu_storage_options state_of(const char *job) {
     static char path[PATHS];
     snprintf(path, sizeof path, "%s", in("state"));
@@ -112,13 +106,13 @@ static void a_marker_names_the_job(void) {
 
 static void a_new_job_needs_an_empty_folder(void) {
     relkvanu_storage_options new = state_of("orders");
-    make_file("state/notes", "");
-    make_file("state/7.part", "");
+    write_text("state/notes", "");
+    write_text("state/7.part", "");
     opens_as(&new, RELKVANU_STORAGE_NOT_EMPTY);
     CHECK(!has("state/.relkvanu-storage") && rename(in("state/7.part"), in("state/7")) == 0, "a marker");
     opens_as(&new, RELKVANU_STORAGE_NOT_EMPTY);
     unlink(in("state/7"));
-    make_file("state/.relkvanu-storage.part", "relk"); /* one that was killed */
+    write_text("state/.relkvanu-storage.part", "relk"); /* one that was killed */
     opens_as(&new, RELKVANU_STORAGE_OK);
     CHECK(has("state/.relkvanu-storage") && !has("state/.relkvanu-storage.part"), "no marker");
 }
@@ -158,7 +152,7 @@ static void files_of_a_folder(void) {
     reads(&it, 0, "");
     CHECK(it.get(it.with, UINT64_MAX, found, 3, &len) == RELKVANU_STORAGE_OK && len == 5 && memcmp(found, "sta", 4) == 0, "%s", found);
     CHECK(it.get(it.with, 7, found, 3, &len) == RELKVANU_STORAGE_ABSENT, "file 7");
-    make_file("state/5.part", "");
+    write_text("state/5.part", "");
     puts_file(&it, 5, "state", RELKVANU_STORAGE_PRESENT);
     CHECK(mkdir(in("state/6"), 0700) == 0 && listed(&it, 0).all == 3, "%zu files", listed(&it, 0).all);
     CHECK(it.delete_files(it.with, files, 5, outcomes) == RELKVANU_STORAGE_OK, "no deletion");
@@ -280,7 +274,7 @@ static void links_are_not_followed(void) {
     uint64_t file = 7, len;
     uint8_t outcome;
     char found[8];
-    make_file("elsewhere", "state");
+    write_text("elsewhere", "state");
     CHECK(symlink("../elsewhere", in("state/7")) == 0 && symlink("../made", in("state/8.part")) == 0, "links");
     CHECK(listed(&it, 0).all == 0, "a link is listed");
     CHECK(it.get(it.with, 7, found, sizeof found, &len) == RELKVANU_STORAGE_FAILED && errno == ELOOP, "errno %d", errno);
@@ -313,7 +307,7 @@ static void the_marker_of_another_job(void) {
     puts_file(&it, 7, "state", RELKVANU_STORAGE_OK);
     CHECK(rename(in("state/.relkvanu-storage"), in("marker")) == 0, "the marker");
     refuses_all(&it, RELKVANU_STORAGE_NOT_THERE);
-    make_file("state/.relkvanu-storage", "relkvanu: state files of the job others\n");
+    write_text("state/.relkvanu-storage", "relkvanu: state files of the job others\n");
     refuses_all(&it, RELKVANU_STORAGE_OTHER_JOB);
     CHECK(has("state/7") && !has("state/9") && !has("state/9.part"), "the folder");
     CHECK(rename(in("marker"), in("state/.relkvanu-storage")) == 0 && it.check(it.with) == RELKVANU_STORAGE_OK, "the marker");
@@ -326,8 +320,8 @@ static void the_folder_is_removed(void) {
     struct found found = {.pages = 0};
     puts_file(&it, 7, "state", RELKVANU_STORAGE_OK);
     CHECK(rename(in("state"), in("away")) == 0 && mkdir(in("state"), 0700) == 0, "the folder");
-    make_file("state/7", "");
-    make_file("state/8", "");
+    write_text("state/7", "");
+    write_text("state/8", "");
     puts_file(&it, 9, "state", RELKVANU_STORAGE_OK);
     CHECK(has("away/9") && !has("state/9") && listed(&it, 0).all == 2, "the folder");
     CHECK(unlink(in("away/7")) == 0 && unlink(in("away/9")) == 0 && unlink(in("away/.relkvanu-storage")) == 0 && rmdir(in("away")) == 0,
@@ -352,11 +346,11 @@ static void names_with_unusual_bytes(void) {
     uint64_t files[] = {7, 8};
     uint8_t outcomes[2];
     for (size_t i = 0; i < sizeof others / sizeof *others; i++) {
-        make_file(others[i], "");
+        write_text(others[i], "");
     }
     CHECK(listed(&it, 0).all == 0, "%zu files", listed(&it, 0).all);
     puts_file(&it, 7, "state", RELKVANU_STORAGE_OK);
-    make_file("state/a b\n\xff%s-8\x01\".part", "");
+    write_text("state/a b\n\xff%s-8\x01\".part", "");
     CHECK(has("state/a b\n\xff%s-7\x01\"") && has("state/a b\n\xff%s-.relkvanu-storage"), "the names");
     struct found found = listed(&it, 0);
     CHECK(found.all == 2 && found.counts[7] == 1 && found.counts[8] == 1, "%zu files", found.all);
@@ -374,8 +368,8 @@ static void names_with_digits(void) {
     relkvanu_storage it = opened("1", "0");
     puts_file(&it, 7, "", RELKVANU_STORAGE_OK);
     puts_file(&it, 10, "", RELKVANU_STORAGE_OK);
-    make_file("state/10", "");
-    make_file("state/1070", "");
+    write_text("state/10", "");
+    write_text("state/1070", "");
     struct found found = listed(&it, 0);
     CHECK(has("state/170") && has("state/1100") && found.all == 2 && found.counts[7] == 1 && found.counts[10] == 1, "%zu files", found.all);
     relkvanu_storage_close_folder(&it);
@@ -387,10 +381,10 @@ static void pages_of_a_listing(void) {
     struct found ended = {.ends_after = 2};
     for (int file = 0; file < 2500; file++) {
         snprintf(name, sizeof name, "state/%d%s", file, file % 3 == 0 ? ".part" : "");
-        make_file(name, "x");
+        write_text(name, "x");
     }
-    make_file("state/1", "xyz");
-    make_file("state/1.part", "");
+    write_text("state/1", "xyz");
+    write_text("state/1.part", "");
     static const size_t most[] = {0, 1000, 7, 1, 100000};
     for (size_t i = 0; i < sizeof most / sizeof *most; i++) {
         struct found found = listed(&it, most[i]);
@@ -444,7 +438,7 @@ static void threads_share_a_folder(void) {
     puts_file(&it, 1, "", RELKVANU_STORAGE_OK);
     puts_file(&it, 2, "", RELKVANU_STORAGE_OK);
     for (int i = 0; i < 4; i++) {
-        CHECK(pthread_create(&threads[i], NULL, i < 2 ? puts_many : lists_many, &workers[i]) == 0, "a thread");
+        threads[i] = starts(i < 2 ? puts_many : lists_many, &workers[i]);
     }
     for (int i = 0; i < 4; i++) {
         pthread_join(threads[i], NULL);

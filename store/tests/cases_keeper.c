@@ -34,7 +34,7 @@ static void *calls(void *with) {
 }
 
 static void start(struct caller *it) {
-    CHECK(pthread_create(&it->thread, NULL, calls, it) == 0, "a thread");
+    it->thread = starts(calls, it);
 }
 
 /* The manifest of this record has to be there when it is answered. */
@@ -68,17 +68,16 @@ static uint64_t nearly_all(relkvanu_store *store, uint64_t id) {
 }
 
 static uint64_t savepoint(relkvanu_store *store) {
-    return makes(store, (relkvanu_store_call){.call = {.kind = RELKVANU_CALL_SAVEPOINT, .now = RELKVANU_STORE_NOW}}).a;
+    return done(store, RELKVANU_CALL_SAVEPOINT, RELKVANU_STORE_NOW, 0).a;
 }
 
 static uint64_t trigger(relkvanu_store *store) {
-    return makes(store, (relkvanu_store_call){.call = {.kind = RELKVANU_CALL_TRIGGER, .now = RELKVANU_STORE_NOW}}).b;
+    return done(store, RELKVANU_CALL_TRIGGER, RELKVANU_STORE_NOW, 0).b;
 }
 
 /* Calls behind a read, as somebody does who is not alone: then the manifest of a record that it completes is written beside others. */
 static void begins_behind_a_read(relkvanu_store *store, struct caller *it) {
-    relkvanu *handle;
-    CHECK(relkvanu_store_read(store, &handle) == RELKVANU_STORE_OK, "a read");
+    begins_read(store);
     start(it);
     for (bool is_queued = false; !is_queued;) { /* one that came later would be alone */
         usleep(1000);
@@ -104,10 +103,9 @@ static void others_go_on(void) {
     needs(&reads, id);
     hold_syncs("/record-1.manifest.part");
     begins_behind_a_read(store, &completes);
-    CHECK(awaits_a_held_sync(), "the manifest");
+    await_held_sync();
     CHECK(makes(store, ack(other, 0)).what == RELKVANU_ACK_PENDING, "an acknowledgement");
-    CHECK(makes(store, (relkvanu_store_call){.call = {.kind = RELKVANU_CALL_RESERVE, .number = 3, .term = 1}}).what == RELKVANU_RESERVED,
-        "a reservation");
+    reserved(store, 1, 3);
     usleep(20000); /* longer than the interval, so that a tick is due */
     start(&begins);
     usleep(100000);
@@ -121,12 +119,6 @@ static void others_go_on(void) {
     CHECK(completes.call.answer.what == RELKVANU_ACK_COMPLETED && begins.call.answer.what == RELKVANU_TICK_TRIGGERED, "the answers");
     CHECK(begins.call.choice.what == RELKVANU_CHOICE_CHECKPOINT && begins.call.choice.a == id, "the choice");
     relkvanu_store_close(store);
-}
-
-static uint64_t committed(relkvanu_store *store) {
-    relkvanu_store_counts counts;
-    relkvanu_store_count(store, &counts);
-    return counts.calls;
 }
 
 /* A checkpoint that somebody asks for by hand: he waits for the manifest, and the timer that is told of it, since both are told of the choice. Nobody else does. */
@@ -143,18 +135,13 @@ static void a_trigger_by_hand(void) {
     needs(&triggers, id);
     hold_syncs("/record-1.manifest.part");
     begins_behind_a_read(store, &completes);
-    CHECK(awaits_a_held_sync(), "the manifest");
+    await_held_sync();
     start(&timer);
-    uint64_t before = committed(store);
+    uint64_t before = totals_of(store).calls;
     start(&triggers);
-    for (int i = 0; i < 3000 && committed(store) == before; i++) {
-        usleep(10000);
-    }
+    AWAIT(totals_of(store).calls != before);
     start(&acknowledges);
-    for (int i = 0; i < 3000 && !acknowledges.is_answered; i++) {
-        usleep(10000);
-    }
-    CHECK(acknowledges.is_answered, "an acknowledgement waits for a manifest that is not its own");
+    AWAIT(acknowledges.is_answered); /* it waits for no manifest that is not its own */
     ends(&acknowledges);
     usleep(200000);
     CHECK(!completes.is_answered && !triggers.is_answered && !timer.is_answered, "somebody was told before the manifest was there");
@@ -173,13 +160,13 @@ static void submits_keep_their_order(void) {
     uint64_t id = nearly_all(store, savepoint(store)), other = savepoint(store);
     relkvanu_store_call last = ack(id, SUBTASKS - 1), more = ack(other, 0), again = ack(other, 1);
     relkvanu_store_completion some[3];
-    relkvanu *handle;
     hold_syncs("/record-1.manifest.part");
-    CHECK(relkvanu_store_read(store, &handle) == RELKVANU_STORE_OK, "a read");
+    begins_read(store);
     CHECK(relkvanu_store_submit(store, &last, 1, 1) == RELKVANU_STORE_OK && relkvanu_store_submit(store, &more, 1, 2) == RELKVANU_STORE_OK,
         "submits");
     relkvanu_store_read_end(store);
-    CHECK(awaits_a_held_sync() && relkvanu_store_submit(store, &again, 1, 3) == RELKVANU_STORE_OK, "a submit");
+    await_held_sync();
+    CHECK(relkvanu_store_submit(store, &again, 1, 3) == RELKVANU_STORE_OK, "a submit");
     usleep(200000);
     CHECK(relkvanu_store_completed(store, some, 3) == 0, "a completion before the manifest");
     hold_syncs(NULL);
@@ -203,38 +190,33 @@ static void one_record_behind(void) {
     needs(&two, other);
     hold_syncs("/record-1.manifest.part");
     begins_behind_a_read(store, &one);
-    CHECK(awaits_a_held_sync(), "the manifest");
-    uint64_t before = committed(store);
+    await_held_sync();
+    uint64_t before = totals_of(store).calls;
     start(&two);
     usleep(200000);
-    CHECK(committed(store) == before && !one.is_answered && !two.is_answered, "%" PRIu64 " calls", committed(store));
+    CHECK(totals_of(store).calls == before && !one.is_answered && !two.is_answered, "%" PRIu64 " calls", totals_of(store).calls);
     hold_syncs(NULL);
     ends(&one);
     ends(&two);
-    CHECK(committed(store) == before + 1, "%" PRIu64 " calls", committed(store));
+    CHECK(totals_of(store).calls == before + 1, "%" PRIu64 " calls", totals_of(store).calls);
     relkvanu_store_close(store);
 }
 
 /* A manifest that can't be written beside others is counted, and written later; one of a record that ended goes then. */
 static void manifests_that_fail_beside(void) {
     relkvanu_store *store = opens_with_manifests();
-    relkvanu_store_measures measures;
     makes(store, ack(nearly_all(store, savepoint(store)), SUBTASKS - 1));
     uint64_t next = nearly_all(store, trigger(store));
     struct caller last = {.store = store, .call = ack(next, SUBTASKS - 1)};
     fail_syncs("/storage", EIO); /* the folder's */
     begins_behind_a_read(store, &last);
     ends(&last);
-    relkvanu_store_measure(store, &measures, sizeof measures);
+    relkvanu_store_measures measures = measures_of(store);
     CHECK(last.call.answer.what == RELKVANU_ACK_COMPLETED && measures.manifests == 1 && measures.failed_manifests == 1,
         "%" PRIu64 " manifests, %" PRIu64 " failed", measures.manifests, measures.failed_manifests);
     fail_syncs("", 0);
-    for (int i = 0; i < 3000 && measures.manifests < 3; i++) { /* both are written again, once a commit comes a second later */
-        makes(store, (relkvanu_store_call){.call = {.kind = RELKVANU_CALL_RESERVE, .number = 1, .term = 1}});
-        relkvanu_store_measure(store, &measures, sizeof measures);
-        usleep(10000);
-    }
-    CHECK(measures.manifests == 3, "%" PRIu64 " manifests", measures.manifests);
+    AWAIT(reserved(store, 1, 1) != 0 && measures_of(store).manifests >= 3); /* both are written again, once a commit comes a second later */
+    CHECK(measures_of(store).manifests == 3, "%" PRIu64 " manifests", measures_of(store).manifests);
     relkvanu_store_close(store);
 }
 

@@ -9,15 +9,14 @@
 
 /* The check value of CRC-32, as its published descriptions have it: of these nine bytes. */
 static const char CONTENTS[] = "123456789", SUM[] = "cbf43926";
-enum { LENGTH = 9, MOST_FAULTS = 32, MOST_RECORDS = 8 };
+enum { LENGTH = 9, MOST_FAULTS = 32 };
 
 static char message[RELKVANU_STORE_MESSAGE];
 static struct fault {
     uint64_t record, file;
     uint32_t fault;
 } faults[MOST_FAULTS];
-static relkvanu_store_record records[MOST_RECORDS];
-static size_t faults_len, records_len;
+static size_t faults_len;
 
 static int link_error;
 
@@ -30,14 +29,8 @@ int linkat(int from, const char *name, int to, const char *other, int flags) {
     return (int)syscall(SYS_linkat, from, name, to, other, flags);
 }
 
-static bool note_record(void *with, const relkvanu_store_record *record) {
-    CHECK(with == faults && records_len < MOST_RECORDS, "a record");
-    records[records_len++] = *record;
-    return true;
-}
-
 static bool note_fault(void *with, uint64_t record, uint64_t file, uint32_t fault) {
-    CHECK(with == faults && faults_len < MOST_FAULTS, "a fault");
+    CHECK(with == records && faults_len < MOST_FAULTS, "a fault");
     faults[faults_len++] = (struct fault){.record = record, .file = file, .fault = fault};
     return true;
 }
@@ -45,16 +38,9 @@ static bool note_fault(void *with, uint64_t record, uint64_t file, uint32_t faul
 /* Reads all. Returns how many files are not as they should be. */
 static size_t checks(const char *folder) {
     faults_len = records_len = 0;
-    int status = relkvanu_store_check_records(in(folder), note_record, note_fault, faults, message, sizeof message);
+    int status = relkvanu_store_check_records(in(folder), note_record, note_fault, records, message, sizeof message);
     CHECK(status == RELKVANU_STORE_OK && message[0] == 0, "status %d: %s", status, message);
     return faults_len;
-}
-
-static relkvanu_store_record lists(const char *folder) {
-    records_len = 0;
-    int status = relkvanu_store_records(in(folder), note_record, faults, message, sizeof message);
-    CHECK(status == RELKVANU_STORE_OK && records_len != 0, "status %d: %s", status, message);
-    return records[records_len - 1];
 }
 
 static relkvanu_store *opens_new(void) {
@@ -67,17 +53,15 @@ static relkvanu_store *opens_again(void) {
 
 /* A record in which each subtask has a fresh file, and the first one also a file from before, unless that is 0. *first is the first fresh file. */
 static uint64_t completes(relkvanu_store *store, uint32_t kind, uint64_t reused, uint64_t *first) {
-    relkvanu_answer term, names, answer = done(store, kind, RELKVANU_STORE_NOW, 0);
-    uint64_t id = kind == RELKVANU_CALL_SAVEPOINT ? answer.a : answer.b;
-    CHECK(relkvanu_store_term(store, &term) == RELKVANU_STORE_OK, "no term");
-    CHECK(relkvanu_store_reserve(store, term.a, SUBTASKS, &names) == RELKVANU_STORE_OK && names.code == RELKVANU_DONE, "no names");
+    relkvanu_answer answer = done(store, kind, RELKVANU_STORE_NOW, 0);
+    uint64_t id = kind == RELKVANU_CALL_SAVEPOINT ? answer.a : answer.b, term = term_of(store);
+    *first = reserved(store, term, SUBTASKS);
     for (uint16_t i = 0; i < SUBTASKS; i++) {
-        uint64_t file = names.a + i;
+        uint64_t file = *first + i;
         CHECK(relkvanu_store_put(store, file, CONTENTS, LENGTH) == RELKVANU_STORE_OK, "no file");
-        int status = relkvanu_store_ack_in(store, term.a, RELKVANU_STORE_NOW, id, 0, i, &file, 1, &reused, i == 0 && reused != 0, &answer);
+        int status = relkvanu_store_ack_in(store, term, RELKVANU_STORE_NOW, id, 0, i, &file, 1, &reused, i == 0 && reused != 0, &answer);
         CHECK(status == RELKVANU_STORE_OK && answer.code == RELKVANU_DONE, "status %d, what %" PRIu32, status, answer.what);
     }
-    *first = names.a;
     return id;
 }
 
@@ -124,7 +108,7 @@ static void files_that_changed(void) {
     relkvanu_store *store = opens_new();
     completes(store, RELKVANU_CALL_TRIGGER, 0, &first);
     flips("storage", first + 1);
-    CHECK(lists("storage").missing == 0 && records[0].is_next, "it was not read");
+    CHECK(list_records("storage") == 1 && records[0].missing == 0 && records[0].is_next, "it was not read");
     CHECK(checks("storage") == 1 && records[0].missing == 0 && records[0].changed == 1, "%zu faults", faults_len);
     is_fault(0, 1, first + 1, RELKVANU_STORE_FILE_CHANGED);
     CHECK(truncate(file_in("storage", first + 2), 4) == 0 && unlink(file_in("storage", first + 4)) == 0, "the files");
@@ -171,7 +155,7 @@ static void is_lost(relkvanu_store *store, uint64_t file, const char *words) {
     CHECK(relkvanu_store_load(store, 0, &loaded, NULL, NULL) == RELKVANU_STORE_FILE_LOST && loaded.lost == file, "file %" PRIu64,
         loaded.lost);
     CHECK(relkvanu_store_why(why, sizeof why) != 0 && strstr(why, words) != NULL, "%s", why);
-    relkvanu_store_record last = lists("storage");
+    relkvanu_store_record last = records[list_records("storage") - 1];
     CHECK(last.missing == 1 && !last.is_next && last.bytes == last.files * LENGTH, "%" PRIu64 " files of %" PRIu64 " bytes", last.missing,
         last.bytes);
 }
@@ -240,7 +224,6 @@ static void manifests_without_checksums(void) {
 /* A file that can't be read has none, and the calls go on. */
 static void a_file_that_is_not_there(void) {
     uint64_t first;
-    relkvanu_store_measures measures;
     relkvanu_store *store = opens_new();
     relkvanu_answer names, answer, triggered = done(store, RELKVANU_CALL_TRIGGER, RELKVANU_STORE_NOW, 0);
     CHECK(relkvanu_store_reserve(store, report.term, SUBTASKS, &names) == RELKVANU_STORE_OK, "no names");
@@ -251,11 +234,11 @@ static void a_file_that_is_not_there(void) {
             "no answer");
     }
     CHECK(answer.what == RELKVANU_ACK_COMPLETED, "what %" PRIu32, answer.what);
-    relkvanu_store_measure(store, &measures, sizeof measures);
+    relkvanu_store_measures measures = measures_of(store);
     CHECK(measures.manifests == 1 && measures.failed_manifests == 0, "%" PRIu64 " manifests", measures.manifests);
     CHECK(
         !has_text("storage/record-1.manifest", "sums\":[\"") && has_text("storage/record-1.manifest", "\"sums\":[null]"), "the checksums");
-    CHECK(lists("storage").missing == 8 && lists("storage").unknown == 8, "the record");
+    CHECK(list_records("storage") == 1 && records[0].missing == 8 && records[0].unknown == 8, "the record");
     completes(store, RELKVANU_CALL_TRIGGER, 0, &first);
     relkvanu_store_close(store);
 }
@@ -319,9 +302,9 @@ static void a_look_that_ends(void) {
     completes(store, RELKVANU_CALL_TRIGGER, 0, &first);
     flips("storage", first);
     flips("storage", first + 1);
-    int status = relkvanu_store_check_records(in("storage"), note_record, ends_at_once, faults, message, sizeof message);
+    int status = relkvanu_store_check_records(in("storage"), note_record, ends_at_once, records, message, sizeof message);
     CHECK(status == RELKVANU_STORE_OK && faults_len == 1 && records_len == 0, "status %d, %zu faults", status, faults_len);
-    CHECK(relkvanu_store_check_records(in("none"), note_record, note_fault, faults, message, sizeof message) == RELKVANU_STORE_STORAGE,
+    CHECK(relkvanu_store_check_records(in("none"), note_record, note_fault, records, message, sizeof message) == RELKVANU_STORE_STORAGE,
         "no folder");
     relkvanu_store_close(store);
 }

@@ -1,5 +1,5 @@
 /* The end of a log: a damaged bit anywhere, or a log that was cut, stops an opening, unless each answered call is there. A commit that a loss of
- * power has torn is no damage. STORE_EVERY_BIT=1 tries each bit of the -wal, and otherwise some of each page. */
+ * power has torn is no damage. */
 #include "cases.h"
 
 #include <fcntl.h>
@@ -31,10 +31,6 @@ static void put_back(const struct kept *kept, size_t len) {
     close(file);
 }
 
-static relkvanu_store_options names_options(uint32_t flags, uint64_t image_calls) {
-    return job_options(flags, image_calls);
-}
-
 static relkvanu_store_call reservation(void) {
     return (relkvanu_store_call){.call = {.kind = RELKVANU_CALL_RESERVE, .number = 10, .term = 1}};
 }
@@ -50,7 +46,7 @@ static void reserve_list(relkvanu_store *store, size_t len) {
 /* Ends as if it was killed. */
 static int reserves(void *with) {
     (void)with;
-    relkvanu_store *store = opens_with(names_options(RELKVANU_STORE_CREATE, RELKVANU_STORE_NO_IMAGES));
+    relkvanu_store *store = opens_with(job_options(RELKVANU_STORE_CREATE, RELKVANU_STORE_NO_IMAGES));
     for (int made = 0; made < CALLS; made += LIST) {
         reserve_list(store, LIST);
     }
@@ -64,7 +60,7 @@ struct tried {
 
 /* Opens the job, which has all answered calls or is refused. */
 static void try_opening(struct tried *tried, const char *what, size_t at) {
-    relkvanu_store_options options = names_options(RELKVANU_STORE_RECOVER, RELKVANU_STORE_NO_IMAGES);
+    relkvanu_store_options options = job_options(RELKVANU_STORE_RECOVER, RELKVANU_STORE_NO_IMAGES);
     relkvanu_store *store;
     int status = relkvanu_store_open(&store, in("x.db"), &options, &report);
     if (status != RELKVANU_STORE_OK) {
@@ -101,17 +97,17 @@ static void free_all(struct kept all[3]) {
     }
 }
 
-/* Each bit of the headers, and of what is in the pages. The 400 calls are in several commits of the last part of the log. */
+/* Some bits of the headers, and of what is in the pages. The 400 calls are in several commits of the last part of the log. */
 static void any_bit_of_the_wal(void) {
     struct kept all[3];
     struct tried tried = {0};
     CHECK(in_child(reserves, NULL) == 7, "the job");
     keep_all(all);
-    size_t step = getenv("STORE_EVERY_BIT") != NULL ? 1 : 619, bits = all[1].len * 8;
+    size_t bits = all[1].len * 8;
     for (size_t bit = 0; bit < bits;) {
         flip(&tried, all, 1, bit);
         size_t byte = bit / 8, place = byte < WAL_HEADER ? 0 : (byte - WAL_HEADER) % FRAME;
-        bit += place < FRAME_HEADER ? (step == 1 ? 1 : 5) : step;
+        bit += place < FRAME_HEADER ? 5 : 619;
     }
     free_all(all);
     fprintf(stderr, "%zu bits of the -wal: %u openings stopped, %u had all calls\n", bits, tried.stopped, tried.opened);
@@ -121,7 +117,7 @@ static void any_bit_of_the_wal(void) {
 /* Each bit of the first 12 bytes of each page. Without a -wal: an opening that was killed has brought it into the file. */
 static int reopens(void *with) {
     (void)with;
-    opens_with(names_options(RELKVANU_STORE_RECOVER, RELKVANU_STORE_NO_IMAGES));
+    opens_with(job_options(RELKVANU_STORE_RECOVER, RELKVANU_STORE_NO_IMAGES));
     _exit(7);
 }
 
@@ -164,7 +160,7 @@ static int fills_the_wal(void *with) {
     size_t begin, end;
     int made = 0;
     (void)with;
-    relkvanu_store *store = opens_with(names_options(RELKVANU_STORE_CREATE, RELKVANU_STORE_NO_IMAGES));
+    relkvanu_store *store = opens_with(job_options(RELKVANU_STORE_CREATE, RELKVANU_STORE_NO_IMAGES));
     do {
         reserve_list(store, 1);
         made++;
@@ -176,7 +172,7 @@ static int fills_the_wal(void *with) {
 /* A bit of a page that is not the last one's does not lose calls silently, even if nobody knows how many were answered. */
 static void damage_without_a_tail(void) {
     struct kept all[3];
-    relkvanu_store_options options = names_options(RELKVANU_STORE_RECOVER, RELKVANU_STORE_NO_IMAGES);
+    relkvanu_store_options options = job_options(RELKVANU_STORE_RECOVER, RELKVANU_STORE_NO_IMAGES);
     uint64_t made = (uint64_t)in_child(fills_the_wal, NULL);
     CHECK(made < 200, "no -wal of several commits");
     keep_all(all);
@@ -198,7 +194,7 @@ enum { LAST_LIST = 200 };
 static int makes_torn(void *with) {
     struct kept lock;
     (void)with;
-    relkvanu_store *store = opens_with(names_options(RELKVANU_STORE_CREATE, RELKVANU_STORE_NO_IMAGES));
+    relkvanu_store *store = opens_with(job_options(RELKVANU_STORE_CREATE, RELKVANU_STORE_NO_IMAGES));
     reserve_list(store, LIST);
     keep(&lock, "x.db.lock");
     reserve_list(store, LAST_LIST);
@@ -209,7 +205,7 @@ static int makes_torn(void *with) {
 
 /* Opens the job with the first bytes of its -wal, and tells how many calls it has. */
 static uint64_t calls_of_cut(struct kept all[3], const struct kept *lock, size_t len) {
-    relkvanu_store_options options = names_options(RELKVANU_STORE_RECOVER, RELKVANU_STORE_NO_IMAGES);
+    relkvanu_store_options options = job_options(RELKVANU_STORE_RECOVER, RELKVANU_STORE_NO_IMAGES);
     struct kept tail = {"x.db.lock", lock->bytes, lock->len};
     put_back(&all[0], all[0].len);
     put_back(&all[1], len);
@@ -251,7 +247,7 @@ static void torn_last_commits(void) {
 
 /* The tail is of one file: another one in its place, with fewer calls, is no damage. An older state of the same one is. */
 static void an_older_file(void) {
-    relkvanu_store_options options = names_options(RELKVANU_STORE_CREATE, RELKVANU_STORE_NO_IMAGES);
+    relkvanu_store_options options = job_options(RELKVANU_STORE_CREATE, RELKVANU_STORE_NO_IMAGES);
     struct kept older;
     relkvanu_store *store = opens(&options, RELKVANU_STORE_OK);
     reserve_list(store, LIST);
@@ -274,7 +270,7 @@ static void an_older_file(void) {
 /* A tail whose own sum does not fit says nothing. */
 static void a_damaged_tail(void) {
     struct kept lock;
-    relkvanu_store *store = opens_with(names_options(RELKVANU_STORE_CREATE, RELKVANU_STORE_NO_IMAGES));
+    relkvanu_store *store = opens_with(job_options(RELKVANU_STORE_CREATE, RELKVANU_STORE_NO_IMAGES));
     reserve_list(store, LIST);
     relkvanu_store_close(store);
     keep(&lock, "x.db.lock");
@@ -282,7 +278,7 @@ static void a_damaged_tail(void) {
     CHECK(tail != NULL && strstr(tail, " 20 ") != NULL, "no tail of call 20");
     tail[10] = (char)(tail[10] ^ 1); /* its own sum is another one: it is no tail */
     put_back(&lock, lock.len);
-    relkvanu_store_close(opens_with(names_options(RELKVANU_STORE_CREATE, RELKVANU_STORE_NO_IMAGES)));
+    relkvanu_store_close(opens_with(job_options(RELKVANU_STORE_CREATE, RELKVANU_STORE_NO_IMAGES)));
     CHECK(report.next_name == LIST * 10 + 1, "next name %" PRIu64, report.next_name);
     free(lock.bytes);
 }

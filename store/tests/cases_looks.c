@@ -41,12 +41,6 @@ static void *discards(void *with) {
     return NULL;
 }
 
-/* How many files are not reported as deleted. */
-static uint64_t left_in(relkvanu_store *store) {
-    relkvanu_counts counts = counts_of(store);
-    return counts.waiting + counts.taken;
-}
-
 /* A discarder of a store with files that the second checkpoint has released. */
 static void start(struct discarding *d) {
     d->store = opens_with(storage_options(RELKVANU_STORE_CREATE, 0));
@@ -56,7 +50,7 @@ static void start(struct discarding *d) {
 }
 
 static void run(struct discarding *d) {
-    CHECK(pthread_create(&d->thread, NULL, discards, d) == 0, "a thread");
+    d->thread = starts(discards, d);
 }
 
 static void stop(struct discarding *d) {
@@ -70,9 +64,7 @@ static void waits_grow(void) {
     struct discarding d = {.is_gone = false};
     start(&d);
     run(&d);
-    while (d.asked < ASKS) {
-        usleep(1000);
-    }
+    AWAIT(d.asked >= ASKS);
     stop(&d);
     for (int i = 1; i < ASKS; i++) {
         long waited = (d.at[i].tv_sec - d.at[i - 1].tv_sec) * 1000 + (d.at[i].tv_nsec - d.at[i - 1].tv_nsec) / 1000000;
@@ -86,14 +78,10 @@ static void unsynced_deletions(void) {
     start(&d);
     fail_syncs("/storage", EIO);
     run(&d);
-    while (d.asked < 2 && left_in(d.store) == RELEASED) {
-        usleep(1000);
-    }
-    CHECK(left_in(d.store) == RELEASED, "%" PRIu64 " are left after a sync that failed", left_in(d.store));
+    AWAIT(d.asked >= 2 || unreported(d.store) != RELEASED);
+    CHECK(unreported(d.store) == RELEASED, "%" PRIu64 " are left after a sync that failed", unreported(d.store));
     fail_syncs("", 0);
-    while (left_in(d.store) != 0) {
-        usleep(1000);
-    }
+    AWAIT(unreported(d.store) == 0);
     stop(&d);
 }
 
@@ -107,10 +95,8 @@ static void marker_goes_during_deletions(void) {
     struct discarding d = {.is_gone = true, .meanwhile = take_marker};
     start(&d);
     run(&d);
-    while (d.asked == 0 || (counts_of(d.store).taken != 0 && left_in(d.store) == RELEASED)) {
-        usleep(1000);
-    }
-    CHECK(d.asked == 1 && left_in(d.store) == RELEASED, "%" PRIu64 " are left without a marker", left_in(d.store));
+    AWAIT(d.asked != 0 && (counts_of(d.store).taken == 0 || unreported(d.store) != RELEASED));
+    CHECK(d.asked == 1 && unreported(d.store) == RELEASED, "%" PRIu64 " are left without a marker", unreported(d.store));
     stop(&d);
 }
 

@@ -13,24 +13,6 @@
 static char message[RELKVANU_STORE_MESSAGE];
 static relkvanu_store_recovered recovered;
 
-enum { MOST_RECORDS = 32 };
-static relkvanu_store_record records[MOST_RECORDS];
-static size_t records_len;
-
-static bool note_record(void *with, const relkvanu_store_record *record) {
-    CHECK(with == records && records_len < MOST_RECORDS, "a record");
-    records[records_len++] = *record;
-    return true;
-}
-
-/* The records that the folder tells. */
-static size_t list_records(void) {
-    records_len = 0;
-    int status = relkvanu_store_records(in("storage"), note_record, records, message, sizeof message);
-    CHECK(status == RELKVANU_STORE_OK && message[0] == 0, "status %d: %s", status, message);
-    return records_len;
-}
-
 static void recovers(uint64_t record, int status) {
     int got = relkvanu_store_recover(in("x.db"), in("storage"), record, &recovered);
     CHECK(got == status, "status %d, not %d: %s", got, status, recovered.message);
@@ -46,18 +28,13 @@ static relkvanu_store_options manifests(uint32_t flags) {
 }
 
 static relkvanu_answer trigger(relkvanu_store *store, uint32_t kind) {
-    relkvanu_store_call call = {.call = {.kind = kind, .now = RELKVANU_STORE_NOW}};
-    int status = relkvanu_store_calls(store, &call, 1);
-    CHECK(status == RELKVANU_STORE_OK && call.answer.code == RELKVANU_DONE, "status %d, what %" PRIu32, status, call.answer.what);
-    return call.answer;
+    return done(store, kind, RELKVANU_STORE_NOW, 0);
 }
 
 /* A task reserves a name, puts a file of so many bytes, and acknowledges it and a reused one, if there is one. */
 static uint64_t takes_part(relkvanu_store *store, uint64_t term, uint64_t id, uint16_t index, size_t len, uint64_t reused) {
     relkvanu_answer answer;
-    CHECK(relkvanu_store_reserve(store, term, 1, &answer) == RELKVANU_STORE_OK && answer.code == RELKVANU_DONE, "no name: %" PRIu32,
-        answer.what);
-    uint64_t file = answer.a;
+    uint64_t file = reserved(store, term, 1);
     CHECK(relkvanu_store_put(store, file, "the state of a task", len) == RELKVANU_STORE_OK, "no file");
     int status = relkvanu_store_ack_in(store, term, RELKVANU_STORE_NOW, id, 0, index, &file, 1, &reused, reused != 0, &answer);
     CHECK(status == RELKVANU_STORE_OK && answer.code == RELKVANU_DONE, "status %d, what %" PRIu32, status, answer.what);
@@ -116,7 +93,6 @@ static void check_manifest(uint64_t id, uint64_t file) {
 /* The manifest is there when a record is complete, and goes when it ends. */
 static void manifests_of_records(void) {
     relkvanu_store *store = opens_with(manifests(RELKVANU_STORE_CREATE));
-    relkvanu_store_measures measures;
     uint64_t first = 0;
     CHECK(completes(store, 1, RELKVANU_CALL_TRIGGER, &first) == 1, "the number");
     check_manifest(1, first);
@@ -125,12 +101,12 @@ static void manifests_of_records(void) {
     CHECK(completes(store, 1, RELKVANU_CALL_TRIGGER, &first) == 3, "the number");
     CHECK(!exists("storage/record-1.manifest") && exists("storage/record-2.manifest") && exists("storage/record-3.manifest"),
         "the manifests");
-    CHECK(list_records() == 2 && records[0].id == 2 && records[1].id == 3, "%zu records", records_len);
+    CHECK(list_records("storage") == 2 && records[0].id == 2 && records[1].id == 3, "%zu records", records_len);
     CHECK(records[0].is_savepoint && !records[1].is_savepoint && !records[0].is_next && records[1].is_next, "what they are");
     CHECK(records[0].is_of_job && records[0].missing == 0 && records[0].files == 8 && records[1].bytes == 36, "their files");
     done(store, RELKVANU_CALL_DISPOSE, 0, 2);
     CHECK(!exists("storage/record-2.manifest") && exists("storage/record-3.manifest"), "a manifest of what was disposed of");
-    relkvanu_store_measure(store, &measures, sizeof measures);
+    relkvanu_store_measures measures = measures_of(store);
     CHECK(measures.manifests == 3 && measures.failed_manifests == 0, "%" PRIu64 " manifests", measures.manifests);
     relkvanu_store_close(store);
 }
@@ -147,11 +123,11 @@ static void manifests_are_asked_for(void) {
     completes(store, 1, RELKVANU_CALL_TRIGGER, NULL);
     CHECK(!exists("storage/record-2.manifest") && exists("storage/record-1.manifest"), "the manifests");
     CHECK(relkvanu_store_sweep(store, &left) == RELKVANU_STORE_OK && left == 0, "a sweep");
-    CHECK(!exists("storage/record-1.manifest") && list_records() == 0, "a manifest is left");
+    CHECK(!exists("storage/record-1.manifest") && list_records("storage") == 0, "a manifest is left");
     relkvanu_store_close(store);
     options.flags |= RELKVANU_STORE_MANIFESTS; /* what should be there is written at an opening */
     store = opens(&options, RELKVANU_STORE_OK);
-    CHECK(list_records() == 1 && records[0].id == 2 && records[0].missing == 0, "no manifest of the choice");
+    CHECK(list_records("storage") == 1 && records[0].id == 2 && records[0].missing == 0, "no manifest of the choice");
     relkvanu_store_close(store);
 }
 
@@ -165,8 +141,7 @@ static void a_sweep_of_manifests(void) {
     for (size_t i = 0; i < 8; i++) {
         char name[PATHS];
         snprintf(name, sizeof name, "storage/%s", i < 5 ? foreign[i] : stale[i - 5]);
-        FILE *to = fopen(in(name), "w");
-        CHECK(to != NULL && fclose(to) == 0, "%s", name);
+        make_empty(name);
     }
     CHECK(relkvanu_store_sweep(store, &left) == RELKVANU_STORE_OK && left == 0, "a sweep");
     for (size_t i = 0; i < 8; i++) {
@@ -174,27 +149,22 @@ static void a_sweep_of_manifests(void) {
         snprintf(name, sizeof name, "storage/%s", i < 5 ? foreign[i] : stale[i - 5]);
         CHECK(exists(name) == (i < 5), "%s", name);
     }
-    CHECK(list_records() == 1 && records[0].id == 1, "the manifest of the choice is gone");
+    CHECK(list_records("storage") == 1 && records[0].id == 1, "the manifest of the choice is gone");
     relkvanu_store_close(store);
 }
 
 /* A manifest that can't be written stops no call, and is written later. */
 static void manifests_that_fail(void) {
-    relkvanu_store_measures measures;
     relkvanu_store *store = opens_with(manifests(RELKVANU_STORE_CREATE));
     completes(store, 1, RELKVANU_CALL_TRIGGER, NULL);
     fail_syncs("/record-2.manifest.part", EIO);
     completes(store, 1, RELKVANU_CALL_TRIGGER, NULL);
-    relkvanu_store_measure(store, &measures, sizeof measures);
+    relkvanu_store_measures measures = measures_of(store);
     CHECK(measures.manifests == 1 && measures.failed_manifests >= 1, "%" PRIu64 " failed", measures.failed_manifests);
     CHECK(exists("storage/record-1.manifest") && !exists("storage/record-2.manifest") && !exists("storage/record-2.manifest.part"),
         "the manifests");
     fail_syncs("", 0);
-    while (!exists("storage/record-2.manifest")) { /* once a commit comes a second later */
-        relkvanu_answer answer;
-        CHECK(relkvanu_store_reserve(store, 1, 1, &answer) == RELKVANU_STORE_OK, "a name");
-        nanosleep(&(struct timespec){0, 10000000}, NULL);
-    }
+    AWAIT(reserved(store, 1, 1) != 0 && exists("storage/record-2.manifest")); /* once a commit comes a second later */
     CHECK(!exists("storage/record-1.manifest"), "one that ended is left");
     uint64_t failed = measures.failed_manifests, id = trigger(store, RELKVANU_CALL_TRIGGER).b, file = 0;
     relkvanu_answer answer;
@@ -204,24 +174,22 @@ static void manifests_that_fail(void) {
     fail_syncs("/storage", EIO); /* the folder's */
     int status = relkvanu_store_ack_in(store, 1, RELKVANU_STORE_NOW, id, 0, SUBTASKS - 1, NULL, 0, &file, 1, &answer);
     CHECK(status == RELKVANU_STORE_OK && answer.what == RELKVANU_ACK_COMPLETED, "status %d, what %" PRIu32, status, answer.what);
-    relkvanu_store_measure(store, &measures, sizeof measures);
+    measures = measures_of(store);
     CHECK(measures.failed_manifests > failed && exists("storage/record-2.manifest"), "the folder is not synced");
     fail_syncs("", 0);
     relkvanu_store_close(store);
 }
 
 static uint64_t choice_of(relkvanu_store *store) {
-    relkvanu *handle;
-    CHECK(relkvanu_store_read(store, &handle) == RELKVANU_STORE_OK, "a read");
+    relkvanu *handle = begins_read(store);
     uint64_t id = relkvanu_choice(handle).a;
     relkvanu_store_read_end(store);
     return id;
 }
 
 static bool has_files(relkvanu_store *store, uint64_t id, uint64_t first) {
-    relkvanu *handle;
     bool is_same = true;
-    CHECK(relkvanu_store_read(store, &handle) == RELKVANU_STORE_OK, "a read");
+    relkvanu *handle = begins_read(store);
     for (uint16_t i = 0; i < SUBTASKS; i++) {
         uint64_t files[MOST_FILES];
         relkvanu_answer found = relkvanu_files_of(handle, id, 0, i, files, MOST_FILES);
@@ -233,11 +201,10 @@ static bool has_files(relkvanu_store *store, uint64_t id, uint64_t first) {
 
 /* The job goes on: its next record has a number, its term and its names are above these. */
 static void goes_on(relkvanu_store *store, uint64_t number, uint64_t term, uint64_t name) {
-    relkvanu_store_call call = {.call = {.kind = RELKVANU_CALL_RESTORE, .now = RELKVANU_STORE_NOW}};
+    relkvanu_store_call call = made(store, (relkvanu_call){.kind = RELKVANU_CALL_RESTORE, .now = RELKVANU_STORE_NOW});
     relkvanu_answer answer;
     size_t left;
-    CHECK(relkvanu_store_calls(store, &call, 1) == RELKVANU_STORE_OK && call.answer.code == RELKVANU_DONE, "a restore");
-    CHECK(call.term > term, "the term %" PRIu64, call.term);
+    CHECK(call.answer.code == RELKVANU_DONE && call.term > term, "code %" PRIu32 ", term %" PRIu64, call.answer.code, call.term);
     uint64_t next = trigger(store, RELKVANU_CALL_TRIGGER).b;
     CHECK(next > number, "record %" PRIu64, next);
     for (uint16_t i = 0; i < SUBTASKS; i++) {
@@ -274,9 +241,7 @@ static void a_lost_job(void) {
     CHECK(report.is_recovered && !report.settings_differ && choice_of(store) == id && has_files(store, id, first), "the choice");
     CHECK(report.term == term && report.next_name == name, "what is next");
     goes_on(store, pending, 1, late + 1);
-    char left[PATHS];
-    snprintf(left, sizeof left, "storage/%" PRIu64, late);
-    CHECK(!exists(left) && list_records() == 1 && records[0].missing == 0, "what is left");
+    CHECK(!exists(stored(late)) && list_records("storage") == 1 && records[0].missing == 0, "what is left");
     lose_job_of(store);
     CHECK(rename(in("old.db"), in("x.db")) == 0, "the old file");
     options.flags = RELKVANU_STORE_MANIFESTS;
@@ -324,7 +289,6 @@ static void lost_again(void) {
 /* Why there is nothing to make a job of. Nothing changes then. */
 static void nothing_to_recover(void) {
     uint64_t first = 0;
-    char name[PATHS];
     recovers(0, RELKVANU_STORE_STORAGE); /* no marker */
     relkvanu_store *store = opens_with(manifests(RELKVANU_STORE_CREATE));
     recovers(0, RELKVANU_STORE_IN_USE);
@@ -337,17 +301,15 @@ static void nothing_to_recover(void) {
     completes(store, 1, RELKVANU_CALL_TRIGGER, &first);
     lose_job_of(store);
     recovers(9, RELKVANU_STORE_ABSENT);
-    snprintf(name, sizeof name, "storage/%" PRIu64, first + 3);
+    const char *name = stored(first + 3);
     CHECK(truncate(in(name), 3) == 0, "%s", name); /* it had 4 bytes */
-    CHECK(list_records() == 1 && records[0].missing == 1 && !records[0].is_next, "a file is short");
+    CHECK(list_records("storage") == 1 && records[0].missing == 1 && !records[0].is_next, "a file is short");
     recovers(0, RELKVANU_STORE_ABSENT);
     CHECK(unlink(in(name)) == 0, "%s", name);
-    CHECK(list_records() == 1 && records[0].missing == 1, "a file is missing");
+    CHECK(list_records("storage") == 1 && records[0].missing == 1, "a file is missing");
     recovers(0, RELKVANU_STORE_ABSENT);
-    FILE *to = fopen(in(name), "w");
-    CHECK(to != NULL && fputs("four", to) >= 0 && fclose(to) == 0, "%s", name);
-    to = fopen(in("x.db-wal"), "w");
-    CHECK(to != NULL && fputs("calls", to) >= 0 && fclose(to) == 0, "the -wal");
+    write_text(name, "four");
+    write_text("x.db-wal", "calls");
     recovers(0, RELKVANU_STORE_PRESENT);
     CHECK(unlink(in("x.db-wal")) == 0, "the -wal");
     recovers(1, RELKVANU_STORE_OK);
@@ -367,12 +329,13 @@ static void damaged_manifests(void) {
         CHECK(pread(file, &byte, 1, at) == 1, "byte %ld", (long)at);
         other = byte ^ 1;
         CHECK(pwrite(file, &other, 1, at) == 1, "byte %ld", (long)at);
-        CHECK(list_records() == 2 && records[1].status == RELKVANU_STORE_DAMAGED && !records[1].is_next && records[0].is_next,
+        CHECK(list_records("storage") == 2 && records[1].status == RELKVANU_STORE_DAMAGED && !records[1].is_next && records[0].is_next,
             "byte %ld is not looked at: status %" PRIu32, (long)at, records[1].status);
         CHECK(pwrite(file, &byte, 1, at) == 1, "byte %ld", (long)at);
     }
     for (off_t len = is.st_size - 1; len >= 0; len -= len > is.st_size - 30 || len < 60 ? 1 : 50) {
-        CHECK(ftruncate(file, len) == 0 && list_records() == 2 && records[1].status == RELKVANU_STORE_DAMAGED, "%ld bytes", (long)len);
+        CHECK(ftruncate(file, len) == 0 && list_records("storage") == 2 && records[1].status == RELKVANU_STORE_DAMAGED, "%ld bytes",
+            (long)len);
     }
     close(file);
     recovers(0, RELKVANU_STORE_DAMAGED);
@@ -391,8 +354,7 @@ static void manifests_that_cannot_be_read(void) {
     CHECK(completes(store, 1, RELKVANU_CALL_TRIGGER, NULL) == id, "the number");
     lose_job_of(store);
     CHECK(truncate(in("storage/record-1.manifest"), 7) == 0, "an earlier one");
-    FILE *to = fopen(in("storage/record-5000.manifest"), "w");
-    CHECK(to != NULL && fputs("written by a later version", to) >= 0 && fclose(to) == 0, "a later one");
+    write_text("storage/record-5000.manifest", "written by a later version");
     recovers(0, RELKVANU_STORE_DAMAGED);
     CHECK(strstr(recovered.message, "record-5000.manifest") != NULL, "%s", recovered.message);
     CHECK(rename(in("storage/record-5000.manifest"), in("storage/record-18446744073709551615.manifest")) == 0, "the greatest number");
@@ -409,12 +371,11 @@ static void manifests_that_cannot_be_read(void) {
 
 /* What has the name that a new file had in earlier versions may be a job. */
 static void a_job_beside_a_recovery(void) {
-    relkvanu_store *store = opens_with(manifests(RELKVANU_STORE_CREATE)), *other;
+    relkvanu_store *store = opens_with(manifests(RELKVANU_STORE_CREATE));
     completes(store, 1, RELKVANU_CALL_TRIGGER, NULL);
     lose_job_of(store);
     relkvanu_store_options beside = job_options(RELKVANU_STORE_CREATE, 0);
-    CHECK(relkvanu_store_open(&other, in("x.db.new"), &beside, &report) == RELKVANU_STORE_OK, "%s", report.message);
-    relkvanu_store_close(other);
+    relkvanu_store_close(opens_at("x.db.new", &beside, RELKVANU_STORE_OK));
     recovers(0, RELKVANU_STORE_OK);
     CHECK(exists("x.db.new"), "the job beside it is gone");
 }
@@ -444,7 +405,7 @@ static void a_marker_that_cannot_be_read(void) {
     CHECK(
         relkvanu_store_claim(in("storage"), 0, in("y.db"), in("elsewhere"), &recovered) == RELKVANU_STORE_STORAGE, "%s", recovered.message);
     CHECK(relkvanu_store_records(in("storage"), note_record, records, message, sizeof message) == RELKVANU_STORE_STORAGE, "%s", message);
-    CHECK(unlink(in("storage/.relkvanu-job")) == 0 && list_records() == 1 && records[0].missing == 0, "what is left");
+    CHECK(unlink(in("storage/.relkvanu-job")) == 0 && list_records("storage") == 1 && records[0].missing == 0, "what is left");
 }
 
 /* Savepoints live on, with the files that they share, and with another shape. */
@@ -467,11 +428,11 @@ static void savepoints_live_on(void) {
     recovers(0, RELKVANU_STORE_OK);
     CHECK(recovered.record == id && recovered.savepoints == 1 && recovered.passed == 0, "record %" PRIu64, recovered.record);
     store = opens_with(manifests(RELKVANU_STORE_CREATE));
-    CHECK(choice_of(store) == id && list_records() == 3 && records[0].id == savepoint && records[1].id == id, "%zu records", records_len);
+    CHECK(choice_of(store) == id && list_records("storage") == 3 && records[0].id == savepoint && records[1].id == id, "%zu records",
+        records_len);
     uint64_t again = records[2].id;
     CHECK(records[2].is_savepoint && again >= recovered.next_number && has_files(store, again, first), "record %" PRIu64, again);
-    relkvanu *handle;
-    CHECK(relkvanu_store_read(store, &handle) == RELKVANU_STORE_OK, "a read");
+    relkvanu *handle = begins_read(store);
     CHECK(relkvanu_count(handle, first + 3).b == 5 && relkvanu_count(handle, first).b == 1, "uses: %" PRIu64,
         relkvanu_count(handle, first + 3).b);
     relkvanu_store_read_end(store);
@@ -486,9 +447,9 @@ static void a_rolled_back_job(void) {
     relkvanu_store *store = opens_with(manifests(RELKVANU_STORE_CREATE));
     uint64_t first = 0, savepoint = completes(store, 1, RELKVANU_CALL_SAVEPOINT, &first);
     completes(store, 1, RELKVANU_CALL_TRIGGER, NULL);
-    CHECK(list_records() == 2 && records[1].is_next, "the checkpoint is the choice");
+    CHECK(list_records("storage") == 2 && records[1].is_next, "the checkpoint is the choice");
     done(store, RELKVANU_CALL_RESTORE, RELKVANU_STORE_NOW, savepoint);
-    CHECK(list_records() == 1 && records[0].is_next, "the savepoint is the choice");
+    CHECK(list_records("storage") == 1 && records[0].is_next, "the savepoint is the choice");
     uint64_t term = report.term;
     lose_job_of(store);
     recovers(0, RELKVANU_STORE_OK);
@@ -524,10 +485,9 @@ static void another_jobs_manifest(void) {
     relkvanu_store *store = opens_with(manifests(RELKVANU_STORE_CREATE));
     completes(store, 1, RELKVANU_CALL_TRIGGER, NULL);
     relkvanu_store_close(store);
-    FILE *to = fopen(in("storage/.relkvanu-job"), "w");
-    CHECK(to != NULL && fputs("relkvanu job 0123456789abcdef0123456789abcdef\nepoch 7\n", to) >= 0 && fclose(to) == 0, "the marker");
+    write_text("storage/.relkvanu-job", "relkvanu job 0123456789abcdef0123456789abcdef\nepoch 7\n");
     lose_job();
-    CHECK(list_records() == 1 && !records[0].is_of_job && !records[0].is_next && records[0].missing == 0, "whose it is");
+    CHECK(list_records("storage") == 1 && !records[0].is_of_job && !records[0].is_next && records[0].missing == 0, "whose it is");
     recovers(0, RELKVANU_STORE_ABSENT);
     CHECK(relkvanu_store_records(in("nowhere"), note_record, records, message, sizeof message) == RELKVANU_STORE_STORAGE, "a folder");
     CHECK(message[0] != 0, "no message");
@@ -617,10 +577,9 @@ static bool exports_in_time(const char *to) {
 /* Manifests end while the folder is listed: an export has the last record that was complete when it began, or a later one, and no savepoint before it. */
 static void an_export_beside_a_job(void) {
     relkvanu_store *store = opens_with(manifests(RELKVANU_STORE_CREATE));
-    pthread_t job;
     completes(store, 1, RELKVANU_CALL_SAVEPOINT, NULL);
     latest = completes(store, 1, RELKVANU_CALL_TRIGGER, NULL);
-    CHECK(pthread_create(&job, NULL, completes_more, store) == 0, "a thread");
+    pthread_t job = starts(completes_more, store);
     for (unsigned i = 0; i < 30; i++) {
         char name[PATHS];
         snprintf(name, sizeof name, "out-%u", i);
@@ -639,12 +598,9 @@ static void imports(const char *from, uint64_t record, int status) {
 }
 
 static relkvanu_store *opens_other(void) {
-    relkvanu_store *store;
     relkvanu_store_options options = manifests(RELKVANU_STORE_RECOVER);
     options.storage = in("elsewhere");
-    int status = relkvanu_store_open(&store, in("y.db"), &options, &report);
-    CHECK(status == RELKVANU_STORE_OK, "status %d: %s", status, report.message);
-    return store;
+    return opens_at("y.db", &options, RELKVANU_STORE_OK);
 }
 
 /* Another job of a record, while the first one runs. Each goes its own way. */
@@ -719,12 +675,12 @@ static void a_claim(void) {
     options = manifests(RELKVANU_STORE_RECOVER);
     opens(&options, RELKVANU_STORE_STORAGE);
     CHECK(says("later opening"), "%s", report.message);
-    CHECK(list_records() == 1 && records[0].id == savepoint && records[0].missing == 0, "%zu records", records_len);
+    CHECK(list_records("storage") == 1 && records[0].id == savepoint && records[0].missing == 0, "%zu records", records_len);
     relkvanu_store *other = opens_other();
     CHECK(choice_of(other) == last.b, "the choice");
     relkvanu_store_close(other);
     claims("storage", 0, "elsewhere", RELKVANU_STORE_PRESENT);
-    CHECK(list_records() == 1, "a claim over a job took another record");
+    CHECK(list_records("storage") == 1, "a claim over a job took another record");
 }
 
 /* A manifest that can't be read may be of the latest record, so nothing is made of an earlier one, unless it is given by its number. */
@@ -773,7 +729,7 @@ static void a_claim_of_shared_files(void) {
     relkvanu_store_close(store);
     claims("storage", savepoint.a - 1, "elsewhere", RELKVANU_STORE_OK);
     CHECK(has_bytes("elsewhere", first, 1) && has_bytes("storage", first, 1) && !has_bytes("storage", first + 1, 2), "the files");
-    CHECK(list_records() == 1 && records[0].id == savepoint.a && records[0].missing == 0, "%zu records", records_len);
+    CHECK(list_records("storage") == 1 && records[0].id == savepoint.a && records[0].missing == 0, "%zu records", records_len);
 }
 
 /* The same call goes on where one ended: after the job was made, and before anything has left. An exported folder goes with its last file. */
@@ -845,8 +801,8 @@ static void a_claim_in_place(void) {
     CHECK(relkvanu_store_put(store, 5001, "x", 1) == RELKVANU_STORE_STORAGE, "the old job puts a file");
     relkvanu_store_close(store);
     options = manifests(RELKVANU_STORE_RECOVER);
-    int status = relkvanu_store_open(&other, in("y.db"), &options, &report);
-    CHECK(status == RELKVANU_STORE_OK && memcmp(job, report.job, sizeof job) == 0 && has_files(other, id, first), "%s", report.message);
+    other = opens_at("y.db", &options, RELKVANU_STORE_OK);
+    CHECK(memcmp(job, report.job, sizeof job) == 0 && has_files(other, id, first), "another job");
     relkvanu_store_close(other);
 }
 
@@ -920,21 +876,15 @@ static int keeps(relkvanu_store *store) {
 }
 
 static relkvanu_store *opens_without_folder(uint32_t flags) {
-    relkvanu_store *store;
-    relkvanu_store_options options = manifests(flags);
-    options.storage = NULL;
-    options.flags &= ~RELKVANU_STORE_MANIFESTS;
-    int status = relkvanu_store_open(&store, in("x.db"), &options, &report);
-    CHECK(status == RELKVANU_STORE_OK, "status %d: %s", status, report.message);
-    return store;
+    return opens_with(job_options(flags, 0));
 }
 
 /* A record of 8 files that are elsewhere. Its last acknowledgement has this status. */
 static uint64_t acknowledges_elsewhere(relkvanu_store *store, uint64_t term, int last) {
     relkvanu_answer answer, triggered = trigger(store, RELKVANU_CALL_TRIGGER);
     for (uint16_t i = 0; i < SUBTASKS; i++) {
-        CHECK(relkvanu_store_reserve(store, term, 1, &answer) == RELKVANU_STORE_OK && answer.code == RELKVANU_DONE, "no name");
-        int status = relkvanu_store_ack_in(store, term, RELKVANU_STORE_NOW, triggered.b, 0, i, &answer.a, 1, NULL, 0, &answer);
+        uint64_t file = reserved(store, term, 1);
+        int status = relkvanu_store_ack_in(store, term, RELKVANU_STORE_NOW, triggered.b, 0, i, &file, 1, NULL, 0, &answer);
         CHECK(status == (i + 1 < SUBTASKS ? RELKVANU_STORE_OK : last), "status %d", status);
         CHECK(answer.code == (status == RELKVANU_STORE_OK ? RELKVANU_DONE : RELKVANU_STORE_NOT_MADE), "code %" PRIu32, answer.code);
     }
@@ -961,7 +911,6 @@ static const struct object *manifest_elsewhere(uint64_t id) {
 
 /* One put for each record, before it is answered. One that fails is counted, and made again. */
 static void manifests_elsewhere(void) {
-    relkvanu_store_measures measures;
     relkvanu_store *store = opens_without_folder(RELKVANU_STORE_CREATE);
     CHECK(put_object(objects, "record-7.manifest", "of a record that ended", 1) == RELKVANU_STORAGE_OK, "an old one");
     place_status = RELKVANU_STORAGE_NOT_THERE;
@@ -977,7 +926,7 @@ static void manifests_elsewhere(void) {
     place_status = RELKVANU_STORAGE_FAILED;
     uint64_t next = completes_elsewhere(store, 1);
     CHECK(manifest_elsewhere(next) == NULL && manifest_elsewhere(id) != NULL, "the manifest before stays");
-    relkvanu_store_measure(store, &measures, sizeof measures);
+    relkvanu_store_measures measures = measures_of(store);
     CHECK(measures.manifests == 1 && measures.failed_manifests >= 1, "%" PRIu64 " failed", measures.failed_manifests);
     place_status = RELKVANU_STORAGE_OK;
     uint64_t last = completes_elsewhere(store, 1);

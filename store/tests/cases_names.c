@@ -9,42 +9,8 @@
 #include <sys/stat.h>
 #include <unistd.h>
 
-static relkvanu_store_options named_options(uint32_t flags, uint64_t image_calls) {
-    return storage_options(flags, image_calls);
-}
-
 static relkvanu_store *named_job(void) {
-    return opens_with(named_options(RELKVANU_STORE_CREATE, 0));
-}
-
-static void make_file(uint64_t number) {
-    char name[40];
-    snprintf(name, sizeof name, "storage/%" PRIu64, number);
-    int file = open(in(name), O_CREAT | O_WRONLY | O_EXCL, 0600);
-    CHECK(file >= 0, "%s", name);
-    close(file);
-}
-
-static bool has_file(uint64_t number) {
-    char name[40];
-    snprintf(name, sizeof name, "storage/%" PRIu64, number);
-    return exists(name);
-}
-
-/* One call, and the store's status RELKVANU_STORE_OK. */
-static relkvanu_store_call make_call(relkvanu_store *store, relkvanu_call call) {
-    relkvanu_store_call it = {.call = call};
-    int status = relkvanu_store_calls(store, &it, 1);
-    CHECK(status == RELKVANU_STORE_OK, "kind %" PRIu32 ": status %d", call.kind, status);
-    return it;
-}
-
-static uint64_t reserved(relkvanu_store *store, uint64_t term, uint64_t count) {
-    relkvanu_answer answer;
-    CHECK(relkvanu_store_reserve(store, term, count, &answer) == RELKVANU_STORE_OK && answer.code == RELKVANU_DONE &&
-              answer.what == RELKVANU_RESERVED && answer.b == count,
-        "code %" PRIu32 ", what %" PRIu32, answer.code, answer.what);
-    return answer.a;
+    return opens_with(storage_options(RELKVANU_STORE_CREATE, 0));
 }
 
 static void fenced(relkvanu_answer answer, uint32_t why, uint64_t file) {
@@ -87,37 +53,37 @@ static void terms_and_names(void) {
     fenced(acked_at_0(store, 1, first, 0, 11), RELKVANU_NEVER_RESERVED, 11);
     fenced(acked_at_0(store, 0, first, 0, 9), RELKVANU_OLD_TERM, 0);
     fenced(acked_at_0(store, 2, first, 0, 9), RELKVANU_OLD_TERM, 0);
-    fenced(make_call(store, (relkvanu_call){.kind = RELKVANU_CALL_DECLINE, .number = first}).answer, RELKVANU_OLD_TERM, 0);
-    fenced(make_call(store, (relkvanu_call){.kind = RELKVANU_CALL_RESERVE, .number = 0, .term = 1}).answer, RELKVANU_BAD_COUNT, 0);
-    fenced(make_call(store, (relkvanu_call){.kind = RELKVANU_CALL_RESERVE, .number = 65537, .term = 1}).answer, RELKVANU_BAD_COUNT, 0);
+    fenced(made(store, (relkvanu_call){.kind = RELKVANU_CALL_DECLINE, .number = first}).answer, RELKVANU_OLD_TERM, 0);
+    fenced(made(store, (relkvanu_call){.kind = RELKVANU_CALL_RESERVE, .number = 0, .term = 1}).answer, RELKVANU_BAD_COUNT, 0);
+    fenced(made(store, (relkvanu_call){.kind = RELKVANU_CALL_RESERVE, .number = 65537, .term = 1}).answer, RELKVANU_BAD_COUNT, 0);
     relkvanu_answer late = acked_at_0(store, 1, first, 0, 9); /* the record is complete */
     CHECK(late.code == RELKVANU_DONE && late.what == RELKVANU_ACK_LATE && late.a == 1, "what %" PRIu32 " %" PRIu64, late.what, late.a);
     uint64_t second = trigger(store);
-    relkvanu_store_call restore = make_call(store, (relkvanu_call){.kind = RELKVANU_CALL_RESTORE, .now = RELKVANU_STORE_NOW});
+    relkvanu_store_call restore = made(store, (relkvanu_call){.kind = RELKVANU_CALL_RESTORE, .now = RELKVANU_STORE_NOW});
     CHECK(restore.answer.what == RELKVANU_RESTORED_CHECKPOINT && restore.answer.b == first && restore.term == 2, "term %" PRIu64,
         restore.term);
     fenced(acked_at_0(store, 1, second, 0, 9), RELKVANU_OLD_TERM, 0);
     CHECK(reserved(store, 2, 3) == 11, "names are given once");
     relkvanu_store_close(store);
-    store = opens_with(named_options(RELKVANU_STORE_RECOVER, 0));
+    store = opens_with(storage_options(RELKVANU_STORE_RECOVER, 0));
     CHECK(report.term == 2 && report.next_name == 14 && report.is_recovered && !report.settings_differ,
         "term %" PRIu64 ", next name %" PRIu64, report.term, report.next_name);
     CHECK(reserved(store, 2, 1) == 14, "after a recovery");
-    relkvanu_store_call cancel = make_call(store, (relkvanu_call){.kind = RELKVANU_CALL_CANCEL, .now = RELKVANU_STORE_NOW});
+    relkvanu_store_call cancel = made(store, (relkvanu_call){.kind = RELKVANU_CALL_CANCEL, .now = RELKVANU_STORE_NOW});
     CHECK(cancel.answer.what == RELKVANU_CANCELLED && cancel.term == 3, "term %" PRIu64, cancel.term);
-    fenced(make_call(store, (relkvanu_call){.kind = RELKVANU_CALL_RESERVE, .number = 1, .term = 3}).answer, RELKVANU_ENDED, 0);
-    relkvanu_store_call refused = make_call(store, (relkvanu_call){.kind = RELKVANU_CALL_RESTORE, .now = RELKVANU_STORE_NOW});
+    fenced(made(store, (relkvanu_call){.kind = RELKVANU_CALL_RESERVE, .number = 1, .term = 3}).answer, RELKVANU_ENDED, 0);
+    relkvanu_store_call refused = made(store, (relkvanu_call){.kind = RELKVANU_CALL_RESTORE, .now = RELKVANU_STORE_NOW});
     CHECK(refused.answer.code == RELKVANU_REFUSED && refused.term == 0 && refused.place == 0, "a restore of a cancelled job");
     relkvanu_store_close(store);
 }
 
 /* A process that is killed after its answers: all of them are there, by the log alone and by an image. */
 static int reserves_and_is_killed(void *with) {
-    relkvanu_store *store = opens_with(named_options(RELKVANU_STORE_CREATE, *(uint64_t *)with));
+    relkvanu_store *store = opens_with(storage_options(RELKVANU_STORE_CREATE, *(uint64_t *)with));
     uint64_t term = report.term;
     for (int i = 0; i < 5; i++) {
         reserved(store, term, 7);
-        term = make_call(store, (relkvanu_call){.kind = RELKVANU_CALL_RESTORE, .now = RELKVANU_STORE_NOW}).term;
+        term = made(store, (relkvanu_call){.kind = RELKVANU_CALL_RESTORE, .now = RELKVANU_STORE_NOW}).term;
     }
     uint64_t last = reserved(store, term, 7);
     return (int)(last * 10 + term); /* no close */
@@ -127,7 +93,7 @@ static void reserved_and_killed(void) {
     for (uint64_t images = 3; images <= 1000; images += 997) {
         uint64_t told = (uint64_t)in_child(reserves_and_is_killed, &images);
         CHECK(told == 36 * 10 % 256 + 6, "%" PRIu64, told);
-        relkvanu_store_options options = named_options(RELKVANU_STORE_RECOVER, 0);
+        relkvanu_store_options options = storage_options(RELKVANU_STORE_RECOVER, 0);
         relkvanu_store *store = opens(&options, RELKVANU_STORE_OK);
         CHECK(report.term == 6 && report.next_name == 43, "term %" PRIu64 ", next name %" PRIu64, report.term, report.next_name);
         CHECK(reserved(store, 6, 1) == 43, "names are given once");
@@ -140,13 +106,13 @@ static void reserved_and_killed(void) {
 
 /* The last image is damaged: by the one before it and the log the names are those of the last call. */
 static void by_an_earlier_image(void) {
-    relkvanu_store_options options = named_options(RELKVANU_STORE_CREATE, 5);
+    relkvanu_store_options options = storage_options(RELKVANU_STORE_CREATE, 5);
     relkvanu_store *store = opens(&options, RELKVANU_STORE_OK);
     uint64_t term = 1;
     for (uint64_t i = 1; i <= 17; i++) {
         CHECK(reserved(store, term, 1) == i, "name %" PRIu64, i);
         if (i % 4 == 0) {
-            term = make_call(store, (relkvanu_call){.kind = RELKVANU_CALL_RESTORE, .now = RELKVANU_STORE_NOW}).term;
+            term = made(store, (relkvanu_call){.kind = RELKVANU_CALL_RESTORE, .now = RELKVANU_STORE_NOW}).term;
         }
     }
     relkvanu_store_close(store);
@@ -187,11 +153,10 @@ static void forfeits(void) {
 /* A sweep while a task has names that it has not used yet, after its term, of files that are in use, and of some that were not given out. */
 static void sweeps_at_any_time(void) {
     relkvanu_store *store = named_job();
-    relkvanu_store_counts counts;
     size_t left;
     CHECK(reserved(store, 1, 30) == 1, "the names");
     for (uint64_t name = 1; name <= 33; name++) {
-        make_file(name);
+        make_empty(stored(name));
     }
     complete(store, 1, 1); /* 1 to 8 are in use */
     complete(store, 1, 9); /* 1 to 8 wait */
@@ -199,37 +164,37 @@ static void sweeps_at_any_time(void) {
     uint64_t given_up[] = {17, 18};
     CHECK(relkvanu_store_forfeit(store, 1, given_up, 2, &answer) == RELKVANU_STORE_OK && answer.code == RELKVANU_DONE, "forfeit");
     CHECK(relkvanu_store_sweep(store, &left) == RELKVANU_STORE_OK && left == 0, "%zu are left", left);
-    relkvanu_store_count(store, &counts);
+    relkvanu_store_counts counts = totals_of(store);
     CHECK(counts.swept == 2 && counts.unissued == 3, "%" PRIu64 " swept, %" PRIu64 " not given out", counts.swept, counts.unissued);
     for (uint64_t name = 1; name <= 33; name++) {
-        CHECK(has_file(name) == (name != 17 && name != 18), "file %" PRIu64, name);
+        CHECK(exists(stored(name)) == (name != 17 && name != 18), "file %" PRIu64, name);
     }
-    make_call(store, (relkvanu_call){.kind = RELKVANU_CALL_RESTORE, .now = RELKVANU_STORE_NOW});
+    made(store, (relkvanu_call){.kind = RELKVANU_CALL_RESTORE, .now = RELKVANU_STORE_NOW});
     CHECK(unlink(in("storage/19")) == 0 && mkdir(in("storage/19.part"), 0700) == 0, "a folder");
     CHECK(relkvanu_store_sweep(store, &left) == RELKVANU_STORE_OK && left == 1, "%zu are left", left);
     for (uint64_t name = 1; name <= 33; name++) { /* in use and waiting; those of the ended term are garbage; not given out */
-        CHECK(has_file(name) == (name <= 16 || name > 30), "file %" PRIu64, name);
+        CHECK(exists(stored(name)) == (name <= 16 || name > 30), "file %" PRIu64, name);
     }
     CHECK(rmdir(in("storage/19.part")) == 0, "the folder");
-    make_file(20); /* a task of the ended term writes on */
-    CHECK(relkvanu_store_put(store, 21, "state", 5) == RELKVANU_STORE_OK && has_file(21), "so does its put");
-    CHECK(relkvanu_store_sweep(store, &left) == RELKVANU_STORE_OK && left == 0 && !has_file(20) && !has_file(21) && has_file(31),
+    make_empty(stored(20)); /* a task of the ended term writes on */
+    CHECK(relkvanu_store_put(store, 21, "state", 5) == RELKVANU_STORE_OK && exists(stored(21)), "so does its put");
+    CHECK(relkvanu_store_sweep(store, &left) == RELKVANU_STORE_OK && left == 0 && !exists(stored(20)) && !exists(stored(21)) &&
+              exists(stored(31)),
         "the next sweep");
     relkvanu_store_close(store);
 }
 
 /* The job's own file is in the folder, and its name is a number: no sweep deletes it. */
 static void its_own_file(void) {
-    relkvanu_store_options options = named_options(RELKVANU_STORE_CREATE, 0);
-    relkvanu_store *store;
+    relkvanu_store_options options = storage_options(RELKVANU_STORE_CREATE, 0);
+    relkvanu_store *store = opens_at("storage/7", &options, RELKVANU_STORE_OK);
     size_t left;
-    CHECK(relkvanu_store_open(&store, in("storage/7"), &options, &report) == RELKVANU_STORE_OK, "%s", report.message);
     CHECK(reserved(store, 1, 10) == 1, "the names");
     CHECK(
         relkvanu_store_put(store, 7, "state", 5) == RELKVANU_STORE_PRESENT && relkvanu_store_put(store, 8, "state", 5) == RELKVANU_STORE_OK,
         "put");
-    make_call(store, (relkvanu_call){.kind = RELKVANU_CALL_RESTORE, .now = RELKVANU_STORE_NOW});
-    CHECK(relkvanu_store_sweep(store, &left) == RELKVANU_STORE_OK && left == 0 && has_file(7) && !has_file(8), "a sweep");
+    made(store, (relkvanu_call){.kind = RELKVANU_CALL_RESTORE, .now = RELKVANU_STORE_NOW});
+    CHECK(relkvanu_store_sweep(store, &left) == RELKVANU_STORE_OK && left == 0 && exists(stored(7)) && !exists(stored(8)), "a sweep");
     relkvanu_store_close(store);
 }
 
@@ -239,38 +204,39 @@ static void a_later_opening(void) {
     size_t left;
     CHECK(reserved(store, 1, 3) == 1, "the names");
     for (uint64_t name = 1; name <= 3; name++) {
-        make_file(name);
+        make_empty(stored(name));
     }
-    make_call(store, (relkvanu_call){.kind = RELKVANU_CALL_RESTORE, .now = RELKVANU_STORE_NOW});
+    made(store, (relkvanu_call){.kind = RELKVANU_CALL_RESTORE, .now = RELKVANU_STORE_NOW});
     FILE *marker = fopen(in("storage/.relkvanu-job"), "w");
     CHECK(marker != NULL && fprintf(marker, "relkvanu job %016" PRIx64 "%016" PRIx64 "\nepoch 2\n", report.job[0], report.job[1]) > 0 &&
               fclose(marker) == 0,
         "marker");
-    CHECK(relkvanu_store_sweep(store, &left) == RELKVANU_STORE_STORAGE && has_file(1) && has_file(3), "a sweep");
-    CHECK(relkvanu_store_put(store, 4, "state", 5) == RELKVANU_STORE_STORAGE && !has_file(4), "a put");
+    CHECK(relkvanu_store_sweep(store, &left) == RELKVANU_STORE_STORAGE && exists(stored(1)) && exists(stored(3)), "a sweep");
+    CHECK(relkvanu_store_put(store, 4, "state", 5) == RELKVANU_STORE_STORAGE && !exists(stored(4)), "a put");
     relkvanu_store_close(store);
-    relkvanu_store_options options = named_options(RELKVANU_STORE_RECOVER, 0);
+    relkvanu_store_options options = storage_options(RELKVANU_STORE_RECOVER, 0);
     opens(&options, RELKVANU_STORE_STORAGE);
     CHECK(says("an older copy"), "%s", report.message);
 }
 
 /* Adopted files are below the first name, and are garbage; one that leaves no name is refused. */
 static void adopts(void) {
-    relkvanu_store_options options = named_options(RELKVANU_STORE_CREATE, 0);
+    relkvanu_store_options options = storage_options(RELKVANU_STORE_CREATE, 0);
     size_t left;
-    make_file(UINT64_C(1) << 62);
+    make_empty(stored(UINT64_C(1) << 62));
     opens(&options, RELKVANU_STORE_STORAGE);
     options.flags |= RELKVANU_STORE_ADOPT;
     opens(&options, RELKVANU_STORE_STORAGE);
     CHECK(says("2^62") && !exists("storage/.relkvanu-job"), "%s", report.message);
     unlink(in("storage/4611686018427387904"));
-    make_file(700);
-    make_file(3);
+    make_empty(stored(700));
+    make_empty(stored(3));
     relkvanu_store *store = opens(&options, RELKVANU_STORE_OK);
     CHECK(report.next_name == 701, "next name %" PRIu64, report.next_name);
     CHECK(reserved(store, 1, 1) == 701 && relkvanu_store_put(store, 701, "state", 5) == RELKVANU_STORE_OK, "a name");
-    CHECK(
-        relkvanu_store_sweep(store, &left) == RELKVANU_STORE_OK && left == 0 && !has_file(700) && !has_file(3) && has_file(701), "a sweep");
+    CHECK(relkvanu_store_sweep(store, &left) == RELKVANU_STORE_OK && left == 0 && !exists(stored(700)) && !exists(stored(3)) &&
+              exists(stored(701)),
+        "a sweep");
     relkvanu_store_close(store);
 }
 
@@ -308,9 +274,7 @@ struct task {
 
 /* Whether a restore that is committed has ended the term of the task. */
 static bool has_ended(const struct task *t) {
-    relkvanu_answer answer;
-    CHECK(relkvanu_store_term(t->fleet->store, &answer) == RELKVANU_STORE_OK, "term");
-    return answer.a > t->term;
+    return term_of(t->fleet->store) > t->term;
 }
 
 /* Takes part in a record: reserves, puts, acknowledges or forfeits. Returns false if the term of the task has ended. */
@@ -363,25 +327,23 @@ static void *runs(void *with) {
 static void start_tasks(struct fleet *fleet, uint64_t term) {
     fleet->term = term;
     for (uint16_t i = 0; i < SUBTASKS; i++) {
-        pthread_t thread;
         struct task *t = malloc(sizeof *t);
         CHECK(t != NULL, "no memory");
         *t = (struct task){fleet, term, i};
         fleet->tasks++;
-        CHECK(pthread_create(&thread, NULL, runs, t) == 0 && pthread_detach(thread) == 0, "a thread");
+        pthread_detach(starts(runs, t));
     }
 }
 
 /* Each file in use is there, at any time. */
 static void check_live(relkvanu_store *store) {
-    relkvanu *handle;
-    CHECK(relkvanu_store_read(store, &handle) == RELKVANU_STORE_OK, "a read");
+    relkvanu *handle = begins_read(store);
     for (relkvanu_answer it = relkvanu_live_from(handle, 0); it.what != RELKVANU_LIVE_NONE; it = relkvanu_live_from(handle, it.a + 1)) {
         for (uint16_t i = 0; i < SUBTASKS; i++) {
             uint64_t files[8];
             relkvanu_answer found = relkvanu_files_of(handle, it.a, 0, i, files, 8);
             for (uint64_t at = 0; found.what == RELKVANU_FILES && at < found.a; at++) {
-                CHECK(has_file(files[at]), "file %" PRIu64 " of record %" PRIu64 " is not there", files[at], it.a);
+                CHECK(exists(stored(files[at])), "file %" PRIu64 " of record %" PRIu64 " is not there", files[at], it.a);
             }
         }
     }
@@ -406,8 +368,7 @@ static void *discards(void *with) {
 }
 
 static uint64_t missing(relkvanu_store *store, uint64_t id) {
-    relkvanu *handle;
-    CHECK(relkvanu_store_read(store, &handle) == RELKVANU_STORE_OK, "a read");
+    relkvanu *handle = begins_read(store);
     relkvanu_answer answer = relkvanu_missing(handle, id);
     relkvanu_store_read_end(store);
     return answer.what == RELKVANU_MISSING ? answer.a : 0;
@@ -425,16 +386,10 @@ static void round_of(struct fleet *fleet) {
         }
     }
     usleep((useconds_t)rand() % 2000); /* some tasks are in the middle of their part */
-    relkvanu_store_call restore = make_call(fleet->store, (relkvanu_call){.kind = RELKVANU_CALL_RESTORE, .now = RELKVANU_STORE_NOW});
+    relkvanu_store_call restore = made(fleet->store, (relkvanu_call){.kind = RELKVANU_CALL_RESTORE, .now = RELKVANU_STORE_NOW});
     CHECK(restore.answer.what == RELKVANU_RESTORED_CHECKPOINT && restore.term == fleet->term + 1, "term %" PRIu64, restore.term);
     start_tasks(fleet, restore.term);
     check_live(fleet->store);
-}
-
-static uint64_t in_use(relkvanu_store *store, bool *waits) {
-    relkvanu_counts counts = counts_of(store);
-    *waits = counts.waiting + counts.taken != 0;
-    return counts.in_use;
 }
 
 static unsigned files_there(void) {
@@ -451,32 +406,24 @@ static unsigned files_there(void) {
 
 static void a_sweeper_beside_tasks(void) {
     static struct fleet fleet;
-    pthread_t sweeper, discarder;
-    bool waits = true;
     size_t left;
     fleet.store = named_job();
-    CHECK(pthread_create(&sweeper, NULL, sweeps, &fleet) == 0 && pthread_create(&discarder, NULL, discards, fleet.store) == 0, "a thread");
+    pthread_t sweeper = starts(sweeps, &fleet), discarder = starts(discards, fleet.store);
     start_tasks(&fleet, report.term);
     for (int i = 0; i < ROUNDS || (fleet.late < 3 && i < MOST_ROUNDS); i++) { /* on a busy machine few restores find a task in its part */
         round_of(&fleet);
     }
     fleet.is_over = true;
-    for (int i = 0; i < 300000 && fleet.tasks != 0; i++) {
-        usleep(1000);
-    }
-    CHECK(fleet.tasks == 0 && pthread_join(sweeper, NULL) == 0, "%u tasks", (unsigned)fleet.tasks);
-    for (int i = 0; i < 300000 && waits; i++) {
-        usleep(1000);
-        in_use(fleet.store, &waits);
-    }
+    AWAIT(fleet.tasks == 0);
+    pthread_join(sweeper, NULL);
+    AWAIT(unreported(fleet.store) == 0);
     relkvanu_store_stop(fleet.store);
-    CHECK(!waits && pthread_join(discarder, NULL) == 0, "files wait");
+    pthread_join(discarder, NULL);
     CHECK(relkvanu_store_sweep(fleet.store, &left) == RELKVANU_STORE_OK && left == 0, "the last sweep");
     check_live(fleet.store);
-    uint64_t used = in_use(fleet.store, &waits);
+    uint64_t used = counts_of(fleet.store).in_use;
     CHECK(used == files_there() && used == 2 * SUBTASKS, "%" PRIu64 " files in use, and %u in the folder", used, files_there());
-    relkvanu_store_counts counts;
-    relkvanu_store_count(fleet.store, &counts);
+    relkvanu_store_counts counts = totals_of(fleet.store);
     CHECK(fleet.late >= 3 && counts.swept > ROUNDS * SUBTASKS && counts.unissued == 0, "%u calls came late, %" PRIu64 " files were swept",
         (unsigned)fleet.late, counts.swept);
     relkvanu_store_close(fleet.store);

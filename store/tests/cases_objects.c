@@ -81,8 +81,7 @@ static void a_sweep_of_objects(void) {
     static struct objects objects;
     relkvanu_storage storage = storage_of(&objects);
     relkvanu_store *store = opened();
-    relkvanu_answer names;
-    CHECK(relkvanu_store_reserve(store, 1, 3100, &names) == RELKVANU_STORE_OK && names.a == 1, "names");
+    CHECK(reserved(store, 1, 3100) == 1, "names");
     checkpoint(store, 100);
     CHECK(sweeps_as(store, &storage, RELKVANU_STORE_OK) == 0, "a sweep of no object");
     for (uint64_t file = 100; file < 3100; file++) {
@@ -104,8 +103,7 @@ static void a_sweep_of_objects(void) {
     for (uint64_t file = 100; file < 3100; file++) {
         CHECK(objects.is_there[file] == (file < 100 + 2 * SUBTASKS || file == 2000), "object %" PRIu64, file);
     }
-    relkvanu_store_counts counts;
-    relkvanu_store_count(store, &counts);
+    relkvanu_store_counts counts = totals_of(store);
     CHECK(counts.swept == 3000 - 2 * SUBTASKS - 1, "%" PRIu64 " are swept", counts.swept);
     relkvanu_store_close(store);
 }
@@ -168,45 +166,24 @@ static void set_fault(struct objects *objects, int fault) {
     pthread_mutex_unlock(&objects->mutex);
 }
 
-static uint64_t not_reported(relkvanu_store *store) {
-    relkvanu_reads *reads;
-    CHECK(relkvanu_store_look(store, &reads) == RELKVANU_STORE_OK, "a read");
-    relkvanu_counts counts = relkvanu_reads_file_counts(reads);
-    relkvanu_store_read_end(store);
-    return counts.waiting + counts.taken;
-}
-
-/* Waits until each file that was released is reported as deleted. */
-static void await_reports(relkvanu_store *store) {
-    for (int i = 0; i < 60000 && not_reported(store) != 0; i++) {
-        usleep(1000);
-    }
-    CHECK(not_reported(store) == 0, "%" PRIu64 " are left", not_reported(store));
-}
-
 /* The files of the first checkpoint are deleted once the storage is back; one of them is missing there. Those of the second are in use. */
 static void a_discarder_of_objects(void) {
     static struct objects objects;
     relkvanu_storage storage = storage_of(&objects);
     relkvanu_store *store = opened();
     struct discarding it = {.store = store, .storage = &storage};
-    pthread_t thread;
     for (uint64_t file = 100; file < 100 + 4 * SUBTASKS; file++) {
         objects.is_there[file] = file != 103;
     }
     checkpoint(store, 100);
     checkpoint(store, 100 + 2 * SUBTASKS);
     objects.fault = RELKVANU_STORAGE_NOT_THERE;
-    CHECK(pthread_create(&thread, NULL, discards, &it) == 0, "a thread");
-    while (objects.deletions < 2) {
-        usleep(1000);
-    }
+    pthread_t thread = starts(discards, &it);
+    AWAIT(objects.deletions >= 2);
     CHECK(is_there(&objects, 100, 100), "it is not there, and a file counts as gone");
     set_fault(&objects, 0);
-    while (is_there(&objects, 100, 99 + 2 * SUBTASKS)) {
-        usleep(1000);
-    }
-    await_reports(store);
+    AWAIT(!is_there(&objects, 100, 99 + 2 * SUBTASKS));
+    AWAIT(unreported(store) == 0);
     relkvanu_store_stop(store);
     CHECK(pthread_join(thread, NULL) == 0 && it.status == RELKVANU_STORE_STOPPED, "status %d", it.status);
     for (uint64_t file = 100 + 2 * SUBTASKS; file < 100 + 4 * SUBTASKS; file++) {
@@ -314,22 +291,21 @@ static void the_own_storage_discards(void) {
     do { /* on a slow machine the time may be up before a batch */
         CHECK(relkvanu_store_discard_for(store, 0, 50, NULL, NULL) == RELKVANU_STORE_TIMED_OUT, "a discarder");
     } while (access(in("storage/1"), F_OK) == 0);
-    CHECK(not_reported(store) == 2 * SUBTASKS, "%" PRIu64 " are left", not_reported(store));
+    CHECK(unreported(store) == 2 * SUBTASKS, "%" PRIu64 " are left", unreported(store));
     fail_syncs("", 0);
     CHECK(rename(in("storage/.relkvanu-job"), in("marker")) == 0, "the marker");
     CHECK(relkvanu_store_discard_for(store, 0, 500, NULL, NULL) == RELKVANU_STORE_TIMED_OUT, "without a marker");
-    CHECK(not_reported(store) == 2 * SUBTASKS && rename(in("marker"), in("storage/.relkvanu-job")) == 0, "the marker");
-    while (not_reported(store) != 0) {
+    CHECK(unreported(store) == 2 * SUBTASKS && rename(in("marker"), in("storage/.relkvanu-job")) == 0, "the marker");
+    while (unreported(store) != 0) {
         CHECK(relkvanu_store_discard_for(store, 0, 500, NULL, NULL) == RELKVANU_STORE_TIMED_OUT, "a discarder");
     }
     put_and_complete(store, 201);
     CHECK(relkvanu_store_storage(store, &under) == RELKVANU_STORE_OK, "a storage");
     relkvanu_storage counting = under;
     counting.delete_files = count_deletions;
-    pthread_t thread;
     struct discarding it = {.store = store, .storage = &counting};
-    CHECK(pthread_create(&thread, NULL, discards, &it) == 0, "a thread");
-    await_reports(store);
+    pthread_t thread = starts(discards, &it);
+    AWAIT(unreported(store) == 0);
     relkvanu_store_stop(store);
     CHECK(pthread_join(thread, NULL) == 0 && it.status == RELKVANU_STORE_STOPPED && counted == 2 * SUBTASKS, "status %d", it.status);
     CHECK(access(in("storage/101"), F_OK) != 0 && access(in("storage/201"), F_OK) == 0, "the files");

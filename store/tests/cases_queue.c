@@ -39,8 +39,7 @@ static void submits(void) {
         }
     }
     CHECK(!is_readable(store, 0), "a completion too many");
-    relkvanu_store_counts counts;
-    relkvanu_store_count(store, &counts);
+    relkvanu_store_counts counts = totals_of(store);
     CHECK(counts.calls == MANY && counts.largest == MANY && counts.commits == 1, "%" PRIu64 " commits", counts.commits);
     relkvanu_store_call last[2] = {{.call = {.kind = RELKVANU_CALL_DISPOSE, .number = 9}},
         {.call = {.kind = RELKVANU_CALL_DECLINE, .now = 1, .number = 1, .term = 1}}};
@@ -105,8 +104,7 @@ static void takes_part(relkvanu_store *store, uint64_t id) {
 /* Two begins of one group: the first is made. */
 static void submits_two_begins(relkvanu_store *store, uint64_t savepoint) {
     relkvanu_store_call calls[2], tick;
-    relkvanu *handle;
-    CHECK(relkvanu_store_read(store, &handle) == RELKVANU_STORE_OK, "read");
+    begins_read(store);
     for (uint64_t i = 0; i < 2; i++) {
         CHECK(relkvanu_store_submit_begin_job(store, &calls[i], 20 + i) == RELKVANU_STORE_OK, "a begin");
     }
@@ -175,13 +173,12 @@ static void callers_and_readers(void) {
     relkvanu_store *store = opens(&options, RELKVANU_STORE_OK);
     for (unsigned i = 0; i < CALLERS; i++) {
         callers[i] = (struct caller){.store = store, .number = i};
-        CHECK(pthread_create(&callers[i].thread, NULL, makes_lists, &callers[i]) == 0, "a thread");
+        callers[i].thread = starts(makes_lists, &callers[i]);
     }
     for (unsigned i = 0; i < CALLERS; i++) {
         CHECK(pthread_join(callers[i].thread, NULL) == 0 && callers[i].made == 3 * ROUNDS, "a thread");
     }
-    relkvanu_store_counts counts;
-    relkvanu_store_count(store, &counts);
+    relkvanu_store_counts counts = totals_of(store);
     CHECK(counts.calls == CALLERS * ROUNDS * 3 && counts.images > 1, "%" PRIu64 " calls", counts.calls);
     relkvanu_store_close(store);
     options.flags = RELKVANU_STORE_RECOVER;
@@ -205,7 +202,7 @@ static void *awaits(void *with) {
 static void a_woken_timer(void) {
     relkvanu_store *store = opens_with(job_options(RELKVANU_STORE_CREATE, 0));
     struct caller timer = {.store = store};
-    CHECK(pthread_create(&timer.thread, NULL, awaits, &timer) == 0, "a thread");
+    timer.thread = starts(awaits, &timer);
     usleep(100000);
     uint64_t asked = 0;
     for (uint64_t id = 1; id <= 3; id++) { /* each decline lets the next one begin */
@@ -220,8 +217,7 @@ static void a_woken_timer(void) {
     }
     relkvanu_store_stop(store);
     CHECK(pthread_join(timer.thread, NULL) == 0, "a thread");
-    relkvanu_store_counts counts;
-    relkvanu_store_count(store, &counts);
+    relkvanu_store_counts counts = totals_of(store);
     CHECK(counts.calls < 40 + asked, "the timer spins: %" PRIu64 " calls", counts.calls);
     relkvanu_store_close(store);
 }

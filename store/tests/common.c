@@ -124,15 +124,20 @@ static uint8_t *image_of(relkvanu *handle, size_t *len) {
     return image;
 }
 
+bool has_same_image(relkvanu *one, relkvanu *other) {
+    size_t len, other_len;
+    uint8_t *image = image_of(one, &len), *second = image_of(other, &other_len);
+    bool is_same = len == other_len && memcmp(image, second, len) == 0;
+    free(image);
+    free(second);
+    return is_same;
+}
+
 bool shadow_equals(struct shadow *shadow, relkvanu_store *store) {
     relkvanu *handle;
-    size_t len, other_len;
     CHECK(relkvanu_store_read(store, &handle) == RELKVANU_STORE_OK, "no read");
-    uint8_t *image = image_of(handle, &len), *other = image_of(&shadow->handle, &other_len);
+    bool is_same = has_same_image(handle, &shadow->handle);
     relkvanu_store_read_end(store);
-    bool is_same = len == other_len && memcmp(image, other, len) == 0;
-    free(image);
-    free(other);
     return is_same;
 }
 

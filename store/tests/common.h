@@ -80,6 +80,9 @@ struct names {
 };
 struct names names_of(const relkvanu_answer *answer);
 
+/* Whether two coordinators have the same image. */
+bool has_same_image(relkvanu *one, relkvanu *other);
+
 /* Whether the coordinator of the store has the image of the shadow. */
 bool shadow_equals(struct shadow *shadow, relkvanu_store *store);
 
