@@ -6,8 +6,8 @@ from generator.header import parameters, pointed
 
 NULLS = """/* The functions of the library whose lists may be null with length 0, and relkvanu_close, which may be given NULL. Each passes a list that
  * is empty as one element, which nobody reads or writes, because the proved functions take no null pointer. bindings/build_archive gives those
- * the names proved_relkvanu_.., which no shared library shows. Not proved: bindings/c/tests/empty.c tests it. Made from include/relkvanu.h by
- * bindings/generate: change the header, and run that. */
+ * the names proved_relkvanu_.., which no shared library shows. Not proved: bindings/c/tests/empty.c tests it.
+ * Made from include/relkvanu.h by bindings/generate: change the header, and run that. */
 /* clang-format off */
 #include "../../include/relkvanu.h"
 
