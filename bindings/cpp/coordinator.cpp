@@ -86,14 +86,12 @@ using list = std::vector<std::uint64_t>;
 
 static void recovers() {
     Coordinator job = with_checkpoint_3();
-    CHECK(job.live_from(0)->id == 2 && job.live_from(3)->id == 3 && job.live_from(3)->is_done && !job.live_from(4));
-    CHECK(
-        job.standing(0) == ckpt::standing::never && job.standing(1) == ckpt::standing::ended && job.standing(2) == ckpt::standing::pending);
-    CHECK(job.standing(3) == ckpt::standing::done && job.standing(4) == ckpt::standing::not_yet);
-    CHECK(job.files_of(3, 0, 0) == (list{1, 4}) && job.files_of(3, 0, 1) == list{5} && !job.files_of(2, 0, 0));
-    CHECK(std::get<list>(job.pins_of(2)).empty());
+    CHECK(job.live_from(3)->id == 3 && job.live_from(3)->is_done && !job.live_from(4));
+    CHECK(job.standing(0) == ckpt::standing::never && job.standing(2) == ckpt::standing::pending &&
+          job.standing(4) == ckpt::standing::not_yet);
+    CHECK(job.files_of(3, 0, 0) == (list{1, 4}) && !job.files_of(2, 0, 0));
     CHECK(std::get<ckpt::triggered>(job.tick(3000)).id == 4 && std::get<list>(job.pins_of(4)) == (list{1, 4, 5}));
-    CHECK(job.waiting_file(0) == 2 && job.waiting_file(1) == 3 && !job.waiting_file(2));
+    CHECK(job.waiting_file(1) == 3 && !job.waiting_file(2));
     std::uint64_t buffer[1];
     CHECK(std::get<ckpt::files>(job.take(buffer)).size() == 1 && std::get<list>(job.taken_files()) == list{2});
 }
@@ -180,29 +178,18 @@ static void ticks() {
 
 static void lines() {
     Coordinator job = opened({1, 2});
-    const std::vector<std::uint64_t> fresh{12, 11}, reused{7}, of{1, 2}, many(9000, ~std::uint64_t{0});
+    const std::vector<std::uint64_t> of{1, 2}, many(9000, ~std::uint64_t{0});
     std::uint64_t buffer[2];
     relkvanu_call call{};
-    call.kind = RELKVANU_CALL_ACK;
-    call.vertex = 1;
-    call.index = 1;
-    call.now = 5;
-    call.number = 1;
-    CHECK(std::get<std::string>(ckpt::call_line(call, fresh, reused)) == "ack 5 1 1.1 +11 +12 =7");
-    CHECK(is(ckpt::call_line(call, many), ckpt::error::line_too_long));
-    call.kind = 0;
     CHECK(is(ckpt::call_line(call), ckpt::error::bad_kind));
+    call.kind = RELKVANU_CALL_ACK;
+    CHECK(is(ckpt::call_line(call, many), ckpt::error::line_too_long));
     CHECK(std::get<std::string>(ckpt::opening_lines(settings(), of, 7)) == "config 1000 0 2 5000 0 1 delete\njob 1 2\nstart 7\n");
     CHECK(std::get<ckpt::answered>(job.line("tick 1000")).answer.what == RELKVANU_TICK_TRIGGERED);
     CHECK(std::get<ckpt::answered>(job.line("ack 1000 1 0.0 +1 +2\r")).answer.a == 2);
-    CHECK(std::get<std::string>(job.line("show 1")).find("\"files\":[1,2]") != std::string::npos);
     CHECK(std::get<std::string>(job.line(" show  01 ")) == std::get<std::string>(job.show(1)));
-    CHECK(std::get<std::string>(job.line("show " + std::string((1 << 17) - 6, '0') + "1")) == std::get<std::string>(job.show(1)));
-    CHECK(is(job.line("show 18446744073709551615"), ckpt::error::no_such_record));
     CHECK(std::holds_alternative<ckpt::skipped>(job.line("# a comment")) && std::holds_alternative<ckpt::skipped>(job.line("")));
-    CHECK(is(job.line("tick"), ckpt::error::line_missing) && is(job.line("start 7"), ckpt::error::line_no_call));
-    CHECK(is(job.line("tick x"), ckpt::error::line_number) && is(job.line("Tick 1"), ckpt::error::line_word));
-    CHECK(is(job.line("show 9"), ckpt::error::no_such_record) && is(job.line("tick 1 2"), ckpt::error::line_extra));
+    CHECK(is(job.line("tick"), ckpt::error::line_missing) && is(job.line("show 9"), ckpt::error::no_such_record));
     CHECK(std::get<ckpt::answered>(job.line("cancel 1000")).answer.what == RELKVANU_CANCELLED);
     CHECK(is(job.line("take 9"), ckpt::error::too_short) && std::get<ckpt::refused>(job.line("take 9")).places == 2);
     CHECK(std::get<ckpt::files>(job.line("take 9", buffer)).size() == 2 && buffer[0] == 1 && buffer[1] == 2);
@@ -213,17 +200,10 @@ static void line_says_its_call() {
     ckpt::line_call_answer ack = ckpt::line_call("ack 5 1 1.2 +12 =7 +11");
     const ckpt::said_call &it = std::get<ckpt::said_call>(ack);
     CHECK(it.call.kind == RELKVANU_CALL_ACK && it.call.vertex == 1 && it.call.index == 2 && it.call.now == 5 && it.call.number == 1);
-    CHECK((it.first == std::vector<std::uint64_t>{11, 12} && it.second == std::vector<std::uint64_t>{7}));
+    CHECK((it.first == list{11, 12} && it.second == list{7}));
     CHECK(std::get<std::string>(ckpt::call_line(it.call, it.first, it.second)) == "ack 5 1 1.2 +11 +12 =7");
-    ckpt::line_call_answer restore = ckpt::line_call("restore 5 latest 1 2");
-    CHECK((std::get<ckpt::said_call>(restore).first == std::vector<std::uint64_t>{1, 2} &&
-           std::get<ckpt::said_call>(restore).call.number == 0));
-    CHECK(std::get<ckpt::said_call>(ckpt::line_call("show 7")).call.number == 7);
-    CHECK(std::holds_alternative<ckpt::skipped>(ckpt::line_call("# a comment")) &&
-          std::holds_alternative<ckpt::skipped>(ckpt::line_call({})));
-    CHECK(is(ckpt::line_call("start 7"), ckpt::error::line_no_call) && is(ckpt::line_call("tick"), ckpt::error::line_missing));
-    CHECK(is(ckpt::line_call("restore 5 0"), ckpt::error::no_such_savepoint) &&
-          is(ckpt::line_call("restore 5 latest 0"), ckpt::error::bad_shape));
+    CHECK(std::holds_alternative<ckpt::skipped>(ckpt::line_call({})) && is(ckpt::line_call("tick"), ckpt::error::line_missing));
+    CHECK(is(ckpt::line_call("restore 5 0"), ckpt::error::no_such_savepoint));
 }
 
 /* The lines of scripts that say a call: each is written again, and that line says the same call. */
@@ -280,58 +260,39 @@ static bool sorts(Coordinator &job, const list &files, const list &garbage, cons
 
 /* A task reserves the names 5 to 7, and acknowledges with two. The job is restored: the task can do nothing more, and 7 is garbage. */
 static void names() {
-    const list of{1}, two{6, 5}, seven{7}, eight{8}, nine{9}, files{9, 7, 4, 5, 6, 8};
+    const list of{1}, two{6, 5}, seven{7}, eight{8}, files{9, 7, 4, 5, 6, 8};
     Coordinator job = std::get<Coordinator>(Coordinator::open_fenced(settings(), of, 0, 1, 5));
-    CHECK(runs(job, 1, 5));
     ckpt::reserved names = std::get<ckpt::reserved>(job.reserve(1, 3));
     CHECK(names.first == 5 && names.count == 3 && runs(job, 1, 8));
     CHECK(std::get<ckpt::triggered>(job.tick(1000)).id == 1);
-    CHECK(is(job.ack(1000, 1, 0, 0, two), ckpt::error::fenced_old_term) && is(job.decline(1000, 1, 0, 0), ckpt::error::fenced_old_term));
+    CHECK(is(job.ack(1000, 1, 0, 0, two), ckpt::error::fenced_old_term));
     CHECK(is(job.ack_in(1, 1000, 1, 0, 0, eight), ckpt::error::fenced_never_reserved, 8));
-    CHECK(std::holds_alternative<ckpt::ack_completed>(job.ack_in(1, 1000, 1, 0, 0, two)));
-    CHECK(is(job.ack_in(1, 1000, 1, 0, 0, two), ckpt::error::fenced_spent, 5));
-    CHECK(std::get<ckpt::triggered>(job.tick(2000)).id == 2 && sorts(job, files, {4}, {9, 8}));
+    CHECK(std::holds_alternative<ckpt::ack_completed>(job.ack_in(1, 1000, 1, 0, 0, two)) && sorts(job, files, {4}, {9, 8}));
     CHECK(std::get<ckpt::checkpoint>(std::get<ckpt::restored>(job.restore(2100)).from).id == 1 && runs(job, 2, 8));
-    CHECK(is(job.ack_in(1, 2200, 2, 0, 0, seven), ckpt::error::fenced_old_term) &&
-          is(job.decline_in(1, 2200, 2, 0, 0), ckpt::error::fenced_old_term));
-    CHECK(is(job.reserve(1, 1), ckpt::error::fenced_old_term) && is(job.forfeit(1, seven), ckpt::error::fenced_old_term));
-    CHECK(is(job.ack_in(2, 2200, 2, 0, 0, seven), ckpt::error::fenced_spent, 7) && runs(job, 2, 8));
-    CHECK(std::get<ckpt::reserved>(job.reserve(2, 2)).first == 8 && sorts(job, files, {7, 4}, {}));
-    CHECK(std::holds_alternative<ckpt::forfeited>(job.forfeit(2, eight)) && std::holds_alternative<ckpt::forfeited>(job.forfeit(2, eight)));
+    CHECK(is(job.decline_in(1, 2200, 2, 0, 0), ckpt::error::fenced_old_term) && is(job.forfeit(1, seven), ckpt::error::fenced_old_term));
+    CHECK(std::get<ckpt::reserved>(job.reserve(2, 2)).first == 8 && std::holds_alternative<ckpt::forfeited>(job.forfeit(2, eight)));
     CHECK(sorts(job, files, {7, 4, 8}, {}) && sorts(job, {}, {}, {}));
-    CHECK(std::get<ckpt::triggered>(job.tick(3100)).id == 3);
-    CHECK(is(job.ack_in(2, 3100, 3, 0, 0, eight), ckpt::error::fenced_spent, 8));
-    CHECK(std::holds_alternative<ckpt::ack_completed>(job.ack_in(2, 3100, 3, 0, 0, nine, two)));
-    CHECK(std::get<ckpt::triggered>(job.tick(4100)).id == 4 &&
-          std::get<ckpt::decline_failed>(job.decline_in(2, 4100, 4, 0, 0)).released == 0);
+    CHECK(std::get<ckpt::triggered>(job.tick(3100)).id == 2 &&
+          std::get<ckpt::decline_failed>(job.decline_in(2, 3100, 2, 0, 0)).released == 0);
     Coordinator moved = std::move(job);
-    CHECK(is(job.term(), ckpt::error::closed) && is(job.garbage(files), ckpt::error::closed) && runs(moved, 2, 10));
-    CHECK(is(moved.advance(4200, 6, 0), ckpt::error::bad_name) && runs(moved, 2, 10));
-    CHECK(std::get<ckpt::checkpoint>(std::get<ckpt::restored>(moved.advance(4200, 6, 50)).from).id == 3 && runs(moved, 7, 50));
+    CHECK(is(job.term(), ckpt::error::closed) && is(job.garbage(files), ckpt::error::closed));
+    CHECK(is(moved.advance(4200, 6, 0), ckpt::error::bad_name));
+    CHECK(std::get<ckpt::checkpoint>(std::get<ckpt::restored>(moved.advance(4200, 6, 50)).from).id == 1 && runs(moved, 7, 50));
 }
 
 /* What a coordinator with names, or one without, refuses. */
 static void fences() {
     const list of{1}, file{5};
-    CHECK(is(Coordinator::open_fenced(settings(), of, std::uint64_t{1} << 62, 0, 0), ckpt::error::bad_name));
-    CHECK(is(Coordinator::open_fenced(settings(), of, 0, 1, (std::uint64_t{1} << 62) + 1), ckpt::error::bad_name));
-    CHECK(is(Coordinator::open_fenced(settings(), {}, 0, 1, 0), ckpt::error::bad_shape));
+    CHECK(is(Coordinator::open_fenced(settings(), of, 0, 1, 0), ckpt::error::bad_name));
     Coordinator job = opened({1});
     CHECK(is(job.term(), ckpt::error::fenced_no_names) && is(job.reserve(0, 0), ckpt::error::fenced_no_names));
-    CHECK(is(job.forfeit(0, file), ckpt::error::fenced_no_names) && is(job.garbage(file), ckpt::error::fenced_no_names));
-    CHECK(is(job.ack_in(0, 0, 1, 0, 0, file), ckpt::error::fenced_no_names) &&
-          is(job.decline_in(0, 0, 1, 0, 0), ckpt::error::fenced_no_names) && is(job.advance(0, 1, 1), ckpt::error::fenced_no_names));
-    CHECK(std::get<ckpt::triggered>(job.tick(1000)).id == 1 && std::holds_alternative<ckpt::ack_completed>(job.ack(1000, 1, 0, 0, file)));
-    CHECK(is(job.fence(0), ckpt::error::bad_name) && is(job.fence(5), ckpt::error::fenced_name_in_use) &&
-          is(job.fence(4), ckpt::error::fenced_name_in_use));
-    CHECK(is(job.term(), ckpt::error::fenced_no_names));
-    CHECK(std::holds_alternative<ckpt::fenced>(job.fence(6)) && runs(job, 1, 6) && is(job.fence(7), ckpt::error::fenced_has_names));
-    CHECK(is(job.reserve(1, 0), ckpt::error::fenced_bad_count) && is(job.reserve(1, 65537), ckpt::error::fenced_bad_count));
-    CHECK(std::get<ckpt::refused>(job.fence(7)).why.message() == "HasNames" && sorts(job, {4, 5, 6}, {4}, {6}));
+    CHECK(is(job.garbage(file), ckpt::error::fenced_no_names) && is(job.advance(0, 1, 1), ckpt::error::fenced_no_names));
+    CHECK(is(job.fence(0), ckpt::error::bad_name) && std::holds_alternative<ckpt::fenced>(job.fence(6)) && runs(job, 1, 6));
+    CHECK(std::get<ckpt::refused>(job.fence(7)).why.message() == "HasNames" && is(job.reserve(1, 0), ckpt::error::fenced_bad_count));
     const std::uint64_t late = 1000 + 5000 + std::uint64_t{48} * 60 * 60 * 1000;
     CHECK(is(job.ack_in(1, late, 2, 0, 0, {}), ckpt::error::moment_too_large) &&
           is(job.decline_in(1, late, 2, 0, 0), ckpt::error::moment_too_large));
-    CHECK(std::holds_alternative<ckpt::cancelled>(job.cancel(1000)) && runs(job, 2, 6) && is(job.reserve(2, 1), ckpt::error::fenced_ended));
+    CHECK(std::holds_alternative<ckpt::cancelled>(job.cancel(1000)) && is(job.reserve(2, 1), ckpt::error::fenced_ended));
 }
 
 int main(int argc, char **argv) {

@@ -1,19 +1,14 @@
-/* images SCRIPTS [SEED]: makes this many random lists of calls, each on two coordinators. One is saved, closed and opened
- * again at random places. Both have to answer each call in the same way, and their images have to be the same bytes. Then
- * images are cut and changed at each byte, damaged in each way, and saved and opened with each request for memory refused.
- * Prints how much it tried. */
+/* images: what the library reads and writes as an image: images that are cut and changed at each byte, and damaged in each way; and texts that are written, and
+ * written again. That a coordinator goes on from its image as it would have is proved, and the tests of memory in the other languages open one at each call. */
 #include "../../../include/relkvanu.h"
 #include "image_rows.h"
-#include "refusing_heap.h"
 
 #include <inttypes.h>
 #include <stdio.h>
 #include <stdlib.h>
 #include <string.h>
 
-enum { CALLS = 120, LIST = 8, TAKEN = 64, IMAGE = 1 << 16 };
-
-static uint64_t tried, refused;
+enum { IMAGE = 1 << 16 };
 
 static void check(bool holds, const char *what) {
     if (!holds) {
@@ -24,108 +19,6 @@ static void check(bool holds, const char *what) {
 
 #define CHECK(condition) check(condition, #condition)
 
-/* xorshift64*: lists of calls that a seed gives again. */
-static uint64_t random_state = 1;
-
-static uint64_t below(uint64_t end) {
-    random_state ^= random_state >> 12;
-    random_state ^= random_state << 25;
-    random_state ^= random_state >> 27;
-    return (random_state * 2685821657736338717u >> 33) % end;
-}
-
-/* A call with its lists: what a script's line has. */
-struct call {
-    relkvanu_call of;
-    uint64_t first[LIST], second[LIST];
-    size_t first_len, second_len;
-};
-
-/* What the lists of calls are made of: moments go on, numbers of records and files are mostly such as were given. */
-struct world {
-    uint64_t now, records, files;
-    uint16_t vertices;
-};
-
-struct told {
-    relkvanu_answer answer;
-    uint64_t files[TAKEN];
-};
-
-static relkvanu opened(const struct world *world, uint64_t retained, uint64_t at_once) {
-    relkvanu job = {NULL};
-    relkvanu_settings settings = {1000, below(2) * 500, at_once, 8000, below(4), retained, below(2) == 1};
-    uint64_t shape[] = {2, 1, 3};
-    CHECK(relkvanu_open(&job, &settings, shape, world->vertices, 0, 1, below(1000), below(1000)).code == RELKVANU_DONE);
-    return job;
-}
-
-/* A list of new files, or of files that were named before. */
-static size_t list_of(struct world *world, uint64_t list[LIST], bool is_new) {
-    size_t len = (size_t)below(4);
-    for (size_t place = 0; place < len; place++) {
-        list[place] = is_new && below(20) != 0 ? ++world->files : 1 + below(world->files + 1);
-    }
-    return len;
-}
-
-static struct call next_call(struct world *world) {
-    /* acknowledgements, then ticks, are most of what a job does */
-    static const uint32_t kinds[] = {
-        RELKVANU_CALL_ACK,
-        RELKVANU_CALL_ACK,
-        RELKVANU_CALL_ACK,
-        RELKVANU_CALL_ACK,
-        RELKVANU_CALL_ACK,
-        RELKVANU_CALL_ACK,
-        RELKVANU_CALL_ACK,
-        RELKVANU_CALL_ACK,
-        RELKVANU_CALL_TICK,
-        RELKVANU_CALL_TICK,
-        RELKVANU_CALL_TICK,
-        RELKVANU_CALL_SAVEPOINT,
-        RELKVANU_CALL_DECLINE,
-        RELKVANU_CALL_DISPOSE,
-        RELKVANU_CALL_RESTORE,
-        RELKVANU_CALL_TAKE,
-        RELKVANU_CALL_DELETED,
-        RELKVANU_CALL_UNDELETED,
-        RELKVANU_CALL_COUNT,
-    };
-    static uint64_t lately;
-    struct call call = {0};
-    world->now += below(600);
-    call.of.kind = kinds[below(sizeof kinds / sizeof kinds[0])];
-    call.of.now = world->now;
-    lately = world->records > 3 ? world->records - 3 : 0;
-    call.of.number = lately + below(world->records - lately + 2);
-    call.of.vertex = (uint16_t)below(world->vertices);
-    call.of.index = (uint16_t)below(3);
-    if (call.of.kind == RELKVANU_CALL_ACK) {
-        call.first_len = list_of(world, call.first, true);
-        call.second_len = list_of(world, call.second, false);
-    } else if (call.of.kind == RELKVANU_CALL_RESTORE) {
-        call.of.number = below(3) == 0 ? call.of.number : 0;
-        call.first_len = below(3) == 0 ? (size_t)below(2) + 1 : 0;
-        call.first[0] = 1 + below(2);
-        call.first[1] = 1;
-    } else if (call.of.kind >= RELKVANU_CALL_TAKE) {
-        call.of.number = call.of.kind == RELKVANU_CALL_TAKE ? below(TAKEN) : 1 + below(world->files + 1);
-    }
-    return call;
-}
-
-/* The call through the lines of a script: its answer, and the files that it fetches. */
-static struct told make_by_line(relkvanu *job, const struct call *call) {
-    struct told told = {0};
-    uint8_t line[512];
-    relkvanu_answer written =
-        relkvanu_call_line(&call->of, call->first, call->first_len, call->second, call->second_len, line, sizeof line);
-    CHECK(written.what == RELKVANU_WRITTEN);
-    told.answer = relkvanu_line(job, line, written.a, told.files, TAKEN);
-    return told;
-}
-
 static size_t saved(relkvanu *job, uint8_t image[IMAGE]) {
     relkvanu_answer short_of = relkvanu_save(job, NULL, 0);
     relkvanu_answer answer = relkvanu_save(job, image, IMAGE);
@@ -134,51 +27,12 @@ static size_t saved(relkvanu *job, uint8_t image[IMAGE]) {
     return (size_t)answer.a;
 }
 
-/* A coordinator that is opened with the image of this one. */
-static void reopen(relkvanu *job) {
-    static uint8_t image[IMAGE];
-    size_t len = saved(job, image);
-    relkvanu_close(job);
-    relkvanu_answer answer = relkvanu_open_saved(job, image, len, below(1000), below(1000));
-    CHECK(answer.code == RELKVANU_DONE && answer.what == RELKVANU_OPENED);
-}
-
-static void compare_images(relkvanu *whole, relkvanu *cut) {
-    static uint8_t left[IMAGE], right[IMAGE];
-    size_t len = saved(whole, left);
-    CHECK(len == saved(cut, right) && memcmp(left, right, len) == 0);
-}
-
-/* One list of calls. */
-static void script(void) {
-    struct world world = {.vertices = (uint16_t)(1 + below(3))};
-    uint64_t retained = 1 + below(3), at_once = 1 + below(2), state = random_state;
-    relkvanu whole = opened(&world, retained, at_once);
-    random_state = state;
-    relkvanu cut = opened(&world, retained, at_once);
-    for (size_t at = 0; at < CALLS; at++) {
-        if (below(20) == 0) {
-            reopen(&cut);
-        }
-        struct call call = next_call(&world);
-        struct told one = make_by_line(&whole, &call), other = make_by_line(&cut, &call);
-        CHECK(memcmp(&one, &other, sizeof one) == 0);
-        bool is_triggered = one.answer.code == RELKVANU_DONE &&
-                            (one.answer.what == RELKVANU_TICK_TRIGGERED || one.answer.what == RELKVANU_SAVEPOINT_TRIGGERED);
-        world.records += is_triggered ? 1 : 0;
-        refused += one.answer.code == RELKVANU_REFUSED ? 1 : 0;
-        tried++;
-    }
-    compare_images(&whole, &cut);
-    relkvanu_close(&whole);
-    relkvanu_close(&cut);
-}
-
 /* A job with a completed checkpoint, a savepoint that pins it, a pending checkpoint, files that wait and files that were taken. */
 static relkvanu busy(void) {
-    struct world world = {.vertices = 1};
-    relkvanu job = opened(&world, 1, 2);
+    relkvanu job = {NULL};
+    relkvanu_settings settings = {1000, 0, 2, 8000, 3, 1, false};
     uint64_t file = 1, taken[1];
+    CHECK(relkvanu_open(&job, &settings, (uint64_t[]){2}, 1, 0, 1, 1, 2).code == RELKVANU_DONE);
     for (uint64_t id = 1; id <= 3; id++) {
         CHECK(relkvanu_tick(&job, 2000 * id).what == RELKVANU_TICK_TRIGGERED);
         for (uint16_t index = 0; index < 2; index++, file++) {
@@ -425,65 +279,10 @@ static void damaged(void) {
     relkvanu_close(&job);
 }
 
-/* Where no memory is wanted, none is asked for: bytes that are no text, and the pins of a record that is not pending. */
-static void asks_for_none(relkvanu *job) {
-    relkvanu other = {NULL};
-    heap_refuse(1);
-    CHECK(relkvanu_open_saved(&other, (const uint8_t *)"\xff", 1, 1, 2).what == RELKVANU_BAD_IMAGE);
-    for (uint64_t id = 0; id <= 6; id++) {
-        relkvanu_answer pins = relkvanu_pins_of(job, id, NULL, 0);
-        bool is_pending = relkvanu_standing(job, id).what == RELKVANU_STANDS_PENDING;
-        CHECK(is_pending || (pins.code == RELKVANU_DONE && pins.what == RELKVANU_FILES && pins.a == 0));
-        CHECK(!is_pending || pins.code == RELKVANU_NO_MEMORY);
-        heap_refuse(1);
-    }
-    heap_refuse(0);
-}
-
-/* Each request for memory is refused once, of a save and of an opening: nothing is left or changed by it. */
-static void without_memory(void) {
-    static uint8_t image[IMAGE], again[IMAGE];
-    relkvanu job = busy(), other = {NULL};
-    size_t len = saved(&job, image);
-    uint64_t nth = 0;
-    relkvanu_answer answer;
-    do {
-        memset(again, 7, len);
-        heap_refuse(++nth);
-        answer = relkvanu_save(&job, again, IMAGE);
-        CHECK(answer.code == RELKVANU_DONE || (answer.code == RELKVANU_NO_MEMORY && again[0] == 7));
-    } while (answer.code != RELKVANU_DONE);
-    CHECK(answer.a == len && memcmp(image, again, len) == 0);
-    uint64_t saves = nth - 1;
-    nth = 0;
-    do {
-        heap_refuse(++nth);
-        answer = relkvanu_open_saved(&other, image, len, 1, 2);
-        CHECK(answer.code == RELKVANU_DONE || (answer.code == RELKVANU_NO_MEMORY && other.state == NULL));
-    } while (answer.code != RELKVANU_DONE);
-    heap_refuse(0);
-    CHECK(saved(&other, again) == len && memcmp(image, again, len) == 0);
-    asks_for_none(&job);
-    printf("images: %" PRIu64 " requests of a save and %" PRIu64 " of an opening refused\n", saves, nth - 1);
-    CHECK(saves > 10 && nth > 10);
-    relkvanu_close(&job);
-    relkvanu_close(&other);
-}
-
-int main(int count, char **words) {
-    uint64_t scripts = count > 1 ? strtoull(words[1], NULL, 10) : 1000;
-    uint64_t seed = count > 2 ? strtoull(words[2], NULL, 10) : 1;
-    for (uint64_t at = 0; at < scripts; at++) {
-        random_state = (seed + at) * 0x9e3779b97f4a7c15u | 1;
-        script();
-    }
-    printf("images: %" PRIu64 " lists, %" PRIu64 " calls, %" PRIu64 " refused\n", scripts, tried, refused);
-    /* the lists must make calls, otherwise nothing was compared */
-    CHECK(tried == scripts * CALLS && refused < tried * 3 / 4);
+int main(void) {
     cut_and_changed();
     writes();
     reads_members();
     damaged();
-    without_memory();
     return 0;
 }

@@ -7,7 +7,7 @@
 #include <sys/mman.h>
 #include <unistd.h>
 
-enum { LONGEST = 131072, ROOM = 1 << 18, FILES = 32768 };
+enum { LONGEST = 131072, ROOM = 1 << 18 };
 
 /* The end of a room, before a page that can't be touched. */
 static char *guarded(void) {
@@ -29,14 +29,20 @@ static relkvanu_answer line_at_end(relkvanu *job, const char *text, size_t len) 
     return told;
 }
 
+/* What relkvanu_line_call tells of a line. One that says no call changes neither the call nor the lists. */
+static relkvanu_answer call_of(const char *text) {
+    struct said it = say(text, strlen(text), PLACES, PLACES);
+    CHECK((it.answer.code == RELKVANU_DONE && it.answer.what == RELKVANU_LINE_CALL) || is_unchanged(&it));
+    forget_said(&it);
+    return it.answer;
+}
+
 /* Lines with this fault change nothing, and every function tells the fault. */
 static void have_fault(relkvanu *job, uint32_t fault, const char *const *texts) {
     for (; *texts != NULL; texts++) {
-        struct told it = tell(*texts, PLACES, PLACES);
         expect(line(job, *texts), RELKVANU_BAD_LINE, fault, 0, 0, __LINE__);
         expect(says(*texts), RELKVANU_BAD_LINE, fault, 0, 0, __LINE__);
-        expect(it.answer, RELKVANU_BAD_LINE, fault, 0, 0, __LINE__);
-        CHECK(same_call(&it.call, &OLD) && it.first[0] == OLD.number && it.second[0] == OLD.number);
+        expect(call_of(*texts), RELKVANU_BAD_LINE, fault, 0, 0, __LINE__);
     }
 }
 
@@ -71,12 +77,12 @@ static void no_calls(void) {
         struct seen before = look(&jobs[nth]);
         for (size_t at = 0; at < sizeof lines / sizeof *lines; at++) {
             bool is_comment = strchr("# \r", lines[at][0]) != NULL;
-            struct told it = tell(lines[at], PLACES, PLACES);
-            CHECK(same_answer(line(&jobs[nth], lines[at]), it.answer) && same_call(&it.call, &OLD));
+            relkvanu_answer told = call_of(lines[at]);
+            CHECK(same_answer(line(&jobs[nth], lines[at]), told));
             if (is_comment) {
-                DONE(it.answer, RELKVANU_SKIPPED, 0, 0);
+                DONE(told, RELKVANU_SKIPPED, 0, 0);
             } else {
-                expect(it.answer, RELKVANU_BAD_LINE, RELKVANU_FAULT_NO_CALL, 0, 0, __LINE__);
+                expect(told, RELKVANU_BAD_LINE, RELKVANU_FAULT_NO_CALL, 0, 0, __LINE__);
             }
             if (strncmp(lines[at], "in ", 3) == 0) {
                 DONE(says(lines[at]), RELKVANU_LINE_CALL, 0, 0);
@@ -85,11 +91,11 @@ static void no_calls(void) {
         BAD(line(&jobs[nth], "in 3 restore 5 latest 0"), RELKVANU_BAD_SHAPE);
         static const char *const shapes[] = {"in 3 restore 5 latest 0", "restore 3 latest 0", "restore 3 4 4097", "restore 3 0 0"};
         for (size_t at = 0; at < sizeof shapes / sizeof *shapes; at++) {
-            BAD(tell(shapes[at], PLACES, 0).answer, RELKVANU_BAD_SHAPE);
+            BAD(call_of(shapes[at]), RELKVANU_BAD_SHAPE);
         }
         static const char *const savepoints[] = {"in 3 restore 5 0", "restore 3 0", "restore 3 00 2 1"};
         for (size_t at = 0; at < sizeof savepoints / sizeof *savepoints; at++) {
-            expect(tell(savepoints[at], PLACES, 0).answer, RELKVANU_REFUSED, RELKVANU_NO_SUCH_SAVEPOINT, 0, 0, __LINE__);
+            expect(call_of(savepoints[at]), RELKVANU_REFUSED, RELKVANU_NO_SUCH_SAVEPOINT, 0, 0, __LINE__);
         }
         struct seen after = look(&jobs[nth]);
         CHECK(same(&before, &after));
@@ -161,25 +167,6 @@ static void twins(void) {
     relkvanu_close(&job);
 }
 
-/* A take with a term into too short a buffer fetches nothing. */
-static void short_takes(void) {
-    relkvanu job = named(5);
-    uint64_t files[] = {70, 71};
-    DONE(line(&job, "reserve 1 2"), RELKVANU_RESERVED, 5, 2);
-    DONE(line(&job, "tick 1000"), RELKVANU_TICK_TRIGGERED, 0, 1);
-    DONE(line(&job, "in 1 ack 1000 1 0.0 +5 +6"), RELKVANU_ACK_COMPLETED, 0, 0);
-    DONE(line(&job, "cancel 2000"), RELKVANU_CANCELLED, 1, 2);
-    struct seen before = look(&job);
-    expect(line_into(&job, "in 2 take 5", files, 1), RELKVANU_TOO_SHORT, 0, 2, 0, __LINE__);
-    expect(line_into(&job, "take 5", files, 1), RELKVANU_TOO_SHORT, 0, 2, 0, __LINE__);
-    struct seen after = look(&job);
-    CHECK(same(&before, &after) && files[0] == 70);
-    DONE(line_into(&job, "in 2 take 1", files, 1), RELKVANU_TAKEN, 1, 0);
-    DONE(line_into(&job, "in 2 take 5", files, 2), RELKVANU_TAKEN, 1, 0);
-    CHECK(files[0] == 6 && files[1] == 71);
-    relkvanu_close(&job);
-}
-
 static void change_each_byte(relkvanu *job, const char *text) {
     static const char others[] = {'\0', '\t', '\r', ' ', '+', '-', '.', '9', 'x', '\x7f', '\xff'};
     size_t len = strlen(text);
@@ -205,85 +192,14 @@ static void cut_lines(void) {
             char cut[32];
             snprintf(cut, sizeof cut, "%.*s", (int)len, texts[at]);
             struct seen before = look(&job);
-            struct told it = tell(cut, PLACES, PLACES);
-            relkvanu_answer said = says(cut), told = line(&job, cut);
+            relkvanu_answer call = call_of(cut), said = says(cut), told = line(&job, cut);
             struct seen after = look(&job);
-            CHECK(said.code != RELKVANU_BAD_LINE || (same_answer(said, told) && same_answer(said, it.answer) && same(&before, &after)));
-            CHECK(it.answer.what == RELKVANU_LINE_CALL ? told.code != RELKVANU_BAD_LINE : same_answer(it.answer, told));
+            CHECK(said.code != RELKVANU_BAD_LINE || (same_answer(said, told) && same_answer(said, call) && same(&before, &after)));
+            CHECK(call.what == RELKVANU_LINE_CALL ? told.code != RELKVANU_BAD_LINE : same_answer(call, told));
             (void)line_at_end(&job, cut, strlen(cut)).what;
         }
         change_each_byte(&job, texts[at]);
         relkvanu_close(&job);
-    }
-}
-
-/* Each request for memory refused, in turn: nothing has changed, and the same line is made or told the next time. */
-static void without_memory(void) {
-    static const char *const lines[] = {"fence 9", "reserve 1 2", "in 1 tick 1000", "in 1 ack 1000 1 0.0 +9 +10", "reserve 1 3",
-        "forfeit 1 11 13", "in 1 savepoint 1000", "in 1 ack 1000 2 0.0 =9", "in 1 show 2", "in 1 restore 1100 2 2 1", "in 2 cancel 1200",
-        "in 2 take 2"};
-    static const char *const written[] = {
-        "fence 9", "reserve 1 2", "forfeit 1 11 13", "in 1 ack 1000 1 0.0 +9 +10 =7", "in 1 restore 1100 2 2 1"};
-    relkvanu job = plain();
-    uint64_t refused = 0;
-    for (size_t at = 0; at < sizeof lines / sizeof *lines; at++) {
-        for (uint64_t nth = 1;; nth++) {
-            uint64_t files[PLACES] = {70, 71, 72, 73};
-            struct seen before = look(&job);
-            heap_refuse_from(nth);
-            relkvanu_answer told = line_into(&job, lines[at], files, PLACES);
-            heap_refuse(0);
-            if (told.code != RELKVANU_NO_MEMORY) {
-                CHECK(told.code == RELKVANU_DONE || (told.code == RELKVANU_TOO_SHORT && strncmp(lines[at], "in 1 show", 9) == 0));
-                break;
-            }
-            expect(told, RELKVANU_NO_MEMORY, 0, 0, 0, __LINE__);
-            struct seen after = look(&job);
-            CHECK(same(&before, &after) && files[0] == 70);
-            refused++;
-        }
-    }
-    CHECK(refused >= 9);
-    relkvanu_close(&job);
-    for (size_t at = 0; at < sizeof written / sizeof *written; at++) {
-        struct told wanted = tell(written[at], PLACES, PLACES);
-        uint64_t told_without = 0, written_without = 0;
-        for (uint64_t nth = 1;; nth++) {
-            heap_refuse_from(nth);
-            relkvanu_answer told = says(written[at]);
-            heap_refuse(0);
-            if (told.code != RELKVANU_NO_MEMORY) {
-                DONE(told, RELKVANU_LINE_CALL, 0, 0);
-                break;
-            }
-            CHECK(wanted.answer.a != 0); /* only lists take memory */
-        }
-        for (uint64_t nth = 1;; nth++) {
-            heap_refuse_from(nth);
-            struct told it = tell(written[at], PLACES, PLACES);
-            heap_refuse(0);
-            if (it.answer.code != RELKVANU_NO_MEMORY) {
-                CHECK(same_answer(it.answer, wanted.answer) && same_call(&it.call, &wanted.call));
-                break;
-            }
-            CHECK(same_call(&it.call, &OLD) && it.first[0] == OLD.number && it.second[0] == OLD.number);
-            told_without++;
-        }
-        for (uint64_t nth = 1;; nth++) {
-            uint8_t text[64] = "?";
-            heap_refuse_from(nth);
-            relkvanu_answer told =
-                relkvanu_call_line(&wanted.call, wanted.first, wanted.answer.a, wanted.second, wanted.answer.b, text, sizeof text);
-            heap_refuse(0);
-            if (told.code != RELKVANU_NO_MEMORY) {
-                DONE(told, RELKVANU_WRITTEN, strlen(written[at]), 0);
-                CHECK(memcmp(text, written[at], told.a) == 0);
-                break;
-            }
-            CHECK(text[0] == '?');
-            written_without++;
-        }
-        CHECK(written_without > 0 && (told_without > 0) == (wanted.answer.a != 0));
     }
 }
 
@@ -320,28 +236,6 @@ static void long_lines(void) {
     memset(text, '#', LONGEST + 1);
     DONE(of_pending(text, LONGEST), RELKVANU_SKIPPED, 0, 0);
     CHECK(of_pending(text, LONGEST + 1).code == RELKVANU_BAD_LINE);
-}
-
-/* The line of a call into a buffer of each length: none is cut, and nothing is written past the buffer. */
-static void written_lines(void) {
-    static uint64_t many[FILES];
-    const char *wanted = "ack 3000 2 1.1 +11 +12 =1";
-    relkvanu_call call = {.kind = RELKVANU_CALL_ACK, .vertex = 1, .index = 1, .now = 3000, .number = 2};
-    uint64_t fresh[] = {12, 11}, reused[] = {1};
-    char *end = guarded();
-    for (size_t len = 0; len <= strlen(wanted); len++) {
-        relkvanu_answer answer = relkvanu_call_line(&call, fresh, 2, reused, 1, (uint8_t *)end - len, len);
-        CHECK(len == strlen(wanted) ? answer.what == RELKVANU_WRITTEN : answer.code == RELKVANU_TOO_SHORT);
-        CHECK(answer.a == strlen(wanted));
-    }
-    CHECK(memcmp(end - strlen(wanted), wanted, strlen(wanted)) == 0);
-    for (size_t place = 0; place < FILES; place++) {
-        many[place] = UINT64_MAX - place;
-    }
-    relkvanu_answer answer = relkvanu_call_line(&call, many, FILES, NULL, 0, (uint8_t *)end - ROOM, ROOM);
-    CHECK(answer.code == RELKVANU_BAD_LINE && answer.what == RELKVANU_FAULT_TOO_LONG);
-    call.kind = UINT32_MAX;
-    BAD(relkvanu_call_line(&call, NULL, 0, NULL, 0, NULL, 0), RELKVANU_BAD_KIND);
 }
 
 /* What a line says, in a buffer of its own. */
@@ -383,11 +277,8 @@ int main(void) {
     no_calls();
     no_names();
     twins();
-    short_takes();
     cut_lines();
-    without_memory();
     long_lines();
-    written_lines();
     opening();
     printf("lines: all as told\n");
     return 0;

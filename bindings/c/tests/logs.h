@@ -3,7 +3,6 @@
 #define RELKVANU_LOGS_H
 
 #include "fenced.h"
-#include "refusing_heap.h"
 
 enum { PLACES = 8 };
 
@@ -47,42 +46,54 @@ static inline relkvanu_answer says(const char *text) {
     return says_into(text, NULL, 0);
 }
 
-/* What a line tells of its call, with room for so many items. */
-struct told {
-    relkvanu_answer answer;
-    relkvanu_call call;
-    uint64_t first[PLACES], second[PLACES];
-};
-
-static inline struct told tell(const char *text, size_t first_len, size_t second_len) {
-    struct told it = {.call = OLD};
-    uint64_t *first = block(first_len * sizeof *first), *second = block(second_len * sizeof *second);
-    uint8_t *bytes = bytes_of(text, strlen(text));
-    for (size_t at = 0; at < first_len; at++) {
-        first[at] = OLD.number;
-    }
-    for (size_t at = 0; at < second_len; at++) {
-        second[at] = OLD.number;
-    }
-    it.answer = relkvanu_line_call(bytes, strlen(text), &it.call, first, first_len, second, second_len);
-    if (first_len != 0) {
-        memcpy(it.first, first, first_len * sizeof *first);
-    }
-    if (second_len != 0) {
-        memcpy(it.second, second, second_len * sizeof *second);
-    }
-    free(bytes);
-    free(second);
-    free(first);
-    return it;
-}
-
 static inline bool same_call(const relkvanu_call *left, const relkvanu_call *right) {
     return memcmp(left, right, sizeof *left) == 0;
 }
 
 static inline bool same_answer(relkvanu_answer left, relkvanu_answer right) {
     return left.code == right.code && left.what == right.what && left.a == right.a && left.b == right.b;
+}
+
+/* What was said of a line, and the buffers for it. */
+struct said {
+    relkvanu_answer answer;
+    relkvanu_call call;
+    uint64_t *first, *second;
+    size_t first_len, second_len;
+};
+
+static inline uint64_t *places(size_t len) {
+    uint64_t *at = block(len * sizeof *at);
+    for (size_t place = 0; place < len; place++) {
+        at[place] = OLD.number;
+    }
+    return at;
+}
+
+/* Reads a line with room for so many items. */
+static inline struct said say(const char *text, size_t len, size_t first_len, size_t second_len) {
+    struct said it = {{0, 0, 0, 0}, OLD, places(first_len), places(second_len), first_len, second_len};
+    uint8_t *bytes = bytes_of(text, len);
+    it.answer = relkvanu_line_call(bytes, len, &it.call, it.first, first_len, it.second, second_len);
+    free(bytes);
+    return it;
+}
+
+static inline void forget_said(struct said *it) {
+    free(it->first);
+    free(it->second);
+}
+
+/* Whether the call and the buffers are as they were. */
+static inline bool is_unchanged(const struct said *it) {
+    bool same = same_call(&it->call, &OLD);
+    for (size_t place = 0; place < it->first_len; place++) {
+        same = same && it->first[place] == OLD.number;
+    }
+    for (size_t place = 0; place < it->second_len; place++) {
+        same = same && it->second[place] == OLD.number;
+    }
+    return same;
 }
 
 #endif

@@ -1,11 +1,9 @@
-/* rows SCRIPT WANTED [log]: opens a coordinator as the script says, makes its calls, and compares each answer with the lines of
- * the file WANTED. The script has a config and a job line, a start line, and after that only calls and lines with faults
- * (docs/SCRIPT.md). No other script is run: the status is 3. The script is run once with the reads compared after each line, but
- * if it is a log (docs/LOGS.md), once with all memory, and then once for each request for memory, which is refused once. A call that
- * runs out of memory returns so, and is made again. */
+/* rows SCRIPT WANTED: opens a coordinator as the script or log says, makes its calls, and compares each answer with the lines of the
+ * file WANTED. The script has a config and a job line, a start line, and after that only calls and lines with faults
+ * (docs/SCRIPT.md). No other script is run: the status is 3. The script is run once with all memory, and then once for each request
+ * for memory, which is refused once. A call that runs out of memory returns so, and is made again. */
 #define _GNU_SOURCE
 #include "refusing_heap.h"
-#include "reads.h"
 #include "script.h"
 
 #include <inttypes.h>
@@ -19,18 +17,6 @@ static void obey(struct script *script, const char *line, size_t len, uint64_t n
         answer = script_line(script, line, len);
     }
     script_tell(script, told, number, answer);
-}
-
-/* The same with all memory, and whether the reads fit then. */
-static bool obey_and_read(struct script *script, struct reads *reads, const char *line, size_t len, uint64_t number, FILE *told) {
-    reads_before(reads, script);
-    relkvanu_answer answer = script_line(script, line, len);
-    script_tell(script, told, number, answer);
-    if (reads_fit(reads, script, line, answer)) {
-        return true;
-    }
-    fprintf(stderr, "after the line %s\n", line);
-    return false;
 }
 
 static FILE *opened(const char *path) {
@@ -82,8 +68,8 @@ static bool is_list_of_calls(const char *path) {
     return part == CALLS;
 }
 
-/* Runs the script. Returns whether the answers are the expected ones, and the reads too if they are compared. */
-static bool runs(const char *path, const char *wanted, size_t wanted_len, struct reads *reads, uint64_t refused, uint64_t *requests) {
+/* Runs the script. Returns whether the answers are the expected ones. */
+static bool runs(const char *path, const char *wanted, size_t wanted_len, uint64_t refused, uint64_t *requests) {
     static struct script script;
     char *text = NULL, *line = NULL;
     size_t room = 0;
@@ -96,23 +82,17 @@ static bool runs(const char *path, const char *wanted, size_t wanted_len, struct
     }
     memset(&script, 0, sizeof script);
     heap_refuse(refused);
-    bool fit = true;
     uint64_t number = 0;
-    for (ssize_t line_len = next_line(&line, &room, from); fit && line_len >= 0; line_len = next_line(&line, &room, from)) {
-        number++;
-        if (reads == NULL) {
-            obey(&script, line, (size_t)line_len, number, told);
-        } else {
-            fit = obey_and_read(&script, reads, line, (size_t)line_len, number, told);
-        }
+    for (ssize_t line_len = next_line(&line, &room, from); line_len >= 0; line_len = next_line(&line, &room, from)) {
+        obey(&script, line, (size_t)line_len, ++number, told);
     }
     *requests = heap_requests();
     script_close(&script);
-    bool shut = script.handle.state == NULL && relkvanu_tick(&script.handle, 0).code == RELKVANU_CLOSED && reads_are_closed(&script.handle);
+    bool shut = script.handle.state == NULL && relkvanu_tick(&script.handle, 0).code == RELKVANU_CLOSED;
     free(line);
     fclose(from);
     fclose(told);
-    bool same = fit && shut && len == wanted_len && memcmp(text, wanted, len) == 0;
+    bool same = shut && len == wanted_len && memcmp(text, wanted, len) == 0;
     if (!same) {
         fprintf(stderr, "%s, request %" PRIu64 " refused, told:\n%s", path, refused, text);
     }
@@ -129,8 +109,8 @@ static char *contents(const char *path, size_t *len) {
 }
 
 int main(int argc, char **argv) {
-    if (argc != 3 && (argc != 4 || strcmp(argv[3], "log") != 0)) {
-        fprintf(stderr, "rows SCRIPT WANTED [log]\n");
+    if (argc != 3) {
+        fprintf(stderr, "rows SCRIPT WANTED\n");
         return 2;
     }
     if (!is_list_of_calls(argv[1])) {
@@ -139,10 +119,9 @@ int main(int argc, char **argv) {
     size_t len;
     char *wanted = contents(argv[2], &len);
     uint64_t requests, ignored;
-    static struct reads reads;
-    bool same = (argc == 4 || runs(argv[1], wanted, len, &reads, 0, &ignored)) && runs(argv[1], wanted, len, NULL, 0, &requests);
+    bool same = runs(argv[1], wanted, len, 0, &requests);
     for (uint64_t refused = 1; same && refused <= requests; refused++) {
-        same = runs(argv[1], wanted, len, NULL, refused, &ignored);
+        same = runs(argv[1], wanted, len, refused, &ignored);
     }
     free(wanted);
     return same ? 0 : 1;

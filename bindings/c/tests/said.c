@@ -1,55 +1,14 @@
-/* said SCRIPT..: tries relkvanu_line_call, which returns the call that a line says, and relkvanu_call_line, which writes the line of a call. Expected
+/* said SCRIPT..: tries relkvanu_line_call, which returns the call that a line says, relkvanu_call_line, which writes the line of a call, and relkvanu_make. Expected
  * values come from docs/SCRIPT.md and docs/LOGS.md. For each line of the scripts and logs that says a call, the line that is written of it says the
  * same call. Each line is also read with each request for memory refused. The buffers are blocks of their own with the length that the call gets. */
 #define _GNU_SOURCE
 #include "logs.h"
+#include "refusing_heap.h"
 
 enum { LONGEST = 131072 };
 
-/* What was said of a line, and the buffers for it. */
-struct said {
-    relkvanu_answer answer;
-    relkvanu_call call;
-    uint64_t *first, *second;
-    size_t first_len, second_len;
-};
-
-static uint64_t *places(size_t len) {
-    uint64_t *at = block(len * sizeof *at);
-    for (size_t place = 0; place < len; place++) {
-        at[place] = OLD.number;
-    }
-    return at;
-}
-
-/* Reads a line with room for so many items. */
-static struct said say(const char *text, size_t len, size_t first_len, size_t second_len) {
-    struct said it = {{0, 0, 0, 0}, OLD, places(first_len), places(second_len), first_len, second_len};
-    uint8_t *bytes = bytes_of(text, len);
-    it.answer = relkvanu_line_call(bytes, len, &it.call, it.first, first_len, it.second, second_len);
-    free(bytes);
-    return it;
-}
-
-static void forget(struct said *it) {
-    free(it->first);
-    free(it->second);
-}
-
 static bool is_answer(relkvanu_answer answer, uint32_t code, uint32_t what, uint64_t a, uint64_t b) {
     return same_answer(answer, (relkvanu_answer){code, what, a, b});
-}
-
-/* Whether the call and the buffers are as they were. */
-static bool is_unchanged(const struct said *it) {
-    bool same = same_call(&it->call, &OLD);
-    for (size_t place = 0; place < it->first_len; place++) {
-        same = same && it->first[place] == OLD.number;
-    }
-    for (size_t place = 0; place < it->second_len; place++) {
-        same = same && it->second[place] == OLD.number;
-    }
-    return same;
 }
 
 static bool are(const uint64_t *items, const uint64_t *wanted, size_t len) {
@@ -120,13 +79,13 @@ static void is_read(const struct line *line) {
         CHECK(is_answer(it.answer, RELKVANU_DONE, RELKVANU_LINE_CALL, m, n) && same_call(&it.call, &line->call));
         CHECK(are(it.first, line->first, m) && are(it.second, line->second, n));
         CHECK(more == 0 || (it.first[m] == OLD.number && it.second[n] == OLD.number));
-        forget(&it);
+        forget_said(&it);
     }
     for (size_t less = 1; less < 4; less++) {
         size_t one = m - (m != 0 && (less & 1)), other = n - (n != 0 && (less & 2));
         struct said it = say(text, strlen(text), one, other);
         CHECK((one == m && other == n) || (is_answer(it.answer, RELKVANU_TOO_SHORT, 0, m, n) && is_unchanged(&it)));
-        forget(&it);
+        forget_said(&it);
     }
 }
 
@@ -243,13 +202,13 @@ static void try_without_memory(const char *text, size_t len, const struct said *
     heap_refuse(0);
     struct said it = say(text, len, wanted->first_len, wanted->second_len);
     uint64_t requests = heap_requests();
-    forget(&it);
+    forget_said(&it);
     CHECK(requests == 0 || has_lists(text, len));
     for (uint64_t nth = 1; nth <= requests; nth++) {
         heap_refuse(nth);
         it = say(text, len, wanted->first_len, wanted->second_len);
         CHECK(is_answer(it.answer, RELKVANU_NO_MEMORY, 0, 0, 0) && is_unchanged(&it));
-        forget(&it);
+        forget_said(&it);
     }
     heap_refuse(0);
 }
@@ -264,7 +223,7 @@ static bool is_written_again(const struct said *it) {
     CHECK(is_answer(again.answer, RELKVANU_DONE, RELKVANU_LINE_CALL, it->first_len, it->second_len));
     bool same =
         same_call(&again.call, &it->call) && are(again.first, it->first, it->first_len) && are(again.second, it->second, it->second_len);
-    forget(&again);
+    forget_said(&again);
     return same;
 }
 
@@ -275,7 +234,7 @@ static bool try_line(const char *text, size_t len) {
     struct said it = say(text, len, 0, 0);
     if (it.answer.code == RELKVANU_TOO_SHORT) {
         size_t m = it.answer.a, n = it.answer.b;
-        forget(&it);
+        forget_said(&it);
         it = say(text, len, m, n);
     }
     bool is_call = is_answer(it.answer, RELKVANU_DONE, RELKVANU_LINE_CALL, it.first_len, it.second_len);
@@ -294,7 +253,7 @@ static bool try_line(const char *text, size_t len) {
     }
     CHECK(is_call ? is_written_again(&it) : is_unchanged(&it));
     try_without_memory(text, len, &it);
-    forget(&it);
+    forget_said(&it);
     return is_call;
 }
 
@@ -312,7 +271,53 @@ static size_t try_script(const char *path) {
     return calls;
 }
 
+static const relkvanu_made MADE = {91, 92, 93, 94, 95}; /* of no call */
+
+/* A call that relkvanu_make does not make has this answer, and no buffer has changed. */
+static void is_unmade(
+    relkvanu *job, const relkvanu_call *call, const uint64_t *first, size_t first_len, size_t room, relkvanu_answer wanted) {
+    relkvanu_made made = MADE;
+    uint64_t file = OLD.number;
+    uint8_t *line = block(room);
+    memset(line, '?', room);
+    CHECK(same_answer(relkvanu_make(job, call, first, first_len, NULL, 0, &file, 1, line, room, &made), wanted));
+    CHECK(file == OLD.number && memcmp(&made, &MADE, sizeof made) == 0 && (room == 0 || (line[0] == '?' && line[room - 1] == '?')));
+    free(line);
+}
+
+/* Of two reasons why a call is not made the first is told. The packages make each call of the rows with its line. */
+static void made(void) {
+    enum { MANY = 8192 };
+    static uint64_t many[MANY];
+    relkvanu closed = {NULL}, job = plain();
+    relkvanu_call none = {0}, last = {.kind = UINT32_MAX}, shapeless = {.kind = RELKVANU_CALL_RESTORE},
+                  take = {.kind = RELKVANU_CALL_TAKE, .number = 9};
+    relkvanu_call late = {.kind = RELKVANU_CALL_DECLINE, .now = 5, .number = 7}, full = {.kind = RELKVANU_CALL_ACK, .now = 5, .number = 7};
+    relkvanu_made told = MADE;
+    char line[16] = "???????????????";
+    for (size_t at = 0; at < MANY; at++) {
+        many[at] = (uint64_t)10000000000000000000u + at;
+    }
+    is_unmade(&closed, &none, NULL, 0, 1, (relkvanu_answer){RELKVANU_CLOSED, 0, 0, 0});
+    is_unmade(&job, &none, NULL, 0, 0, (relkvanu_answer){RELKVANU_BAD_ARGUMENT, RELKVANU_BAD_KIND, 0, 0});
+    is_unmade(&job, &last, NULL, 0, 0, (relkvanu_answer){RELKVANU_BAD_ARGUMENT, RELKVANU_BAD_KIND, 0, 0});
+    is_unmade(&job, &shapeless, (uint64_t[]){0}, 1, 0, (relkvanu_answer){RELKVANU_BAD_ARGUMENT, RELKVANU_BAD_SHAPE, 0, 0});
+    is_unmade(&job, &full, many, MANY, 0, (relkvanu_answer){RELKVANU_BAD_LINE, RELKVANU_FAULT_TOO_LONG, 0, 0});
+    is_unmade(&job, &late, NULL, 0, 12, (relkvanu_answer){RELKVANU_TOO_SHORT, 0, 0, strlen("decline 5 7 0.0")});
+    is_unmade(&job, &late, NULL, 0, 15, (relkvanu_answer){RELKVANU_REFUSED, RELKVANU_UNKNOWN_CHECKPOINT, 0, 0});
+    is_unmade(&job, &full, many, 4097, LONGEST, (relkvanu_answer){RELKVANU_REFUSED, RELKVANU_TOO_MANY_FILES, 0, 0});
+    DONE(line_into(&job, "tick 1000", NULL, 0), RELKVANU_TICK_TRIGGERED, 0, 1);
+    DONE(line_into(&job, "ack 1000 1 0.0 +11 +12", NULL, 0), RELKVANU_ACK_COMPLETED, 0, 0);
+    DONE(line_into(&job, "cancel 1000", NULL, 0), RELKVANU_CANCELLED, 1, 2);
+    is_unmade(&job, &take, NULL, 0, 6, (relkvanu_answer){RELKVANU_TOO_SHORT, 0, 2, 0});
+    DONE(relkvanu_make(&job, &take, NULL, 0, NULL, 0, many, 2, (uint8_t *)line, 6, &told), RELKVANU_TAKEN, 2, 0);
+    CHECK(memcmp(line, "take 9?", 7) == 0 && many[0] == 11 && many[1] == 12);
+    CHECK(told.written == 6 && memcmp(&told, &(relkvanu_made){6, 2, 0, 0, 2}, sizeof told) == 0);
+    relkvanu_close(&job);
+}
+
 int main(int argc, char **argv) {
+    made();
     kinds();
     other_calls();
     lengths();

@@ -10,7 +10,7 @@ import test_names
 import test_rows
 
 from relkvanu import (
-    AckCompleted, AckPending, BadArgument, BadLine, Coordinator, Fenced, OutOfMemory, Refused, Settings, Triggered, calls, lines,
+    AckCompleted, AckPending, BadArgument, BadLine, Coordinator, Fenced, OutOfMemory, Refused, RestoredFresh, Settings, Triggered, calls, lines,
 )
 
 # These calls take no memory.
@@ -82,7 +82,8 @@ class Memory(unittest.TestCase):
             self.told(job, lambda it: it.taken_files(), (2,))
             job.tick(3000)
             self.told(job, lambda it: it.pins_of(4), (1, 4, 5))
-            self.told(job, lambda it: it.files_of(3, 0, 0), (1, 4), takes_memory=False)
+            for read in (lambda it: it.files_of(3, 0, 0), lambda it: it.pins_of(3), lambda it: (it.mode(), it.moment(), it.due(), it.file_counts())):
+                self.told(job, read, read(job), takes_memory=False)
             self.told(job, lambda it: lines.ack_line(5, 1, 0, 0, [2], [1]), "ack 5 1 0.0 +2 =1")
             self.told(job, lambda it: calls.line_call(b"ack 5 1 0.0 +2 =1"), calls.Ack(5, 1, 0, 0, (2,), (1,)))
             self.told(job, lambda it: calls.line_call(b"show 3"), calls.Show(3), takes_memory=False)
@@ -105,6 +106,11 @@ class Memory(unittest.TestCase):
             self.with_checkpoint_3(job)
             with self.opens(lambda: Coordinator.open_saved(job.save())) as again:
                 self.assertEqual((again.save(), again.show(3).files), (job.save(), job.show(3).files))
+        with self.opens(lambda: Coordinator.open_fenced(SETTINGS, [1], 0, 1, 5)) as job:
+            job.reserve(1, 3)
+            self.told(job, lambda it: it.advance(1000, 3, 100), RestoredFresh(0), takes_memory=False)
+            self.told(job, lambda it: it.save(), job.save())
+            self.opens(lambda: Coordinator.open_saved(job.save())).close()
 
     def refusing(self, make):
         """Makes the call of a line so, and on copies of the coordinator with each request refused, alone and with all after it."""
