@@ -1,24 +1,26 @@
-"""The steps of examples/alignment.rows, and acknowledgements that take a cut."""
+"""The steps of examples/alignment.rows and examples/unaligned.rows, and acknowledgements that take a cut."""
 import pathlib
 import unittest
 
-from relkvanu import Abandon, AckCompleted, Aligner, BadArgument, BadStep, Coordinator, Cut, Fenced, OutOfRange, Settings, Step
+from relkvanu import AckCompleted, Aligner, BadArgument, BadStep, Coordinator, Cut, Fenced, OutOfRange, Settings, Step
+from relkvanu.aligner import Recorder
 
-ROWS = pathlib.Path(__file__).resolve().parents[3] / "examples/alignment.rows"
+EXAMPLES = pathlib.Path(__file__).resolve().parents[3] / "examples"
 FAULTS = {"UnknownInput": "unknown_input", "HeldInput": "held_input", "EndedInput": "ended_input", "BadInputs": "bad_inputs"}
 
 
 def told(step):
-    if isinstance(step, Cut):
-        return f"cut {step.id}"
-    return f"abandon {step.id}" if isinstance(step, Abandon) else f"{step.name.lower()} 0"
+    return f"{step.name.lower()} 0" if isinstance(step, Step) else f"{type(step).__name__.lower()} {step.id}"
 
 
 class Case:
-    """The alignment of a case, which an open begins."""
+    """The alignment of a case, or its recorder, which an open begins."""
+
+    def __init__(self, kind):
+        self.kind = kind
 
     def open(self, inputs):
-        self.aligner = Aligner(inputs)
+        self.aligner = self.kind(inputs)
         return Step.NOTHING
 
     def make(self, event, *numbers):
@@ -37,11 +39,12 @@ class Alignment(unittest.TestCase):
         self.settings = Settings(interval=1000)
 
     def test_steps_are_those_of_the_rows(self):
-        case, rows = Case(), [row for row in ROWS.read_text().splitlines() if " = " in row]
-        self.assertGreater(len(rows), 80)
-        for row in rows:
-            (event, *numbers), wanted = row.partition(" = ")[0].split(), row.partition(" = ")[2]
-            self.assertEqual(case.make(event, *map(int, numbers)), wanted, row)
+        for kind, name in ((Aligner, "alignment"), (Recorder, "unaligned")):
+            case, rows = Case(kind), [row for row in (EXAMPLES / f"{name}.rows").read_text().splitlines() if " = " in row]
+            self.assertGreater(len(rows), 60)
+            for row in rows:
+                (event, *numbers), wanted = row.partition(" = ")[0].split(), row.partition(" = ")[2]
+                self.assertEqual(case.make(event, *map(int, numbers)), wanted, row)
 
     def test_an_acknowledgement_takes_a_cut(self):
         with Coordinator(self.settings, [1], 0) as job:

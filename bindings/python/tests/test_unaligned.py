@@ -1,16 +1,71 @@
-"""Inputs whose checkpoints overtake: what take() returns, by lists of items that were worked out by hand; and the steps of a recorder."""
+"""What a task takes from its inputs: the cases of examples/inputs.rows, and how long it waits."""
+import pathlib
 import threading
 import time
 import unittest
 
-from relkvanu import Abandon, BadArgument, BadStep, Step, aligner
-from relkvanu.inputs import Barrier
+from relkvanu import BadStep, OutOfRange
+from relkvanu.inputs import Barrier, Inputs
 from relkvanu.reads import Kind
 from relkvanu.unaligned import Recorded, Snap, UnalignedInputs
+
+ROWS = pathlib.Path(__file__).resolve().parents[3] / "examples/inputs.rows"
 
 
 def barrier(id, kind=Kind.CHECKPOINT):
     return Barrier(id, kind, None, 1, False)
+
+
+def element(word):
+    input, _, it = word.partition(":")
+    return int(input), it
+
+
+class Case:
+    """The inputs of a case, which one of the first three words begins."""
+
+    def inputs(self, count):
+        self.it = Inputs(int(count))
+
+    def unaligned(self, count, *recorded, room=100):
+        self.it = UnalignedInputs(int(count), room, recorded=map(element, recorded))
+
+    def full(self, *words):
+        self.unaligned(*words, room=1)
+
+    def put(self, input, *items):
+        for it in items:
+            if it == ".":
+                self.it.end(int(input))
+            else:
+                self.it.put(int(input), barrier(int(it[1:]), {"|": Kind.CHECKPOINT, "/": Kind.SAVEPOINT}[it[0]]) if it[0] in "|/" else it)
+
+    def give_up(self, id, wanted):
+        return "yes" if self.it.give_up(int(id)) else "no", wanted
+
+    def take(self, *wanted):
+        return tuple(self.taken() for _ in wanted), wanted
+
+    def any(self, *wanted):
+        return sorted(self.taken() for _ in wanted), sorted(wanted)
+
+    def taken(self):
+        try:
+            input, it = self.it.take()
+        except BadStep as why:
+            return {"EndedInput": "end", "TwoOrders": "two-orders"}[why.name]
+        if isinstance(it, Recorded):
+            return f"rec{it.barrier.id}[" + ",".join(f"{input}:{element}" for input, element in it.elements) + "]"
+        return f"snap{it.barrier.id}" if isinstance(it, Snap) else f"cut{it.id}" if isinstance(it, Barrier) else f"{input}:{it}"
+
+
+class Rows(unittest.TestCase):
+    def test_rows(self):
+        case, rows = Case(), [row.split() for row in ROWS.read_text(encoding="utf-8").splitlines() if row and row[0] != "#"]
+        self.assertGreater(len(rows), 90)
+        for word, *words in rows:
+            told = getattr(case, word)(*words)
+            self.assertEqual(*(told or (None, None)), (word, *words))
 
 
 def filled(channels, **words):
@@ -25,62 +80,10 @@ def takes(inputs, count):
     return [inputs.take() for _ in range(count)]
 
 
-class OfARecorder(unittest.TestCase):
-    def test_at_once(self):
-        it = aligner.Recorder(2)
-        self.assertIs(it.element(0), Step.PROCESS)
-        self.assertEqual(it.overtake(7), aligner.Snap(7))
-        self.assertEqual([it.element(0), it.barrier(0, 7), it.element(0), it.element(1)], [Step.RECORD, Step.WAIT, Step.PROCESS, Step.RECORD])
-        with self.assertRaisesRegex(BadStep, "HeldInput"):
-            it.barrier(0, 8)
-        whole = it.barrier(1, 7)
-        self.assertEqual((type(whole), whole.id, it.overtake(7)), (aligner.Complete, 7, Step.LATE))
-
-    def test_a_later_record_is_asked_again(self):
-        it = aligner.Recorder(2)
-        self.assertEqual([it.overtake(7), it.barrier(1, 8), it.barrier(1, 8)], [aligner.Snap(7), Abandon(7), Step.WAIT])
-        self.assertEqual([it.give_up(7), it.give_up(8), it.overtake(8)], [Step.NOTHING, Abandon(8), Step.LATE])
-
-    def test_ends(self):
-        it = aligner.Recorder(2)
-        self.assertEqual([it.end(0), it.overtake(3), type(it.end(1)), it.overtake(4)], [Step.NOTHING, aligner.Snap(3), aligner.Complete, Step.NOTHING])
-        with self.assertRaisesRegex(BadArgument, "BadInputs"):
-            aligner.Recorder(0)
-
-
-class OfInputs(unittest.TestCase):
-    def test_a_checkpoint_overtakes_what_is_on_the_way(self):
-        inputs, seven = filled([[1, 2, barrier(7), 3], [10, 20]]), barrier(7)
-        self.assertEqual(inputs.take(), (1, Snap(seven)))
-        inputs.put(1, 30)
-        inputs.put(1, seven)
-        inputs.put(0, 4)
-        self.assertEqual(inputs.take()[1], Recorded(seven, [(0, 1), (0, 2), (1, 10), (1, 20), (1, 30)]))
-        self.assertEqual(sorted(takes(inputs, 7)), [(0, 1), (0, 2), (0, 3), (0, 4), (1, 10), (1, 20), (1, 30)])
-
-    def test_what_was_taken_before_is_in_the_snapshot(self):
-        inputs = filled([[1, 2], [10]])
-        self.assertEqual(takes(inputs, 2), [(0, 1), (1, 10)])
-        inputs.put(0, barrier(7))
-        inputs.put(1, barrier(7))
-        self.assertEqual([it for _, it in takes(inputs, 3)], [Snap(barrier(7)), Recorded(barrier(7), [(0, 2)]), 2])
-
-    def test_what_an_earlier_checkpoint_recorded_is_still_on_the_way(self):
-        inputs = filled([[1, 2, barrier(7)]])
-        self.assertEqual([it for _, it in takes(inputs, 3)], [Snap(barrier(7)), Recorded(barrier(7), [(0, 1), (0, 2)]), 1])
-        inputs.put(0, 3)
-        inputs.put(0, barrier(8))
-        self.assertEqual([it for _, it in takes(inputs, 4)], [Snap(barrier(8)), Recorded(barrier(8), [(0, 2), (0, 3)]), 2, 3])
-
-    def test_the_next_barrier_waits(self):
-        inputs = filled([[barrier(7), 1, barrier(8), 2], []])
-        self.assertEqual([it for _, it in takes(inputs, 2)], [Snap(barrier(7)), 1])
-        inputs.put(1, 10)
-        inputs.put(1, barrier(7))
-        self.assertEqual([it for _, it in takes(inputs, 2)], [Recorded(barrier(7), [(1, 10)]), Snap(barrier(8))])
-        inputs.put(1, barrier(8))
-        self.assertEqual(inputs.take()[1], Recorded(barrier(8), [(1, 10)]))
-        self.assertEqual(sorted(takes(inputs, 2)), [(0, 2), (1, 10)])
+class Waits(unittest.TestCase):
+    def test_a_number_that_does_not_fit(self):
+        with self.assertRaises(OutOfRange):
+            Inputs(1).give_up(1 << 64)
 
     def test_after_a_timeout(self):
         began = time.monotonic()
@@ -95,38 +98,6 @@ class OfInputs(unittest.TestCase):
     def test_before_the_timeout_it_is_aligned(self):
         inputs = filled([[1, barrier(7), 2], [10, barrier(7), 20]], after=60_000)
         self.assertEqual([it for _, it in takes(inputs, 5)], [1, 10, barrier(7), 2, 20])
-
-    def test_a_savepoint_is_aligned(self):
-        save = barrier(7, Kind.SAVEPOINT)
-        inputs = filled([[1, save, 2, barrier(8)], [10, save]])
-        self.assertEqual([it for _, it in takes(inputs, 4)], [1, 10, save, Snap(barrier(8))])
-        inputs.put(1, barrier(8))
-        self.assertEqual([it for _, it in takes(inputs, 2)], [Recorded(barrier(8), [(0, 2)]), 2])
-
-    def test_one_that_is_given_up(self):
-        inputs = filled([[1, barrier(7), 2], [10]])
-        self.assertEqual(inputs.take()[1], Snap(barrier(7)))
-        self.assertEqual((inputs.give_up(7), inputs.give_up(7)), (True, False))
-        inputs.put(1, barrier(7))
-        self.assertEqual(sorted(takes(inputs, 3)), [(0, 1), (0, 2), (1, 10)])
-
-    def test_ends(self):
-        inputs = filled([[1, barrier(7)], [10]])
-        self.assertEqual(inputs.take()[1], Snap(barrier(7)))
-        inputs.end(1)
-        self.assertEqual(inputs.take()[1], Recorded(barrier(7), [(0, 1), (1, 10)]))
-        inputs.end(0)
-        self.assertEqual(sorted(takes(inputs, 2)), [(0, 1), (1, 10)])
-        with self.assertRaisesRegex(BadStep, "EndedInput"):
-            inputs.take()
-
-    def test_what_was_recorded_comes_first(self):
-        inputs = UnalignedInputs(2, 1, recorded=[(0, 1), (0, 2), (1, 10)])
-        inputs.put(1, barrier(7))
-        self.assertEqual(inputs.take()[1], Snap(barrier(7)))
-        inputs.put(0, barrier(7))
-        self.assertEqual(inputs.take()[1], Recorded(barrier(7), [(0, 1), (0, 2), (1, 10)]))
-        self.assertEqual(sorted(takes(inputs, 3)), [(0, 1), (0, 2), (1, 10)])
 
     def test_a_full_input_waits_for_the_task(self):
         inputs = UnalignedInputs(1, 1)

@@ -1,12 +1,14 @@
-//! The steps of `examples/alignment.rows`, and an acknowledgement that takes a cut.
+//! The steps of `examples/alignment.rows` and `examples/unaligned.rows`, and an acknowledgement that takes a cut.
 mod settings;
 
-use relkvanu::{AlignFault, Aligner, Answer, Coordinator, Step, MOST_INPUTS};
+use relkvanu::{AlignFault, Aligner, Answer, Coordinator, Recorder, Step, MOST_INPUTS};
 use settings::SETTINGS;
 
 fn told(step: Result<Step, AlignFault>) -> String {
     match step {
         Ok(Step::Cut(cut)) => format!("cut {}", cut.id()),
+        Ok(Step::Complete(cut)) => format!("complete {}", cut.id()),
+        Ok(Step::Snap(id)) => format!("snap {id}"),
         Ok(Step::Abandon(id)) => format!("abandon {id}"),
         Ok(step) => format!("{step:?} 0").to_lowercase(),
         Err(AlignFault::UnknownInput) => "unknown_input 0".into(),
@@ -17,38 +19,59 @@ fn told(step: Result<Step, AlignFault>) -> String {
     }
 }
 
-/// Makes the step of a row with the alignment of the case, which an open replaces.
-fn made(task: &mut Option<Aligner>, event: &str, numbers: &[u64]) -> String {
-    let input = u32::try_from(numbers[0]);
-    if event == "open" {
-        let opened = Aligner::new(numbers[0] as usize);
-        let step = opened.as_ref().map(|_| Step::Nothing).map_err(|why| *why);
-        *task = opened.ok();
-        return told(step);
+/// The alignment of a case, or its recorder.
+enum Task {
+    Aligned(Aligner),
+    Recorded(Recorder),
+}
+
+impl Task {
+    fn open(is_recorded: bool, inputs: usize) -> Result<Task, AlignFault> {
+        match is_recorded {
+            true => Recorder::new(inputs).map(Task::Recorded),
+            false => Aligner::new(inputs).map(Task::Aligned),
+        }
     }
-    let task = task.as_mut().unwrap();
-    told(match event {
-        "element" => task.element(input.unwrap()),
-        "barrier" => task.barrier(input.unwrap(), numbers[1]),
-        "end" => task.end(input.unwrap()),
-        _ => task.give_up(numbers[0]),
-    })
+
+    fn make(&mut self, event: &str, numbers: &[u64]) -> Result<Step, AlignFault> {
+        let input = u32::try_from(numbers[0]);
+        match (self, event) {
+            (Task::Aligned(it), "element") => it.element(input.unwrap()),
+            (Task::Aligned(it), "barrier") => it.barrier(input.unwrap(), numbers[1]),
+            (Task::Aligned(it), "end") => it.end(input.unwrap()),
+            (Task::Aligned(it), _) => it.give_up(numbers[0]),
+            (Task::Recorded(it), "element") => it.element(input.unwrap()),
+            (Task::Recorded(it), "barrier") => it.barrier(input.unwrap(), numbers[1]),
+            (Task::Recorded(it), "end") => it.end(input.unwrap()),
+            (Task::Recorded(it), "overtake") => it.overtake(numbers[0]),
+            (Task::Recorded(it), _) => it.give_up(numbers[0]),
+        }
+    }
+}
+
+/// Makes the steps of rows. Returns how many there are.
+fn makes(is_recorded: bool, rows: &str) -> usize {
+    let (mut task, mut count) = (None, 0);
+    for (asked, wanted) in rows.lines().filter_map(|row| row.split_once(" = ")) {
+        let words: Vec<&str> = asked.split(' ').collect();
+        let numbers: Vec<u64> = words[1..].iter().map(|it| it.parse().unwrap()).collect();
+        let step = match words[0] {
+            "open" => Task::open(is_recorded, numbers[0] as usize).map(|opened| {
+                task = Some(opened);
+                Step::Nothing
+            }),
+            event => task.as_mut().unwrap().make(event, &numbers),
+        };
+        assert_eq!(told(step), wanted, "{asked}");
+        count += 1;
+    }
+    count
 }
 
 #[test]
 fn steps_are_those_of_the_rows() {
-    let path = concat!(env!("CARGO_MANIFEST_DIR"), "/../../../examples/alignment.rows");
-    let rows = std::fs::read_to_string(path).unwrap();
-    let mut task = None;
-    let mut count = 0;
-    for row in rows.lines().filter(|row| row.contains(" = ")) {
-        let (asked, wanted) = row.split_once(" = ").unwrap();
-        let words: Vec<&str> = asked.split(' ').collect();
-        let numbers: Vec<u64> = words[1..].iter().map(|it| it.parse().unwrap()).collect();
-        assert_eq!(made(&mut task, words[0], &numbers), wanted, "{row}");
-        count += 1;
-    }
-    assert!(count > 80);
+    assert!(makes(false, include_str!("../../../../examples/alignment.rows")) > 80);
+    assert!(makes(true, include_str!("../../../../examples/unaligned.rows")) > 60);
 }
 
 #[test]

@@ -694,14 +694,18 @@ fn tasks_that_hold_and_are_restarted() {
 /// A timer ends it, and the loop tells that before the next barrier.
 #[test]
 fn a_record_that_expires() {
-    let (_place, job, run) = idle("runner-expires", Settings { timeout: 50, tolerable: 10, ..IDLE });
+    let settings = Settings { tolerable: 10, ..IDLE };
+    let (_place, job, run) = idle("runner-expires", settings);
     *job.engine().takes_no_part.lock().unwrap() = true;
+    let [first, second] = [1, 2].map(|id| Barrier(id, Kind::Checkpoint, false));
     job.store().trigger().unwrap();
+    job.engine().await_word(first.clone());
+    job.store().configure(&Settings { timeout: 1, ..settings }).unwrap();
     while job.store().history(1).unwrap().is_empty() {
         thread::sleep(Duration::from_millis(1));
     }
+    job.store().configure(&settings).unwrap();
     job.store().trigger().unwrap();
-    let [first, second] = [1, 2].map(|id| Barrier(id, Kind::Checkpoint, false));
     job.engine().await_word(second.clone());
     assert_eq!(job.engine().said()[1..4], [first, Aborted(vec![1]), second]);
     close(job, run);
@@ -726,18 +730,6 @@ fn commands_of_an_operator() {
     let &Start(_, Some(from), payloads) = starts[1] else { unreachable!() };
     // the savepoint that has the payloads of the first
     assert!(starts.len() == 2 && second < from && from < third && payloads == 2);
-}
-
-#[test]
-fn a_cancel_leaves_no_file() {
-    let place = Place::new("runner-cancels");
-    let (job, run) = begin(&place, QUICK);
-    job.engine().await_words(2, is_complete);
-    job.store().call(Call::Cancel { now: NOW }).unwrap();
-    assert_eq!(run.join().unwrap().unwrap(), Ended::Cancelled);
-    assert_eq!(job.store().history(1).unwrap().len(), 1);
-    assert_eq!(ended(job).last(), Some(&End));
-    assert_eq!(fs::read_dir(place.state()).unwrap().count(), 1);
 }
 
 /// A job that triggers nothing by itself.
@@ -1109,23 +1101,6 @@ fn barrier(id: u64) -> Barrier {
     Barrier { id, kind: Kind::Checkpoint, base: Choice::Fresh, term: 1, holds: false, drains: false }
 }
 
-/// Each input has its turn, and the one with the barrier has none until the cut.
-#[test]
-fn what_comes_behind_a_barrier_waits() {
-    let inputs = Inputs::new(2, 100).unwrap();
-    inputs.put(0, "a");
-    inputs.put_barrier(0, barrier(1));
-    ["b", "c"].into_iter().for_each(|it| inputs.put(0, it));
-    ["p", "q", "r"].into_iter().for_each(|it| inputs.put(1, it));
-    inputs.put_barrier(1, barrier(1));
-    inputs.put(1, "s");
-    let element = Taken::Element;
-    let before = [element(0, "a"), element(1, "p"), element(1, "q"), element(1, "r")];
-    let expected = [&before[..], &[Taken::Cut(barrier(1)), element(0, "b"), element(1, "s"), element(0, "c")]].concat();
-    let taken: Vec<Taken<&str>> = (0..8).map(|_| inputs.take().unwrap()).collect();
-    assert_eq!(taken, expected);
-}
-
 #[test]
 fn an_input_that_is_full_and_a_task_that_waits() {
     let inputs = Arc::new(Inputs::new(2, 2).unwrap());
@@ -1220,82 +1195,9 @@ fn inputs_that_are_closed() {
 }
 
 #[test]
-fn barriers_in_two_orders_and_one_that_comes_twice() {
-    let inputs: Inputs<()> = Inputs::new(2, 2).unwrap();
-    inputs.put_barrier(0, barrier(1));
-    inputs.put_barrier(1, barrier(2));
-    assert_eq!(inputs.take(), Err(AlignFault::TwoOrders));
-    let inputs = Inputs::new(1, 100).unwrap();
-    [1, 1].into_iter().for_each(|it| inputs.put_barrier(0, barrier(it)));
-    inputs.put(0, "a");
-    let taken = [inputs.take().unwrap(), inputs.take().unwrap()];
-    assert_eq!(taken, [Taken::Cut(barrier(1)), Taken::Element(0, "a")]);
-    assert_eq!(Inputs::<()>::new(0, 1).unwrap_err(), AlignFault::BadInputs);
-}
-
-#[derive(Clone, Copy)]
-enum Put {
-    Is(&'static str),
-    At(u64), // the barrier of this record
-    Last,    // the end of the input
-}
-use Put::*;
-
-fn put(inputs: &Inputs<&'static str>, input: usize, items: &[Put]) {
-    for it in items {
-        match *it {
-            Is(element) => inputs.put(input, element),
-            At(id) => inputs.put_barrier(input, barrier(id)),
-            Last => inputs.end(input),
-        }
-    }
-}
-
-fn of(channels: &[&[Put]]) -> Arc<Inputs<&'static str>> {
-    let inputs = Inputs::new(channels.len(), 100).unwrap();
-    channels.iter().enumerate().for_each(|(input, items)| put(&inputs, input, items));
-    Arc::new(inputs)
-}
-
-/// All that is taken until each input has ended, in words.
-fn all_of(inputs: &Inputs<&'static str>) -> String {
-    let word = |it| match it {
-        Taken::Element(input, element) => format!("{element}{input}"),
-        Taken::Cut(barrier) => format!("cut{}", barrier.id),
-    };
-    let mut taken = Vec::new();
-    loop {
-        match inputs.take() {
-            Err(AlignFault::EndedInput) => return taken.join(" "),
-            told => taken.push(word(told.unwrap())),
-        }
-    }
-}
-
-/// It counts as one on which the barrier has come: whether its end comes first, or the barrier on the other input.
-#[test]
-fn an_input_that_ends_before_a_barrier() {
-    let inputs = of(&[&[Is("a"), Last], &[Is("p"), At(1), Is("q"), At(2), Last]]);
-    assert_eq!(all_of(&inputs), "a0 p1 cut1 q1 cut2");
-    let inputs = of(&[&[Is("a"), Is("b"), Last], &[At(1), Is("behind"), Last]]);
-    assert_eq!(all_of(&inputs), "a0 b0 cut1 behind1");
-    let inputs = of(&[&[Last], &[At(1), Last], &[Is("p"), Last]]);
-    assert_eq!(all_of(&inputs), "p2 cut1");
-    assert_eq!(all_of(&inputs), ""); // and then always
-}
-
-/// The end waits on its input as the elements do: no record is cut before its barrier has come on the other one.
-#[test]
-fn an_input_that_ends_at_and_behind_a_barrier() {
-    let other = &[Is("p"), Is("q"), At(1), Is("r"), At(2), Is("s"), Last];
-    assert_eq!(all_of(&of(&[&[At(1), Last], other])), "p1 q1 cut1 r1 cut2 s1");
-    let inputs = of(&[&[At(1), Is("behind"), Last], &[Is("p"), Is("q"), At(1), At(2), Is("r"), Last]]);
-    assert_eq!(all_of(&inputs), "p1 q1 cut1 behind0 cut2 r1");
-}
-
-#[test]
 fn an_end_while_the_task_waits() {
-    let inputs = of(&[&[At(1)], &[]]);
+    let inputs = Arc::new(Inputs::<()>::new(2, 1).unwrap());
+    inputs.put_barrier(0, barrier(1));
     let takes = inputs.clone();
     let taker = thread::spawn(move || (takes.take(), takes.take()));
     thread::sleep(Duration::from_millis(50));
@@ -1321,9 +1223,11 @@ fn what_comes_behind_an_end() {
         inputs.put(1, element);
         assert_eq!(inputs.take(), Ok(Taken::Element(1, element))); // the end of the other one is taken before the second
     }
-    for (input, it) in [(0, Is("b")), (0, At(1)), (0, Last), (2, Last)] {
+    let behind: [fn(&Inputs<&str>); 4] =
+        [|it| it.put(0, "b"), |it| it.put_barrier(0, barrier(1)), |it| it.end(0), |it| it.end(2)];
+    for put in behind {
         let puts = inputs.clone();
-        assert!(thread::spawn(move || put(&puts, input, &[it])).join().is_err());
+        assert!(thread::spawn(move || put(&puts)).join().is_err());
     }
     inputs.end(1);
     assert_eq!(inputs.take(), Err(AlignFault::EndedInput));
@@ -1332,7 +1236,9 @@ fn what_comes_behind_an_end() {
 /// What its barriers held comes to a task that waits, in order, each input has its turn, and its other barriers are dropped. The next record is cut.
 #[test]
 fn a_record_that_is_given_up() {
-    let inputs = of(&[&[At(1), Is("a"), Is("b"), At(2), Is("c"), Last], &[Is("p")], &[At(1), Is("x")]]);
+    let inputs = Arc::new(Inputs::new(3, 100).unwrap());
+    [0, 2].into_iter().for_each(|it| inputs.put_barrier(it, barrier(1)));
+    [(0, "a"), (0, "b"), (1, "p"), (2, "x")].into_iter().for_each(|(input, it)| inputs.put(input, it));
     assert_eq!(inputs.take(), Ok(Taken::Element(1, "p")));
     let takes = inputs.clone();
     let taker = thread::spawn(move || [(); 3].map(|()| takes.take()));
@@ -1341,38 +1247,10 @@ fn a_record_that_is_given_up() {
     assert_eq!(inputs.give_up(1), Ok(true));
     assert_finishes(&taker);
     assert_eq!(taker.join().unwrap(), [(0, "a"), (2, "x"), (0, "b")].map(|(input, it)| Ok(Taken::Element(input, it))));
-    put(&inputs, 1, &[At(1), Is("q"), At(2), Is("r"), Last]);
-    put(&inputs, 2, &[At(2), Last]);
-    assert_eq!(all_of(&inputs), "q1 cut2 c0 r1");
-}
-
-/// An end that its barrier held comes too, and cuts nothing. A later record is cut by an end with its own barrier, though one of the other comes last.
-#[test]
-fn a_record_that_is_given_up_with_ends() {
-    let inputs = of(&[&[At(1), Last], &[Is("p")]]);
-    assert_eq!(inputs.take(), Ok(Taken::Element(1, "p")));
-    assert_eq!(inputs.give_up(1), Ok(true));
-    put(&inputs, 1, &[Is("q"), At(2), Last]);
-    assert_eq!(all_of(&inputs), "q1 cut2");
-    let inputs = of(&[&[At(1), At(2), Last], &[Is("p")], &[Is("x")]]);
-    assert_eq!([(); 2].map(|()| inputs.take()), [Ok(Taken::Element(1, "p")), Ok(Taken::Element(2, "x"))]);
-    assert_eq!(inputs.give_up(1), Ok(true));
-    [1, 2].into_iter().for_each(|it| put(&inputs, it, &[At(1), Last]));
-    assert_eq!(all_of(&inputs), "cut2");
-}
-
-/// One of which nothing has come is cut when it comes, and one that was cut stays so.
-#[test]
-fn a_record_that_is_not_aligned_is_not_given_up() {
-    let inputs = of(&[&[At(1), Is("a")], &[Is("p"), At(1)]]);
-    assert_eq!(inputs.take(), Ok(Taken::Element(1, "p")));
-    assert_eq!(inputs.give_up(2), Ok(false));
-    assert_eq!([(); 2].map(|()| inputs.take()), [Ok(Taken::Cut(barrier(1))), Ok(Taken::Element(0, "a"))]);
-    for id in [0, 1, u64::MAX] {
-        assert_eq!(inputs.give_up(id), Ok(false));
-    }
-    [0, 1].into_iter().for_each(|it| put(&inputs, it, &[At(2), Last]));
-    assert_eq!(all_of(&inputs), "cut2");
+    [1, 2].into_iter().for_each(|it| inputs.put_barrier(1, barrier(it)));
+    [0, 2].into_iter().for_each(|it| inputs.put_barrier(it, barrier(2)));
+    assert_eq!(inputs.take(), Ok(Taken::Cut(barrier(2))));
+    assert_eq!(Inputs::<()>::new(0, 1).unwrap_err(), AlignFault::BadInputs);
 }
 
 fn named(store: &Store, term: u64, id: u64, index: u16, payload: &[u8]) -> u64 {
@@ -1437,27 +1315,16 @@ fn what_a_call_has_wrong() {
     let decline = Call::DeclineIn { term: 1, now: NOW, id: 1, subtask: (0, 0) };
     let long = vec![0; 4097];
     let payload = More { payload: &long, ..More::default() };
-    let (words, zero) = ("x".repeat(201), "a\0b");
     let reason = |reason| More { reason, ..More::default() };
-    let small = More { payload: b"x", ..More::default() };
-    for (call, more, words) in [
-        (ack(0), payload, "more than 4096 bytes"),
-        (ack(0), reason("x"), "no decline"),
-        (decline, reason(&words), "more than 200 bytes"),
-        (decline, reason(zero), "a zero"),
-        (decline, small, "no acknowledgement"),
-    ] {
+    for (call, more, words) in [(ack(0), payload, "more than 4096 bytes"), (decline, reason("a\0b"), "a zero")] {
         let Err(CallError::Store(why)) = store.call_with(call, more) else {
             panic!("{words}");
         };
-        assert_eq!(why.kind, StoreErrorKind::BadArgument);
-        assert!(why.message.contains(words), "{why}");
+        assert!(why.kind == StoreErrorKind::BadArgument && why.message.contains(words), "{why}");
     }
-    let refused = store.call_with(ack(TASKS), small).unwrap_err();
-    assert_eq!(refused, CallError::Fault(Fault::Refused(Refusal::UnknownSubtask)));
     let made = store.call_with(decline, reason("no disk")).unwrap();
     assert_eq!((made.kind, made.ended), (Some(Kind::Checkpoint), vec![1]));
-    let late = store.call_with(ack(1), small).unwrap();
+    let late = store.call_with(ack(1), More { payload: b"x", ..More::default() }).unwrap();
     assert_eq!(late.called(), Some(Answer::AckLate { handed_out: 0 }));
     assert_eq!((late.kind, late.ended), (None, vec![]));
     assert_eq!(store.history(5).unwrap()[0].reason, "no disk");

@@ -1,15 +1,14 @@
-//! Inputs whose checkpoints overtake: what `take` gives, of items that were worked out by hand; the rows of a recorder; and a job over the runner, which is
-//! killed.
+//! What a task takes from its inputs: the cases of `examples/inputs.rows`; and a job over the runner whose checkpoints overtake, which is killed.
 #![cfg(feature = "store")]
 mod common;
 
 use common::{new_job, Place, SETTINGS};
 use relkvanu::job::Job as JobOf;
 use relkvanu::outputs::{Files, Sink};
-use relkvanu::runner::{Ack, Barrier, Ended, Engine, Record, RunFault, Runner, Told};
+use relkvanu::runner::{self, Ack, Barrier, Ended, Engine, Inputs, Record, RunFault, Runner, Told};
 use relkvanu::store::{More, Store};
 use relkvanu::unaligned::{check, elements_in, file_of, NotRescalable, Taken, UnalignedInputs};
-use relkvanu::{AlignFault, Choice, Kind, Recorder, Settings, Step};
+use relkvanu::{AlignFault, Choice, Kind, Settings};
 use std::collections::{BTreeMap, VecDeque};
 use std::fs;
 use std::io::{BufRead, BufReader};
@@ -22,6 +21,102 @@ use std::time::Duration;
 
 fn barrier(id: u64) -> Barrier {
     Barrier { id, kind: Kind::Checkpoint, base: Choice::Fresh, term: 1, holds: false, drains: false }
+}
+
+/// The inputs of a case.
+enum Case {
+    Aligned(Inputs<String>),
+    Overtaking(UnalignedInputs<String>),
+}
+
+impl Case {
+    fn of(word: &str, words: &[&str]) -> Case {
+        let (count, room) = (words[0].parse().unwrap(), if word == "full" { 1 } else { 100 });
+        let element =
+            |it: &&str| it.split_once(':').map(|(input, it)| (input.parse().unwrap(), it.to_owned())).unwrap();
+        match word {
+            "inputs" => Case::Aligned(Inputs::new(count, room).unwrap()),
+            _ => {
+                let recorded = words[1..].iter().map(element).collect();
+                Case::Overtaking(UnalignedInputs::new(count, room, Duration::ZERO, recorded).unwrap())
+            }
+        }
+    }
+
+    fn put(&self, input: usize, item: &str) {
+        let kind = if item.starts_with('/') { Kind::Savepoint } else { Kind::Checkpoint };
+        let at = |id: &str| Barrier { kind, ..barrier(id.parse().unwrap()) };
+        match (self, item.strip_prefix(['|', '/'])) {
+            (Case::Aligned(it), Some(id)) => it.put_barrier(input, at(id)),
+            (Case::Overtaking(it), Some(id)) => it.put_barrier(input, at(id)).unwrap(),
+            (Case::Aligned(it), None) if item == "." => it.end(input),
+            (Case::Overtaking(it), None) if item == "." => it.end(input).unwrap(),
+            (Case::Aligned(it), None) => it.put(input, item.to_owned()),
+            (Case::Overtaking(it), None) => it.put(input, item.to_owned()).unwrap(),
+        }
+    }
+
+    fn taken(&self) -> String {
+        let told = match self {
+            Case::Overtaking(it) => it.take(),
+            Case::Aligned(it) => it.take().map(|it| match it {
+                runner::Taken::Element(input, it) => Taken::Element(input, it),
+                runner::Taken::Cut(it) => Taken::Cut(it),
+            }),
+        };
+        match told {
+            Ok(Taken::Element(input, it)) => format!("{input}:{it}"),
+            Ok(Taken::Cut(it)) => format!("cut{}", it.id),
+            Ok(Taken::Snap(it)) => format!("snap{}", it.id),
+            Ok(Taken::Recorded(it, elements)) => {
+                let words: Vec<_> = elements.iter().map(|(input, it)| format!("{input}:{it}")).collect();
+                format!("rec{}[{}]", it.id, words.join(","))
+            }
+            Err(AlignFault::EndedInput) => "end".into(),
+            Err(AlignFault::TwoOrders) => "two-orders".into(),
+            Err(other) => panic!("{other}"),
+        }
+    }
+
+    fn give_up(&self, id: u64) -> bool {
+        match self {
+            Case::Aligned(it) => it.give_up(id).unwrap(),
+            Case::Overtaking(it) => it.give_up(id).unwrap(),
+        }
+    }
+
+    fn make(&self, word: &str, words: &[&str]) {
+        match word {
+            "put" => words[1..].iter().for_each(|it| self.put(words[0].parse().unwrap(), it)),
+            "give_up" => assert_eq!(self.give_up(words[0].parse().unwrap()), words[1] == "yes", "{words:?}"),
+            _ => {
+                let (mut told, mut wanted): (Vec<_>, _) =
+                    (words.iter().map(|_| self.taken()).collect(), words.to_vec());
+                if word == "any" {
+                    told.sort();
+                    wanted.sort();
+                }
+                assert_eq!(told, wanted);
+            }
+        }
+    }
+}
+
+#[test]
+fn what_is_taken_is_that_of_the_rows() {
+    let rows =
+        include_str!("../../../../examples/inputs.rows").lines().filter(|it| !it.is_empty() && !it.starts_with('#'));
+    let (mut case, mut count) = (None, 0);
+    for row in rows {
+        let (word, words) = row.split_once(' ').unwrap();
+        let words: Vec<&str> = words.split(' ').collect();
+        match word {
+            "inputs" | "unaligned" | "full" => case = Some(Case::of(word, &words)),
+            _ => case.as_ref().unwrap().make(word, &words),
+        }
+        count += 1;
+    }
+    assert!(count > 90);
 }
 
 fn inputs(count: usize, after: u64) -> UnalignedInputs<u32> {
@@ -43,43 +138,6 @@ fn takes(inputs: &UnalignedInputs<u32>, count: usize) -> Vec<(usize, u32)> {
     taken
 }
 
-fn told(step: Result<Step, AlignFault>) -> String {
-    let (name, id) = match step {
-        Ok(Step::Cut(cut)) => ("cut".into(), cut.id()),
-        Ok(Step::Complete(cut)) => ("complete".into(), cut.id()),
-        Ok(Step::Snap(id)) => ("snap".into(), id),
-        Ok(Step::Abandon(id)) => ("abandon".into(), id),
-        Ok(step) => (format!("{step:?}").to_lowercase(), 0),
-        Err(AlignFault::UnknownInput) => ("unknown_input".into(), 0),
-        Err(AlignFault::HeldInput) => ("held_input".into(), 0),
-        Err(AlignFault::EndedInput) => ("ended_input".into(), 0),
-        Err(AlignFault::BadInputs) => ("bad_inputs".into(), 0),
-        Err(other) => panic!("{other}"),
-    };
-    format!("{name} {id}")
-}
-
-fn made(task: &mut Option<Recorder>, words: &[&str]) -> String {
-    let number = |at: usize| words[at].parse::<u64>().unwrap();
-    if words[0] == "open" {
-        return match Recorder::new(number(1) as usize) {
-            Ok(recorder) => {
-                *task = Some(recorder);
-                "nothing 0".into()
-            }
-            Err(fault) => told(Err(fault)),
-        };
-    }
-    let task = task.as_mut().unwrap();
-    told(match words[0] {
-        "element" => task.element(number(1) as u32),
-        "barrier" => task.barrier(number(1) as u32, number(2)),
-        "end" => task.end(number(1) as u32),
-        "overtake" => task.overtake(number(1)),
-        _ => task.give_up(number(1)),
-    })
-}
-
 /// A barrier that was taken makes room, also where the others have not delivered it.
 #[test]
 fn room_behind_a_barrier() {
@@ -93,49 +151,6 @@ fn room_behind_a_barrier() {
     thread::sleep(Duration::from_millis(100)); // the source waits for room
     assert_eq!(inputs.take(), Ok(Taken::Cut(barrier(1))));
     assert_eq!((source.join().unwrap(), inputs.take()), (Ok(()), Ok(Taken::Element(0, 7))));
-}
-
-#[test]
-fn steps_are_those_of_the_rows() {
-    let rows = include_str!("../../../../examples/unaligned.rows");
-    let (mut task, mut count) = (None, 0);
-    for (event, wanted) in rows.lines().filter_map(|row| row.split_once(" = ")) {
-        assert_eq!(made(&mut task, &event.split(' ').collect::<Vec<_>>()), wanted, "{event}");
-        count += 1;
-    }
-    assert!(count > 60);
-}
-
-#[test]
-fn a_checkpoint_overtakes_what_is_on_the_way() {
-    let inputs = inputs(2, 0);
-    put(&inputs, 0, &[1, 2]);
-    inputs.put_barrier(0, barrier(7)).unwrap();
-    put(&inputs, 0, &[3]);
-    put(&inputs, 1, &[10]);
-    assert_eq!(inputs.take(), Ok(Taken::Snap(barrier(7))));
-    put(&inputs, 1, &[20]);
-    inputs.put_barrier(1, barrier(7)).unwrap();
-    put(&inputs, 1, &[30]);
-    assert_eq!(inputs.take(), Ok(Taken::Recorded(barrier(7), vec![(0, 1), (0, 2), (1, 10), (1, 20)])));
-    assert_eq!(takes(&inputs, 6), [(0, 1), (0, 2), (0, 3), (1, 10), (1, 20), (1, 30)]);
-}
-
-#[test]
-fn what_an_earlier_checkpoint_recorded_is_still_on_the_way() {
-    let inputs = inputs(1, 0);
-    put(&inputs, 0, &[1, 2]);
-    inputs.put_barrier(0, barrier(7)).unwrap();
-    assert_eq!(inputs.take(), Ok(Taken::Snap(barrier(7))));
-    assert_eq!(inputs.take(), Ok(Taken::Recorded(barrier(7), vec![(0, 1), (0, 2)])));
-    assert_eq!(takes(&inputs, 1), [(0, 1)]);
-    put(&inputs, 0, &[3]);
-    inputs.put_barrier(0, barrier(8)).unwrap();
-    assert_eq!(inputs.take(), Ok(Taken::Snap(barrier(8))));
-    assert_eq!(inputs.take(), Ok(Taken::Recorded(barrier(8), vec![(0, 2), (0, 3)])));
-    inputs.end(0).unwrap();
-    assert_eq!(takes(&inputs, 2), [(0, 2), (0, 3)]);
-    assert_eq!(inputs.take(), Err(AlignFault::EndedInput));
 }
 
 #[test]
@@ -154,19 +169,6 @@ fn it_is_aligned_until_the_timeout() {
     assert_eq!(takes(&slow, 1), [(0, 1)]);
     slow.end(1).unwrap();
     assert_eq!(slow.take(), Ok(Taken::Recorded(barrier(7), vec![])));
-}
-
-#[test]
-fn a_savepoint_is_aligned_and_what_is_given_up_goes_on() {
-    let inputs = inputs(2, 0);
-    inputs.put_barrier(0, Barrier { kind: Kind::Savepoint, ..barrier(7) }).unwrap();
-    put(&inputs, 0, &[1]);
-    inputs.put_barrier(0, barrier(8)).unwrap();
-    inputs.put_barrier(1, Barrier { kind: Kind::Savepoint, ..barrier(7) }).unwrap();
-    assert!(matches!(inputs.take(), Ok(Taken::Cut(Barrier { id: 7, .. }))));
-    assert_eq!(inputs.take(), Ok(Taken::Snap(barrier(8))));
-    assert_eq!((inputs.give_up(8), inputs.give_up(8)), (Ok(true), Ok(false)));
-    assert_eq!(takes(&inputs, 1), [(0, 1)]);
 }
 
 #[test]
