@@ -5,7 +5,6 @@ import json
 import os
 import pathlib
 import signal
-import threading
 import time
 import unittest
 import uuid
@@ -16,11 +15,11 @@ from botocore.config import Config
 from botocore.exceptions import ClientError
 
 import relkvanu.sweep
-from relkvanu import Coordinator, FileCounts, Settings
+from relkvanu import Coordinator, Settings
 from relkvanu.s3 import Bucket, KeepsVersions
-from relkvanu.storage import Exists, Marker, NotThere, OtherJob, StorageError, discard, sweep, unknown
+from relkvanu.storage import Exists, Marker, NotThere, OtherJob, StorageError
 from relkvanu.sweep import Swept
-from jobs_with_files import MARKER, job_with_files
+from jobs_with_files import MARKER, job_with_files, run_beside_sweepers
 
 
 def client(**words):
@@ -238,22 +237,6 @@ class Failing(OnAServer):
             self.assertEqual(list(files.delete([1, 2])), [2])
 
 
-class WithACoordinator(OnAServer):
-    def test_discard_and_sweep(self):
-        files = self.opened(is_new=True)
-        with Coordinator(Settings(interval=10), [1], 0) as core:
-            for file in (1, 2):
-                files.put(file, b"state")
-                core.tick(10 * file)
-                core.ack(10 * file, file, 0, 0, [file])
-            files.put(9, b"nobody's")
-            self.assertEqual(discard(core, files), (1, {}))
-            self.assertEqual((self.keys(), core.file_counts()), (["2", "9"], FileCounts(1, 0, 0)))
-            core.restore(20)
-            self.assertEqual(sweep(files, lambda some: unknown(core, some)), {})
-            self.assertEqual(self.keys(), ["2"])
-
-
 class Sweeping(OnAServer):
     def setUp(self):
         super().setUp()
@@ -293,14 +276,6 @@ class Sweeping(OnAServer):
         waiting = [5, 6]  # of checkpoint 1, which a discarder has not fetched
         self.assertEqual(self.keys(), sorted(f"orders/state-{file}.sst" for file in [*waiting, *names[::3]]))
 
-    def test_one_key_fails_in_an_answer_that_succeeds(self):
-        denied = {"Effect": "Deny", "Principal": "*", "Action": "s3:DeleteObject", "Resource": f"arn:aws:s3:::{self.bucket}/orders/state-4.sst"}
-        self.s3.put_bucket_policy(Bucket=self.bucket, Policy=json.dumps({"Version": "2012-10-17", "Statement": [denied]}))
-        swept = relkvanu.sweep.sweep(self.files, self.job.garbage, delete=True)
-        self.assertEqual((swept.garbage, swept.deleted, list(swept.failed)), (2, 1, [4]))
-        self.assertIn("AccessDenied", swept.failed[4])
-        self.assertIn("orders/state-4.sst", self.keys())
-
     def test_a_bucket_that_goes_while_it_sweeps(self):
         def ask(files):
             for it in self.s3.list_objects_v2(Bucket=self.bucket)["Contents"]:
@@ -311,62 +286,8 @@ class Sweeping(OnAServer):
         swept = relkvanu.sweep.sweep(self.files, ask, delete=True)
         self.assertEqual((swept.deleted, sorted(swept.failed)), (0, [4, 8]))
 
-    def test_a_time_out_is_not_deleted(self):
-        slow = self.opened(prefix="orders/state-", suffix=".sst", marker=Marker(".relkvanu-orders", MARKER))
-        with contextlib.ExitStack() as stack:
-
-            def ask(files):
-                slow._s3 = client(patience=1)
-                stack.enter_context(suspended(int(os.environ["S3_OSD"])))
-                return self.job.garbage(files)
-
-            swept = relkvanu.sweep.sweep(slow, ask, delete=True)
-        self.assertEqual((swept.deleted, sorted(swept.failed)), (0, [4, 8]))
-        self.assertEqual(relkvanu.sweep.sweep(self.files, self.job.garbage, delete=True).failed, {})
-        self.assertEqual(self.keys(), [f"orders/state-{file}.sst" for file in (5, 6, 7, 9)])
-
-    def test_versions_that_are_switched_on_later(self):
-        self.s3.put_bucket_versioning(Bucket=self.bucket, VersioningConfiguration={"Status": "Enabled"})
-        swept = relkvanu.sweep.sweep(self.files, self.job.garbage, delete=True)
-        self.assertEqual((swept.deleted, sorted(swept.failed)), (0, [4, 8]))
-
     def test_beside_a_job_that_runs(self):
-        """Of 40 checkpoints each file of the last complete one is there after each, while two sweepers run."""
-        over, swept, faults = threading.Event(), [], []
-        self.files.delete([9])  # a name that is given out next
-
-        def sweeps():
-            try:
-                while not over.is_set():
-                    swept.append(relkvanu.sweep.sweep(self.files, self.job.garbage, delete=True))
-            except BaseException as fault:
-                faults.append(fault)
-
-        sweepers = [threading.Thread(target=sweeps) for _ in range(2)]
-        for it in sweepers:
-            it.start()
-        try:
-            for turn in range(40):
-                names = list(self.job.reserve(self.job.term().term, 2))
-                for name in names:
-                    self.files.put(name, b"state")
-                triggered = self.job.tick(20 + 10 * turn)
-                if turn % 4 == 3:
-                    self.job.restore(20 + 10 * turn)  # its files are garbage
-                    continue
-                self.job.ack_in(self.job.term().term, 20 + 10 * turn, triggered.id, 0, 0, names)
-                for name in names:
-                    self.files.get(name)  # or it raises
-                discard(self.job, self.files)
-                self.assertEqual(faults, [])
-            end = time.monotonic() + 300
-            while sum(it.deleted for it in swept) <= 10 and not faults and time.monotonic() < end:  # of 20; on a busy machine they may come late
-                time.sleep(0.01)
-        finally:
-            over.set()
-            for it in sweepers:
-                it.join()
-        self.assertEqual(faults, [])
-        relkvanu.sweep.sweep(self.files, self.job.garbage, delete=True)
-        self.assertEqual(len(self.keys()), 2)
-        self.assertGreater(sum(it.deleted for it in swept), 10)
+        files = self.opened(is_new=True, prefix="other/")
+        with Coordinator.open_fenced(Settings(interval=10), [1], 0, 1, 1) as job:
+            last = run_beside_sweepers(self, job, files, 40)
+        self.assertEqual([it for it in self.keys() if it.startswith("other/")], sorted(f"other/{file}" for file in last))

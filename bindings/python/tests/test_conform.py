@@ -5,9 +5,7 @@ import pathlib
 import tempfile
 import unittest
 
-from relkvanu import Coordinator, Settings, lines
-from relkvanu.conform import NAMED_RULES, RULES, check, main
-from relkvanu.storage import Folder
+from relkvanu.conform import RULES, check, main
 from relkvanu.trace import NoTrace
 
 OPENING = ["process 1 starts", "config 10 0 1 1000 0 1 delete", "job 1", "start 0", "log synced", "task 0.0 1 starts"]
@@ -71,12 +69,18 @@ class Judging(unittest.TestCase):
             self.assertTrue(any(it in one for one in what), (it, what))
 
 
-class Breaking(Judging):
-    """Each changes the job that obeys the rules in one place."""
+class Explored(unittest.TestCase):
+    def test_each_trace_breaks_the_rule_that_was_switched_off(self):
+        """The name of its file begins with the rule's number (explore/RULES)."""
+        traces = sorted((pathlib.Path(__file__).resolve().parents[3] / "docs/protocol").glob("*.trace"))
+        self.assertGreater(len(traces), 30)
+        for path in traces:
+            rules, came = found(path.read_text(encoding="utf-8").splitlines())
+            self.assertEqual((rules[0][1], came != []), (int(path.name[:2]), True), path.name)
 
-    def test_each_rule_has_a_sentence(self):
-        self.assertEqual(sorted(RULES), list(range(1, 19)))
-        self.assertLessEqual(set(NAMED_RULES), set(RULES))
+
+class Breaking(Judging):
+    """Each changes the job that obeys the rules in one place, otherwise than the traces of docs/protocol."""
 
     def test_1_a_barrier_an_answer_a_deletion_and_a_start_rest_on_the_log(self):
         at = WHOLE.index("barrier 1 to 0.0 1")
@@ -97,41 +101,14 @@ class Breaking(Judging):
         self.assertIn("a log is put back that lacks the last 4 synced lines", str(check(lines)[0]))
         self.assertEqual(check([*copied, *ended]), [])
 
-    def test_2_a_file_is_synced(self):
+    def test_2_a_file_that_is_written_again(self):
         at = WHOLE.index("task 0.0 1 sends ack 1 +1")
-        self.breaks(without(WHOLE, "task 0.0 1 syncs 1"), 2, at, "file 1 is lost: record 1")
-        rewritten = list(WHOLE)
-        rewritten.insert(at, "task 0.0 1 writes 1")
-        self.breaks(rewritten, 2, at + 2)
-
-    def test_3_a_message_of_a_replaced_task(self):
-        lines = [*WHOLE, *RESTART, "tick 30", "log synced", "barrier 3 to 0.0 2", "from 0.0 1", "ack 30 3 0.0 =2"]
-        self.breaks(lines, 3, len(lines), "record 3 is done, and has a part of a task that was replaced")
-        self.breaks([*lines[:-1], "decline 30 3 0.0"], 3, len(lines))
-
-    def test_4_a_start_without_a_restore(self):
-        self.breaks([*WHOLE, "task 0.0 1 ends", "task 0.0 2 starts"], 4, len(WHOLE) + 2)
-        self.breaks([*WHOLE, *without(RESTART, "restore 20 latest")], 4, len(WHOLE) + 6)
-
-    def test_5_two_processes(self):
-        self.breaks([*WHOLE, "process 2 starts"], 5, len(WHOLE) + 1)
+        self.breaks([*WHOLE[:at], "task 0.0 1 writes 1", *WHOLE[at:]], 2, at + 2)
 
     def test_6_a_task_deletes_what_is_accepted_or_under_way(self):
         self.breaks([*WHOLE, "task 0.0 1 unlinks 2"], 6, len(WHOLE) + 1, "file 2 is lost: record 2")
         at = WHOLE.index("task 0.0 1 sends ack 1 +1") + 1
         self.breaks([*WHOLE[:at], "task 0.0 1 unlinks 1", *WHOLE[at:]], 6, at + 1)
-
-    def test_7_a_name_of_another_file(self):
-        lines = [*OPENING, *checkpoint(1, 1), *checkpoint(2, 1)[:7]]
-        self.breaks(lines, 7, len(lines))
-        lines = [*WHOLE, *RESTART, "task 0.0 2 writes 2"]
-        self.breaks(lines, 7, len(lines))
-
-    def test_8_a_sweep_while_tasks_run(self):
-        lines = [*OPENING, "task 0.0 1 writes 9", "sweeper unlinks 9"]
-        self.breaks(lines, 8, len(lines))
-        lines = [*WHOLE, "process 1 ends", "process 2 starts", "sweeper unlinks 9"]
-        self.breaks(lines, 8, len(lines))
 
     def test_9_a_file_that_is_there_or_comes_back(self):
         at = WHOLE.index("deleted 1")
@@ -142,12 +119,6 @@ class Breaking(Judging):
         away = list(WHOLE)
         away.insert(WHOLE.index("discarder unlinks 1"), "storage away")
         self.breaks(away, 9, at + 2)
-
-    def test_10_a_storage_that_is_away(self):
-        lines = list(WHOLE)
-        at = WHOLE.index("task 0.0 1 writes 1")
-        lines.insert(at, "storage away")
-        self.breaks(lines, 10, at + 2, "file 1 is lost")
 
 
 NAMED = [*OPENING[:4], "fence 1", *OPENING[4:]]
@@ -363,19 +334,6 @@ class Elements(Judging):
         retained = ["config 10 0 1 1000 0 2 delete" if line.startswith("config") else line for line in [*second, *back, *again]]
         self.assertEqual(check(retained), [])
 
-    def test_3_a_target_takes_nothing_of_a_task_that_was_replaced(self):
-        lines = [*FIRST, *BEGUN, "task 0.0 2 publishes 1"]
-        self.breaks([*lines, "task 0.0 1 prepares 2"], 3, len(lines) + 1)
-        self.breaks([*lines, "task 0.0 1 drops 1"], 3, len(lines) + 1)
-        self.breaks([*FIRST, *BEGUN, "task 0.0 1 publishes 1"], 3, len(FIRST) + len(BEGUN) + 1)
-
-    def test_11_a_snapshot_before_the_barrier_on_a_channel(self):
-        whole = [*CHAINED, "task 0.1 1 takes 1 from 0.0", "task 0.1 1 takes barrier 1 from 0.0", "task 0.1 1 begins 1", "task 0.1 1 prepares 1"]
-        ends = [*acknowledged(1, "0.0 1"), *acknowledged(1, "0.1 1"), "complete 1 to 0.1 1", "task 0.1 1 publishes 1"]
-        self.assertEqual(check([*whole, *ends]), [])
-        early = without(without(whole, "task 0.1 1 takes 1 from 0.0"), "task 0.1 1 takes barrier 1 from 0.0")
-        self.breaks([*early, *ends], 11, len(CHAINED) + 1, "element 1 of 0.0 is lost: record 1")
-
     def test_11_an_element_behind_the_barrier(self):
         lines = [*CHAINED, "task 0.0 1 reads 2", "task 0.1 1 takes 1 from 0.0", "task 0.1 1 takes barrier 1 from 0.0", "task 0.1 1 takes 2 from 0.0"]
         self.breaks(lines, 11, len(lines))
@@ -386,23 +344,6 @@ class Elements(Judging):
         second = [*FIRST, "task 0.0 1 publishes 1", *read(2), "savepoint 0", "log synced", "barrier 2 to 0.0 1", "task 0.0 1 begins 2", "task 0.0 1 prepares 2"]
         self.assertEqual(check([*second, *BEGUN, "task 0.0 2 drops 2", *read(2, task="0.0 2")]), [])
         self.breaks([*second, *BEGUN, *read(2, task="0.0 2")], 12, len(second) + len(BEGUN) + 1)
-
-    def test_13_a_savepoint_and_a_record_that_is_not_complete(self):
-        saved = [*OPENING, *read(1), *with_sink(1, ["savepoint 0", "log synced"])]
-        self.breaks([*saved, "task 0.0 1 publishes 1"], 13, len(saved) + 1)
-        self.assertEqual(check([*saved, "restore 0 1", "log synced", "task 0.0 1 publishes 1"]), [])
-        pending = saved[:saved.index("task 0.0 1 sends ack 1")]
-        self.breaks([*pending, "task 0.0 1 publishes 1"], 13, len(pending) + 1)
-
-    def test_14_a_task_goes_on_while_the_job_stops(self):
-        stopping = [*FIRST, "task 0.0 1 publishes 1", *STOP, "barrier 2 to 0.0 1", "task 0.0 1 begins 2", "task 0.0 1 prepares 2"]
-        self.breaks([*stopping, *read(2)], 14, len(stopping) + 1)
-        declined = [*stopping, "task 0.0 1 sends decline 2", "from 0.0 1", "decline 0 2 0.0", "log synced"]
-        self.assertEqual(check([*declined, *read(2)]), [])
-
-    def test_15_a_task_is_told_of_a_way_back(self):
-        lines = [*FIRST, "task 0.0 1 publishes 1", "savepoint 0", "back to 1 with 2", "log synced", "barrier 2 to 0.0 1"]
-        self.breaks(lines, 15, len(lines))
 
     def test_15_a_way_back_to_a_record_that_lacks_a_file(self):
         """Nobody misses the file of an older record until the job goes back to it. A storage that is away has none."""
@@ -427,71 +368,6 @@ class Elements(Judging):
         unanswered = without(FIRST, "answer to 0.0 1 accepted")
         self.assertEqual(check(unanswered), [])
         self.breaks(without(unanswered, "log synced", 2), 1, len(unanswered) - 1)
-
-
-class AnEngine(unittest.TestCase):
-    """A job of two tasks over a folder, which is restored once, tells what it does. So a test of an engine can."""
-
-    def setUp(self):
-        temporary = tempfile.TemporaryDirectory()
-        self.addCleanup(temporary.cleanup)
-        self.trace = []
-        self.files = Folder(temporary.name, "job", is_new=True)
-        self.addCleanup(self.files.close)
-        self.core = Coordinator(Settings(interval=10), [2], 0)
-        self.addCleanup(self.core.close)
-        self.tell("process 1 starts", *lines.opening_lines(Settings(interval=10), [2], 0).splitlines(), "log synced")
-        self.starts, self.last = 0, 0
-
-    def tell(self, *told):
-        self.trace += told
-
-    def call(self, line):
-        reply = self.core.line(line.encode())
-        self.tell(line, "log synced")  # here the log is the trace
-        return reply
-
-    def start(self):
-        self.starts += 1
-        self.tell(*(f"task 0.{index} {self.starts} starts" for index in range(2)))
-
-    def take_part(self, index, record, syncs):
-        task, self.last = f"0.{index} {self.starts}", self.last + 1
-        self.tell(f"barrier {record} to {task}")
-        self.files.put(self.last, b"state")
-        self.tell(f"task {task} writes {self.last}", *[f"task {task} syncs {self.last}"] * syncs, f"task {task} sends ack {record} +{self.last}",
-                  f"from {task}")
-        self.call(lines.ack_line(10 * record, record, 0, index, [self.last]))
-        self.tell(f"answer to {task} accepted")
-
-    def discard(self):
-        taken = self.call(lines.take_line(64)).files
-        self.assertEqual(self.files.delete(taken), {})
-        self.tell("discarder unlinks" + "".join(f" {file}" for file in taken), "folder synced")
-        for file in taken:
-            self.call(lines.deleted_line(file))
-
-    def run_job(self, syncs=True):
-        self.start()
-        for record in range(1, 6):
-            self.call(lines.tick_line(10 * record))
-            for index in range(2):
-                self.take_part(index, record, syncs)
-            self.discard()
-            if record == 3:
-                self.call(lines.restore_line(10 * record))
-                self.start()
-        return check(self.trace)
-
-    def test_it_obeys(self):
-        self.assertEqual(self.run_job(), [])
-        self.assertEqual(sorted(sum(self.files.pages(), [])), [9, 10])
-        self.assertEqual(sum(line.startswith("ack ") for line in self.trace), 10)
-
-    def test_it_acknowledges_before_it_syncs(self):
-        findings = self.run_job(syncs=False)
-        self.assertEqual({it.rule for it in findings if it.rule}, {2})
-        self.assertEqual(len([it for it in findings if it.rule]), 10)
 
 
 class Command(unittest.TestCase):

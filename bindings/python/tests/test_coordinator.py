@@ -1,10 +1,9 @@
 """What the package adds to the calls: openings, numbers that do not fit, closing, threads."""
-import json
 import threading
 import unittest
 
 from relkvanu import (
-    AckPending, BadArgument, Closed, Configured, Coordinator, Refused, RestoredCheckpoint, Settings, Shown, Taken, Triggered, calls,
+    AckPending, BadArgument, Closed, Configured, Coordinator, Refused, Settings, Shown, Triggered, calls,
 )
 
 SETTINGS = Settings(interval=1000)
@@ -25,77 +24,16 @@ class Openings(unittest.TestCase):
         Coordinator(SETTINGS, [1], (1 << 62) - 1, (1 << 62) - 1).close()
 
 
-class OtherSettings(unittest.TestCase):
-    """An image whose settings were changed, as docs/EMBEDDING.md says."""
-
-    def reopened(self, **changed):
-        """Two completed checkpoints are retained, and the image is opened with these settings."""
-        with Coordinator(Settings(interval=1000, retained=2), [1], 0, 7) as job:
-            for id in (7, 8):
-                job.tick(1000 * (id - 6))
-                job.ack(1000 * (id - 6), id, 0, 0, [id])
-            image = json.loads(job.save())
-        self.assertEqual(image["opening"]["first"], 7)
-        image["opening"]["config"].update(changed)
-        return Coordinator.open_saved(json.dumps(image))
-
-    def test_the_job_goes_on_under_them(self):
-        with self.reopened(interval=5000, timeout=700) as job:
-            self.assertEqual(job.due(), 3000)  # it was due under the old ones
-            self.assertEqual(job.tick(3000), Triggered(0, 9))
-            self.assertEqual((job.due(), job.oldest_expiry()), (8000, 3700))
-
-    def test_a_state_that_breaks_them_is_refused(self):
-        with self.assertRaises(BadArgument) as raised:
-            self.reopened(retained=1)
-        self.assertEqual(raised.exception.name, "BadImage")
-
-
 class SettingsOfALiveJob(unittest.TestCase):
-    """Checkpoints now, and other settings, as docs/RULES.md says."""
-
-    def job_of_three(self):
-        """Three completed checkpoints are retained, each with a file of its own."""
-        job = Coordinator(Settings(interval=1000, retained=3), [1], 0)
-        for id in (1, 2, 3):
-            job.tick(1000 * id)
-            job.ack(1000 * id, id, 0, 0, [10 + id])
-        return job
-
-    def refused(self, name, call):
-        with self.assertRaises(Refused) as raised:
-            call()
-        self.assertEqual(raised.exception.name, name)
-
-    def test_a_smaller_number_retained_deletes_at_once(self):
-        with self.job_of_three() as job:
-            self.assertEqual(job.configure(3000, Settings(interval=500)), Configured(2, 2))
-            self.assertEqual(job.take(9), Taken((11, 12)))
-            self.assertEqual(job.due(), 3500)  # it was due at 4000
-            self.assertEqual(job.configure(3000, Settings(interval=9000, retained=3)), Configured(0, 0))
-            self.assertEqual(job.due(), 3500)  # no later than before
-
-    def test_a_checkpoint_now(self):
-        with self.job_of_three() as job:
-            self.assertEqual(job.trigger(3100), Triggered(0, 4))
-            self.assertEqual(job.due(), 4100)
-            self.refused("AtOnce", lambda: job.trigger(3200))
-            job.configure(3200, Settings(interval=1000, at_once=2))
-            self.assertEqual(job.trigger(3200), Triggered(0, 5))
-            self.refused("AtOnce", lambda: job.configure(3300, SETTINGS))
-            job.cancel(3300)
-            self.refused("NotRunning", lambda: job.trigger(3300))
-            self.refused("NotRunning", lambda: job.configure(3300, SETTINGS))
+    """Checkpoints now, and other settings: no row has them."""
 
     def test_settings_outside_their_limits(self):
-        with self.job_of_three() as job:
+        with Coordinator(SETTINGS, [1], 0) as job:
             before = job.save()
-            with self.assertRaises(BadArgument) as raised:
-                job.configure(3000, Settings(interval=9))
-            self.assertEqual(raised.exception.name, "BadConfig")
-            with self.assertRaises(BadArgument) as raised:
-                job.line(b"configure 3000 9 0 1 600000 0 1 keep")
-            self.assertEqual(raised.exception.name, "BadConfig")
+            for call in (lambda: job.configure(3000, Settings(interval=9)), lambda: job.line(b"configure 3000 9 0 1 600000 0 1 keep")):
+                with self.assertRaises(BadArgument) as raised:
+                    call()
+                self.assertEqual(raised.exception.name, "BadConfig")
             self.assertEqual(job.save(), before)
 
     def test_lines(self):
@@ -108,8 +46,8 @@ class SettingsOfALiveJob(unittest.TestCase):
         ]:
             self.assertEqual(call.line(), line)
             self.assertEqual(calls.line_call(line.encode()), call)
-        with self.job_of_three() as job:
-            self.assertEqual(job.line(b"configure 3000 500 0 1 600000 0 1 delete"), Configured(2, 2))
+        with Coordinator(SETTINGS, [1], 0) as job:
+            self.assertEqual((job.configure(8, settings), job.due(), job.trigger(9)), (Configured(0, 0), 1000, Triggered(0, 1)))
 
 
 class Moments(unittest.TestCase):
@@ -210,22 +148,6 @@ class Calls(unittest.TestCase):
         for kind, make in {**calls.OF_A_MOMENT, **calls.OF_A_NUMBER}.items():
             given = [number for name, number in vars(make(1000, 0)).items() if name != "term"]
             self.assertRaises(Closed, getattr(job, calls.CallKind(kind).name.lower()), *given)
-
-    def test_a_job_is_opened_anew_from_its_last_checkpoint(self):
-        with Coordinator(SETTINGS, [2], 0) as job:
-            job.tick(1000)
-            job.ack(1000, 1, 0, 0, [1, 2])
-            job.ack(1000, 1, 0, 1, [3], [2])
-            files = job.show(1).files
-        with Coordinator(SETTINGS, [2], 0, first=2) as job:
-            self.assertEqual(job.tick(2000), Triggered(expired=0, id=2))
-            known = set()
-            for subtask, named in files.items():
-                job.ack(2000, 2, *subtask, [f for f in named if f not in known], [f for f in named if f in known])
-                known.update(named)
-            self.assertEqual(job.show(2).files, {(0, 0): (1, 2), (0, 1): (2, 3)})
-            self.assertEqual([job.count(file).uses for file in (1, 2, 3)], [1, 2, 1])
-            self.assertEqual(job.restore(3000), RestoredCheckpoint(id=2, released=0))
 
     def test_threads_share_it(self):
         with Coordinator(SETTINGS, [64], 0) as job:

@@ -1,6 +1,4 @@
 """The discarder's threads, and what a timer waits for."""
-import pathlib
-import tempfile
 import threading
 import time
 import unittest
@@ -110,15 +108,6 @@ class Discarding(unittest.TestCase):
             with Discarder(job, delete, Patience(threads=1, batch=2, first_wait=0.001, longest_wait=0.002, idle=0.001)) as discarder:
                 wait_for(lambda: discarder.told().deleted == 17 and discarder.told().failed > 100)
             self.assertEqual(job.file_counts(), FileCounts(0, 3, 0))
-
-    def test_a_folder_that_is_gone(self):
-        with tempfile.TemporaryDirectory() as name:
-            gone, no_folder = pathlib.Path(name, "gone"), pathlib.Path(name, "file")
-            no_folder.write_text("")
-            with cancelled(self) as job, Discarder(job, lambda file: (gone / str(file)).unlink(), QUICK) as discarder:
-                wait_for(lambda: discarder.told() == Discarded(20, 0, ()))
-            with cancelled(self) as job, given_up(job, lambda file: (no_folder / str(file)).unlink()) as discarder:
-                self.assertEqual(discarder.told().deleted, 0)
 
     def test_a_coordinator_that_is_closed_first_ends_the_threads(self):
         faults = []

@@ -22,14 +22,6 @@ def recovered(record, files, more=(), number=2, swept=()):
             "task 0.0 2 starts"]
 
 
-def published(element, record=0, task="0.0 1", term=1):
-    """A sink reads an element, prepares it for a record, and publishes it."""
-    record = record or element
-    lines = [*read(element, task=task), *with_sink(record, [f"tick {10 * element}", "log synced"], task)]
-    lines = told([f"in {term} {line}" if line.startswith("ack") else line for line in lines], record)
-    return [*lines, f"complete {record} to {task}", f"task {task} publishes {record}"]
-
-
 ONE = told([*OPENING, *checkpoint(1, 1)], 1)
 TWO = told([*ONE, *checkpoint(2, 2)], 2)
 AGAIN = [*LOST, *recovered(2, " +2", swept=[1])]
@@ -59,12 +51,6 @@ class Lost(Judging):
         again = [line.replace("0.0 2", "0.0 3") for line in recovered(3, " +2 +3", number=4)]
         self.assertEqual(check([*TWO, *AGAIN, *third, *lost, *again]), [])
 
-    def test_16_a_manifest_before_the_commit(self):
-        early = without(ONE, "manifest 1")
-        at = early.index("ack 10 1 0.0 +1") + 1
-        self.breaks([*early[:at], "manifest 1", *early[at:]], 16, at + 1)
-        self.breaks([*OPENING, "manifest 1"], 16, len(OPENING) + 1)
-
     def test_16_a_deletion_before_the_manifest(self):
         taken = ["take 64", "log synced", "discarder unlinks 1", "folder synced"]
         late = [*ONE, *checkpoint(2, 2)[:-1], *taken]
@@ -78,45 +64,6 @@ class Lost(Judging):
         first = told([*OPENING, *read(1), *with_sink(1, ["tick 10", "log synced"])], 1)
         second = [*first, *read(2), *with_sink(2, ["tick 20", "log synced"]), "complete 2 to 0.0 1"]
         self.breaks(without(second, "answer to 0.0 1 accepted", 1), 16, len(second) - 1)
-
-    def test_17_an_older_record(self):
-        kept = ["config 10 0 1 1000 0 2 delete" if line.startswith("config") else line for line in TWO]
-        self.breaks([*kept, *LOST, *recovered(1, " +1")], 17, len(kept) + 4)
-
-    def test_17_an_older_record_with_a_sink(self):
-        """What was published since comes again. Nobody has chosen that: an advance is no restore to a savepoint."""
-        lines = [*NAMED, *published(1), *published(2), *LOST]
-        again = recovered(1, "", ["savepoint 0", "decline 0 2 0.0", "fence 1", "advance 0 1 1"])
-        lines = ["config 10 0 1 1000 0 2 delete" if line.startswith("config") else line for line in [*lines, *again, *published(2, 3, "0.0 2", 3)]]
-        self.breaks(lines, 17, lines.index("log lost") + 2, "element 2 of 0.0 is published twice")
-
-    def test_17_a_number_comes_again(self):
-        """Record 2 was told, and not completed."""
-        pending = [*ONE, *checkpoint(2, 2)[:3], *LOST]
-        once_more = ["tick 10", "log synced", "barrier 2 to 0.0 2"]
-        lines = [*pending, *recovered(1, " +1"), *once_more]
-        self.breaks(lines, 17, len(lines))
-        passed = recovered(1, " +1", ["savepoint 0", "decline 0 2 0.0"])
-        self.assertEqual(check([*pending, *passed, *[line.replace("barrier 2", "barrier 3") for line in once_more]]), [])
-
-    def test_17_a_term_comes_again(self):
-        lines = [*NAMED_ONE[:-3], "restore 10 latest", "log synced", "task 0.0 9 starts", *LOST, *recovered(1, " +1", ["fence 3"])]
-        self.breaks(lines, 17, len(lines))
-
-    def test_17_a_name_comes_again(self):
-        lines = [*NAMED_ONE, *recovered(1, " +1", ["fence 2", "advance 0 1 2"]), "reserve 3 1"]
-        self.breaks(lines, 17, len(lines))
-
-    def test_18_the_old_log_comes_back(self):
-        lines = [*TWO, *AGAIN, "process 3 ends", "log comes back", "process 4 starts"]
-        self.breaks(lines, 18, len(lines))
-        self.assertEqual(check([*TWO, *LOST, "log comes back", "process 2 starts", "restore 20 latest", "log synced", "task 0.0 2 starts"]), [])
-
-    def test_18_a_process_that_looked_at_the_marker_before_the_recovery(self):
-        lines = [*TWO, *LOST[:2], "process 9 looks", *LOST[2:], *AGAIN[3:], "process 3 ends", "log comes back", "process 9 starts"]
-        self.breaks(lines, 18, len(lines))
-        self.assertIn("it had looked at the marker before", str(check(lines)[0]))
-        self.assertEqual(check([*TWO, *LOST[:2], "process 9 looks", "process 9 starts"]), [])
 
     def test_18_a_process_that_has_not_ended(self):
         self.breaks([*TWO, "log lost", *recovered(2, " +2")], 18, len(TWO) + 2)

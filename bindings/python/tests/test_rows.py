@@ -152,16 +152,11 @@ class Rows(unittest.TestCase):
 
 class Lines(unittest.TestCase):
     def test_a_call_is_written_as_its_line(self):
+        """Each function of lines that is not made of the header."""
         self.assertEqual(lines.ack_line(5, 1, 1, 2, [12, 11], [7]), "ack 5 1 1.2 +11 +12 =7")
-        self.assertEqual(lines.tick_line(5), "tick 5")
-        self.assertEqual(lines.savepoint_line(5), "savepoint 5")
-        self.assertEqual(lines.decline_line(5, 1, 0, 3), "decline 5 1 0.3")
-        self.assertEqual(lines.restore_line(5, None, [1, 2]), "restore 5 latest 1 2")
-        self.assertEqual(lines.restore_line(5, 3), "restore 5 3")
-        self.assertEqual((lines.dispose_line(3), lines.cancel_line(5), lines.take_line(9)), ("dispose 3", "cancel 5", "take 9"))
-        self.assertEqual((lines.deleted_line(7), lines.undeleted_line(7)), ("deleted 7", "undeleted 7"))
-        self.assertEqual((lines.fence_line(7), lines.reserve_line(2, 9), lines.forfeit_line(2, [7, 8])), ("fence 7", "reserve 2 9", "forfeit 2 7 8"))
         self.assertEqual((lines.ack_line(5, 1, 0, 0, [7], term=3), lines.decline_line(5, 1, 0, 0, 3)), ("in 3 ack 5 1 0.0 +7", "in 3 decline 5 1 0.0"))
+        self.assertEqual((lines.restore_line(5, None, [1, 2]), lines.restore_line(5, 3)), ("restore 5 latest 1 2", "restore 5 3"))
+        self.assertEqual((lines.reserve_line(2, 9), lines.forfeit_line(2, [7, 8]), lines.take_line(9)), ("reserve 2 9", "forfeit 2 7 8", "take 9"))
         with self.assertRaises(BadLine) as raised:
             lines.ack_line(5, 1, 0, 0, [(1 << 64) - 1 - place for place in range(9000)])
         self.assertEqual(raised.exception.name, "TooLong")
@@ -169,25 +164,15 @@ class Lines(unittest.TestCase):
         self.assertRaises(BadArgument, lines.restore_line, 5, None, [0])
 
     def test_a_line_says_its_call(self):
-        wanted = [
-            (b" tick  05 \r", calls.Tick(5)), (b"savepoint 5", calls.Savepoint(5)), (b"decline 5 1 0.3", calls.Decline(5, 1, 0, 3)),
-            (b"ack 5 1 1.2 +12 =9 +11 =7", calls.Ack(5, 1, 1, 2, (11, 12), (7, 9))), (b"ack 5 1 0.0", calls.Ack(5, 1, 0, 0, ())),
-            (b"restore 5 latest", calls.Restore(5)), (b"restore 5 4 1 2", calls.Restore(5, 4, (1, 2))), (b"dispose 3", calls.Dispose(3)),
-            (b"cancel 5", calls.Cancel(5)), (b"take 9", calls.Take(9)), (b"deleted 7", calls.Deleted(7)), (b"undeleted 7", calls.Undeleted(7)),
-            (b"advance 5 3 70", calls.Advance(5, 3, 70)), (b"fence 7", calls.Fence(7)),
-            (b"reserve 2 9", calls.Reserve(2, 9)), (b"forfeit 2", calls.Forfeit(2, ())), (b"forfeit 2 7 8", calls.Forfeit(2, (7, 8))),
-            (b"in 3 ack 5 1 1.2 +12 =9 +11 =7", calls.Ack(5, 1, 1, 2, (11, 12), (7, 9), 3)), (b"in 3 decline 5 1 0.3", calls.Decline(5, 1, 0, 3, 3)),
-            (b"in 4 tick 5", calls.Tick(5, 4)), (b"in 4 take 9", calls.Take(9, 4)), (b"in 4 restore 5 latest", calls.Restore(5, term=4)), (b"in 0 cancel 5", calls.Cancel(5)),
-            (b"show 3", calls.Show(3)), (b"count 18446744073709551615", calls.Count((1 << 64) - 1)), (b"# a comment", None), (b"", None),
-        ]
-        for line, call in wanted:
+        for line, call in (
+            (b"decline 5 1 0.3", calls.Decline(5, 1, 0, 3)), (b"restore 5 4 1 2", calls.Restore(5, 4, (1, 2))), (b"advance 5 3 70", calls.Advance(5, 3, 70)),
+            (b"reserve 2 9", calls.Reserve(2, 9)), (b"forfeit 2 7 8", calls.Forfeit(2, (7, 8))), (b"in 4 take 9", calls.Take(9, 4)), (b"", None),
+            (b"in 3 ack 5 1 1.2 +12 =9 +11 =7", calls.Ack(5, 1, 1, 2, (11, 12), (7, 9), 3)),
+        ):
             self.assertEqual(calls.line_call(line), call)
             if call is not None:
                 self.assertEqual(calls.line_call(call.line().encode()), call)
-        for line, kind, name in [
-            (b"start 7", BadLine, "NoCall"), (b"tick x", BadLine, "Number"), (b"restore 5 latest 0", BadArgument, "BadShape"),
-            (b"restore 5 0", Refused, "NoSuchSavepoint"),
-        ]:
+        for line, kind, name in ((b"start 7", BadLine, "NoCall"), (b"restore 5 latest 0", BadArgument, "BadShape"), (b"restore 5 0", Refused, "NoSuchSavepoint")):
             with self.assertRaises(kind) as raised:
                 calls.line_call(line)
             self.assertEqual(raised.exception.name, name)
@@ -199,20 +184,13 @@ class Lines(unittest.TestCase):
         says = [lines.line_says(line) for line in text.encode().splitlines()]
         self.assertEqual(says, [settings, lines.Job((1, 2)), lines.Start(7)])
         with Coordinator(settings, [1, 2], 7) as job:
-            self.assertEqual(job.line(b"tick 2000"), Triggered(0, 1))
-            self.assertEqual(job.line(b"ack 2000 1 0.0 +1 +2\r"), AckPending(2))
-            longest = b"show " + b"0" * ((1 << 17) - 6) + b"1"
-            self.assertEqual([job.line(line).files for line in (b" show  01 ", longest)], 2 * [{(0, 0): (1, 2)}])
-            self.assertRaises(Refused, job.line, b"show 18446744073709551615")
+            job.tick(2000)
+            job.ack(2000, 1, 0, 0, [1, 2])
             self.assertEqual(job.line(b"cancel 2000"), Cancelled(1, 2))
             with self.assertRaises(TooShort) as raised:
                 job.line(b"take 9", 1)
             self.assertEqual((raised.exception.places, job.file_counts()), (2, FileCounts(0, 2, 0)))
             self.assertEqual(job.line(b"take 9", 2), Taken((1, 2)))
             self.assertIsNone(job.line(b"# a comment"))
-            self.assertIsNone(job.line(b""))
-            faults = [(b"tick", "Missing"), (b"start 7", "NoCall"), (b"tick 1 2", "Extra"), (b"tick x", "Number"), (b"Tick 1", "Word")]
-            for line, name in [*faults, (b"tick" + b" " * (1 << 17), "TooLong")]:
-                with self.assertRaises(BadLine) as raised:
-                    job.line(line)
-                self.assertEqual(raised.exception.name, name)
+            with self.assertRaisesRegex(BadLine, "TooLong"):
+                job.line(b"tick" + b" " * (1 << 17))

@@ -1,6 +1,5 @@
 """The sweeper over a folder: only garbage goes, at any time, and beside a job that runs."""
 import threading
-import time
 from concurrent.futures import ThreadPoolExecutor
 from unittest import mock
 
@@ -8,19 +7,14 @@ from relkvanu import Coordinator, Error, Fenced, Settings
 from relkvanu.storage import Folder, NotThere
 from relkvanu.sweep import Swept, pages, sweep
 from folders import InFolder
-from jobs_with_files import job_with_files
+from jobs_with_files import job_with_files, run_beside_sweepers
 
 
-class WithAJob(InFolder):
+class Sweeping(InFolder):
     def setUp(self):
         super().setUp()
         self.job = job_with_files()
         self.addCleanup(self.job.close)
-
-
-class Sweeping(WithAJob):
-    def setUp(self):
-        super().setUp()
         self.folder = Folder(self.path, "orders", is_new=True)
         self.addCleanup(self.folder.close)
         for file in range(4, 10):
@@ -34,11 +28,6 @@ class Sweeping(WithAJob):
         swept = sweep(self.folder, self.job.garbage, delete=True)
         self.assertEqual(swept, Swept(listed=6, garbage=2, garbage_bytes=4 + 8, deleted=2, unissued=1))
         self.assertEqual(self.names(), ["5", "6", "7", "9"])
-
-    def test_what_a_task_held_is_garbage_once_its_term_has_ended(self):
-        self.job.restore(20)
-        self.assertEqual(sweep(self.folder, self.job.garbage, delete=True).deleted, 3)
-        self.assertEqual(self.names(), ["5", "6", "9"])
 
     def test_a_file_that_was_put_in_part(self):
         (self.path / "8").rename(self.path / "8.part")
@@ -107,79 +96,10 @@ class Sweeping(WithAJob):
         self.assertEqual([(it.deleted, it.failed) for it in swept], [(2, {}), (2, {})])
         self.assertEqual(self.names(), ["5", "6", "7", "9"])
 
-    def test_an_answer_that_is_used_late(self):
-        """What was garbage once may be deleted whenever it is, also after restores and by a sweeper that should be dead."""
-        told = self.job.garbage(range(4, 10))
-        self.job.restore(20)
-        self.job.reserve(2, 1)
-        self.folder.delete([9])
-        self.folder.put(9, b"")
-        self.job.tick(30)
-        self.job.ack_in(2, 30, 2, 0, 0, [9], [5])
-        self.assertEqual(sweep(self.folder, lambda files: told._replace(unissued=()), delete=True).deleted, 2)
-        self.assertEqual(self.names(), ["5", "6", "7", "9"])
 
-
-class BesideAJob(WithAJob):
+class BesideAJob(InFolder):
     def test_no_file_of_a_record_is_ever_missing(self):
-        """A job of 300 checkpoints with a task that gives up now and then, is restored, or dies with files that it has written. Two sweepers run
-        all the time. After each call each file of a live record is there. At the end the folder has those and no other."""
-        self.folder = Folder(self.path, "orders", is_new=True)
-        self.addCleanup(self.folder.close)
-        job = Coordinator.open_fenced(Settings(interval=10), [1], 0, 1, 1)
-        self.addCleanup(job.close)
-        over, swept, faults = threading.Event(), [], []
-
-        def sweeps():
-            try:
-                while not over.is_set():
-                    swept.append(sweep(self.folder, job.garbage, delete=True))
-                    time.sleep(0.001)  # some thirty sweeps come within a checkpoint
-            except BaseException as fault:
-                faults.append(fault)
-
-        sweepers = [threading.Thread(target=sweeps) for _ in range(2)]
-        for it in sweepers:
-            it.start()
-        try:
-            last = []
-            for now in range(10, 3010, 10):
-                last = self.checkpoint(job, now, last)
-                self.assertEqual(faults, [])
-            end = time.monotonic() + 300
-            while sum(it.deleted for it in swept) <= 100 and not faults and time.monotonic() < end:  # of 360; on a busy machine they may come late
-                time.sleep(0.01)
-        finally:
-            over.set()
-            for it in sweepers:
-                it.join()
-        self.assertEqual(faults, [])
-        job.restore(4000)
-        self.assertEqual(sweep(self.folder, job.garbage, delete=True).failed, {})
-        self.assertEqual(self.names(), sorted(map(str, last)))
-        self.assertGreater(sum(it.deleted for it in swept), 100, "the sweepers found what was left")
-
-    def checkpoint(self, job, now, last):
-        """Returns the files of the last checkpoint that is complete. It takes none: what is released is taken by nobody, and waits."""
-        term = job.term().term
-        names = list(job.reserve(term, 3))
-        for name in names:
-            self.folder.put(name, b"state")
-        triggered = job.tick(now)
-        turn = now // 10 % 5
-        if turn == 0:  # it gives up
-            job.forfeit(term, names)
-        elif turn == 1:  # it dies
-            job.restore(now)
-        else:
-            job.ack_in(term, now, triggered.id, 0, 0, names)
-            for file in job.take(100).files:
-                self.folder.delete([file])
-                job.deleted(file)
-            last = names
-        for file in last:
-            self.assertTrue((self.path / str(file)).exists(), f"file {file} is missing at {now}")
-        if turn == 0:
-            job.decline_in(term, now, triggered.id, 0, 0)
-            job.restore(now)
-        return last
+        with Folder(self.path, "orders", is_new=True) as files, Coordinator.open_fenced(Settings(interval=10), [1], 0, 1, 1) as job:
+            self.assertEqual(self.names(), [])
+            last = run_beside_sweepers(self, job, files, 300)
+            self.assertEqual(self.names(), sorted(map(str, last)))

@@ -252,11 +252,11 @@ class Running(unittest.TestCase):
         engine.runner.restart()
         engine.await_count("start", 2)
         engine.await_more("complete", 2)
+        with self.assertRaises(Fenced):
+            engine.runner.ack(1, 1, 0, 0, [])
         self.close(engine, await_end)
         starts = [it for it in engine.said if it[0] == "start"]
         self.assertEqual([it[1] for it in starts], [1, 2])
-        with self.assertRaises(Fenced):
-            engine.runner.ack(1, 1, 0, 0, [])
 
     def test_a_job_that_fails_is_restarted(self):
         store, engine, await_end = self.running(tolerable=0)

@@ -18,9 +18,9 @@ from unittest import mock
 
 from relkvanu import (
     AckCompleted, AckLate, AckPending, BadArgument, Chosen, Closed, Configured, Fenced, Forfeited, Kind, Mode, OutOfRange, Refused, Reserved,
-    RestoredCheckpoint, RestoredSavepoint, SavepointTriggered, Settings, Taken, Triggered, header, store_header,
+    RestoredCheckpoint, RestoredSavepoint, SavepointTriggered, Settings, Taken, Triggered, store_header,
 )
-from relkvanu.manifest import members, sealed, sums_in
+from relkvanu.manifest import members, sums_in
 from relkvanu.store import (
     Call, FileFault, JobPhase, Made, NextBarrier, NextBegun, NextCancelled, NextEnded, NextFailed, NextIdle, NextNotStopped, NextStopped, Phase, Step,
     StopFailed, Store, StoreError,
@@ -67,35 +67,37 @@ class Folder(unittest.TestCase):
         return id
 
 
-class Place:
+class Objects:
     """Manifests in memory."""
 
     def __init__(self):
-        self.texts = {}
+        self.found, self.fails = {}, None
 
     def check(self):
-        pass
+        if self.fails is not None:
+            raise self.fails
 
-    def put_manifest(self, name, text):
-        self.texts[name] = text
+    def put_manifest(self, name, contents):
+        self.check()
+        self.found[name] = contents
 
     def remove_manifest(self, name):
-        self.texts.pop(name, None)
+        self.found.pop(name, None)
 
     def manifests(self):
-        return list(self.texts)
+        return list(self.found)
 
 
 class ManifestsElsewhere(Folder):
     def test_a_second_place_is_refused(self):
         """The library still calls the functions of the first one."""
         with self.open() as job:
-            first = Place()
-            texts, is_kept = first.texts, weakref.ref(first)
+            first = Objects()
+            texts, is_kept = first.found, weakref.ref(first)
             job.keep_manifests(first)
             del first
             with self.assertRaises((StoreError, BadArgument)):
-                job.keep_manifests(Place())
+                job.keep_manifests(Objects())
             gc.collect()
             self.assertIsNotNone(is_kept())
             id = self.complete(job, 1)
@@ -136,23 +138,6 @@ class Calls(Folder):
             job.restore()
             self.assertEqual(job.calls([Call.savepoint(), Call.decline(1, 7, 3, term=1)])[1].about, "record 1, subtask 7.3, term 1: fenced OldTerm; term 2 runs")
 
-    def test_sweep(self):
-        with self.open() as job:
-            self.raises("BadArgument", job.sweep)  # no folder
-        for it in self.folder.glob("job.db*"):
-            it.unlink()
-        with self.open(storage=self.storage) as job:
-            job.reserve(1, 9)
-            self.complete(job, 1)
-            for file in (1, 2, 3):
-                (self.storage / str(file)).touch()
-            self.assertEqual((job.sweep(), sorted(os.listdir(self.storage))), (0, [".relkvanu-job", "1", "2", "3"]))
-            job.restore()
-            self.assertEqual((job.sweep(), sorted(os.listdir(self.storage))), (0, [".relkvanu-job", "1", "2"]))
-            (self.storage / "9").mkdir()
-            job.cancel()
-            self.assertEqual(job.sweep(), 1)
-
     def test_lists(self):
         with self.open() as job:
             self.complete(job, 1)
@@ -161,6 +146,7 @@ class Calls(Folder):
             self.assertEqual([type(it) for it in outcomes], [Refused, Made, Made, Made, Made, Refused])
             self.assertEqual((outcomes[1].reply, outcomes[2].reply, outcomes[4].place), (Taken((1,)), Taken((2,)), 12))
             self.raises("BadArgument", job.calls, [])
+            self.raises("BadArgument", job.sweep)  # no folder
             with self.assertRaises(OutOfRange):
                 job.ack_in(1, 1 << 64, 0, 0, [])
             with self.assertRaises(Refused):
@@ -176,8 +162,11 @@ class Calls(Folder):
         self.assertIn("name none", self.raises("Storage", self.open))
         (self.storage / ".relkvanu-job").unlink()
         self.raises("Storage", lambda: self.open(storage=self.storage))
-        with self.assertRaises(StoreError):
-            Store(self.folder / "other.db", Settings(interval=1), [2], create=True)
+        for settings, shape, words in ((dataclasses.replace(SETTINGS, at_once=65), [2], "settings.at_once is 65, and has to be 1 to 64"),
+                                       (SETTINGS, [1, 0], "the shape has 0 subtasks in vertex 1, and has to have at least 1 in each")):
+            other = self.folder / "other.db"
+            told = self.raises("BadArgument", lambda: Store(other, settings, shape, create=True))
+            self.assertEqual(told, f"BadArgument: {other}: {words}")
 
     def test_close(self):
         job = self.open()
@@ -272,24 +261,10 @@ class Files(Folder):
             job.put(file, b"state %d" % file)
         self.assertEqual((self.storage / "3").read_bytes(), b"state 3")
         self.raises("Present", job.put, 3, b"other")
-        (self.storage / ".relkvanu-job").rename(self.folder / "marker")
-        self.raises("Storage", job.put, 5, b"")
-        (self.folder / "marker").rename(self.storage / ".relkvanu-job")
-        soft, hard = resource.getrlimit(resource.RLIMIT_FSIZE)
-        resource.setrlimit(resource.RLIMIT_FSIZE, (10, hard))
-        self.assertEqual(self.raises("NotPut", job.put, 5, b"state" * 10), "NotPut: " + os.strerror(errno.EFBIG))
-        resource.setrlimit(resource.RLIMIT_FSIZE, (soft, hard))
-        self.assertFalse((self.storage / "5").exists() or (self.storage / "5.part").exists())
-        (self.storage / "6.part").symlink_to("nothing")
-        self.raises("Present", job.put, 6, b"")
         discarder = threading.Thread(target=job.discard)
         discarder.start()
-        for file in (1, 3):
-            with job.read() as reads:
-                due = reads.due()
-            id = job.tick(due).reply.id
-            for index in range(2):
-                job.ack_in(1, id, 0, index, [file + index], now=due)
+        self.complete(job, 1)
+        self.complete(job, 3)
         while (self.storage / "1").exists() or (self.storage / "2").exists():
             pass
         self.assertTrue((self.storage / "3").exists() and (self.storage / "4").exists())
@@ -417,20 +392,14 @@ class Payloads(Folder):
             job.trigger()
             for words, call in (
                 ("more than 4096 bytes", lambda: job.ack_in(1, 1, 0, 0, payload=bytes(4097))),
-                ("more than 200 bytes", lambda: job.decline_in(1, 1, 0, 0, reason="x" * 201)),
                 ("more than 200 bytes", lambda: job.decline_in(1, 1, 0, 0, reason="ü" * 101)),
                 ("a zero", lambda: job.decline_in(1, 1, 0, 0, reason="a\0b")),
-                ("no acknowledgement", lambda: job.call(Call(header.CALL_DECLINE, number=1, term=1, payload=b"x"))),
-                ("no decline", lambda: job.call(Call(header.CALL_ACK, number=1, term=1, reason="x"))),
                 ("2^63", lambda: job.ack_in(1, 1, 0, 0, bytes=1 << 63)),
             ):
                 with self.subTest(words), self.assertRaises(StoreError) as caught:
                     call()
                 self.assertEqual((caught.exception.name, caught.exception.closes), ("BadArgument", False))
                 self.assertIn(words, caught.exception.message)
-            with self.assertRaises(Refused) as caught:
-                job.ack_in(1, 1, 0, 2, payload=b"x")
-            self.assertEqual(caught.exception.name, "UnknownSubtask")
             with self.assertRaises(OutOfRange):
                 job.ack_in(1, 1, 0, 0, millis=-1)
             self.assertEqual(job.ack_in(1, 1, 0, 0, payload=bytearray(4096)).reply, AckPending(1))
@@ -449,31 +418,6 @@ class Payloads(Folder):
             self.assertEqual(outcomes[1].ended, (1,))
             self.assertEqual([it.payload for it in job.load().parts], [b"0", b"1"])
 
-    def test_a_tick_that_expires(self):
-        with Store(self.path, Settings(interval=10, timeout=5000), [2], create=True) as job:
-            job.trigger()
-            made = job.tick(job.now() + 6000)
-            self.assertEqual(made.ended, (1,))
-            self.assertEqual(job.history()[0].ending, Ending.EXPIRED)
-
-
-class Limits(Folder):
-    def test_each_setting_and_the_shape(self):
-        """The message names what is wrong and what is allowed."""
-        for field, bad, limits in (
-            ("interval", 9, "10 to 2^40 ms"), ("pause", (1 << 40) + 1, "0 to 2^40 ms"), ("at_once", 65, "1 to 64"), ("timeout", 0, "1 to 2^40 ms"),
-            ("tolerable", 1001, "0 to 1000"), ("retained", 0, "1 to 1000"),
-        ):
-            settings = dataclasses.replace(SETTINGS, **{field: bad})
-            told = self.raises("BadArgument", lambda: Store(self.path, settings, [2], create=True))
-            self.assertEqual(told, f"BadArgument: {self.path}: settings.{field} is {bad}, and has to be {limits}")
-        for shape, words in (
-            ([], "0 vertices, and has to have 1 to 256"), ([1] * 257, "257 vertices, and has to have 1 to 256"),
-            ([1, 0], "0 subtasks in vertex 1, and has to have at least 1 in each"), ([4096, 1], "4097 subtasks, and has to have at most 4096"),
-        ):
-            told = self.raises("BadArgument", lambda: Store(self.path, SETTINGS, shape, create=True))
-            self.assertEqual(told, f"BadArgument: {self.path}: the shape has {words}")
-
 
 class Backups(Folder):
     def test_a_backup(self):
@@ -483,19 +427,13 @@ class Backups(Folder):
             self.acks(job, savepoint, 1)
             job.backup(copy)
             self.assertEqual((copy.stat().st_mode & 0o777, self.raises("Present", job.backup, copy)), (0o600, f"Present: {copy}: " + os.strerror(errno.EEXIST)))
-            self.assertIn("nowhere", self.raises("NotPut", job.backup, self.folder / "nowhere/copy.db"))
-            job.put(job.reserve(1, 1)[0], b"of a later record")
         self.raises("Closed", job.backup, self.folder / "closed.db")
-        for name in ("job.db", "job.db-wal", "job.db-shm"):
-            (self.folder / name).unlink()
+        for it in self.folder.glob("job.db*"):
+            it.unlink()
         copy.rename(self.path)
         self.assertIn("it is a backup", self.raises("Storage", lambda: self.open(storage=self.storage)))
         with self.open(storage=self.storage, backup=True) as job:
-            self.assertEqual((job.report.is_recovered, job.report.epoch, job.report.next_name), (True, 2, 4))
-            self.assertEqual(job.restore(savepoint).term, 2)
-            self.assertEqual((job.sweep(), sorted(os.listdir(self.storage))), (0, [".relkvanu-job", "1", "2"]))
-        self.assertIn("no backup", self.raises("BadArgument", lambda: self.open(storage=self.storage, backup=True)))
-        self.open(storage=self.storage).close()
+            self.assertEqual((job.report.is_recovered, job.report.epoch, job.restore(savepoint).term), (True, 2, 2))
 
 
 class Threads(Folder):
@@ -774,14 +712,12 @@ class Threads(Folder):
             self.assertEqual(job.load().origin, origin)
 
     def test_checksums(self):
-        """A file that changed is found by who reads it. A manifest whose checksums are no list of its files is damaged."""
+        """A file that changed is found by who reads it."""
         self.raises("BadArgument", lambda: self.open(storage=self.storage, checksums=True))
         with self.open(storage=self.storage, manifests=True, checksums=True) as job:
             id = job.savepoint().reply.id
             self.acks(job, id, job.report.term, contents=b"123456789")
-        manifest = self.storage / f"record-{id}.manifest"
-        text = manifest.read_bytes()
-        self.assertEqual(sums_in(text), {1: 0xcbf43926, 2: 0xcbf43926})  # the check value of CRC-32
+        self.assertEqual(sums_in((self.storage / f"record-{id}.manifest").read_bytes()), {1: 0xcbf43926, 2: 0xcbf43926})  # the check value of CRC-32
         ((record, faults),) = Store.check_records(self.storage)
         self.assertEqual((record.unknown, record.changed, record.missing, faults), (0, 0, 0, {}))
         (self.storage / "2").write_bytes(b"123456780")
@@ -789,13 +725,6 @@ class Threads(Folder):
         self.assertEqual((record.changed, faults, Store.records(self.storage)[0].changed), (1, {2: FileFault.CHANGED}, 0))
         (self.storage / "2").write_bytes(b"12345678")
         self.assertEqual([faults for _, faults in Store.check_records(self.storage)], [{2: FileFault.LENGTH}])
-        for sums, damage in ((["cbf43926"], None), ([None], None), ([], "Damaged"), (["cbf4392"], "Damaged"), (["CBF43926"], "Damaged"), ("x", "Damaged"),
-                             (["-0000001"], "Damaged"), ([1], "Damaged")):
-            found = members(text)
-            del found["sum"]
-            found["subtasks"][0]["sums"] = sums
-            manifest.write_bytes(sealed(found))
-            self.assertEqual((Store.records(self.storage)[0].damage, sums), (damage, sums))
         self.raises("Storage", Store.check_records, self.folder / "nowhere")
 
     def test_a_backup_that_is_put_back(self):
@@ -831,27 +760,6 @@ class Threads(Folder):
         with job.read() as reads:
             counts = reads.file_counts()
             return counts.in_use, counts.waiting, counts.taken
-
-
-class Objects:
-    """Manifests in memory."""
-
-    def __init__(self):
-        self.found, self.fails = {}, None
-
-    def check(self):
-        if self.fails is not None:
-            raise self.fails
-
-    def put_manifest(self, name, contents):
-        self.check()
-        self.found[name] = contents
-
-    def remove_manifest(self, name):
-        self.found.pop(name, None)
-
-    def manifests(self):
-        return list(self.found)
 
 
 def timer(job):
@@ -939,11 +847,6 @@ class Commands(Folder):
             self.assertEqual((made.reply, job.phase()), (SavepointTriggered(id), JobPhase(Phase.STOPPING, id)))
             self.assertEqual(job.await_tick(60_000), made)
             self.assertIn("is stopped", self.raises("NotNow", job.stop_job))
-            self.assertIn("not stopped", self.raises("NotNow", job.begin_job))
-            for refused in (job.tick, job.trigger, job.savepoint):
-                with self.assertRaises(Refused) as caught:
-                    refused()
-                self.assertEqual(caught.exception.name, "NotRunning")
             self.assertEqual(self.acks(job, id, 1), AckCompleted(0, 0))
             self.assertEqual(job.phase(), JobPhase(Phase.STOPPED, id, 2))
             began = time.monotonic()
@@ -980,18 +883,8 @@ class Commands(Folder):
             for _ in range(3):
                 self.acks(job, job.trigger().reply.id, 1)
             self.assertIn("not taken back", self.raises("BadArgument", job.go_back, 1))
-            with self.assertRaises(Refused) as caught:
-                job.go_back(9, accept_published=True)
-            self.assertEqual(caught.exception.name, "NoSuchRecord")
             made = job.go_back(1, accept_published=True)
             self.assertEqual((made.reply, made.term, job.await_tick(60_000)), (RestoredSavepoint(4, 4), 2, made))
-            with job.read() as reads:
-                self.assertEqual((reads.files_of(4, 0, 1), reads.file_counts().in_use), ((2,), 2))
-            job.restore(shape=[3])
-            self.acks(job, job.trigger().reply.id, 3, 3)
-            job.restore(shape=[2])
-            with self.assertRaises(BadArgument):
-                job.go_back(5, accept_published=True)
 
     def test_what_is_next_of_a_stop(self):
         """Also of one that fails while a timer waits, and of a tick that is refused since the job was stopped just before it."""
