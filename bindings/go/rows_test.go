@@ -142,21 +142,13 @@ func restored(job *relkvanu.Coordinator, now uint64, from string, shape []uint64
 func called(job *relkvanu.Coordinator, words []string) (fmt.Stringer, error) {
 	given := words[1:]
 	switch words[0] {
-	case "tick":
-		return job.Tick(number(given[0]))
-	case "savepoint":
-		return job.Savepoint(number(given[0]))
 	case "ack":
 		fresh, reused := lists(given[3:])
 		return job.Ack(number(given[0]), number(given[1]), subtask(given[2]), fresh, reused)
 	case "decline":
 		return job.Decline(number(given[0]), number(given[1]), subtask(given[2]))
-	case "dispose":
-		return job.Dispose(number(given[0]))
 	case "restore":
 		return restored(job, number(given[0]), given[1], numbers(given[2:]))
-	case "cancel":
-		return job.Cancel(number(given[0]))
 	case "fence":
 		return relkvanu.Named{}, job.Fence(number(given[0]))
 	case "reserve":
@@ -200,10 +192,6 @@ func ofFiles(job *relkvanu.Coordinator, word string, number uint64) (fmt.Stringe
 		return relkvanu.FileDeleted{File: number}, job.Deleted(number)
 	case "undeleted":
 		return relkvanu.FileUndeleted{File: number}, job.Undeleted(number)
-	case "show":
-		return job.Show(number)
-	case "count":
-		return job.Count(number)
 	}
 	return byName(job, word, number)
 }

@@ -78,18 +78,10 @@ final class Words {
 
     private Reply call(Coordinator job) {
         return switch (words[0]) {
-            case "tick" -> job.tick(number(1));
-            case "savepoint" -> job.savepoint(number(1));
             case "ack" -> job.ack(number(1), number(2), subtask(0), subtask(1), files("+"), files("="));
             case "decline" -> job.decline(number(1), number(2), subtask(0), subtask(1));
-            case "dispose" -> job.dispose(number(1));
             case "restore" -> restored(job);
-            case "cancel" -> job.cancel(number(1));
             case "take" -> job.take(Long.compareUnsigned(number(1), Integer.MAX_VALUE) < 0 ? (int) number(1) : Integer.MAX_VALUE);
-            case "deleted" -> job.deleted(number(1));
-            case "undeleted" -> job.undeleted(number(1));
-            case "show" -> job.show(number(1));
-            case "count" -> job.count(number(1));
             case "fence" -> job.fence(number(1));
             case "reserve" -> job.reserve(number(1), number(2));
             case "forfeit" -> job.forfeit(number(1), numbers(2).toArray());
@@ -109,18 +101,9 @@ final class Words {
 
     private String written() {
         return switch (words[0]) {
-            case "tick" -> Lines.tick(number(1));
-            case "savepoint" -> Lines.savepoint(number(1));
             case "ack" -> Lines.ack(number(1), number(2), subtask(0), subtask(1), files("+"), files("="));
             case "decline" -> Lines.decline(number(1), number(2), subtask(0), subtask(1));
-            case "dispose" -> Lines.dispose(number(1));
             case "restore" -> restoreLine();
-            case "cancel" -> Lines.cancel(number(1));
-            case "take" -> Lines.take(number(1));
-            case "deleted" -> Lines.deleted(number(1));
-            case "undeleted" -> Lines.undeleted(number(1));
-            case "show" -> Lines.show(number(1));
-            case "count" -> Lines.count(number(1));
             case "fence" -> Lines.fence(number(1));
             case "reserve" -> Lines.reserve(number(1), number(2));
             case "forfeit" -> Lines.forfeit(number(1), numbers(2).toArray());

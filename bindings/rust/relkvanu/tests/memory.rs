@@ -6,7 +6,7 @@ mod logs;
 mod settings;
 
 use logs::{replay, Make, NO_MEMORY, WAYS};
-use relkvanu::{Answer, Call, Coordinator, Fault, Said, Settings};
+use relkvanu::{Call, Coordinator, Fault, Said, Settings};
 use settings::SETTINGS;
 use std::cell::Cell;
 
@@ -72,32 +72,15 @@ fn opened(open: impl Fn() -> Result<Coordinator, Fault>) -> Coordinator {
     job
 }
 
-fn completed(dropped: u64, released: u64) -> Answer {
-    Answer::AckCompleted { dropped, released }
-}
-
-fn triggered(id: u64) -> Answer {
-    Answer::Triggered { expired: 0, id }
-}
-
-const PENDING: Answer = Answer::AckPending { missing: 1 };
-
 /// Checkpoint 1 is completed, savepoint 2 is pending, and checkpoint 3 replaces checkpoint 1.
 fn make_checkpoint_3(job: &mut Coordinator) {
-    told(job, true, |it| it.tick(1000), triggered(1));
-    told(job, true, |it| it.ack(1100, 1, (0, 0), &[1, 2], &[]), PENDING);
+    job.tick(1000).unwrap();
+    job.ack(1100, 1, (0, 0), &[1, 2], &[]).unwrap();
     job.savepoint(1200).unwrap();
-    told(job, true, |it| it.ack(1300, 1, (0, 1), &[3], &[]), completed(0, 0));
-    told(job, true, |it| it.tick(2000), triggered(3));
-    told(job, true, |it| it.ack(2100, 3, (0, 0), &[4], &[1]), PENDING);
-    let last = Call::Ack { now: 2100, id: 3, subtask: (0, 1), fresh: &[5], reused: &[] };
-    let line = String::from("ack 2100 3 0.1 +5");
-    told(
-        job,
-        true,
-        |it| it.make(&last, &mut []).map(|made| (made.said, made.line)),
-        (Said::Called(completed(1, 2)), line),
-    );
+    job.ack(1300, 1, (0, 1), &[3], &[]).unwrap();
+    job.tick(2000).unwrap();
+    job.ack(2100, 3, (0, 0), &[4], &[1]).unwrap();
+    job.ack(2100, 3, (0, 1), &[5], &[]).unwrap();
 }
 
 /// Reads that return lists.

@@ -1,9 +1,8 @@
 //! The rows of `examples/rows` that are lists of calls, through the crate: the library reads the lines.
 mod settings;
 
-use relkvanu::{opening_lines, Answer, Call, Coordinator, Fault, Line, LineFault, Refusal, Said, Settings};
+use relkvanu::{opening_lines, Call, Coordinator, Fault, Line, LineFault, Refusal, Said, Settings};
 use settings::SETTINGS;
-use std::num::NonZeroU64;
 use std::path::Path;
 
 /// A row: the lines of its script, and what each one prints.
@@ -135,44 +134,6 @@ fn rows() {
 }
 
 #[test]
-fn a_call_is_written_as_its_line() {
-    let line = |call: Call| call.line().unwrap();
-    let ack = Call::Ack { now: 5, id: 1, subtask: (1, 2), fresh: &[12, 11], reused: &[7] };
-    assert_eq!(line(ack), "ack 5 1 1.2 +11 +12 =7");
-    assert_eq!(line(Call::Tick { now: 5 }), "tick 5");
-    assert_eq!(line(Call::Restore { now: 5, savepoint: None, shape: Some(&[1, 2]) }), "restore 5 latest 1 2");
-    assert_eq!(line(Call::Take { most: 9 }), "take 9");
-    let many: Vec<u64> = (0..9000).map(|place| u64::MAX - place).collect();
-    let long = Call::Ack { now: 5, id: 1, subtask: (0, 0), fresh: &many, reused: &[] };
-    assert_eq!(long.line(), Err(Fault::BadLine(LineFault::TooLong)));
-    let empty = Call::Restore { now: 5, savepoint: None, shape: Some(&[]) };
-    assert_eq!(empty.line(), Err(Fault::BadShape));
-}
-
-#[test]
-fn a_call_is_made_with_its_line() {
-    let mut job = Coordinator::open(&SETTINGS, &[1], 0, 1).unwrap();
-    let tick = job.make(&Call::Tick { now: 1000 }, &mut []).unwrap();
-    let triggered = Answer::Triggered { expired: 0, id: 1 };
-    assert_eq!(tick.said, Said::Called(triggered));
-    assert_eq!((tick.line.as_str(), tick.waited), ("tick 1000", 0));
-    let late = Call::Ack { now: 1100, id: 1, subtask: (0, 0), fresh: &[12, 11], reused: &[] };
-    let made = job.make(&late, &mut []).unwrap();
-    assert_eq!(made.line, "ack 1100 1 0.0 +11 +12");
-    assert_eq!((made.waited, made.counts.in_use), (0, 2));
-    let cancel = job.make(&Call::Cancel { now: 1200 }, &mut []).unwrap();
-    assert_eq!((cancel.waited, cancel.counts.waiting), (0, 2));
-    let take = Call::Take { most: 9 };
-    let short = Err(Fault::TooShort { places: 2 });
-    assert_eq!(job.make(&take, &mut [0]), short);
-    let mut files = [0; 3];
-    let taken = job.make(&take, &mut files).unwrap();
-    assert_eq!(taken.said, Said::Taken(&[11, 12]));
-    assert_eq!((taken.waited, taken.counts.taken), (2, 2));
-    assert_eq!(files[2], 0);
-}
-
-#[test]
 fn a_call_that_is_refused_has_no_line() {
     let mut job = Coordinator::open(&SETTINGS, &[1], 0, 1).unwrap();
     let image = job.save();
@@ -196,31 +157,6 @@ fn a_call_that_is_refused_has_no_line() {
 }
 
 #[test]
-fn a_line_says_its_call() {
-    let (mut first, mut second) = (vec![1; 9], Vec::new());
-    let ack = Call::Ack { now: 5, id: 1, subtask: (1, 2), fresh: &[11, 12], reused: &[7, 9] };
-    let said = Call::of(b"ack 5 1 1.2 +12 =9 +11 =7\r", &mut first, &mut second);
-    assert_eq!(said, Ok(Some(ack)));
-    let restore = Call::Restore { now: 5, savepoint: NonZeroU64::new(4), shape: Some(&[1, 2]) };
-    let said = Call::of(b"restore 5 4 1 2", &mut first, &mut second);
-    assert_eq!(said, Ok(Some(restore)));
-    let latest = Call::Restore { now: 5, savepoint: None, shape: None };
-    for (line, said) in [
-        (b"restore 5 latest".as_slice(), Ok(Some(latest))),
-        (b"tick 5", Ok(Some(Call::Tick { now: 5 }))),
-        (b"count 9", Ok(Some(Call::Count { file: 9 }))),
-        (b" # a comment", Ok(None)),
-        (b"", Ok(None)),
-        (b"start 7", Err(Fault::BadLine(LineFault::NoCall))),
-        (b"tick 5 6", Err(Fault::BadLine(LineFault::Extra))),
-        (b"restore 5 latest 0", Err(Fault::BadShape)),
-        (b"restore 5 0", Err(Fault::Refused(Refusal::NoSuchSavepoint))),
-    ] {
-        assert_eq!(Call::of(line, &mut Vec::new(), &mut Vec::new()), said);
-    }
-}
-
-#[test]
 fn a_log_is_made_again() {
     let settings = Settings { keep_on_cancel: true, ..SETTINGS };
     let lines = opening_lines(&settings, &[1, 2], 7).unwrap();
@@ -228,31 +164,13 @@ fn a_log_is_made_again() {
     let says: Vec<Line> = lines.lines().map(|line| Line::of(line.as_bytes()).unwrap()).collect();
     assert_eq!(says, [Line::Config(settings), Line::Job(vec![1, 2]), Line::Start(7)]);
     let mut job = Coordinator::open(&settings, &[1, 2], 7, 1).unwrap();
-    assert_eq!(job.line(b"tick 2000", &mut []), Ok(Said::Called(Answer::Triggered { expired: 0, id: 1 })));
-    assert_eq!(job.line(b"ack 2000 1 0.0 +1 +2\r", &mut []), Ok(Said::Called(Answer::AckPending { missing: 2 })));
-    let longest = [b"show ".as_slice(), &[b'0'; (1 << 17) - 6], b"1"].concat();
-    for line in [b" show  01 ".as_slice(), &longest] {
-        let shown = job.line(line, &mut []);
-        assert_eq!(shown, job.show(1).map(Said::Shown));
-    }
-    let unknown = Err(Fault::Refused(Refusal::NoSuchRecord));
-    assert_eq!(job.line(b"show 18446744073709551615", &mut []), unknown);
-    assert_eq!(job.line(b"cancel 2000", &mut []), Ok(Said::Called(Answer::Cancelled { dropped: 1, released: 2 })));
+    job.tick(2000).unwrap();
+    job.ack(2000, 1, (0, 0), &[1, 2], &[]).unwrap();
+    job.cancel(2000).unwrap();
     assert_eq!(job.line(b"take 9", &mut [0]), Err(Fault::TooShort { places: 2 }));
     assert_eq!(job.line(b"take 9", &mut [0, 0]), Ok(Said::Taken(&[1, 2])));
     let longer = [b"tick".as_slice(), &[b' '; 1 << 17]].concat();
-    for (line, fault) in [
-        (b"tick".as_slice(), LineFault::Missing),
-        (b"tick x", LineFault::Number),
-        (b"tick 1 2", LineFault::Extra),
-        (b"Tick 1", LineFault::Word),
-        (b"start 7", LineFault::NoCall),
-        (&longer, LineFault::TooLong),
-    ] {
-        assert_eq!(job.line(line, &mut []), Err(Fault::BadLine(fault)));
-    }
-    let shape = Err(Fault::BadShape);
-    assert_eq!(job.line(b"restore 2000 latest 0", &mut []), shape);
+    assert_eq!(job.line(&longer, &mut []), Err(Fault::BadLine(LineFault::TooLong)));
 }
 
 #[test]

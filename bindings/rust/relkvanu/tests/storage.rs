@@ -1,4 +1,4 @@
-//! A storage: a folder, its errors, an end in the middle of a put, links, odd names and pages; and a store over a storage of the engine.
+//! A storage: a folder, its errors, odd names and pages; and a store over a storage of the engine. What a folder does is in `store/tests`.
 #![cfg(feature = "store")]
 mod common;
 
@@ -9,14 +9,11 @@ use relkvanu::{Answer, Call};
 use std::alloc::{GlobalAlloc, Layout, System};
 use std::cell::Cell;
 use std::collections::{BTreeMap, BTreeSet};
+use std::ffi::OsStr;
 use std::fs;
 use std::ops::ControlFlow;
-use std::os::unix::ffi::{OsStrExt, OsStringExt};
-use std::os::unix::fs::symlink;
-use std::os::unix::process::ExitStatusExt;
+use std::os::unix::ffi::OsStrExt;
 use std::panic::{catch_unwind, AssertUnwindSafe};
-use std::path::{Path, PathBuf};
-use std::process::Command;
 use std::ptr;
 use std::sync::Mutex;
 use std::thread;
@@ -72,155 +69,53 @@ fn listed(storage: &dyn Storage, most: usize) -> BTreeMap<u64, u64> {
     found
 }
 
-fn file_of(state: &Path, name: &[u8]) -> PathBuf {
-    state.join(std::ffi::OsStr::from_bytes(name))
-}
-
 #[test]
-fn whose_folder_it_is() {
+fn openings_that_are_refused() {
     let place = Place::new("whose");
-    let state = place.state();
     let (new, again) = (FolderOptions { is_new: true, ..FolderOptions::new() }, FolderOptions::new());
-    let open = |job: &str, how: &FolderOptions| Folder::open(&state, job, how);
+    let open = |job: &str, how: &FolderOptions| Folder::open(&place.state(), job, how);
     assert!(matches!(open("orders", &again), Err(StorageError::NotThere)));
-    assert!(matches!(Folder::open(&state.join("none"), "orders", &again), Err(StorageError::NotThere)));
-    open("orders", &new).unwrap();
-    open("orders", &new).unwrap();
-    let folder = open("orders", &again).unwrap();
+    let folder = open("orders", &new).unwrap();
     assert!(matches!(open("others", &again), Err(StorageError::OtherJob)));
     let marker = Some((b".relkvanu-storage".to_vec(), b"relkvanu: state files of the job orders\n".to_vec()));
     open("others", &FolderOptions { marker, ..again }).unwrap();
-    fs::write(state.join(".relkvanu-storage"), "relkvanu: state files of the job others\n").unwrap();
-    assert!(matches!(folder.put(7, b""), Err(StorageError::OtherJob)));
-    assert!(matches!(folder.delete(&[7]), Err(StorageError::OtherJob)));
-    fs::remove_file(state.join(".relkvanu-storage")).unwrap();
+    fs::remove_file(place.state().join(".relkvanu-storage")).unwrap();
     assert!(matches!(folder.check(), Err(StorageError::NotThere)));
-    assert!(matches!(folder.put(7, b""), Err(StorageError::NotThere)));
-    assert!(fs::read_dir(&state).unwrap().next().is_none());
-    fs::write(state.join("7.part"), "").unwrap();
+    assert!(matches!(folder.delete(&[7]), Err(StorageError::NotThere)));
+    fs::write(place.state().join("7.part"), "").unwrap();
     assert!(matches!(open("orders", &new), Err(StorageError::NotEmpty)));
-}
-
-#[test]
-fn bad_options() {
-    let place = Place::new("options");
-    let with = |prefix: &[u8]| FolderOptions { prefix: prefix.to_vec(), ..FolderOptions::new() };
-    for (job, how) in [
-        ("", with(b"")),
-        ("a\nb", with(b"")),
-        ("a\0b", with(b"")),
-        ("a", with(b"a/")),
-        ("a", with(b"\0")),
-        ("a", with(&[b'x'; 201])),
-    ] {
-        assert!(matches!(Folder::open(&place.state(), job, &how), Err(StorageError::BadArgument)));
+    for (job, prefix) in [("a\0b", &b""[..]), ("a", b"a/"), ("a", &[b'x'; 201])] {
+        let how = FolderOptions { prefix: prefix.to_vec(), ..FolderOptions::new() };
+        assert!(matches!(open(job, &how), Err(StorageError::BadArgument)));
     }
 }
 
 #[test]
 fn files_with_unusual_names() {
     let place = Place::new("files");
-    let state = place.state();
     let (prefix, suffix) = (b"a \xff%s-", b"\n\"");
     let folder = opened(&place, prefix, suffix);
-    let name = |file: &str, end: &str| file_of(&state, &[prefix, file.as_bytes(), suffix, end.as_bytes()].concat());
     folder.put(7, b"state").unwrap();
     folder.put(u64::MAX, b"").unwrap();
+    let five = [prefix, &b"5"[..], suffix].concat();
+    fs::create_dir(place.state().join(OsStr::from_bytes(&five))).unwrap();
     assert!(matches!(folder.put(7, b"other"), Err(StorageError::Present)));
     assert_eq!(folder.get(7).unwrap(), b"state");
     assert!(matches!(folder.get(8), Err(StorageError::Absent)));
-    fs::write(name("9", ".part"), "st").unwrap();
-    fs::create_dir(name("5", "")).unwrap();
-    let others = [name("07", ""), name("+7", ""), name("", ""), name("7", ".part.part"), state.join("7")];
-    for other in &others {
-        fs::write(other, "").unwrap();
-    }
-    assert_eq!(listed(&folder, 0), BTreeMap::from([(7, 5), (9, 2), (u64::MAX, 0)]));
-    assert_eq!(
-        folder.delete(&[5, 7, 8, 9, u64::MAX]).unwrap(),
-        [Deletion::Undeleted, Deletion::Deleted, Deletion::Missing, Deletion::Deleted, Deletion::Deleted]
-    );
-    assert!(listed(&folder, 0).is_empty() && others.iter().all(|it| it.exists()));
-    assert!(folder.delete(&[]).unwrap().is_empty());
+    assert!(matches!(folder.get(5), Err(StorageError::Failed(why)) if why.raw_os_error().is_some()));
+    assert_eq!(listed(&folder, 0), BTreeMap::from([(7, 5), (u64::MAX, 0)]));
+    let told = folder.delete(&[5, 7, 8, u64::MAX]).unwrap();
+    assert_eq!(told, [Deletion::Undeleted, Deletion::Deleted, Deletion::Missing, Deletion::Deleted]);
+    assert!(listed(&folder, 0).is_empty() && folder.delete(&[]).unwrap().is_empty());
 }
 
 #[test]
-fn links_are_not_followed() {
-    let place = Place::new("links");
-    let folder = opened(&place, b"", b"");
-    let (elsewhere, link) = (place.0.join("elsewhere"), place.state().join("7"));
-    fs::write(&elsewhere, "state").unwrap();
-    symlink(&elsewhere, &link).unwrap();
-    assert!(listed(&folder, 0).is_empty());
-    let Err(StorageError::Failed(why)) = folder.get(7) else {
-        panic!("a link was read");
-    };
-    assert!(why.raw_os_error().is_some());
-    assert!(matches!(folder.put(7, b"other"), Err(StorageError::Present)));
-    assert_eq!(folder.delete(&[7]).unwrap(), [Deletion::Deleted]);
-    assert!(fs::read(&elsewhere).unwrap() == b"state" && link.symlink_metadata().is_err());
-}
-
-/// It stays open, so another one at its path is not reached.
-#[test]
-fn a_folder_that_is_removed() {
-    let place = Place::new("removed");
-    let (folder, away) = (opened(&place, b"", b""), place.0.join("away"));
-    fs::rename(place.state(), &away).unwrap();
-    fs::create_dir(place.state()).unwrap();
-    fs::write(place.state().join("7"), "").unwrap();
-    assert_eq!(folder.delete(&[7]).unwrap(), [Deletion::Missing]);
-    fs::remove_dir_all(away).unwrap();
-    assert!(matches!(folder.check(), Err(StorageError::NotThere)));
-    assert!(matches!(folder.put(8, b""), Err(StorageError::NotThere)));
-    assert!(matches!(folder.delete(&[7]), Err(StorageError::NotThere)));
-    assert!(place.state().join("7").exists() && !place.state().join("8").exists());
-}
-
-/// Runs in a child, which the kernel kills at the first byte of a file beyond a kilobyte.
-#[test]
-fn killed_in_a_put() {
-    const AT: &str = "RELKVANU_KILLED_IN_A_PUT";
-    if let Some(path) = std::env::var_os(AT) {
-        let folder =
-            Folder::open(Path::new(&std::ffi::OsString::from_vec(path.into_vec())), "orders", &FolderOptions::new());
-        folder.unwrap().put(7, &[b'x'; 2000]).unwrap();
-        return;
-    }
-    let place = Place::new("killed");
-    let folder = opened(&place, b"", b"");
-    let limited = "ulimit -c 0; ulimit -f 1; exec \"$0\" --exact killed_in_a_put --nocapture";
-    let child = Command::new("bash")
-        .args(["-c", limited])
-        .arg(std::env::current_exe().unwrap())
-        .env(AT, place.state())
-        .output()
-        .unwrap();
-    assert_eq!(child.status.signal(), Some(25), "SIGXFSZ: {child:?}");
-    assert_eq!(listed(&folder, 0), BTreeMap::from([(7, 1024)]));
-    assert!(!place.state().join("7").exists());
-    assert!(matches!(folder.put(7, b"other"), Err(StorageError::Present)));
-    assert_eq!(folder.delete(&[7]).unwrap(), [Deletion::Deleted]);
-    folder.put(7, &[b'x'; 2000]).unwrap();
-    assert_eq!(listed(&folder, 0), BTreeMap::from([(7, 2000)]));
-}
-
-#[test]
-fn pages_and_threads() {
+fn pages() {
     let place = Place::new("pages");
     let folder = opened(&place, b"", b"");
-    thread::scope(|scope| {
-        for part in 0..3 {
-            let folder = &folder;
-            scope.spawn(move || {
-                for file in 0..500 {
-                    folder.put(part * 500 + file, b"x").unwrap();
-                }
-            });
-        }
-    });
-    for most in [0, 7, PAGE, 100_000] {
-        assert_eq!(listed(&folder, most).len(), 1500);
+    (0..50).for_each(|file| folder.put(file, b"x").unwrap());
+    for most in [0, 7, PAGE] {
+        assert_eq!(listed(&folder, most).len(), 50);
     }
     let mut seen = 0;
     let mut end = |files: &[StoredFile]| {
@@ -229,7 +124,7 @@ fn pages_and_threads() {
     };
     assert!(folder.pages(10, &mut end).unwrap().is_break() && seen == 10);
     let told = catch_unwind(AssertUnwindSafe(|| folder.pages(10, &mut |_: &[StoredFile]| panic!("planted"))));
-    assert!(told.is_err() && listed(&folder, 0).len() == 1500);
+    assert!(told.is_err() && listed(&folder, 0).len() == 50);
 }
 
 #[test]

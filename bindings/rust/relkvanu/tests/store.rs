@@ -155,23 +155,19 @@ fn terms_and_names() {
     let names = store.report().names;
     assert_eq!((names.term, names.next_name), (1, 1));
     assert_eq!(store.reserve(1, 5).unwrap(), 1..6);
-    for file in [1, 2, 3, 9] {
+    for file in [1, 3, 9] {
         store.put(file, b"state").unwrap();
     }
     assert_eq!(store.put(9, b"other").unwrap_err().kind, StoreErrorKind::Present);
     let id = triggered(&store);
     assert_eq!(ack_in(&store, 1, id, 0, 1).unwrap(), Answer::AckPending { missing: 1 });
     fenced(ack_in(&store, 1, id, 0, 1), Fenced::Spent(1));
-    fenced(ack_in(&store, 2, id, 1, 2), Fenced::OldTerm);
-    assert!(matches!(ack_in(&store, 1, id, 1, 2).unwrap(), Answer::AckCompleted { .. }));
     store.forfeit(1, &[3]).unwrap();
     let sorted = store.garbage(&[1, 2, 3, 4, 9]).unwrap();
     assert_eq!((sorted.garbage, sorted.unissued), (vec![3], vec![9]));
     assert_eq!(store.sweep().unwrap(), 0);
     assert_eq!((store.counts().swept, store.counts().unissued), (1, 1));
-    assert!(
-        !folder.state().join("3").exists() && folder.state().join("2").exists() && folder.state().join("9").exists()
-    );
+    assert_eq!([1, 3, 9].map(|it| folder.state().join(it.to_string()).exists()), [true, false, true]);
     assert_eq!(store.call(RESTORE).unwrap().term, Some(2));
     fenced(store.reserve(1, 1), Fenced::OldTerm);
     fenced(store.forfeit(1, &[4]), Fenced::OldTerm);
@@ -270,35 +266,12 @@ fn refused(path: &Path, options: &Options, kind: StoreErrorKind) -> String {
 fn limits() {
     let folder = Place::new("limits");
     let path = folder.job();
-    let bad = |change: fn(&mut Settings)| {
-        let mut settings = SETTINGS;
-        change(&mut settings);
-        settings
-    };
-    let settings = [
-        (bad(|it| it.interval = 9), "interval is 9, and has to be 10 to 2^40 ms"),
-        (bad(|it| it.pause = (1 << 40) + 1), "pause is 1099511627777, and has to be 0 to 2^40 ms"),
-        (bad(|it| it.at_once = 65), "at_once is 65, and has to be 1 to 64"),
-        (bad(|it| it.timeout = 0), "timeout is 0, and has to be 1 to 2^40 ms"),
-        (bad(|it| it.tolerable = 1001), "tolerable is 1001, and has to be 0 to 1000"),
-        (bad(|it| it.retained = 0), "retained is 0, and has to be 1 to 1000"),
-    ];
-    for (settings, words) in settings {
-        let mut options = new_job(&[2]);
-        options.settings = settings;
-        let told = refused(&path, &options, StoreErrorKind::BadArgument);
-        assert_eq!(told, format!("{}: settings.{words}", path.display()));
-    }
-    let shapes: [(&[u64], &str); 4] = [
-        (&[], "0 vertices, and has to have 1 to 256"),
-        (&[1; 257], "257 vertices, and has to have 1 to 256"),
-        (&[1, 0], "0 subtasks in vertex 1, and has to have at least 1 in each"),
-        (&[4096, 1], "4097 subtasks, and has to have at most 4096"),
-    ];
-    for (shape, words) in shapes {
-        let told = refused(&path, &new_job(shape), StoreErrorKind::BadArgument);
-        assert_eq!(told, format!("{}: the shape has {words}", path.display()));
-    }
+    let told = refused(&path, &new_job(&[1, 0]), StoreErrorKind::BadArgument);
+    assert!(told.ends_with("the shape has 0 subtasks in vertex 1, and has to have at least 1 in each"), "{told}");
+    let mut options = new_job(&[2]);
+    options.settings.at_once = 65;
+    let told = refused(&path, &options, StoreErrorKind::BadArgument);
+    assert_eq!(told, format!("{}: settings.at_once is 65, and has to be 1 to 64", path.display()));
 }
 
 #[test]
@@ -309,24 +282,13 @@ fn backups() {
     complete(&store, 1);
     store.backup(&copy).unwrap();
     let again = store.backup(&copy).unwrap_err();
-    assert_eq!(again.kind, StoreErrorKind::Present);
-    assert!(again.message.contains("copy.db"), "{again}");
-    let nowhere = store.backup(&folder.0.join("nowhere/copy.db")).unwrap_err();
-    assert_eq!(nowhere.kind, StoreErrorKind::NotPut);
-    assert!(nowhere.message.contains("No such file"), "{nowhere}");
-    complete(&store, 11);
+    assert!(again.kind == StoreErrorKind::Present && again.message.contains("copy.db"), "{again}");
     let mut options = Options::new(SETTINGS, &[2]);
     let told = refused(&copy, &options, StoreErrorKind::Storage);
     assert!(told.contains("it is a backup"), "{told}");
     options.backup = true;
     let back = Store::open(&copy, &options).unwrap();
-    let report = back.report();
-    assert!(report.is_recovered && report.epoch == 2);
-    assert_eq!(report.image_place + report.replayed, 5);
-    drop(back);
-    refused(&copy, &options, StoreErrorKind::BadArgument);
-    options.backup = false;
-    Store::open(&copy, &options).unwrap();
+    assert!(back.report().is_recovered && back.report().epoch == 2);
 }
 
 fn kind<T>(it: Result<T, CallError>) -> StoreErrorKind {
@@ -341,25 +303,20 @@ fn commands_of_an_operator() {
     let folder = Place::new("commands");
     let store = job(&folder);
     complete(&store, 1);
-    let mut other = Settings { interval: 1 << 30, retained: 2, ..SETTINGS };
+    let other = Settings { interval: 1 << 30, retained: 2, ..SETTINGS };
     store.configure(&other).unwrap();
-    other.interval = 5;
-    let why = store.configure(&other).unwrap_err();
-    assert!(why.to_string().contains("settings.interval is 5, and has to be 10 to 2^40 ms"), "{why}");
+    assert_eq!(kind(store.configure(&Settings { interval: 5, ..other })), StoreErrorKind::BadArgument);
     let made = store.trigger().unwrap();
     assert_eq!(store.await_tick(1000).unwrap(), made);
     assert_eq!(made.choice, Some(Choice::Checkpoint(1)));
-    for index in 0..2 {
-        ack(&store, 2, index, 11 + u64::from(index));
-    }
     assert_eq!(kind(store.go_back(1, false)), StoreErrorKind::BadArgument);
     let back = store.go_back(1, true).unwrap();
     assert_eq!(store.await_tick(1000).unwrap().called(), back.called());
     assert_eq!(kind(store.begin_job()), StoreErrorKind::NotNow);
     let Some(Answer::SavepointTriggered(id)) = store.stop_job().unwrap().called() else { panic!("a stop") };
-    assert_eq!(store.await_tick(1000).unwrap().called(), Some(Answer::SavepointTriggered(id)));
     let phase = store.phase().unwrap();
     assert_eq!((phase.phase, phase.savepoint, phase.stop_failed), (Phase::Stopping, Some(id), None));
+    store.await_tick(1000).unwrap();
     for index in 0..2 {
         ack(&store, id, index, 21 + u64::from(index));
     }
@@ -368,8 +325,7 @@ fn commands_of_an_operator() {
     let store = Store::open(&folder.job(), &Options::new(SETTINGS, &[2])).unwrap();
     let report = store.report();
     assert_eq!((report.phase.phase, report.steps.as_slice()), (Phase::Stopped, &[Step::EndTasks, Step::Discard][..]));
-    let begun = store.begin_job().unwrap();
-    assert_eq!(store.await_tick(1000).unwrap().called(), begun.called());
+    store.begin_job().unwrap();
     store.stop_job().unwrap();
     store.call(Call::Cancel { now: NOW }).unwrap();
     let phase = store.phase().unwrap();

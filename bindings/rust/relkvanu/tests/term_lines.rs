@@ -1,9 +1,9 @@
-//! Lines with terms and names: the example of docs/LOGS.md, the logs of examples/logs and examples/reads, and the calls that such lines say.
+//! The example of docs/LOGS.md, the logs of examples/logs and examples/reads, and a call that no row has.
 mod logs;
 mod settings;
 
 use logs::{logs, replay, WAYS};
-use relkvanu::{Answer, Call, Coordinator, Fault, Line, LineFault, Said};
+use relkvanu::{Answer, Call, Coordinator, Fault, Settings};
 use settings::SETTINGS;
 
 #[test]
@@ -15,56 +15,24 @@ fn logs_are_replayed_by_their_lines_by_calls_and_by_methods() {
     }
 }
 
-const ACK: Call = Call::AckIn { term: 3, now: 5, id: 1, subtask: (1, 2), fresh: &[11, 12], reused: &[7] };
-const DECLINE: Call = Call::DeclineIn { term: 3, now: 5, id: 1, subtask: (1, 2) };
-const LINES: [(&str, Call); 7] = [
-    ("fence 20", Call::Fence { first_name: 20 }),
-    ("reserve 3 1000", Call::Reserve { term: 3, count: 1000 }),
-    ("forfeit 3 24 26", Call::Forfeit { term: 3, names: &[24, 26] }),
-    ("forfeit 3", Call::Forfeit { term: 3, names: &[] }),
-    ("advance 5 3 70", Call::Advance { now: 5, term: 3, first_name: 70 }),
-    ("in 3 ack 5 1 1.2 +11 +12 =7", ACK),
-    ("in 3 decline 5 1 1.2", DECLINE),
-];
-
+/// No row has such a call.
 #[test]
-fn lines_say_calls_and_are_written_again() {
-    for (line, call) in LINES {
-        assert_eq!(call.line().as_deref(), Ok(line));
-        let (mut first, mut second) = (Vec::new(), Vec::new());
-        let said = Call::of(line.as_bytes(), &mut first, &mut second);
-        assert_eq!(said, Ok(Some(call)), "{line}");
-        assert_eq!(Line::of(line.as_bytes()), Ok(Line::Call), "{line}");
-    }
-}
-
-#[test]
-fn other_lines_with_terms() {
+fn other_settings_of_a_live_job() {
+    let mut job = Coordinator::open(&SETTINGS, &[1], 0, 1).unwrap();
+    let other =
+        Settings { pause: 5, at_once: 3, timeout: 70, tolerable: 4, retained: 2, keep_on_cancel: true, ..SETTINGS };
+    let numbers = other.numbers();
+    let call = Call::Configure { now: 8, settings: &numbers };
+    assert_eq!(call.line().unwrap(), "configure 8 1000 5 3 70 4 2 keep");
     let (mut first, mut second) = (Vec::new(), Vec::new());
-    let plain = Call::Tick { now: 5 };
-    let no_call = |fault| Err(Fault::BadLine(fault));
-    for (line, said) in [
-        ("in 0 tick 5", Ok(Some(plain))),
-        ("in 3 tick 5", no_call(LineFault::NoCall)),
-        ("in 3 take 5", no_call(LineFault::NoCall)),
-        ("in 3 start 5", no_call(LineFault::NoCall)),
-        ("in 3", no_call(LineFault::Missing)),
-        ("in tick 5", no_call(LineFault::Number)),
-        ("in 3 reserve 3 1", no_call(LineFault::Word)),
-        ("fence", no_call(LineFault::Missing)),
-        ("reserve 2 1000 5", no_call(LineFault::Extra)),
-        ("forfeit 1 +7", no_call(LineFault::Number)),
-        ("reserved 5", no_call(LineFault::Word)),
-    ] {
-        assert_eq!(Call::of(line.as_bytes(), &mut first, &mut second), said, "{line}");
-    }
-}
-
-#[test]
-fn a_line_that_shows_a_record_may_have_a_term() {
-    let mut job = Coordinator::open_fenced(&SETTINGS, &[1], 0, 1, 1).unwrap();
-    job.tick(1000).unwrap();
-    let shown = job.show(1).unwrap();
-    assert_eq!(job.line(b"in 1 show 1", &mut []), Ok(Said::Shown(shown)));
-    assert_eq!(job.line(b"in 9 tick 1500", &mut []), Ok(Said::Called(Answer::HeldInterval { expired: 0 })));
+    assert_eq!(Call::of(b"configure 8 1000 5 3 70 4 2 keep", &mut first, &mut second), Ok(Some(call)));
+    let none = Answer::Configured { checkpoints: 0, released: 0 };
+    assert_eq!(job.configure(8, &other), Ok(none));
+    assert_eq!(job.trigger(9), Ok(Answer::Triggered { expired: 0, id: 1 }));
+    let bad = Settings { interval: 9, ..SETTINGS };
+    assert_eq!(job.configure(9, &bad), Err(Fault::BadConfig));
+    assert_eq!(Call::Configure { now: 9, settings: &bad.numbers() }.line(), Err(Fault::BadConfig));
+    assert_eq!(Settings::of_numbers(&numbers), Some(other));
+    assert_eq!(Settings::of_numbers(&numbers[1..]), None);
+    assert_eq!(Settings::of_numbers(&[10, 0, 1, 1, 0, 1, 2]), None);
 }

@@ -173,21 +173,6 @@ fn a_discarder_whose_calls_an_engine_logs() {
 }
 
 #[test]
-fn a_folder_that_is_gone() {
-    let gone = std::env::temp_dir().join("relkvanu-there-is-no-such-folder");
-    let job = cancelled();
-    let delete = move |file: u64| std::fs::remove_file(gone.join(file.to_string()));
-    let discarder = Discarder::start(job.clone(), quick(3), delete).unwrap();
-    wait_for(|| discarder.told().deleted == 20);
-    assert_eq!(discarder.stop().failed, 0);
-    let no_folder = std::env::current_exe().unwrap();
-    let job = cancelled();
-    let discarder = given_up(&job, move |file| std::fs::remove_file(no_folder.join(file.to_string())));
-    assert_eq!(discarder.stop().deleted, 0);
-    assert_eq!(job.file_counts(), counts(20, 0));
-}
-
-#[test]
 fn a_file_that_somebody_else_reports() {
     let job = cancelled();
     let discarder = given_up(&job, denied);
