@@ -5,14 +5,13 @@ import errno
 import itertools
 import os
 import re
-from typing import TYPE_CHECKING, Callable, Dict, Iterable, Iterator, List, NamedTuple, Optional, Protocol, Sequence, Set, Tuple, Union
+from typing import TYPE_CHECKING, Dict, Iterable, Iterator, List, NamedTuple, Optional, Protocol, Set, Tuple, Union
 
 from relkvanu.errors import Error
 from relkvanu.replies import Counted
 
 if TYPE_CHECKING:  # these need the library, and a task that puts a file has none
     from relkvanu.coordinator import Coordinator
-    from relkvanu.discarder import Outbox
 
 MARKER = ".relkvanu-storage"
 PART = ".part"  # behind the name of a file that is not whole yet
@@ -317,25 +316,3 @@ def unknown(core: "Coordinator", files: Iterable[int]) -> Set[int]:
     waiting = set(itertools.takewhile(lambda it: it is not None, map(core.waiting_file, itertools.count())))
     taken = set(core.taken_files())
     return {file for file in files if file not in waiting and file not in taken and core.count(file) == Counted(file, 0)}
-
-
-def discard(outbox: "Outbox", storage: Storage, most: int = 64) -> Tuple[int, Dict[int, str]]:
-    """Takes files, deletes them and reports each. Returns how many were taken, and those that wait again, each with the reason."""
-    files = outbox.take(most).files
-    failed = storage.delete(files) if files else {}
-    for file in files:
-        if file in failed:
-            outbox.undeleted(file)
-        else:
-            outbox.deleted(file)
-    return len(files), failed
-
-
-def sweep(storage: Storage, unknown_of: Callable[[Sequence[int]], Iterable[int]]) -> Dict[int, str]:
-    """Deletes the files that nobody knows: `unknown_of` returns those of a page. It is safe only after a restore, before tasks start, and
-    when all earlier tasks have ended. Returns the files that may be there still, each with the reason."""
-    storage.check()
-    failed: Dict[int, str] = {}
-    for page in storage.pages():
-        failed.update(storage.delete(unknown_of(page)))
-    return failed

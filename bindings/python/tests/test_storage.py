@@ -6,8 +6,7 @@ import unittest
 from unittest import mock
 
 from folders import InFolder
-from relkvanu import Coordinator, Error, FileCounts, Settings
-from relkvanu.storage import Exists, Folder, NotThere, OtherJob, StorageError, bucket_and_prefix, discard, sweep, unknown
+from relkvanu.storage import Exists, Folder, NotThere, OtherJob, StorageError, bucket_and_prefix
 
 
 # What a sync may say, but for EINVAL.
@@ -264,39 +263,3 @@ class Listing(WithStorage):
     def test_a_listing_that_fails_says_so(self):
         with mock.patch("os.scandir", side_effect=OSError(errno.EIO, "planted")), self.assertRaises(StorageError):
             list(self.folder.pages())
-
-
-class WithACoordinator(WithStorage):
-    """A job that has checkpoint 2 with file 2, whose file 1 waits, and whose folder has file 9 of a task that was killed."""
-
-    def setUp(self):
-        super().setUp()
-        self.folder = self.opened(is_new=True)
-        self.core = Coordinator(Settings(interval=10), [1], 0)
-        self.addCleanup(self.core.close)
-        for file in (1, 2):
-            self.folder.put(file, b"state")
-            self.core.tick(10 * file)
-            self.core.ack(10 * file, file, 0, 0, [file])
-        self.folder.put(9, b"nobody's")
-
-    def test_a_discarder_deletes_what_waits(self):
-        self.assertEqual(discard(self.core, self.folder), (1, {}))
-        self.assertEqual((self.names(), self.core.file_counts()), (["2", "9"], FileCounts(1, 0, 0)))
-        self.assertEqual(discard(self.core, self.folder), (0, {}))
-
-    def test_what_can_not_be_deleted_waits_again(self):
-        (self.path / ".relkvanu-storage").unlink()
-        taken, failed = discard(self.core, self.folder)
-        self.assertEqual((taken, list(failed), self.core.file_counts()), (1, [1], FileCounts(1, 1, 0)))
-
-    def test_a_sweep_deletes_what_nobody_knows(self):
-        self.core.restore(20)
-        self.assertEqual(sweep(self.folder, lambda files: unknown(self.core, files)), {})
-        self.assertEqual(self.names(), ["1", "2"])
-
-    def test_no_sweep_without_the_marker(self):
-        (self.path / ".relkvanu-storage").unlink()
-        with self.assertRaises(Error):
-            sweep(self.folder, lambda files: files)
-        self.assertEqual(self.names(), ["1", "2", "9"])

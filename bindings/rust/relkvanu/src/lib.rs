@@ -10,7 +10,6 @@
 //!   once, and refuses tasks of a term that a restore or a cancel has ended, as [`Fault::Fenced`].
 //! - A [`Grouped`] tells its answers only once the program has synced its log.
 //! - An [`Aligner`] says when a task with several inputs may take what is next, and when it takes its snapshot.
-//! - A [`Discarder`] deletes the files that no record uses any more, in threads of its own.
 //!
 //! The coordinator reads no clock and deletes no file by itself. The caller gives the moment of each call, in
 //! milliseconds, at most 2^62 - 1, and fetches the files to delete. `docs/RULES.md` says what each call does and when
@@ -25,7 +24,6 @@ mod aligner;
 mod answer;
 mod call;
 mod coordinator;
-mod discarder;
 mod fault;
 mod group;
 #[cfg(feature = "store")]
@@ -54,7 +52,6 @@ pub use aligner::{AlignFault, Aligner, Cut, Recorder, Step, MOST_INPUTS};
 pub use answer::{Answer, Choice, FileCounts, Garbage, Kind, Live, Mode, RunningTerm, Standing};
 pub use call::Call;
 pub use coordinator::{Coordinator, Settings};
-pub use discarder::{Discarded, Discarder, Outbox, Patience};
 pub use fault::*;
 pub use group::{Grouped, Held, Receipt, Told};
 pub use keys::group_of;
