@@ -1,6 +1,6 @@
-/* aligning ROWS [unaligned]: makes the steps of examples/alignment.rows, or with a recorder those of examples/unaligned.rows, and compares each
- * with what stands there. The bytes of the inputs are a block of their own with the length that the call gets. Then it gives each function
- * memory of any content: each such memory is an alignment. A step that is refused must change nothing. */
+/* aligning: gives each function of an alignment, and then of a recorder, memory of any content: each such memory is an alignment, and each step is one that the
+ * header has. The bytes of the inputs are a block of their own with the length that the call gets. A step that is refused must change nothing. The packages make
+ * the steps of examples/alignment.rows and examples/unaligned.rows. */
 #define _GNU_SOURCE
 #include "../../../include/relkvanu.h"
 
@@ -111,44 +111,6 @@ static relkvanu_step make(struct task *task, const char *event, uint64_t first, 
     return step;
 }
 
-/* Makes the step of a row. Returns whether there is one. */
-static bool make_row(struct task *task, const char *row) {
-    char event[16], wanted[32];
-    uint64_t first, second = 0, id;
-    if (sscanf(row, "%15s %" SCNu64 " = %31s %" SCNu64, event, &first, wanted, &id) != 4 &&
-        sscanf(row, "%15s %" SCNu64 " %" SCNu64 " = %31s %" SCNu64, event, &first, &second, wanted, &id) != 5) {
-        return false;
-    }
-    relkvanu_step step = strcmp(event, "open") == 0 ? open_task(task, first) : make(task, event, first, second);
-    if (strcmp(name_of(step), wanted) != 0 || step.id != id) {
-        fprintf(stderr, "aligning: %s  the step is %s %" PRIu64 "\n", row, name_of(step), step.id);
-        exit(1);
-    }
-    return true;
-}
-
-static int make_rows(const char *path) {
-    FILE *rows = fopen(path, "r");
-    char row[256];
-    struct task task = {.inputs = NULL};
-    int made = 0;
-    while (rows != NULL && fgets(row, sizeof row, rows) != NULL) {
-        if (row[0] == '#' || row[0] == '\n') {
-            continue;
-        }
-        if (!make_row(&task, row)) {
-            fprintf(stderr, "aligning: no row: %s", row);
-            exit(1);
-        }
-        made++;
-    }
-    if (rows != NULL) {
-        fclose(rows);
-    }
-    free(task.inputs);
-    return made;
-}
-
 static uint64_t next_random(uint64_t *state) {
     *state ^= *state << 13;
     *state ^= *state >> 7;
@@ -179,14 +141,9 @@ static void make_any(void) {
     }
 }
 
-int main(int argc, char **argv) {
-    is_unaligned = argc == 3 && strcmp(argv[2], "unaligned") == 0;
-    int made = argc == 2 || is_unaligned ? make_rows(argv[1]) : 0;
-    if (made == 0) {
-        fprintf(stderr, "aligning: no rows\n");
-        return 1;
-    }
+int main(void) {
     make_any();
-    printf("aligning: %d steps\n", made);
+    is_unaligned = true;
+    make_any();
     return 0;
 }

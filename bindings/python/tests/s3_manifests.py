@@ -473,11 +473,6 @@ class Carrying(OnAServer):
         self.assertEqual(self.numbers("orders/"), sorted(first))
         self.assertLessEqual({*first[:1], *second}, set(self.numbers("claimed/")))
 
-    def test_an_address_with_more(self):
-        for url in (self.url("orders#eu"), self.url("orders?eu")):
-            status, told = self.runs("records", url)
-            self.assertEqual((status, "no # and no ?" in told), (1, True), told)
-
     def test_claims_in_place(self):
         in_bucket, _ = self.bases()
         self.assertEqual(self.runs("export", self.url("orders"), self.url("d"))[0], 0)
