@@ -47,9 +47,9 @@ impl Ack {
     }
 }
 
-pub async fn answer(app: &App, job: String, id: u64, query: &str) -> Result<HttpReply, Box<HttpReply>> {
+pub async fn answer(app: &App, job: &str, id: u64, query: &str) -> Result<HttpReply, Box<HttpReply>> {
     let [most] = numbers(query, [LIMIT])?;
-    let number = app.number(&job)?;
+    let number = app.number(job)?;
     let Some(record) = app.read_history(move |history| history.record(number, id)).await? else {
         return Err(error(404, &format!("job {job} has no record {id}, or the history has not read of it yet")).into());
     };

@@ -1,7 +1,7 @@
 //! Who called what: lines of the service's log. There is one for each request that a user makes to change something, one for each
 //! that is refused for its token or fails, though no more than one a second, and one for each request if the configuration says so.
 use super::reply::HttpReply;
-use super::route::Route;
+use super::route::To;
 use crate::files::JobStorage;
 use crate::log;
 use crate::model::{Call, Change, FIELDS};
@@ -76,11 +76,11 @@ impl Audit {
     }
 
     /// Writes the line of a request that was answered, if it has one. `by` names its token.
-    pub fn answered(&self, asked: &RequestLine, route: Option<&Route>, by: Option<&str>, reply: &mut HttpReply) {
+    pub fn answered(&self, asked: &RequestLine, to: Option<To>, by: Option<&str>, reply: &mut HttpReply) {
         let (status, did) = (reply.status().as_u16(), reply.extensions_mut().remove::<Did>());
         // a standby answers 503 to each request
         let is_bad = matches!(status, 401 | 403) || status >= 500 && status != 503;
-        let changes_jobs = matches!(route, Some(Route::NewJob | Route::DeleteJob(_)));
+        let changes_jobs = matches!(to, Some(To::NewJob | To::DeleteJob));
         let more = match is_bad && !self.all {
             true => match self.next_bad(Instant::now()) {
                 Some(more) => more,

@@ -2,7 +2,7 @@
 use super::audit::RequestLine;
 use super::json_members::PATH;
 use super::reply::{as_problem, damaged, error, text, wants_problems, with_header, HttpReply};
-use super::route::{NoRoute, Route};
+use super::route::{NoRoute, Route, To};
 use super::slots::{Kind, Slot};
 use super::{names, operate, page, reads, room, stream, trace, view, wire, writes, App};
 use crate::auth::Caller;
@@ -33,10 +33,10 @@ pub async fn answer(app: Arc<App>, slot: &Arc<Slot>, request: Request<Body>) -> 
 
 async fn answered(app: Arc<App>, slot: &Arc<Slot>, request: Request<Body>) -> HttpReply {
     let route = Route::of(request.method(), request.uri().path());
-    let name = route.as_ref().map_or("none", Route::name);
+    let name = route.as_ref().map_or("none", |route| route.name);
     let asked =
         RequestLine { method: request.method().clone(), path: shortened(request.uri().path()), since: Instant::now() };
-    let known = route.as_ref().ok().cloned();
+    let to = route.as_ref().ok().map(|route| route.to);
     let (kind, checked) = checked(&app, route, request.headers());
     let by = checked.as_ref().ok().and_then(|(_, caller)| caller.as_ref()).map(|caller| caller.name.clone());
     let wants_problems = wants_problems(request.headers());
@@ -44,13 +44,13 @@ async fn answered(app: Arc<App>, slot: &Arc<Slot>, request: Request<Body>) -> Ht
         (None, _) => crowded(),
         (Some(_), Err(refused)) => *refused,
         // the page's files are a part of the program
-        (Some(_), Ok((route @ Route::Asset(_), _))) => dispatched(&app, route, None, request).await,
+        (Some(_), Ok((route @ Route { to: To::Asset(_), .. }, _))) => dispatched(&app, route, None, request).await,
         (Some(turn), Ok((route, caller))) => {
             room::keep_room(&app, turn, dispatched(&app, route, caller, request).await).await
         }
     };
     app.metrics.request(name, reply.status().as_str());
-    app.audit.answered(&asked, known.as_ref(), by.as_deref(), &mut reply);
+    app.audit.answered(&asked, to, by.as_deref(), &mut reply);
     let reply = if wants_problems { as_problem(reply) } else { reply };
     match app.board.log() {
         "" => reply,
@@ -99,37 +99,34 @@ async fn dispatch(
     if route.needs_leader() && !app.board.is_ready() {
         return Err(standby(app).await.into());
     }
-    if let Some(job) = route.job() {
+    if let Some(job) = &route.job {
         app.replayed(job).await?;
-    }
-    // the page's view of a job has the names of all jobs too
-    if let Some(job) = route.job().filter(|_| !matches!(route, Route::View(_))) {
-        // nothing of it is served, so that it is never served in part
-        if let Some(why) = app.board.damage(job) {
+        // the page's view of a job has the names of all jobs too; of another job nothing is served, so that it is never served in part
+        if let Some(why) = app.board.damage(job).filter(|_| route.to != To::View) {
             return Err(damaged(job, &why).into());
         }
     }
-    match route {
-        Route::Jobs => reads::jobs(app, caller, request.uri().query().unwrap_or("")).await,
-        Route::View(job) => view::answer(app, job, caller, request.uri().query().unwrap_or("")).await,
-        Route::Asset(asset) => Ok(page::answer(asset)),
-        Route::Health => Ok(health(app)),
-        Route::Ready => Ok(ready(app).await),
-        Route::NewJob => writes::new_job(app, caller, request).await,
-        Route::DeleteJob(job) => writes::delete_job(app, job, request.uri().query().unwrap_or("")).await,
-        Route::Calls(job) => writes::calls(app, caller, job, request).await,
-        Route::Fence(job) => names::fence(app, caller, job, request).await,
-        Route::Advance(job) => names::advance(app, caller, job, request).await,
-        Route::Garbage(job) => names::garbage(app, caller, job, request).await,
-        Route::Checkpoint(job) => operate::one(app, caller, job, wire::checkpoint, request).await,
-        Route::Stop(job) => operate::one(app, caller, job, |it| wire::nothing(it).map(|()| Call::Stop), request).await,
-        Route::Begin(job) => {
-            operate::one(app, caller, job, |it| wire::nothing(it).map(|()| Call::Begin), request).await
-        }
-        Route::Settings(job) => operate::settings(app, caller, job, request).await,
-        Route::Storage(job) => operate::storage(app, caller, job, request).await,
-        Route::Stream(job) => stream::answer(app, job, caller, &request).await,
-        read => reads::answer(app, read, caller, request.uri().query().unwrap_or("")).await,
+    let query = request.uri().query().unwrap_or("");
+    let job = || route.job.clone().unwrap_or_default();
+    match route.to {
+        To::Jobs => reads::jobs(app, caller, query).await,
+        To::View => view::answer(app, route.job.as_ref(), caller, query).await,
+        To::Asset(asset) => Ok(page::answer(asset)),
+        To::Health => Ok(health(app)),
+        To::Ready => Ok(ready(app).await),
+        To::NewJob => writes::new_job(app, caller, request).await,
+        To::DeleteJob => writes::delete_job(app, job(), query).await,
+        To::Calls => writes::calls(app, caller, job(), request).await,
+        To::Fence => names::fence(app, caller, job(), request).await,
+        To::Garbage => names::garbage(app, caller, job(), request).await,
+        To::Checkpoint => operate::one(app, caller, job(), wire::checkpoint, request).await,
+        To::Stop => operate::one(app, caller, job(), |it| wire::nothing(it).map(|()| Call::Stop), request).await,
+        To::Begin => operate::one(app, caller, job(), |it| wire::nothing(it).map(|()| Call::Begin), request).await,
+        To::Advance => operate::one(app, caller, job(), wire::advance, request).await,
+        To::Settings => operate::settings(app, caller, job(), request).await,
+        To::Storage => operate::storage(app, caller, job(), request).await,
+        To::Stream => stream::answer(app, job(), caller, &request).await,
+        _ => reads::answer(app, &route, caller, query).await,
     }
 }
 
@@ -145,7 +142,7 @@ fn no_route(none: &NoRoute) -> HttpReply {
 /// Whether a request may be made. It has a token, or, if there are no tokens, comes from a program of this machine and names
 /// this machine. A page of another site can do neither, because it can't set this type of content.
 fn admitted(app: &App, route: &Route, headers: &HeaderMap) -> Result<Option<Caller>, Box<HttpReply>> {
-    let Some(access) = route.access() else {
+    let Some(access) = route.access else {
         return Ok(None);
     };
     let caller = match app.keys.tokens().as_deref() {
@@ -156,14 +153,14 @@ fn admitted(app: &App, route: &Route, headers: &HeaderMap) -> Result<Option<Call
         None if names_loopback(headers) => Caller::local(),
         None => return Err(error(403, "Host: names another machine, and there are no tokens").into()),
     };
-    match route.job() {
+    match &route.job {
         Some(job) if !caller.may_see(job) => return Err(not_for(job).into()),
-        None if matches!(route, Route::Metrics) && !caller.may_see_all() => {
+        None if route.to == To::Metrics && !caller.may_see_all() => {
             return Err(error(403, "Authorization: this token is for some jobs, and the metrics are of all").into());
         }
         _ => {}
     }
-    if route.has_body() && !is_json(headers) {
+    if route.has_body && !is_json(headers) {
         return Err(error(415, "Content-Type: is not application/json").into());
     }
     Ok(Some(caller))

@@ -1,15 +1,14 @@
 //! Terms and names: a job that gets names, the term for whoever starts tasks, and which files may be deleted.
-use super::audit::Did;
-use super::operate::answered;
+use super::operate::only;
 use super::query::numbers;
-use super::reply::{bad_field, bad_key, error, invalid, json_reply, refusal, HttpReply};
-use super::writes::{key_name, read_body};
+use super::reply::{bad_field, error, invalid, json_reply, refusal, HttpReply};
+use super::writes::{read_body, Asked};
 use super::{gate, no_job, wire, App};
 use crate::auth::Caller;
-use crate::model::{sha256, Call, Fault, Garbage, Outcome};
-use crate::writer::{CallsDone, Key, Message, Read, ReadDone};
+use crate::model::{Call, Fault, Garbage};
+use crate::writer::{Read, ReadDone};
 use hyper::{Body, Request};
-use serde_json::{json, Value};
+use serde_json::json;
 
 /// A job that gives out no names.
 const NO_NAMES: &str = "NoNames";
@@ -21,64 +20,22 @@ pub async fn fence(
     job: String,
     request: Request<Body>,
 ) -> Result<HttpReply, Box<HttpReply>> {
-    app.number(&job)?;
-    let name = key_name(request.headers())?;
-    let (bytes, _room) = read_body(app, caller, request.into_body()).await?;
-    let first_name = wire::first_name(&bytes).map_err(|why| invalid(&why))?;
-    let key = name.map(|name| Key { name, digest: sha256(&bytes) });
-    let (at, calls) = (job.clone(), vec![Call::Fence { first_name }]);
-    let did = Did::of(&calls);
-    let mut reply = match app.ask(|reply| Message::Calls { job, calls, tells: false, key, reply }).await? {
-        CallsDone::Made(outcomes) => match &outcomes[..] {
-            [Outcome::Refused(Fault::Fenced(why))] => fenced(&why.name()),
-            _ => turned(&app.board.answers(&outcomes), first_name),
-        },
-        CallsDone::Known(answers) => turned(&answers, first_name),
-        CallsDone::KeyUsed => return Err(super::writes::key_used().into()),
-        CallsDone::BadKey(why) => return Err(bad_key(&why).into()),
-        CallsDone::NoJob => no_job(&at),
-    };
-    if let Some(did) = did {
-        reply.extensions_mut().insert(did);
-    }
-    Ok(reply)
-}
-
-/// Lets a job go on from an older copy of its log: it begins again above the terms and names that it lost. Under a key it is made once.
-pub async fn advance(
-    app: &App,
-    caller: &Caller,
-    job: String,
-    request: Request<Body>,
-) -> Result<HttpReply, Box<HttpReply>> {
-    app.number(&job)?;
-    let name = key_name(request.headers())?;
-    let (bytes, _room) = read_body(app, caller, request.into_body()).await?;
-    let (term, first_name) = wire::advance(&bytes).map_err(|why| invalid(&why))?;
-    let key = name.map(|name| Key { name, digest: sha256(&[b"advance", &bytes[..]].concat()) });
-    let (at, calls) = (job.clone(), vec![Call::Advance { term, first_name }]);
-    let did = Did::of(&calls);
-    let done = app.ask(|reply| Message::Calls { job, calls, tells: false, key, reply }).await?;
-    Ok(answered(app, &at, done, did))
+    let asked = Asked::read(app, caller, &job, request).await?;
+    let first_name = wire::first_name(&asked.bytes).map_err(|why| invalid(&why))?;
+    let told = move |answers: String| turned(&answers, first_name);
+    asked.make(app, job, vec![Call::Fence { first_name }], false, "", told).await
 }
 
 /// What the answer of the one call says.
 fn turned(answers: &str, first_name: u64) -> HttpReply {
-    let mut told: Value = serde_json::from_str(answers).unwrap_or_default();
-    let mut answer = told["answers"][0].take();
-    if let Some(why) = answer["fenced"].as_str() {
-        return fenced(why);
+    let refused = |why: &str| bad_field("first_name", &format!("is refused: {why}"));
+    match only(answers, fenced, refused) {
+        Ok(mut answer) => {
+            answer["first_name"] = json!(first_name.to_string());
+            json_reply(200, &answer)
+        }
+        Err(refused) => *refused,
     }
-    if let Some(why) = answer["refused"].as_str() {
-        return bad_field("first_name", &format!("is refused: {why}"));
-    }
-    if answer["seq"].is_null() {
-        return error(507, "memory ran out");
-    }
-    answer["first_name"] = json!(first_name.to_string());
-    answer["epoch"] = told["epoch"].take();
-    answer["log"] = told["log"].take();
-    json_reply(200, &answer)
 }
 
 /// What the term or the names refuse, by its name.
@@ -93,15 +50,15 @@ fn fenced(name: &str) -> HttpReply {
 }
 
 /// The term that runs, for whoever starts the tasks.
-pub async fn term(app: &App, job: String, query: &str) -> Result<HttpReply, Box<HttpReply>> {
+pub async fn term(app: &App, job: &str, query: &str) -> Result<HttpReply, Box<HttpReply>> {
     numbers(query, [])?;
-    match app.read(Read::Term(job.clone())).await? {
+    match app.read(Read::Term(job.to_string())).await? {
         ReadDone::Term(Some(now)) => {
             let told = json!({"term": now.term, "next_name": now.next_name.to_string(), "log": app.board.log()});
             Ok(json_reply(200, &told))
         }
         ReadDone::Term(None) => Err(fenced(NO_NAMES).into()),
-        _ => Err(no_job(&job).into()),
+        _ => Err(no_job(job).into()),
     }
 }
 
@@ -136,6 +93,7 @@ pub async fn garbage(
 #[cfg(test)]
 mod tests {
     use super::*;
+    use serde_json::Value;
 
     #[test]
     fn each_answer_of_a_fence_has_its_status() {

@@ -1,12 +1,12 @@
 //! What an operator does to a job that is open: a checkpoint now, a stop and the beginning after it, and other settings.
 use super::audit::Did;
 use super::json_members::Checked;
-use super::reply::{bad_key, error, invalid, json_reply, refusal, HttpReply};
-use super::writes::{key_name, key_used, read_body};
+use super::reply::{error, invalid, json_reply, refusal, HttpReply};
+use super::writes::{answered, read_body, Asked};
 use super::{no_job, render, wire, App};
 use crate::auth::Caller;
-use crate::model::{sha256, Call};
-use crate::writer::{CallsDone, Key, Message, ReadDone};
+use crate::model::Call;
+use crate::writer::{Message, ReadDone};
 use hyper::{Body, Request};
 use serde_json::{json, Value};
 
@@ -18,25 +18,15 @@ pub async fn one(
     read: impl Fn(&[u8]) -> Checked<Call>,
     request: Request<Body>,
 ) -> Result<HttpReply, Box<HttpReply>> {
-    app.number(&job)?;
-    let name = key_name(request.headers())?;
-    let (bytes, _room) = read_body(app, caller, request.into_body()).await?;
-    let call = read(&bytes).map_err(|why| invalid(&why))?;
-    // paths may have the same body: a key of one makes nothing for another
-    let key = name.map(|name| Key { name, digest: sha256(&[word(&call).as_bytes(), &bytes].concat()) });
-    let (at, calls) = (job.clone(), vec![call]);
-    let did = Did::of(&calls);
-    let done = app.ask(|reply| Message::Calls { job, calls, tells: false, key, reply }).await?;
-    Ok(answered(app, &at, done, did))
-}
-
-/// What tells the body of a path from those of others.
-fn word(call: &Call) -> &'static str {
-    match call {
+    let asked = Asked::read(app, caller, &job, request).await?;
+    let call = read(&asked.bytes).map_err(|why| invalid(&why))?;
+    let word = match call {
         Call::Stop => "stop",
         Call::Begin => "begin",
+        Call::Advance { .. } => "advance",
         _ => "checkpoint",
-    }
+    };
+    asked.make(app, job, vec![call], false, word, turned).await
 }
 
 /// Changes the settings that the body names. A repeat changes nothing more, so it needs no key.
@@ -51,7 +41,7 @@ pub async fn settings(
     let change = wire::change(&bytes).map_err(|why| invalid(&why))?;
     let at = job.clone();
     let done = app.ask(|reply| Message::Configure { job, change, reply }).await?;
-    Ok(answered(app, &at, done, Some(Did::settings(&change))))
+    Ok(answered(app, &at, done, Some(Did::settings(&change)), turned))
 }
 
 /// Says where the job's files are. A repeat says the same, so it needs no key.
@@ -73,36 +63,34 @@ pub async fn storage(
     Ok(reply)
 }
 
-pub(super) fn answered(app: &App, job: &str, done: CallsDone, did: Option<Did>) -> HttpReply {
-    let mut reply = match done {
-        CallsDone::Made(outcomes) => turned(&app.board.answers(&outcomes)),
-        CallsDone::Known(answers) => turned(&answers),
-        CallsDone::KeyUsed => key_used(),
-        CallsDone::BadKey(why) => bad_key(&why),
-        CallsDone::NoJob => no_job(job),
-    };
-    if let Some(did) = did {
-        reply.extensions_mut().insert(did);
-    }
-    reply
+fn turned(answers: String) -> HttpReply {
+    let fenced =
+        |why: &str| refusal(409, json!({"error": format!("its terms or names refuse it: {why}"), "fenced": why}));
+    let refused =
+        |why: &str| refusal(409, json!({"error": format!("the coordinator refuses it: {why}"), "refused": why}));
+    only(&answers, fenced, refused).map_or_else(|refused| *refused, |answer| json_reply(200, &answer))
 }
 
 /// What the answer of the one call says. A refusal is an error here, since the request makes nothing else.
-fn turned(answers: &str) -> HttpReply {
+pub(super) fn only(
+    answers: &str,
+    fenced: impl Fn(&str) -> HttpReply,
+    refused: impl Fn(&str) -> HttpReply,
+) -> Result<Value, Box<HttpReply>> {
     let mut told: Value = serde_json::from_str(answers).unwrap_or_default();
     let mut answer = told["answers"][0].take();
     if let Some(why) = answer["fenced"].as_str() {
-        return refusal(409, json!({"error": format!("its terms or names refuse it: {why}"), "fenced": why}));
+        return Err(fenced(why).into());
     }
     if let Some(why) = answer["refused"].as_str() {
-        return refusal(409, json!({"error": format!("the coordinator refuses it: {why}"), "refused": why}));
+        return Err(refused(why).into());
     }
     if answer["seq"].is_null() {
-        return error(507, "memory ran out");
+        return Err(error(507, "memory ran out").into());
     }
     answer["epoch"] = told["epoch"].take();
     answer["log"] = told["log"].take();
-    json_reply(200, &answer)
+    Ok(answer)
 }
 
 #[cfg(test)]
@@ -113,7 +101,7 @@ mod tests {
     fn each_answer_has_its_status() {
         let status = |answer: Value| {
             let told = json!({"epoch": 1, "log": "ab", "answers": [answer]});
-            turned(&told.to_string()).status().as_u16()
+            turned(told.to_string()).status().as_u16()
         };
         assert_eq!(status(json!({"tick": "triggered", "expired": 0, "id": 3, "seq": 7})), 200);
         assert_eq!(status(json!({"configure": "configured", "dropped": 0, "released": 0, "seq": 7})), 200);

@@ -3,7 +3,7 @@ use super::log_position::{self, LogPosition};
 use super::query::{self, numbers, Parameter};
 use super::render::{self, Metadata};
 use super::reply::{bad_field, body, error, json_reply, with_type, HttpReply};
-use super::route::Route;
+use super::route::{Route, To};
 use super::{acks, names, no_job, states, App};
 use crate::auth::Caller;
 use crate::history::{FileRow, HistoryReader, Search};
@@ -23,38 +23,23 @@ const fn limit(most: u64, default: u64) -> Parameter {
     Parameter { name: "limit", most, default }
 }
 
-pub async fn answer(app: &App, route: Route, caller: &Caller, query: &str) -> Result<HttpReply, Box<HttpReply>> {
-    match route {
-        Route::Metrics => metrics(app, query).await,
-        Route::Job(job) => one_job(app, job, query).await,
-        Route::Records(job) => records(app, &job, query).await,
-        Route::History(job) => history(app, &job, query).await,
-        Route::Record(job, id) => record(app, job, id, query).await,
-        Route::Acks(job, id) => acks::answer(app, job, id, query).await,
-        Route::States(job, id) => states::answer(app, job, id, query).await,
-        Route::Files(job) => files(app, &job, query).await,
-        Route::File(job, file) => one_file(app, job, file, query).await,
-        Route::Log(job) => log(app, &job, caller, query).await,
-        Route::Events(job) => events(app, &job, query).await,
-        Route::Samples(job) => samples(app, &job, query).await,
-        Route::Term(job) => names::term(app, job, query).await,
-        Route::Asset(_)
-        | Route::Health
-        | Route::Ready
-        | Route::NewJob
-        | Route::DeleteJob(_)
-        | Route::Calls(_)
-        | Route::Fence(_)
-        | Route::Garbage(_)
-        | Route::Checkpoint(_)
-        | Route::Settings(_)
-        | Route::Storage(_)
-        | Route::Jobs
-        | Route::View(_)
-        | Route::Stop(_)
-        | Route::Begin(_)
-        | Route::Advance(_)
-        | Route::Stream(_) => Err(error(404, "is no read").into()),
+pub async fn answer(app: &App, route: &Route, caller: &Caller, query: &str) -> Result<HttpReply, Box<HttpReply>> {
+    let (job, number) = (route.job.as_deref().unwrap_or_default(), route.number);
+    match route.to {
+        To::Metrics => metrics(app, query).await,
+        To::Job => one_job(app, job, query).await,
+        To::Records => records(app, job, query).await,
+        To::History => history(app, job, query).await,
+        To::Record => record(app, job, number, query).await,
+        To::Acks => acks::answer(app, job, number, query).await,
+        To::States => states::answer(app, job, number, query).await,
+        To::Files => files(app, job, query).await,
+        To::File => one_file(app, job, number, query).await,
+        To::Log => log(app, job, caller, query).await,
+        To::Events => events(app, job, query).await,
+        To::Samples => samples(app, job, query).await,
+        To::Term => names::term(app, job, query).await,
+        _ => Err(error(404, "is no read").into()),
     }
 }
 
@@ -117,11 +102,11 @@ pub(super) fn damaged(app: &App, caller: &Caller) -> Vec<Value> {
     kept_out.into_iter().map(|(name, why)| json!({"name": name, "why": why})).collect()
 }
 
-async fn one_job(app: &App, job: String, query: &str) -> Result<HttpReply, Box<HttpReply>> {
+async fn one_job(app: &App, job: &str, query: &str) -> Result<HttpReply, Box<HttpReply>> {
     numbers(query, [])?;
-    match app.read(Read::Job(job.clone())).await? {
+    match app.read(Read::Job(job.to_string())).await? {
         ReadDone::Job(state) => Ok(json_reply(200, &render::job(&state, app.board.log()))),
-        _ => Err(no_job(&job).into()),
+        _ => Err(no_job(job).into()),
     }
 }
 
@@ -158,11 +143,11 @@ fn word(name: &str, given: Option<&str>, words: &[&'static str]) -> Result<Optio
     found.map(|word| Some(*word)).ok_or_else(|| bad_field(name, &format!("is none of {}", words.join(", "))).into())
 }
 
-async fn record(app: &App, job: String, id: u64, query: &str) -> Result<HttpReply, Box<HttpReply>> {
+async fn record(app: &App, job: &str, id: u64, query: &str) -> Result<HttpReply, Box<HttpReply>> {
     numbers(query, [])?;
-    let number = app.number(&job)?;
-    let ReadDone::Record(live) = app.read(Read::Record { job: job.clone(), id }).await? else {
-        return Err(no_job(&job).into());
+    let number = app.number(job)?;
+    let ReadDone::Record(live) = app.read(Read::Record { job: job.to_string(), id }).await? else {
+        return Err(no_job(job).into());
     };
     let history = app.read_history(move |history| history.record(number, id)).await?;
     if live.is_none() && history.is_none() {
@@ -217,14 +202,14 @@ async fn taken_by_all(app: &App, job: &str, number: i64, most: u64) -> Result<Ve
 }
 
 /// How often a file is used, by which records, and its history.
-async fn one_file(app: &App, job: String, file: u64, query: &str) -> Result<HttpReply, Box<HttpReply>> {
+async fn one_file(app: &App, job: &str, file: u64, query: &str) -> Result<HttpReply, Box<HttpReply>> {
     numbers(query, [])?;
-    let number = app.number(&job)?;
-    let ReadDone::File { uses, bytes, live } = app.read(Read::File { job: job.clone(), file }).await? else {
-        return Err(no_job(&job).into());
+    let number = app.number(job)?;
+    let ReadDone::File { uses, bytes, live } = app.read(Read::File { job: job.to_string(), file }).await? else {
+        return Err(no_job(job).into());
     };
     let live = if uses == Some(0) { Vec::new() } else { live };
-    let by = used_by(app, &job, file, live).await?;
+    let by = used_by(app, job, file, live).await?;
     let pins = uses.map(|uses| uses.saturating_sub(by.len() as u64));
     let (bytes, history) = app
         .read_history(move |history| {

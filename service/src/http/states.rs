@@ -31,15 +31,15 @@ struct Whole<'a> {
 }
 
 /// The record, as long as it is live. It has no term: a task of an ended term could learn the new one here.
-pub async fn answer(app: &App, job: String, id: u64, query: &str) -> Result<HttpReply, Box<HttpReply>> {
+pub async fn answer(app: &App, job: &str, id: u64, query: &str) -> Result<HttpReply, Box<HttpReply>> {
     numbers(query, [])?;
-    let number = app.number(&job)?;
-    let record = complete(app, &job, id).await?;
+    let number = app.number(job)?;
+    let record = complete(app, job, id).await?;
     let files: Vec<u64> = record.acks().flat_map(|(_, files)| files.iter().copied()).collect();
     let read = app.read_log(move |reader| Ok((reader.states(number, id)?, reader.bytes_of(number, &files)?)));
     let (states, sizes) = read.await?;
     // the rows go with the record, which may have ended meanwhile
-    complete(app, &job, id).await?;
+    complete(app, job, id).await?;
     let text = tokio::task::block_in_place(|| whole(&record, &states, &sizes.into_iter().collect()));
     Ok(body(200, text))
 }

@@ -30,16 +30,16 @@ struct Wanted {
 /// The job of this name is shown, or the first one if there is none.
 pub async fn answer(
     app: &App,
-    name: Option<String>,
+    name: Option<&String>,
     caller: &Caller,
     query: &str,
 ) -> Result<HttpReply, Box<HttpReply>> {
     let [records, samples, files] = numbers(query, [RECORDS, SAMPLES, FILES])?;
     let jobs = app.jobs().await?;
     // the names of many jobs take long, and the other requests go on by another thread
-    let (names, shown) = tokio::task::block_in_place(|| names_of(jobs, name.as_ref(), caller));
+    let (names, shown) = tokio::task::block_in_place(|| names_of(jobs, name, caller));
     // in place of one that is kept out no other job is shown
-    let shown = shown.filter(|_| name.as_ref().is_none_or(|name| app.board.damage(name).is_none()));
+    let shown = shown.filter(|_| name.is_none_or(|name| app.board.damage(name).is_none()));
     let replay = app.board.replay.of_all().map(|_| reply::replay(app.board.replay.progress()));
     let mut told = json!({"epoch": app.board.epoch(), "job": null, "damaged": reads::damaged(app, caller)});
     told["replay"] = json!(replay);

@@ -248,11 +248,11 @@ pub fn first_name(bytes: &[u8]) -> Checked<u64> {
 }
 
 /// Reads the body of an advance: the greatest term that was told, and the first name that may be given out.
-pub fn advance(bytes: &[u8]) -> Checked<(u64, u64)> {
+pub fn advance(bytes: &[u8]) -> Checked<Call> {
     let mut members = Members::of_body(bytes)?;
     let (term, first_name) = (members.number("term", 0, GREATEST)?, members.first_name()?);
     members.finish()?;
-    Ok((term, first_name))
+    Ok(Call::Advance { term, first_name })
 }
 
 /// Reads the body that asks which files may be deleted.
@@ -532,7 +532,7 @@ mod tests {
             let body = format!(r#"{{"first_name":{bad}}}"#);
             assert_eq!(first_name(body.as_bytes()).err().map(|it| it.field).as_deref(), Some("first_name"), "{bad}");
         }
-        assert_eq!(advance(br#"{"term":3,"first_name":"20"}"#), Ok((3, 20)));
+        assert_eq!(advance(br#"{"term":3,"first_name":"20"}"#), Ok(Call::Advance { term: 3, first_name: 20 }));
         for (bad, field) in [
             (r#"{"first_name":"20"}"#, "term"),
             (r#"{"term":-1,"first_name":"20"}"#, "term"),

@@ -5,12 +5,13 @@ use super::query::{numbers, Parameter};
 use super::reply::{bad_field, bad_key, body, damaged, error, invalid, json_reply, refusal, with_header, HttpReply};
 use super::{gate, no_job, wire, App};
 use crate::auth::Caller;
-use crate::model::{settings_json, sha256, Call};
+use crate::model::{settings_json, Call};
 use crate::writer::{CallsDone, Created, Delete, Deletion, Key, Message, NamesWanted};
 use hyper::body::HttpBody;
 use hyper::header::{HeaderMap, LOCATION};
 use hyper::{Body, Request};
 use serde_json::json;
+use sha2::{Digest, Sha256};
 use std::time::Duration;
 
 const KEY: &str = "idempotency-key";
@@ -89,30 +90,71 @@ pub async fn calls(
     job: String,
     request: Request<Body>,
 ) -> Result<HttpReply, Box<HttpReply>> {
-    app.number(&job)?;
-    let name = key_name(request.headers())?;
-    let (bytes, _room) = read_body(app, caller, request.into_body()).await?;
-    let (calls, tells) = wire::calls(&bytes, app.limits.calls).map_err(|why| invalid(&why))?;
-    if let Some(call) = calls.iter().find(|call| call.wants_key()).filter(|_| name.is_none()) {
+    let asked = Asked::read(app, caller, &job, request).await?;
+    let (calls, tells) = wire::calls(&asked.bytes, app.limits.calls).map_err(|why| invalid(&why))?;
+    if let Some(call) = calls.iter().find(|call| call.wants_key()).filter(|_| asked.key.is_none()) {
         return Err(key_is_missing(call).into());
     }
-    let key = name.map(|name| Key { name, digest: sha256(&bytes) });
-    let (at, did) = (job.clone(), Did::of(&calls));
-    let done = app.ask(|reply| Message::Calls { job, calls, tells, key, reply }).await?;
+    asked.make(app, job, calls, tells, "", |answers| body(200, answers)).await
+}
+
+/// A request that makes calls of a job: its key, if it has one, and its body, which keeps its room.
+pub(super) struct Asked {
+    key: Option<String>,
+    pub bytes: Vec<u8>,
+    _room: BodyRoom,
+}
+
+impl Asked {
+    pub async fn read(app: &App, caller: &Caller, job: &str, asked: Request<Body>) -> Result<Asked, Box<HttpReply>> {
+        app.number(job)?;
+        let key = key_name(asked.headers())?;
+        let (bytes, room) = read_body(app, caller, asked.into_body()).await?;
+        Ok(Asked { key, bytes, _room: room })
+    }
+
+    /// Makes the calls, once under the key, and `told` makes the reply of their answers. Paths may have the same body, so each has its `word`: a
+    /// key of one makes nothing for another.
+    pub async fn make(
+        self,
+        app: &App,
+        job: String,
+        calls: Vec<Call>,
+        tells: bool,
+        word: &str,
+        told: impl FnOnce(String) -> HttpReply,
+    ) -> Result<HttpReply, Box<HttpReply>> {
+        let bytes = self.bytes;
+        let digest = || format!("{:x}", Sha256::new().chain_update(word).chain_update(&bytes).finalize());
+        let key = self.key.map(|name| Key { name, digest: digest() });
+        let (at, did) = (job.clone(), Did::of(&calls));
+        let done = app.ask(|reply| Message::Calls { job, calls, tells, key, reply }).await?;
+        Ok(answered(app, &at, done, did, told))
+    }
+}
+
+/// The reply to calls that were made or refused, beside which stays what a user did.
+pub(super) fn answered(
+    app: &App,
+    job: &str,
+    done: CallsDone,
+    did: Option<Did>,
+    told: impl FnOnce(String) -> HttpReply,
+) -> HttpReply {
     let mut reply = match done {
-        CallsDone::Made(outcomes) => body(200, app.board.answers(&outcomes)),
-        CallsDone::Known(answers) => body(200, answers),
+        CallsDone::Made(outcomes) => told(app.board.answers(&outcomes)),
+        CallsDone::Known(answers) => told(answers),
         CallsDone::KeyUsed => key_used(),
         CallsDone::BadKey(why) => bad_key(&why),
-        CallsDone::NoJob => no_job(&at),
+        CallsDone::NoJob => no_job(job),
     };
     if let Some(did) = did {
         reply.extensions_mut().insert(did);
     }
-    Ok(reply)
+    reply
 }
 
-pub(super) fn key_used() -> HttpReply {
+fn key_used() -> HttpReply {
     refusal(422, json!({"error": "Idempotency-Key was used with another body", "field": "Idempotency-Key"}))
 }
 
@@ -124,7 +166,7 @@ fn key_is_missing(call: &Call) -> HttpReply {
 }
 
 /// The request's key: 1 to 255 visible characters of ASCII.
-pub(super) fn key_name(headers: &HeaderMap) -> Result<Option<String>, Box<HttpReply>> {
+fn key_name(headers: &HeaderMap) -> Result<Option<String>, Box<HttpReply>> {
     let Some(value) = headers.get(KEY) else {
         return Ok(None);
     };

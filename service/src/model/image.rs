@@ -165,11 +165,6 @@ pub fn kind_of(name: &str) -> Kind {
     }
 }
 
-/// SHA-256 in hexadecimal digits.
-pub fn sha256(bytes: &[u8]) -> String {
-    format!("{:x}", Sha256::digest(bytes))
-}
-
 #[cfg(test)]
 mod tests {
     use super::super::Engine;

@@ -30,7 +30,7 @@ pub use clock::{check as check_clock, millis, shown, wall, Clock, FarAhead, Mome
 pub use engine::{Engine, NoJob};
 pub use event::{kind, Event};
 pub use held::Held;
-pub use image::{kind_of, sha256, Contents, Image, ImagePart, SavedRecord};
+pub use image::{kind_of, Contents, Image, ImagePart, SavedRecord};
 pub use job::{Entry, Job, Logged, Opening};
 pub use lines::{parse_line, without_term};
 #[cfg(test)]
