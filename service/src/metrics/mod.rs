@@ -10,9 +10,9 @@ use crate::history::Search;
 use crate::model::Outcome;
 use crate::writer::{JobState, Served};
 use jobs::Gauges;
-use parted::{part_of, Parted, PARTS};
+use parted::{part_of, Labels, OfJobs, Parted, PARTS};
 use process::Process;
-use prometheus::core::Collector;
+use prometheus::core::{Collector, MetricVec, MetricVecBuilder};
 use prometheus::{
     Encoder, Gauge, GaugeVec, Histogram, HistogramOpts, HistogramVec, IntCounterVec, IntGauge, IntGaugeVec, Opts,
     Registry, TextEncoder,
@@ -27,7 +27,7 @@ const SECONDS: [f64; 12] = [0.0005, 0.001, 0.002, 0.005, 0.01, 0.02, 0.05, 0.1, 
 const ROWS: [f64; 8] = [1.0, 4.0, 16.0, 64.0, 256.0, 1024.0, 4096.0, 16384.0];
 const DURATIONS: [f64; 12] = [0.1, 0.25, 0.5, 1.0, 2.5, 5.0, 10.0, 30.0, 60.0, 120.0, 300.0, 600.0];
 
-/// The words of labels, by which the values of a job are found again. A deletion looks at these alone, and not at those of all jobs.
+/// The words of labels. A word that is missing would leave values of deleted jobs.
 const CALLS: [&str; 18] = [
     "tick",
     "savepoint",
@@ -51,6 +51,8 @@ const CALLS: [&str; 18] = [
 const OUTCOMES: [&str; 5] = ["made", "fenced", "refused", "no_memory", "not_made"];
 const KINDS: [&str; 2] = Search::KINDS;
 const STATES: [&str; 3] = ["in_use", "waiting", "taken"];
+const KIND: (&str, &[&str]) = ("kind", &KINDS);
+const STATE: (&str, &[&str]) = ("state", &STATES);
 
 pub struct Metrics {
     families: Families,
@@ -78,87 +80,53 @@ pub struct Metrics {
 
 impl Metrics {
     pub fn new() -> Result<Metrics, prometheus::Error> {
-        let mut metrics = Metrics {
-            families: Families::default(),
-            calls: Parted::of(|| {
-                counter("relkvanu_calls_total", "Calls, by what became of them.", &["job_name", "call", "outcome"])
-            })?,
-            requests: counter(
-                "relkvanu_http_requests_total",
-                "HTTP requests, by route and status.",
-                &["route", "status"],
+        let mut all = Families::default();
+        let requests = Opts::new("relkvanu_http_requests_total", "HTTP requests, by route and status.");
+        Ok(Metrics {
+            calls: all.counters(
+                "relkvanu_calls_total",
+                "Calls, by what became of them.",
+                &[("call", &CALLS), ("outcome", &OUTCOMES)],
             )?,
-            commit_seconds: histogram("relkvanu_commit_seconds", "How long a commit takes.", &SECONDS)?,
-            commit_rows: histogram("relkvanu_commit_calls", "How many calls share a commit.", &ROWS)?,
-            image_seconds: histogram(
+            requests: all.add(IntCounterVec::new(requests, &["route", "status"]))?,
+            records: all.counters(
+                "relkvanu_records_total",
+                "Records that ended being pending, by how.",
+                &[KIND, ("how", &Search::HOWS)],
+            )?,
+            commit_seconds: all.histogram("relkvanu_commit_seconds", "How long a commit takes.", &SECONDS)?,
+            commit_rows: all.histogram("relkvanu_commit_calls", "How many calls share a commit.", &ROWS)?,
+            image_seconds: all.histogram(
                 "relkvanu_image_seconds",
                 "How long an image of a job is made, while calls of that job wait.",
                 &SECONDS,
             )?,
-            images_fail: of_jobs(
+            images_fail: all.of_jobs(
                 "relkvanu_image_failing",
                 "1 where the last image of the job, or the last cut of its log, could not be written.",
-                &["job_name"],
+                &[],
             )?,
-            clock_ahead: Gauge::new(
+            clock_ahead: all.gauge(
                 "relkvanu_clock_ahead_seconds",
                 "How far the moments that calls are given are ahead of this machine's clock.",
             )?,
-            leader: IntGauge::new("relkvanu_leader", "1 where this process leads.")?,
-            connections: IntGauge::new("relkvanu_http_connections", "Open connections.")?,
-            bodies: IntGauge::new(
-                "relkvanu_http_body_bytes",
-                "Bytes of requests' bodies that are being read or worked on.",
-            )?,
-            commit_takes: Gauge::new(
+            leader: all.whole("relkvanu_leader", "1 where this process leads.")?,
+            connections: all.whole("relkvanu_http_connections", "Open connections.")?,
+            bodies: all
+                .whole("relkvanu_http_body_bytes", "Bytes of requests' bodies that are being read or worked on.")?,
+            commit_takes: all.gauge(
                 "relkvanu_commit_under_way_seconds",
                 "For how long the commit that is under way has taken; 0 if none is.",
             )?,
-            records: Parted::of(|| {
-                counter(
-                    "relkvanu_records_total",
-                    "Records that ended being pending, by how.",
-                    &["job_name", "kind", "how"],
-                )
-            })?,
-            durations: Parted::of(|| {
-                HistogramVec::new(
-                    HistogramOpts::new("relkvanu_completion_seconds", "From a record's trigger to its completion.")
-                        .buckets(DURATIONS.to_vec()),
-                    &["job_name", "kind"],
-                )
-            })?,
-            gauges: Gauges::new()?,
+            durations: all.durations("relkvanu_completion_seconds", "From a record's trigger to its completion.")?,
+            upkeep: Upkeep::new(&mut all)?,
+            sizes: SizeMetrics::new(&mut all)?,
+            queue: Queue::new(&mut all)?,
+            process: Process::new(&mut all)?,
+            gauges: Gauges::new(&mut all)?,
             values: [const { Mutex::new(()) }; PARTS],
-            upkeep: Upkeep::new()?,
-            sizes: SizeMetrics::new()?,
-            queue: Queue::new()?,
-            process: Process::new()?,
-        };
-        metrics.register()?;
-        Ok(metrics)
-    }
-
-    fn register(&mut self) -> Result<(), prometheus::Error> {
-        let all = &mut self.families;
-        all.add(&self.calls)?;
-        all.add(&self.requests)?;
-        all.add(&self.records)?;
-        for times in [&self.commit_seconds, &self.commit_rows, &self.image_seconds] {
-            all.add(times)?;
-        }
-        all.add(&self.images_fail)?;
-        all.add(&self.clock_ahead)?;
-        all.add(&self.leader)?;
-        all.add(&self.connections)?;
-        all.add(&self.bodies)?;
-        all.add(&self.commit_takes)?;
-        all.add(&self.durations)?;
-        self.upkeep.register(all)?;
-        self.sizes.register(all)?;
-        self.queue.register(all)?;
-        self.process.register(all)?;
-        self.gauges.register(all)
+            families: all,
+        })
     }
 
     pub fn call(&self, job: &str, call: &str, outcome: &Outcome) {
@@ -229,13 +197,7 @@ impl Metrics {
     /// A job was deleted, or is another process's: its values go.
     pub fn forget(&self, job: &str) {
         let _held = self.values(job);
-        self.calls.forget(job, &[&CALLS, &OUTCOMES]);
-        self.records.forget(job, &[&KINDS, &Search::HOWS]);
-        self.images_fail.forget(job, &[]);
-        self.durations.forget(job, &[&KINDS]);
-        self.gauges.forget(job);
-        self.upkeep.forget(job);
-        self.sizes.forget(job);
+        self.families.of_jobs.iter().for_each(|metric| metric.forget(job));
     }
 
     pub fn lead(&self, leads: bool) {
@@ -286,13 +248,61 @@ pub struct Families {
     /// Refuses two metrics of one name.
     registry: Registry,
     all: Vec<Box<dyn Collector>>,
+    /// Those of them that have values of jobs.
+    of_jobs: Vec<Box<dyn OfJobs>>,
 }
 
 impl Families {
-    pub fn add<C: Collector + Clone + 'static>(&mut self, metric: &C) -> Result<(), prometheus::Error> {
+    fn add<C: Collector + Clone + 'static>(
+        &mut self,
+        made: Result<C, prometheus::Error>,
+    ) -> Result<C, prometheus::Error> {
+        let metric = made?;
         self.registry.register(Box::new(metric.clone()))?;
         self.all.push(Box::new(metric.clone()));
-        Ok(())
+        Ok(metric)
+    }
+
+    /// A metric of jobs.
+    fn parted<T: MetricVecBuilder + 'static>(
+        &mut self,
+        labels: Labels,
+        make: impl Fn(&[&str]) -> Result<MetricVec<T>, prometheus::Error>,
+    ) -> Result<Parted<MetricVec<T>>, prometheus::Error> {
+        let metric = self.add(Parted::of(labels, make))?;
+        self.of_jobs.push(Box::new(metric.clone()));
+        Ok(metric)
+    }
+
+    fn counters(&mut self, name: &str, help: &str, labels: Labels) -> Result<Parted<IntCounterVec>, prometheus::Error> {
+        self.parted(labels, |labels| IntCounterVec::new(Opts::new(name, help), labels))
+    }
+
+    /// A gauge of jobs, with whole numbers.
+    fn of_jobs(&mut self, name: &str, help: &str, labels: Labels) -> Result<Parted<IntGaugeVec>, prometheus::Error> {
+        self.parted(labels, |labels| IntGaugeVec::new(Opts::new(name, help), labels))
+    }
+
+    fn seconds(&mut self, name: &str, help: &str, labels: Labels) -> Result<Parted<GaugeVec>, prometheus::Error> {
+        self.parted(labels, |labels| GaugeVec::new(Opts::new(name, help), labels))
+    }
+
+    fn durations(&mut self, name: &str, help: &str) -> Result<Parted<HistogramVec>, prometheus::Error> {
+        let opts = || HistogramOpts::new(name, help).buckets(DURATIONS.to_vec());
+        self.parted(&[KIND], |labels| HistogramVec::new(opts(), labels))
+    }
+
+    fn histogram(&mut self, name: &str, help: &str, buckets: &[f64]) -> Result<Histogram, prometheus::Error> {
+        self.add(Histogram::with_opts(HistogramOpts::new(name, help).buckets(buckets.to_vec())))
+    }
+
+    fn gauge(&mut self, name: &str, help: &str) -> Result<Gauge, prometheus::Error> {
+        self.add(Gauge::new(name, help))
+    }
+
+    /// A gauge of whole numbers.
+    fn whole(&mut self, name: &str, help: &str) -> Result<IntGauge, prometheus::Error> {
+        self.add(IntGauge::new(name, help))
     }
 
     fn text(&self) -> Result<Vec<u8>, prometheus::Error> {
@@ -314,23 +324,6 @@ fn set_seconds(gauge: &Parted<GaugeVec>, job: &str, milliseconds: u64) {
     gauge.with_label_values(&[job]).set(milliseconds as f64 / 1000.0);
 }
 
-fn seconds(name: &str, help: &str) -> Result<Parted<GaugeVec>, prometheus::Error> {
-    Parted::of(|| GaugeVec::new(Opts::new(name, help), &["job_name"]))
-}
-
-fn counter(name: &str, help: &str, labels: &[&str]) -> Result<IntCounterVec, prometheus::Error> {
-    IntCounterVec::new(Opts::new(name, help), labels)
-}
-
-/// A gauge of jobs, with whole numbers.
-fn of_jobs(name: &str, help: &str, labels: &[&str]) -> Result<Parted<IntGaugeVec>, prometheus::Error> {
-    Parted::of(|| IntGaugeVec::new(Opts::new(name, help), labels))
-}
-
-fn histogram(name: &str, help: &str, buckets: &[f64]) -> Result<Histogram, prometheus::Error> {
-    Histogram::with_opts(HistogramOpts::new(name, help).buckets(buckets.to_vec()))
-}
-
 #[cfg(test)]
 mod tests {
     use super::*;
@@ -339,7 +332,6 @@ mod tests {
     use std::collections::BTreeSet;
     use std::sync::mpsc::channel;
 
-    /// A word that is missing there would leave values of deleted jobs.
     #[test]
     fn each_call_of_the_api_is_known() -> Result<(), serde_json::Error> {
         let api: Value = serde_json::from_str(include_str!("../../web/openapi.json"))?;

@@ -14,31 +14,48 @@ pub fn part_of(job: &str) -> usize {
     hasher.finish() as usize % PARTS
 }
 
+/// The labels of a metric of jobs behind the name of the job, each with its words. By these the values of a job are found again: a deletion looks at
+/// them alone, and not at the values of all jobs.
+pub type Labels = &'static [(&'static str, &'static [&'static str])];
+
 /// A metric whose first label is the name of a job.
 #[derive(Clone)]
-pub struct Parted<V>(Vec<V>);
+pub struct Parted<V> {
+    parts: Vec<V>,
+    more: Labels,
+}
 
 impl<T: MetricVecBuilder> Parted<MetricVec<T>> {
-    /// `make` makes one part.
+    /// `make` makes one part, of these labels.
     pub fn of(
-        make: impl Fn() -> Result<MetricVec<T>, prometheus::Error>,
+        more: Labels,
+        make: impl Fn(&[&str]) -> Result<MetricVec<T>, prometheus::Error>,
     ) -> Result<Parted<MetricVec<T>>, prometheus::Error> {
-        (0..PARTS).map(|_| make()).collect::<Result<_, _>>().map(Parted)
+        let labels: Vec<&str> = ["job_name"].into_iter().chain(more.iter().map(|(label, _)| *label)).collect();
+        let parts = (0..PARTS).map(|_| make(&labels)).collect::<Result<_, _>>()?;
+        Ok(Parted { parts, more })
     }
 
     fn part(&self, labels: &[&str]) -> &MetricVec<T> {
-        &self.0[part_of(labels.first().copied().unwrap_or(""))]
+        &self.parts[part_of(labels.first().copied().unwrap_or(""))]
     }
 
     pub fn with_label_values(&self, labels: &[&str]) -> T::M {
         self.part(labels).with_label_values(labels)
     }
+}
 
-    /// Removes the values of a job, with each of these words in the labels that follow its name.
-    pub fn forget(&self, job: &str, words: &[&[&str]]) {
+/// What forgets a job that was deleted, or is another process's.
+pub trait OfJobs: Send + Sync {
+    /// Removes the values of a job.
+    fn forget(&self, job: &str);
+}
+
+impl<T: MetricVecBuilder> OfJobs for Parted<MetricVec<T>> {
+    fn forget(&self, job: &str) {
         let mut labels = vec![vec![job]];
-        for more in words {
-            labels = labels.iter().flat_map(|some| more.iter().map(|word| [&some[..], &[*word]].concat())).collect();
+        for (_, words) in self.more {
+            labels = labels.iter().flat_map(|some| words.iter().map(|word| [&some[..], &[*word]].concat())).collect();
         }
         for some in labels {
             // most have no value
@@ -49,13 +66,13 @@ impl<T: MetricVecBuilder> Parted<MetricVec<T>> {
 
 impl<T: MetricVecBuilder> Collector for Parted<MetricVec<T>> {
     fn desc(&self) -> Vec<&Desc> {
-        self.0.first().map_or(Vec::new(), Collector::desc)
+        self.parts.first().map_or(Vec::new(), Collector::desc)
     }
 
     /// One family with the values of all parts.
     fn collect(&self) -> Vec<MetricFamily> {
         let mut whole: Option<MetricFamily> = None;
-        for mut part in self.0.iter().flat_map(Collector::collect) {
+        for mut part in self.parts.iter().flat_map(Collector::collect) {
             match &mut whole {
                 Some(whole) => whole.mut_metric().append(&mut part.take_metric()),
                 None => whole = Some(part),
@@ -78,11 +95,12 @@ mod tests {
 
     #[test]
     fn the_parts_are_one_family() -> Result<(), prometheus::Error> {
-        let made = Parted::of(|| IntGaugeVec::new(Opts::new("name", "help"), &["job_name", "kind"]))?;
+        let more: Labels = &[("kind", &["other", "some"])];
+        let made = Parted::of(more, |labels| IntGaugeVec::new(Opts::new("name", "help"), labels))?;
         for job in 0..200 {
             made.with_label_values(&[&job.to_string(), "some"]).set(job);
         }
-        made.forget("7", &[&["other", "some"]]);
+        made.forget("7");
         let [family] = &made.collect()[..] else {
             return Err(prometheus::Error::Msg("more than one family".to_string()));
         };
@@ -127,14 +145,14 @@ mod tests {
                     (0..1000).map(|it| it.to_string()).find(|it| part_of(it) != part_of("one")).unwrap_or_default();
                 if let Some(all) = all.get() {
                     all.with_label_values(&[&other]);
-                    all.forget(&other, &[]);
+                    all.forget(&other);
                     let _ = told.send(());
                 }
             });
             is_done.store(is_told.recv_timeout(Duration::from_secs(60)).is_ok(), Ordering::SeqCst);
         }));
         let labels = || Opts::new("name", "help").variable_label("job_name");
-        let parts = Parted::of(|| MetricVec::create(MetricType::GAUGE, reads.clone(), labels()))?;
+        let parts = Parted::of(&[], |_| MetricVec::create(MetricType::GAUGE, reads.clone(), labels()))?;
         let parts = made.get_or_init(|| parts);
         parts.with_label_values(&["one"]);
         parts.collect();

@@ -11,8 +11,6 @@ pub struct Process {
     open_files: IntGauge,
     most_files: Gauge,
     threads: IntGauge,
-    started: Gauge,
-    build: IntGaugeVec,
 }
 
 /// What the system says of the process.
@@ -25,31 +23,21 @@ struct ProcStat {
 }
 
 impl Process {
-    pub fn new() -> Result<Process, prometheus::Error> {
+    pub fn new(all: &mut Families) -> Result<Process, prometheus::Error> {
+        let build = Opts::new("relkvanu_build_info", "1: the version of the program, and that of its library.");
         let process = Process {
-            cpu: Counter::new("process_cpu_seconds_total", "Processor time that the process took.")?,
-            resident: IntGauge::new("process_resident_memory_bytes", "Memory that the process has.")?,
-            virtual_memory: IntGauge::new("process_virtual_memory_bytes", "Addresses that the process has.")?,
-            open_files: IntGauge::new("process_open_fds", "Files and connections that are open.")?,
-            most_files: Gauge::new("process_max_fds", "How many may be open.")?,
-            threads: IntGauge::new("process_threads", "Threads of the process.")?,
-            started: Gauge::new("process_start_time_seconds", "When the process began, in Unix time.")?,
-            build: IntGaugeVec::new(
-                Opts::new("relkvanu_build_info", "1: the version of the program, and that of its library."),
-                &["version", "library"],
-            )?,
+            cpu: all.add(Counter::new("process_cpu_seconds_total", "Processor time that the process took."))?,
+            resident: all.whole("process_resident_memory_bytes", "Memory that the process has.")?,
+            virtual_memory: all.whole("process_virtual_memory_bytes", "Addresses that the process has.")?,
+            open_files: all.whole("process_open_fds", "Files and connections that are open.")?,
+            most_files: all.gauge("process_max_fds", "How many may be open.")?,
+            threads: all.whole("process_threads", "Threads of the process.")?,
         };
-        process.started.set(SystemTime::now().duration_since(UNIX_EPOCH).unwrap_or_default().as_secs_f64());
-        process.build.with_label_values(&[env!("CARGO_PKG_VERSION"), relkvanu::version()]).set(1);
+        let started = all.gauge("process_start_time_seconds", "When the process began, in Unix time.")?;
+        started.set(SystemTime::now().duration_since(UNIX_EPOCH).unwrap_or_default().as_secs_f64());
+        let build = all.add(IntGaugeVec::new(build, &["version", "library"]))?;
+        build.with_label_values(&[env!("CARGO_PKG_VERSION"), relkvanu::version()]).set(1);
         Ok(process)
-    }
-
-    pub fn register(&self, all: &mut Families) -> Result<(), prometheus::Error> {
-        all.add(&self.cpu)?;
-        all.add(&self.build)?;
-        let numbers = [&self.resident, &self.virtual_memory, &self.open_files, &self.threads];
-        numbers.into_iter().try_for_each(|gauge| all.add(gauge))?;
-        [&self.most_files, &self.started].into_iter().try_for_each(|gauge| all.add(gauge))
     }
 
     /// Asks the system. What it does not say stays as it was.

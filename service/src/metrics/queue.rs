@@ -1,6 +1,6 @@
 //! Metrics of what waits: requests for the writer, and jobs for their ticks.
 use super::Families;
-use prometheus::{Gauge, Histogram, HistogramOpts, IntGauge};
+use prometheus::{Gauge, Histogram, IntGauge};
 use std::time::{Duration, SystemTime, UNIX_EPOCH};
 
 const WAITS: [f64; 12] = [0.0005, 0.001, 0.0025, 0.005, 0.01, 0.025, 0.05, 0.1, 0.25, 1.0, 5.0, 30.0];
@@ -14,26 +14,16 @@ pub struct Queue {
 }
 
 impl Queue {
-    pub fn new() -> Result<Queue, prometheus::Error> {
-        let histogram = |name: &str, help: &str, buckets: &[f64]| {
-            Histogram::with_opts(HistogramOpts::new(name, help).buckets(buckets.to_vec()))
-        };
+    pub fn new(all: &mut Families) -> Result<Queue, prometheus::Error> {
         Ok(Queue {
-            requests: IntGauge::new("relkvanu_queue_requests", "Requests that wait for the writer.")?,
-            waited: histogram("relkvanu_queue_seconds", "How long requests waited for the writer.", &WAITS)?,
-            tick_late: histogram("relkvanu_tick_late_seconds", "How late jobs are ticked.", &LATE)?,
-            followed: Gauge::new(
+            requests: all.whole("relkvanu_queue_requests", "Requests that wait for the writer.")?,
+            waited: all.histogram("relkvanu_queue_seconds", "How long requests waited for the writer.", &WAITS)?,
+            tick_late: all.histogram("relkvanu_tick_late_seconds", "How late jobs are ticked.", &LATE)?,
+            followed: all.gauge(
                 "relkvanu_followed_timestamp_seconds",
                 "When a process that stands by had read all of the log last, in Unix time.",
             )?,
         })
-    }
-
-    pub fn register(&self, all: &mut Families) -> Result<(), prometheus::Error> {
-        all.add(&self.requests)?;
-        all.add(&self.waited)?;
-        all.add(&self.tick_late)?;
-        all.add(&self.followed)
     }
 
     pub fn length(&self, requests: usize) {

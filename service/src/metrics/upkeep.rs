@@ -1,5 +1,5 @@
 //! Metrics of what the service does beside its calls: the history, deletions, and the room that it takes.
-use super::{seconds, Families, Parted, STATES};
+use super::{Families, Parted, STATE};
 use crate::auth::{Access, Tokens};
 use crate::store::Disk;
 use crate::writer::Progress;
@@ -24,70 +24,62 @@ pub struct Upkeep {
 }
 
 impl Upkeep {
-    pub fn new() -> Result<Upkeep, prometheus::Error> {
-        let sized = |name: &str, help: &str| IntGaugeVec::new(Opts::new(name, help), &["of"]);
-        let lag = "How long the history has not read calls that were committed, 0 if it has read all.";
-        let oldest_file = Opts::new(
-            "relkvanu_oldest_file_age_seconds",
-            "For how long the oldest state file that waits for deletion, or was taken for it, has done so; 0 if there is none.",
+    pub fn new(all: &mut Families) -> Result<Upkeep, prometheus::Error> {
+        let vector = |name: &str, help: &str, label: &str| IntGaugeVec::new(Opts::new(name, help), &[label]);
+        let token_until = Opts::new(
+            "relkvanu_token_until_timestamp_seconds",
+            "When the last token for this access ends, in Unix time; +Inf if it does not.",
         );
         Ok(Upkeep {
-            history_up: IntGauge::new("relkvanu_history_up", "1 while the history can be read and written.")?,
-            history_lag: seconds("relkvanu_history_lag_seconds", lag)?,
-            keys_behind: Gauge::new(
-                "relkvanu_keys_behind_seconds",
-                "For how long keys that are older than a day have been left.",
+            history_up: all.whole("relkvanu_history_up", "1 while the history can be read and written.")?,
+            token_until: all.add(GaugeVec::new(token_until, &["access"]))?,
+            history_lag: all.seconds(
+                "relkvanu_history_lag_seconds",
+                "How long the history has not read calls that were committed, 0 if it has read all.",
+                &[],
             )?,
-            samples_behind: Gauge::new(
-                "relkvanu_samples_behind_seconds",
-                "For how long samples that are older than a week have been left.",
+            oldest_file: all.seconds(
+                "relkvanu_oldest_file_age_seconds",
+                "For how long the oldest state file that waits for deletion, or was taken for it, has done so; 0 if there is none.",
+                &[STATE],
             )?,
-            bytes: sized("relkvanu_stored_bytes", "How large the database and the history are.")?,
-            free: sized("relkvanu_disk_free_bytes", "How much room the disks of these files have left.")?,
-            disk: sized("relkvanu_disk_size_bytes", "How large the disks of these files are.")?,
-            certificate_until: Gauge::new(
+            certificate_until: all.gauge(
                 "relkvanu_certificate_until_timestamp_seconds",
                 "When the certificate ends, or the first one of its chain, in Unix time; +Inf without TLS.",
             )?,
-            oldest_file: Parted::of(|| GaugeVec::new(oldest_file.clone(), &["job_name", "state"]))?,
-            reload_failed: IntGauge::new(
-                "relkvanu_reload_failed",
-                "1 if a file was bad when the tokens and the certificate were read again last: all stay as they were.",
+            keys_behind: all.gauge(
+                "relkvanu_keys_behind_seconds",
+                "For how long keys that are older than a day have been left.",
             )?,
-            damaged: IntGaugeVec::new(
-                Opts::new(
-                    "relkvanu_job_damaged",
-                    "1 of a job that this process keeps out, since its log can't be replayed; nothing of other jobs.",
-                ),
-                &["job_name"],
+            samples_behind: all.gauge(
+                "relkvanu_samples_behind_seconds",
+                "For how long samples that are older than a week have been left.",
             )?,
-            jobs: IntGauge::new(
+            damaged: all.add(vector(
+                "relkvanu_job_damaged",
+                "1 of a job that this process keeps out, since its log can't be replayed; nothing of other jobs.",
+                "job_name",
+            ))?,
+            jobs: all.whole(
                 "relkvanu_replay_jobs",
                 "How many jobs there were when this process began to lead, those too that it keeps out.",
             )?,
-            replayed: IntGauge::new(
+            replayed: all.whole(
                 "relkvanu_replayed_jobs",
                 "How many of these are replayed by now: requests for the others wait.",
             )?,
-            token_until: GaugeVec::new(
-                Opts::new(
-                    "relkvanu_token_until_timestamp_seconds",
-                    "When the last token for this access ends, in Unix time; +Inf if it does not.",
-                ),
-                &["access"],
+            reload_failed: all.whole(
+                "relkvanu_reload_failed",
+                "1 if a file was bad when the tokens and the certificate were read again last: all stay as they were.",
             )?,
+            bytes: all.add(vector("relkvanu_stored_bytes", "How large the database and the history are.", "of"))?,
+            free: all.add(vector(
+                "relkvanu_disk_free_bytes",
+                "How much room the disks of these files have left.",
+                "of",
+            ))?,
+            disk: all.add(vector("relkvanu_disk_size_bytes", "How large the disks of these files are.", "of"))?,
         })
-    }
-
-    pub fn register(&self, all: &mut Families) -> Result<(), prometheus::Error> {
-        all.add(&self.history_up)?;
-        all.add(&self.token_until)?;
-        [&self.history_lag, &self.oldest_file].into_iter().try_for_each(|it| all.add(it))?;
-        all.add(&self.certificate_until)?;
-        [&self.keys_behind, &self.samples_behind].into_iter().try_for_each(|it| all.add(it))?;
-        all.add(&self.damaged)?;
-        [&self.jobs, &self.replayed, &self.reload_failed].into_iter().try_for_each(|it| all.add(it))?;
-        [&self.bytes, &self.free, &self.disk].into_iter().try_for_each(|it| all.add(it))
     }
 
     /// Whether the tokens and the certificate could not be read again.
@@ -113,12 +105,6 @@ impl Upkeep {
 
     pub fn history_lag(&self, job: &str, lag: Duration) {
         self.history_lag.with_label_values(&[job]).set(lag.as_secs_f64());
-    }
-
-    /// A job was deleted, or given up.
-    pub fn forget(&self, job: &str) {
-        self.history_lag.forget(job, &[]);
-        self.oldest_file.forget(job, &[&STATES]);
     }
 
     /// When the last token for each access ends, if it does.
