@@ -406,6 +406,7 @@ fn target(members: &mut Members) -> Checked<Target> {
 #[cfg(test)]
 mod tests {
     use super::*;
+    use crate::model::ack;
 
     fn calls(bytes: &[u8], most: usize) -> Checked<Vec<Call>> {
         super::calls(bytes, most).map(|(calls, _)| calls)
@@ -432,7 +433,7 @@ mod tests {
             {"call":"take","most":64},{"call":"restore","from":3,"shape":[2]},{"call":"restore","from":"latest"}]}"#;
         let subtask = Subtask { vertex: 1, index: 0 };
         let wanted = vec![
-            Call::Ack { term: 0, id: 12, subtask, fresh: vec![31], reused: vec![u64::MAX], bytes: vec![], given: None },
+            ack(0, 12, (1, 0), &[31], &[u64::MAX]),
             Call::Ack {
                 term: 0,
                 id: 12,
@@ -490,8 +491,7 @@ mod tests {
     #[test]
     fn reads_calls_of_tasks_with_a_term() {
         let subtask = Subtask { vertex: 1, index: 0 };
-        let ack =
-            |term| Call::Ack { term, id: 12, subtask, fresh: vec![31], reused: vec![], bytes: vec![], given: None };
+        let first = |term| ack(term, 12, (1, 0), &[31], &[]);
         let body = |of_all: &str| {
             format!(
                 r#"{{{of_all}"calls":[{{"call":"ack","id":12,"subtask":"1.0","fresh":["31"]}},
@@ -502,7 +502,7 @@ mod tests {
         let wanted = |term| {
             let decline = Call::Decline { term, id: 12, subtask, reason: None };
             let forfeit = Call::Forfeit { term: 3, names: vec![31, 32] };
-            Ok(vec![ack(term), ack(3), decline, Call::Reserve { term, count: 1000 }, forfeit, Call::Cancel])
+            Ok(vec![first(term), first(3), decline, Call::Reserve { term, count: 1000 }, forfeit, Call::Cancel])
         };
         assert_eq!(calls(body("").as_bytes(), 10), wanted(0));
         assert_eq!(calls(body(r#""term":5,"#).as_bytes(), 10), wanted(5));

@@ -84,9 +84,10 @@ impl Job {
 
 #[cfg(test)]
 mod tests {
+    use super::super::lines::ack;
     use super::super::outcome::Extra;
     use super::super::settings::settings_of;
-    use super::super::{Opening, Settings};
+    use super::super::Settings;
     use super::*;
     use std::error::Error;
 
@@ -94,18 +95,12 @@ mod tests {
 
     /// A job of two subtasks with three checkpoints, of which each has a file of each subtask and the first file of all.
     fn with_three() -> Result<Job, Box<dyn Error>> {
-        let opening =
-            Opening { number: 1, name: "orders".to_string(), settings: SETTINGS, shape: vec![2], started: 0, first: 1 };
-        let mut job = Job::open(opening)?;
+        let mut job = Job::tried(SETTINGS, &[2])?;
         for id in 1..=3 {
             job.call(&Call::Tick, id * 10);
-            for index in 0..2 {
-                let subtask = Subtask { vertex: 0, index };
-                let (fresh, reused) = (vec![id * 10 + u64::from(index)], if id > 1 { vec![10] } else { vec![] });
-                let is_first = index == 0;
-                let reused = if is_first { reused } else { vec![] };
-                job.call(&Call::Ack { term: 0, id, subtask, fresh, reused, bytes: vec![], given: None }, id * 10);
-            }
+            let reused: &[u64] = if id > 1 { &[10] } else { &[] };
+            job.call(&ack(0, id, (0, 0), &[id * 10], reused), id * 10);
+            job.call(&ack(0, id, (0, 1), &[id * 10 + 1], &[]), id * 10);
         }
         assert_eq!(job.live().values().filter(|live| live.done).count(), 3);
         Ok(job)

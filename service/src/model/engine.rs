@@ -227,24 +227,19 @@ fn reply(said: Result<Said<'_>, Fault>) -> Result<Reply, Fault> {
 
 #[cfg(test)]
 mod tests {
-    use super::super::call::Subtask;
+    use super::super::lines::ack;
     use super::super::settings::settings_of;
     use super::*;
     use std::error::Error;
 
     const SETTINGS: Settings = settings_of([10, 0, 1, 5000, 0, 1], false);
 
-    fn ack(fresh: Vec<u64>) -> Call {
-        let subtask = Subtask { vertex: 0, index: 0 };
-        Call::Ack { term: 0, id: 1, subtask, fresh, reused: vec![], bytes: vec![], given: None }
-    }
-
     #[test]
     fn a_call_is_made_with_its_line() -> Result<(), Box<dyn Error>> {
         let mut engine = Engine::open(&SETTINGS, &[1], 0, 1)?;
         let ticked = engine.make(&Call::Tick, 10)?.made?;
         assert_eq!((ticked.line.as_str(), ticked.released), ("tick 10", 0..0));
-        let acknowledged = engine.make(&ack(vec![8, 7]), 11)?.made?;
+        let acknowledged = engine.make(&ack(0, 1, (0, 0), &[8, 7], &[]), 11)?.made?;
         assert_eq!((acknowledged.line.as_str(), acknowledged.released), ("ack 11 1 0.0 +7 +8", 0..0));
         assert_eq!(engine.make(&Call::Cancel, 12)?.made?.released, 0..2);
         Ok(())
@@ -255,7 +250,7 @@ mod tests {
         let mut engine = Engine::open(&SETTINGS, &[1], 0, 1)?;
         let files: Vec<u64> = (1..=100).collect();
         engine.make(&Call::Tick, 10)?;
-        engine.make(&ack(files.clone()), 11)?;
+        engine.make(&ack(0, 1, (0, 0), &files, &[]), 11)?;
         engine.make(&Call::Cancel, 12)?;
         let taken = engine.make(&Call::Take { most: 1000 }, 13)?.made?;
         assert_eq!((taken.reply, taken.line.as_str()), (Reply::Taken(files), "take 1000"));

@@ -40,12 +40,20 @@ impl Outcome {
 #[cfg(test)]
 mod tests {
     use super::super::settings::settings_of;
-    use super::super::{Call, Job, Logged, Opening};
+    use super::super::{Call, Job, Logged, NoJob, Opening, Settings};
     use super::*;
     use relkvanu::Fault;
     use std::error::Error;
 
+    const SETTINGS: Settings = settings_of([10, 0, 1, 5000, 0, 1], false);
+
     impl Job {
+        /// One of these settings and this shape, which was opened at 0.
+        pub fn tried(settings: Settings, shape: &[u64]) -> Result<Job, NoJob> {
+            let (number, name, shape) = (1, "orders".to_string(), shape.to_vec());
+            Job::open(Opening { number, name, settings, shape, started: 0, first: 1 })
+        }
+
         /// Makes a call as the writer does, with a commit of its own.
         pub fn committed(&mut self, call: &Call, now: u64) -> (Outcome, Vec<Logged>) {
             let (held, made) = self.operate(call, now);
@@ -53,21 +61,9 @@ mod tests {
         }
     }
 
-    fn opened() -> Result<Job, Box<dyn Error>> {
-        let settings = settings_of([10, 0, 1, 5000, 0, 1], false);
-        Ok(Job::open(Opening {
-            number: 1,
-            name: "orders".to_string(),
-            settings,
-            shape: vec![1],
-            started: 0,
-            first: 1,
-        })?)
-    }
-
     #[test]
     fn nothing_is_told_before_its_commit_or_behind_the_next_call() -> Result<(), Box<dyn Error>> {
-        let mut job = opened()?;
+        let mut job = Job::tried(SETTINGS, &[1])?;
         // one that is made, one that the library refuses, and one that the service does
         for call in [Call::Tick, Call::Dispose { id: 9 }, Call::Begin] {
             let (held, _) = job.operate(&call, 10);

@@ -116,7 +116,8 @@ fn changing(said: relkvanu::Call<'_>) -> Option<(u64, Call)> {
     })
 }
 
-fn ack(term: u64, id: u64, subtask: (u16, u16), fresh: &[u64], reused: &[u64]) -> Call {
+/// An acknowledgement with its files alone.
+pub fn ack(term: u64, id: u64, subtask: (u16, u16), fresh: &[u64], reused: &[u64]) -> Call {
     let (fresh, reused) = (fresh.to_vec(), reused.to_vec());
     Call::Ack { term, id, subtask: subtask.into(), fresh, reused, bytes: vec![], given: None }
 }
@@ -127,43 +128,20 @@ fn decline(term: u64, id: u64, subtask: (u16, u16)) -> Call {
 
 #[cfg(test)]
 mod tests {
-    use super::super::call::Subtask;
     use super::*;
     use std::collections::BTreeSet;
     use std::fs;
 
-    const SUBTASK: Subtask = Subtask { vertex: 1, index: 7 };
+    const SUBTASK: (u16, u16) = (1, 7);
 
     /// Calls at the moment 1234, and their lines.
     fn lines() -> Vec<(Call, &'static str)> {
         vec![
             (Call::Tick, "tick 1234"),
             (Call::Savepoint, "savepoint 1234"),
-            (
-                Call::Ack {
-                    term: 0,
-                    id: 12,
-                    subtask: SUBTASK,
-                    fresh: vec![31, u64::MAX],
-                    reused: vec![11],
-                    bytes: vec![],
-                    given: None,
-                },
-                "ack 1234 12 1.7 +31 +18446744073709551615 =11",
-            ),
-            (
-                Call::Ack {
-                    term: 0,
-                    id: 12,
-                    subtask: SUBTASK,
-                    fresh: vec![],
-                    reused: vec![],
-                    bytes: vec![],
-                    given: None,
-                },
-                "ack 1234 12 1.7",
-            ),
-            (Call::Decline { term: 0, id: 3, subtask: SUBTASK, reason: None }, "decline 1234 3 1.7"),
+            (ack(0, 12, SUBTASK, &[31, u64::MAX], &[11]), "ack 1234 12 1.7 +31 +18446744073709551615 =11"),
+            (ack(0, 12, SUBTASK, &[], &[]), "ack 1234 12 1.7"),
+            (decline(0, 3, SUBTASK), "decline 1234 3 1.7"),
             (Call::Restore { target: Target::Latest, shape: None }, "restore 1234 latest"),
             (Call::Restore { target: Target::Savepoint(4), shape: Some(vec![2, 1]) }, "restore 1234 4 2 1"),
             (Call::Cancel, "cancel 1234"),
@@ -181,19 +159,8 @@ mod tests {
             (Call::Advance { term: 9, first_name: 50 }, "advance 1234 9 50"),
             (Call::Forfeit { term: 3, names: vec![24, 26] }, "forfeit 3 24 26"),
             (Call::Forfeit { term: 3, names: vec![] }, "forfeit 3"),
-            (
-                Call::Ack {
-                    term: 3,
-                    id: 12,
-                    subtask: SUBTASK,
-                    fresh: vec![31],
-                    reused: vec![11],
-                    bytes: vec![],
-                    given: None,
-                },
-                "in 3 ack 1234 12 1.7 +31 =11",
-            ),
-            (Call::Decline { term: 3, id: 12, subtask: SUBTASK, reason: None }, "in 3 decline 1234 12 1.7"),
+            (ack(3, 12, SUBTASK, &[31], &[11]), "in 3 ack 1234 12 1.7 +31 =11"),
+            (decline(3, 12, SUBTASK), "in 3 decline 1234 12 1.7"),
         ]
     }
 
@@ -206,15 +173,7 @@ mod tests {
 
     #[test]
     fn files_ascend_in_a_line() {
-        let call = Call::Ack {
-            term: 0,
-            id: 1,
-            subtask: SUBTASK,
-            fresh: vec![31, 11],
-            reused: vec![9, 8],
-            bytes: vec![],
-            given: None,
-        };
+        let call = ack(0, 1, SUBTASK, &[31, 11], &[9, 8]);
         assert_eq!(call.line(5).as_deref(), Ok("ack 5 1 1.7 +11 +31 =8 =9"));
     }
 

@@ -32,6 +32,8 @@ pub use event::{kind, Event};
 pub use held::Held;
 pub use image::{kind_of, Contents, Image, ImagePart, SavedRecord};
 pub use job::{Entry, Job, Logged, Opening};
+#[cfg(test)]
+pub use lines::ack;
 pub use lines::{parse_line, without_term};
 #[cfg(test)]
 pub use outcome::Extra;

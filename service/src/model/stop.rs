@@ -164,7 +164,7 @@ fn why(call: &Call, mode: Mode) -> StopFailed {
 mod tests {
     use super::super::call::Subtask;
     use super::super::settings::settings_of;
-    use super::super::{Opening, Settings};
+    use super::super::{lines, Settings};
     use super::*;
     use relkvanu::Choice;
     use std::error::Error;
@@ -174,9 +174,7 @@ mod tests {
 
     /// A job of two subtasks that gives out names, with checkpoint 1, which is complete.
     fn running() -> Result<Job, Box<dyn Error>> {
-        let opening =
-            Opening { number: 1, name: "orders".to_string(), settings: SETTINGS, shape: vec![2], started: 0, first: 1 };
-        let mut job = Job::open(opening)?;
+        let mut job = Job::tried(SETTINGS, &[2])?;
         job.committed(&Call::Fence { first_name: 1 }, 0);
         job.committed(&Call::Reserve { term: 1, count: 10 }, 0);
         job.committed(&Call::Tick, 100);
@@ -200,23 +198,14 @@ mod tests {
     }
 
     fn ack(id: u64, index: u16) -> Call {
-        let subtask = Subtask { vertex: 0, index };
-        Call::Ack {
-            term: 1,
-            id,
-            subtask,
-            fresh: vec![id * 2 + u64::from(index)],
-            reused: vec![],
-            bytes: vec![],
-            given: None,
-        }
+        lines::ack(1, id, (0, index), &[id * 2 + u64::from(index)], &[])
     }
 
     fn is_made(outcome: &Outcome) -> bool {
         matches!(outcome, Outcome::Made { .. })
     }
 
-    fn lines(made: &[Logged]) -> Vec<&str> {
+    fn lines_of(made: &[Logged]) -> Vec<&str> {
         made.iter().map(|one| one.entry.line.as_str()).collect()
     }
 
@@ -225,9 +214,9 @@ mod tests {
         let mut job = stopping()?;
         assert_eq!(job.wake(), Some(5150));
         let (_, made) = job.committed(&ack(2, 0), 160);
-        assert_eq!((lines(&made), job.phase), (vec!["in 1 ack 160 2 0.0 +4"], Phase::Stopping(STOP)));
+        assert_eq!((lines_of(&made), job.phase), (vec!["in 1 ack 160 2 0.0 +4"], Phase::Stopping(STOP)));
         let (outcome, made) = job.committed(&ack(2, 1), 170);
-        assert_eq!(lines(&made), ["in 1 ack 170 2 0.1 +5", "restore 170 2"]);
+        assert_eq!(lines_of(&made), ["in 1 ack 170 2 0.1 +5", "restore 170 2"]);
         assert_eq!(outcome.json()["ack"], "completed");
         assert_eq!((job.phase, job.engine().choice()), (Phase::Stopped(STOP, Some(2)), Choice::Savepoint(2)));
         assert_eq!(job.wake(), None);
@@ -241,10 +230,10 @@ mod tests {
         assert_eq!(job.committed(&restore, 160).0, Outcome::Unable(Unable::NotStopped));
         let mut job = stopped()?;
         let (outcome, made) = job.committed(&restore, 9_000_000);
-        assert_eq!((is_made(&outcome), lines(&made)), (true, vec!["restore 9000000 latest 3"]));
+        assert_eq!((is_made(&outcome), lines_of(&made)), (true, vec!["restore 9000000 latest 3"]));
         assert_eq!((job.phase, job.shape.clone()), (Phase::Stopped(STOP, Some(3)), vec![3]));
         let (_, made) = job.committed(&Call::Begin, 9_000_001);
-        assert_eq!((lines(&made), job.phase, job.shape), (vec!["restore 9000001 latest"], Phase::Running, vec![3]));
+        assert_eq!((lines_of(&made), job.phase, job.shape), (vec!["restore 9000001 latest"], Phase::Running, vec![3]));
         Ok(())
     }
 
@@ -260,7 +249,7 @@ mod tests {
         }
         assert_eq!((job.seq, job.engine().image()), (seq, image));
         let (outcome, made) = job.committed(&Call::Begin, 9_000_000);
-        assert_eq!((lines(&made), job.phase), (vec!["restore 9000000 latest"], Phase::Running));
+        assert_eq!((lines_of(&made), job.phase), (vec!["restore 9000000 latest"], Phase::Running));
         assert_eq!((&outcome.json()["restore"], &outcome.json()["id"]), (&"savepoint".into(), &2.into()));
         assert_eq!(job.wake(), Some(9_000_100));
         assert_eq!(job.committed(&Call::Begin, 9_000_000).0, Outcome::Unable(Unable::NotStopped));
@@ -353,7 +342,7 @@ mod tests {
         {
             let mut job = without_memory()?;
             let (_, made) = job.committed(&call, 170);
-            assert_eq!((lines(&made), job.phase), (wanted, Phase::Stopped(STOP, Some(2))));
+            assert_eq!((lines_of(&made), job.phase), (wanted, Phase::Stopped(STOP, Some(2))));
         }
         Ok(())
     }

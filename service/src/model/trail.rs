@@ -115,10 +115,9 @@ fn has_stopped(savepoint: u64) -> String {
 
 #[cfg(test)]
 mod tests {
-    use super::super::call::Subtask;
     use super::super::phase::StopFailed;
     use super::super::settings::settings_of;
-    use super::super::{Opening, Settings};
+    use super::super::{lines, Settings};
     use super::*;
     use std::error::Error;
 
@@ -133,15 +132,8 @@ mod tests {
 
     impl Tried {
         fn new() -> Result<Tried, Box<dyn Error>> {
-            let opening = Opening {
-                number: 1,
-                name: "orders".to_string(),
-                settings: SETTINGS,
-                shape: vec![1],
-                started: 0,
-                first: 1,
-            };
-            let mut tried = Tried { job: Job::open(opening)?, trail: Trail::default(), now: 0 };
+            let job = Job::tried(SETTINGS, &[1])?;
+            let mut tried = Tried { job, trail: Trail::default(), now: 0 };
             tried.makes(&[Call::Fence { first_name: 1 }, Call::Reserve { term: 1, count: 10 }]);
             tried.completes(1, 1);
             Ok(tried)
@@ -175,15 +167,7 @@ mod tests {
     }
 
     fn ack(term: u64, id: u64) -> Call {
-        Call::Ack {
-            term,
-            id,
-            subtask: Subtask { vertex: 0, index: 0 },
-            fresh: vec![id],
-            reused: vec![],
-            bytes: vec![],
-            given: None,
-        }
+        lines::ack(term, id, (0, 0), &[id], &[])
     }
 
     fn stop(savepoint: u64) -> Stop {
@@ -261,15 +245,7 @@ mod tests {
         assert_eq!(tried.job.engine().choice(), Choice::Savepoint(3));
         tried.is_itself();
         // a restore after the completion
-        let last = Call::Ack {
-            term: 2,
-            id: 4,
-            subtask: Subtask { vertex: 0, index: 0 },
-            fresh: vec![11],
-            reused: vec![],
-            bytes: vec![],
-            given: None,
-        };
+        let last = lines::ack(2, 4, (0, 0), &[11], &[]);
         tried.makes(&[Call::Reserve { term: 2, count: 1 }, Call::Savepoint, last]);
         tried.makes(&[Call::Restore { target: Target::Savepoint(4), shape: None }]);
         tried.is_itself();
