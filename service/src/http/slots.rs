@@ -262,10 +262,9 @@ mod tests {
     #[test]
     fn a_connection_is_old_after_some_time() {
         let slots = slots();
-        let (one, two) = (slots.enter_now(YOUNG), slots.enter_now(YOUNG_BY_TLS));
+        let (one, two) = (slots.enter_now(LOOK), slots.enter_now(Duration::from_secs(3600)));
         let (Some(one), Some(two)) = (one, two) else { panic!("there are slots") };
-        assert!(slots.enter_now(YOUNG).is_none() && !is_lost(&one));
-        std::thread::sleep(YOUNG);
+        std::thread::sleep(LOOK);
         assert!(slots.enter_now(YOUNG).is_some() && is_lost(&one) && !is_lost(&two));
     }
 
