@@ -87,9 +87,12 @@ impl Tables {
 
     /// Forgets a job. Then its history is made anew.
     pub fn forget(&self, job: i64) -> rusqlite::Result<()> {
-        ["progress", "record", "file", "queue", "place"]
-            .iter()
-            .try_for_each(|table| self.0.execute(&format!("delete from {table} where job = ?"), [job]).map(|_| ()))
+        self.delete(job, &["progress where", "record where", "file where", "queue where", "place where"])
+    }
+
+    /// Deletes these rows of a job.
+    fn delete(&self, job: i64, rows: &[&str]) -> rusqlite::Result<()> {
+        rows.iter().try_for_each(|rows| self.run(&format!("delete from {rows} job = ?"), [job]))
     }
 
     /// The jobs that the tables have something of.
@@ -129,16 +132,12 @@ impl Tables {
 
     /// Forgets the files and live records of a job.
     pub fn forget_live(&self, job: i64) -> rusqlite::Result<()> {
-        ["file where", "queue where", "place where", "record where gone is null and"]
-            .iter()
-            .try_for_each(|rows| self.0.execute(&format!("delete from {rows} job = ?"), [job]).map(|_| ()))
+        self.delete(job, &["file where", "queue where", "place where", "record where gone is null and"])
     }
 
     /// Forgets what calls that were not read may have changed: files, and the end of records that are not live at the moment `at`.
     pub fn forget_unread(&self, job: i64, at: u64, live: &[SavedRecord]) -> rusqlite::Result<()> {
-        ["file", "queue", "place"]
-            .iter()
-            .try_for_each(|table| self.0.execute(&format!("delete from {table} where job = ?"), [job]).map(|_| ()))?;
+        self.delete(job, &["file where", "queue where", "place where"])?;
         let live = live.iter().map(|record| record.id.to_string()).collect::<Vec<_>>().join(",");
         let gone = format!("job = ?1 and gone is null and id not in ({live})");
         self.0.execute(&format!("delete from record where how = 'pending' and {gone}"), [job])?;

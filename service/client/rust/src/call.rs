@@ -108,8 +108,14 @@ impl Call {
         Call::In { term, call: Box::new(self) }
     }
 
-    pub(crate) fn json(&self) -> Value {
+    /// Calls as a request has them.
+    pub(crate) fn list(calls: &[Call]) -> Vec<Value> {
+        calls.iter().map(Call::json).collect()
+    }
+
+    fn json(&self) -> Value {
         let subtask = |(vertex, index): &(u16, u16)| format!("{vertex}.{index}");
+        let from = |savepoint: Option<u64>| savepoint.map_or(json!("latest"), |id| json!(id));
         match self {
             // bindings/generate makes the requests of calls of one number
             Call::Tick => json!({"call": "tick"}),
@@ -138,16 +144,12 @@ impl Call {
             }
             Call::Decline { id, subtask: of } => json!({"call": "decline", "id": id, "subtask": subtask(of)}),
             Call::GoBack { checkpoint, shape } => {
-                let from = json!({"checkpoint": checkpoint});
-                json!({"call": "restore", "from": from, "accept_published": true, "shape": shape})
+                json!({"call": "restore", "from": {"checkpoint": checkpoint}, "accept_published": true, "shape": shape})
             }
             Call::RestoreStopped { savepoint, shape } => {
-                let from = savepoint.map_or(json!("latest"), |id| json!(id));
-                json!({"call": "restore", "from": from, "shape": shape, "stopped": true})
+                json!({"call": "restore", "from": from(*savepoint), "shape": shape, "stopped": true})
             }
-            Call::Restore { savepoint, shape } => {
-                json!({"call": "restore", "from": savepoint.map_or(json!("latest"), |id| json!(id)), "shape": shape})
-            }
+            Call::Restore { savepoint, shape } => json!({"call": "restore", "from": from(*savepoint), "shape": shape}),
             Call::Take { most } => json!({"call": "take", "most": most}),
             Call::Reserve { term, count } => json!({"call": "reserve", "term": term, "count": count}),
             Call::Forfeit { term, names } => json!({"call": "forfeit", "term": term, "names": texts(names)}),
@@ -160,8 +162,14 @@ impl Call {
     }
 }
 
+/// Files as the API has them: JSON readers lose the digits of large numbers.
 pub(crate) fn texts(files: &[u64]) -> Vec<String> {
     files.iter().map(u64::to_string).collect()
+}
+
+/// Reads a list of files.
+pub(crate) fn numbers(files: &Value) -> Option<Vec<u64>> {
+    files.as_array()?.iter().map(|file| file.as_str()?.parse().ok()).collect()
 }
 
 /// The outcome of a call.
@@ -215,7 +223,7 @@ impl Answer {
         let Answer::Made { reply, .. } = self else {
             return None;
         };
-        reply["files"].as_array()?.iter().map(|file| file.as_str()?.parse().ok()).collect()
+        numbers(&reply["files"])
     }
 
     /// Whether the call completed a record.

@@ -40,7 +40,7 @@ pub use session::Session;
 pub use start::Start;
 pub use whole::{Part, Whole};
 
-use call::texts;
+use call::{numbers, texts};
 use follow::events_of;
 use http::{ApiAnswer, ApiRequest, Manner, Requests};
 use serde_json::{json, Value};
@@ -179,16 +179,13 @@ impl Job {
 
     /// The body that answers calls.
     async fn send_calls(&self, calls: &[Call], key: &str) -> Result<Value, Error> {
-        let body = json!({"calls": calls.iter().map(Call::json).collect::<Vec<_>>()});
-        self.requests.body(&self.manner, ApiRequest::post(format!("{}/calls", self.path), &body, Some(key))).await
+        self.post("calls", &json!({"calls": Call::list(calls)}), Some(key)).await
     }
 
     /// The same, whose answers have the kind of each call's record and the records that the call has ended.
     #[cfg(feature = "runner")]
     pub(crate) async fn tell_calls(&self, calls: &[Call]) -> Result<Value, Error> {
-        let body = json!({"calls": calls.iter().map(Call::json).collect::<Vec<_>>(), "ended": true});
-        let asked = ApiRequest::post(format!("{}/calls", self.path), &body, Some(&new_key()));
-        self.requests.body(&self.manner, asked).await
+        self.posted("calls", &json!({"calls": Call::list(calls), "ended": true})).await
     }
 
     /// Begins the job again, from the latest record or from a savepoint, in a new shape if one is given, once all its tasks
@@ -282,21 +279,18 @@ impl Job {
     }
 
     async fn posted(&self, what: &str, body: &Value) -> Result<Value, Error> {
-        let asked = ApiRequest::post(format!("{}/{what}", self.path), body, Some(&new_key()));
-        self.requests.body(&self.manner, asked).await
+        self.post(what, body, Some(&new_key())).await
+    }
+
+    async fn post(&self, what: &str, body: &Value, key: Option<&str>) -> Result<Value, Error> {
+        self.requests.body(&self.manner, ApiRequest::post(format!("{}/{what}", self.path), body, key)).await
     }
 
     /// Of these files, at most 10,000, those that may be deleted, and those whose names were never given out, which nobody deletes. The
     /// first stay garbage for good, so they may be deleted at any time.
     pub async fn garbage(&self, files: &[u64]) -> Result<(Vec<u64>, Vec<u64>), Error> {
-        let body = json!({"files": texts(files)});
-        let asked = ApiRequest::post(format!("{}/garbage", self.path), &body, None);
-        let told = self.requests.body(&self.manner, asked).await?;
-        let list = |name: &str| {
-            let files = told[name].as_array()?.iter().map(|file| file.as_str()?.parse().ok());
-            files.collect::<Option<Vec<u64>>>()
-        };
-        let sorted = list("garbage").zip(list("unissued"));
+        let told = self.post("garbage", &json!({"files": texts(files)}), None).await?;
+        let sorted = numbers(&told["garbage"]).zip(numbers(&told["unissued"]));
         sorted.ok_or_else(|| Error::Answer("has no garbage".to_string()))
     }
 

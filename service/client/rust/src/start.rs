@@ -1,4 +1,5 @@
 //! What a job begins from.
+use crate::call::numbers;
 use crate::{Answer, Error, Follower, Job};
 use serde_json::Value;
 
@@ -38,8 +39,7 @@ fn held(record: &Value, id: u64) -> Result<Vec<(String, Vec<u64>)>, Error> {
     let why = || format!("says that record {id} has ended meanwhile: somebody else has restored or cancelled the job");
     let acks = record["live"]["acks"].as_array().ok_or_else(|| Error::Answer(why()))?;
     let files = |ack: &Value| -> Option<(String, Vec<u64>)> {
-        let files = ack["files"].as_array()?.iter().map(|file| file.as_str()?.parse().ok());
-        Some((ack["subtask"].as_str()?.to_string(), files.collect::<Option<_>>()?))
+        Some((ack["subtask"].as_str()?.to_string(), numbers(&ack["files"])?))
     };
     acks.iter().map(files).collect::<Option<_>>().ok_or_else(|| Error::Answer(format!("has no files of record {id}")))
 }

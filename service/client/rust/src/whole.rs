@@ -1,4 +1,5 @@
 //! A complete record as a whole, with all that its tasks begin with after a restore.
+use crate::call::numbers;
 use crate::Error;
 use openssl::base64::decode_block;
 use serde_json::Value;
@@ -50,8 +51,7 @@ impl Whole {
 
 impl Part {
     fn read(told: &Value) -> Option<Part> {
-        let files: Vec<u64> =
-            told["files"].as_array()?.iter().map(|file| file.as_str()?.parse().ok()).collect::<Option<_>>()?;
+        let files = numbers(&told["files"])?;
         let sizes = told["sizes"].as_array().map(|sizes| sizes.iter().map(Value::as_u64).collect());
         Some(Part {
             subtask: told["subtask"].as_str()?.to_string(),
