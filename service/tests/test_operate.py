@@ -58,7 +58,7 @@ def test_a_refused_change_changes_nothing():
             for body in ({name: value}, {"interval": 1000, name: value}):
                 status, _, told = server.request("PATCH", "/v1/jobs/orders/settings", body)
                 assert status == 400 and told["field"] == name and told["error"].startswith(name), (body, told)
-        for body, field in (({}, "body"), ([], "body"), ({"interval": None}, "interval")):
+        for body, field in (({}, "body"), ([], "body"), ({"interval": None}, "interval"), ({"interval": "30000"}, "interval")):
             status, _, told = server.request("PATCH", "/v1/jobs/orders/settings", body)
             assert (status, told["field"]) == (400, field), (body, told)
         assert server.request("PATCH", "/v1/jobs/users/settings", {"interval": 1000})[0] == 404
