@@ -64,3 +64,26 @@ systemctl enable --now relkvanu relkvanu-clean relkvanu-backup.timer
 relkvanu cancel orders
 relkvanu delete orders --abandon
 relkvanu recover orders $FILES
+
+# look: Says why the service has ended, whether the disks are mounted, and which checkpoints have manifests. It changes nothing.
+journalctl -u relkvanu -n 50             # why did it end?
+ls -la /var/lib/relkvanu/ /srv/orders/   # are the disks mounted?
+relkvanu records orders $FILES           # which checkpoints have manifests?
+
+# damaged: Makes a damaged job again of its manifests, in a second service. The first one serves the others.
+systemctl stop relkvanu-clean
+systemctl cat relkvanu | sed -E 's,(StateDirectory=|%[St]/)relkvanu,&-second,g; s,--config [^ ]+,--listen 127.0.0.1:7781,' > /etc/systemd/system/relkvanu-second.service
+systemctl enable --now relkvanu-second && relkvanu recover orders $FILES --url http://127.0.0.1:7781
+
+# missing: Goes back to a savepoint that has all its files.
+relkvanu savepoints orders $FILES     # column ABSENT
+relkvanu restore orders --savepoint 12 $FILES
+
+# from-export: Begins a job from an export, in a new folder.
+install -d -o orders /srv/new
+relkvanu import /srv/export/orders orders --folder /srv/new/orders --prefix state- --suffix .bin     # or --all /srv/export, --folder '/srv/new/{job}'
+
+# cancelled: Begins another job from a savepoint of a job that was cancelled.
+install -d -o orders /srv/orders-2
+relkvanu export orders /srv/export --record 12 $FILES
+relkvanu import /srv/export orders-2 --folder /srv/orders-2 --prefix state- --suffix .bin

@@ -4,6 +4,7 @@ import json
 import os
 import re
 import shutil
+import sqlite3
 import sys
 
 from under_systemd import WRITE, given, install, is_ready, procedure, property_of, request, run, until
@@ -114,8 +115,51 @@ def check_another_machine():
     run("systemctl", "start", UNIT)
 
 
-def end(name, folder):
-    run("relkvanu", "end", name, "--folder", folder, "--prefix", "state-", "--suffix", ".bin", "--token-file", "/etc/relkvanu/write-token")
+def check_a_damaged_job():
+    """The row of one of two jobs is damaged. It goes on from its manifest in a second service, and the first one keeps it out."""
+    service().open("bills", {"interval": 1 << 40}, [1])
+    worked(retained=2)
+    last = by_its_user("keep")
+    run("systemctl", "stop", "relkvanu")
+    with sqlite3.connect("/var/lib/relkvanu/relkvanu.db") as base:
+        base.execute("update job set config = 'x' || config where name = 'orders'")
+    base.close()
+    run("systemctl", "start", "relkvanu")
+    until(is_ready)
+    told = given(*procedure("look"))
+    assert "a row of job has" in told and "relkvanu.db" in told and re.search(rf"^{last} ", told, re.MULTILINE), told
+    assert f"orders goes on from checkpoint {last}" in given(*procedure("damaged"))
+    run("systemctl", "start", UNIT)
+    second = Service("http://127.0.0.1:7781", token=WRITE).job("orders")
+    assert second.state()["choice"]["id"] == last and request("GET", "/v1/jobs/orders")[1]["reason"] == "damaged"
+    run("systemctl", "restart", "relkvanu-second")
+    assert second.state()["choice"]["id"] == last and property_of("ActiveState", UNIT) == "active"
+    end("orders", FOLDER, "--url", "http://127.0.0.1:7781")
+    run("systemctl", "disable", "--now", "relkvanu-second")
+    given(*procedure("lost"))
+    shutil.rmtree("/var/lib/relkvanu/aside")
+    run("systemctl", "start", UNIT)
+
+
+def check_missing_files():
+    """The file of the last checkpoint is lost. The job goes back to its savepoint, and then begins from an export of that checkpoint."""
+    worked()
+    given("mkdir /srv/export", "relkvanu export orders /srv/export/orders $FILES")
+    number = sorted(int(re.sub(r"\D", "", name)) for name in files())[-2]  # the last one is of no record
+    os.remove(f"{FOLDER}/state-{number}.bin")
+    assert re.search(rf"^{RECORDS} +checkpoint.* 1: {number}$", given(*procedure("missing")), re.MULTILINE)
+    assert service().job("orders").state()["choice"] == {"kind": "savepoint", "id": 12}
+    given("relkvanu cancel orders", "relkvanu delete orders --abandon", *procedure("from-export"))
+    assert service().job("orders").state()["choice"] == {"kind": "checkpoint", "id": RECORDS}
+    end("orders", "/srv/new/orders")
+    for path in ("/srv/export", FOLDER):
+        shutil.rmtree(path)
+    os.mkdir(FOLDER)
+    shutil.chown(FOLDER, "orders")
+
+
+def end(name, folder, *more):
+    run("relkvanu", "end", name, "--folder", folder, "--prefix", "state-", "--suffix", ".bin", "--token-file", "/etc/relkvanu/write-token", *more)
     assert not os.listdir(folder), os.listdir(folder)
 
 
@@ -123,6 +167,9 @@ def check_a_job_that_keeps_its_checkpoints():
     """The end of a job is refused once it was cancelled so. Its record is carried out, and the job goes without its file, which stays until somebody deletes it."""
     job = worked(keep_on_cancel=True)
     job.call(cancel())
+    given(*procedure("cancelled"))
+    assert service().job("orders-2").state()["choice"]["id"] == 12
+    end("orders-2", "/srv/orders-2")
     assert "so it keeps its checkpoints" in given("relkvanu end orders $FILES", status=1)
     run("systemctl", "stop", UNIT)
     given("relkvanu export orders /srv/kept/orders-40 --record 40 $FILES")
@@ -153,6 +200,8 @@ def main():
         it.write(f"{WRITE}\n")
     given(*procedure("clean"))
     check_another_machine()
+    check_a_damaged_job()
+    check_missing_files()
     told = {"recovered": check_a_lost_database(), "ended": check_the_end_of_a_job(), "kept": check_a_job_that_keeps_its_checkpoints()}
     print(json.dumps(told))
 
