@@ -75,6 +75,9 @@ def not_replayed(server, jobs):
         ("POST", "/v1/jobs", {"name": "few", "settings": SETTINGS, "shape": [100]}), ("GET", "/v1/view/few", None), ("GET", "/v1/jobs", None),
     ):
         assert server.request(method, path, body)[2]["reason"] == "replaying", path
+    listed = server.get("/v1/jobs?at_once=1")[2]
+    assert listed["jobs"] == [] and listed["replaying"] == sorted(JOBS), listed
+    fits("/v1/jobs", 200, listed)
     view = server.get("/v1/view")[2]
     assert view["jobs"] == [] and view["job"] is None and view["replay"] == told["replay"], view
     fits("/v1/view", 200, view)
@@ -107,7 +110,8 @@ def test_jobs_that_are_not_replayed_yet():
         waiting.join()
         assert called[0]["seq"] == before["few"]["seq"] + 1, called
         assert {name: seen(service.job(name)) for name in JOBS if name != "few"} == {name: it for name, it in before.items() if name != "few"}
-        assert {job["name"] for job in service.jobs()} == {"new", *JOBS} and server.get("/v1/view")[2]["replay"] is None
+        assert {job["name"] for job in service.jobs()} == {"new", *JOBS} and server.get("/v1/jobs?at_once=1")[2]["replaying"] == []
+        assert server.get("/v1/view")[2]["replay"] is None
         server.kill()
         other.wait_ready(60)
         assert seen(Service(other.url).job("large")) == before["large"] and Service(other.url).job("new").state()["seq"] == 1

@@ -18,6 +18,8 @@ const MOST_SAMPLES: u64 = 20_000;
 /// How long the metrics wait for the writer, which may be stuck.
 const ASK_WRITER: Duration = Duration::from_secs(1);
 const AFTER: Parameter = Parameter { name: "after", most: u64::MAX, default: 0 };
+/// 1: not all jobs have to be replayed.
+const AT_ONCE: Parameter = Parameter { name: "at_once", most: 1, default: 0 };
 
 const fn limit(most: u64, default: u64) -> Parameter {
     Parameter { name: "limit", most, default }
@@ -77,9 +79,13 @@ async fn metrics(app: &App, query: &str) -> Result<HttpReply, Box<HttpReply>> {
 
 /// The jobs in the order of their numbers, in parts if that is asked for: `next` is the `after` of the next part.
 pub async fn jobs(app: &App, caller: &Caller, query: &str) -> Result<HttpReply, Box<HttpReply>> {
-    let [after, most] = numbers(query, [AFTER, limit(u64::MAX, u64::MAX)])?;
-    // whoever does something to each job must not pass one over
-    app.all_replayed().await?;
+    let [after, most, at_once] = numbers(query, [AFTER, limit(u64::MAX, u64::MAX), AT_ONCE])?;
+    // before the jobs are read, so one that is replayed meanwhile is in both lists and not in none
+    let replaying = (at_once == 1).then(|| app.board.replay.names(|name| caller.may_see(name)));
+    if replaying.is_none() {
+        // whoever does something to each job must not pass one over
+        app.all_replayed().await?;
+    }
     let mut jobs = app.jobs().await?;
     let number = |job: &JobState| u64::try_from(job.opening.number).unwrap_or(0);
     jobs.retain(|job| number(job) > after && caller.may_see(&job.opening.name));
@@ -91,6 +97,9 @@ pub async fn jobs(app: &App, caller: &Caller, query: &str) -> Result<HttpReply, 
         let jobs: Vec<Value> = jobs[..most].iter().map(|job| render::job(job, log)).collect();
         let mut told = json!({"epoch": epoch, "log": log, "next": next, "damaged": damaged(app, caller)});
         told["jobs"] = jobs.into(); // `json!` would copy them
+        if let Some(names) = replaying {
+            told["replaying"] = names.into();
+        }
         json_reply(200, &told)
     }))
 }

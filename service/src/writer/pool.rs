@@ -116,6 +116,13 @@ impl Replay {
         self.pending().end.as_ref().map(watch::Sender::subscribe)
     }
 
+    /// The names of those jobs that are not replayed, in their order.
+    pub fn names(&self, wants: impl Fn(&str) -> bool) -> Vec<String> {
+        let mut names: Vec<String> = self.pending().slots.keys().filter(|name| wants(name)).cloned().collect();
+        names.sort_unstable();
+        names
+    }
+
     pub fn progress(&self) -> Progress {
         let pending = self.pending();
         let replayed = pending.all - pending.slots.len();
