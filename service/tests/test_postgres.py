@@ -113,7 +113,8 @@ def test_take_over():
                 # one that was stopped finds out with its first group, or its first read, and answers nothing of it
                 status = leader.ended()
                 assert status == (-9 if way == "kill" else 75), (way, status, leader.log()[-400:])
-                leader.start(ready=False)
+                # one that starts has just prepared its statements, and a cut would take it for the writer
+                leader.stand_by()
         assert epochs == sorted(set(epochs)), epochs
         for server in servers:
             server.stop()
