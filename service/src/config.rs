@@ -151,8 +151,6 @@ pub struct Config {
     pub token_file: Option<PathBuf>,
     pub advertise: String,
     pub lease: Duration,
-    /// Whether a new job gives out names if its creation does not say.
-    pub names: bool,
     pub keeping: Keeping,
     pub limits: Limits,
     /// Whether the clock may be far ahead of the log.
@@ -192,7 +190,6 @@ impl Config {
             advertise: (given.advertise.clone().or(file.advertise))
                 .unwrap_or_else(|| format!("{}://{listen}", if tls.is_some() { "https" } else { "http" })),
             lease: Duration::from_secs(file.lease_seconds.unwrap_or(5)),
-            names: given.names.unwrap_or(true),
             keeping: Keeping {
                 image_calls: given.image_calls.or(file.image_calls).unwrap_or(IMAGE_CALLS),
                 keep_calls,

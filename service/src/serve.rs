@@ -113,7 +113,6 @@ impl Shared {
             bodies: Bodies::of(&config.limits),
             answers: http::room(config.limits.all_answers_bytes),
             limits: config.limits.clone(),
-            names: config.names,
         })
     }
 

@@ -44,7 +44,7 @@ def acknowledge(task, record):
 def worked(**settings):
     """A job beside the cleaner. Its records are 40, each with a file: savepoint 12, and checkpoints, of which
     the second waits until the savepoint is there. One more file is begun, and its task ends before it is acknowledged. Returns the job."""
-    job = service().open("orders", {"interval": 10, **settings}, [1], names=True)
+    job = service().open("orders", {"interval": 10, **settings}, [1])
     job.set_storage({"folder": FOLDER, "prefix": "state-", "suffix": ".bin"})
     until(lambda: os.path.exists(f"{FOLDER}/{MARKER}"))
     task, last = job.begin().session(block=100), 0

@@ -25,12 +25,11 @@ HERE = os.path.dirname(os.path.realpath(__file__))
 SERVICE = os.path.dirname(HERE)
 TOP = os.path.dirname(SERVICE)
 sys.path[:0] = [f"{SERVICE}/client/python", f"{TOP}/bindings/python"]
+import relkvanu_service  # noqa: E402  (from there)
 
 # Where service/build puts the library, for the Python package.
 os.environ.setdefault("RELKVANU_LIB", f"{SERVICE}/target/library")
 PROGRAM = os.environ.get("RELKVANU_PROGRAM", f"{SERVICE}/target/debug/relkvanu")
-ORACLE = os.environ.get("RELKVANU_ORACLE", f"{TOP}/crates/ckpt_job/out/ckpt_job")
-# The same of a job that gives out names.
 LOG_ORACLE = os.environ.get("RELKVANU_LOG_ORACLE", f"{TOP}/crates/ckpt_log/out/ckpt_log")
 ENGINE = f"{os.path.dirname(PROGRAM)}/examples/engine"  # in Rust
 ENVIRONMENT = {**os.environ, "PYTHONPATH": f"{TOP}/bindings/python:{SERVICE}/client/python"}  # where verbs are that Python has
@@ -105,12 +104,10 @@ _servers = []
 
 
 class Server:
-    """A service in a folder of its own, or over the database of another one. Most tests are of engines that number their files themselves;
-    with `names` a new job gives them out, as by default. At another address than that of this machine requests have its token."""
+    """A service in a folder of its own, or over the database of another one. At another address than that of this machine requests have its token."""
 
-    def __init__(self, folder, database=None, args=(), prefix=(), names=False, host="127.0.0.1", token=None):
+    def __init__(self, folder, database=None, args=(), prefix=(), host="127.0.0.1", token=None):
         self.folder, self.args, self.prefix, self.host, self.token = folder, list(args), list(prefix), host, token
-        self.args += ["--names", "true" if names else "false"]
         self.port = free_port()
         self.url = f"http://{host}:{self.port}"
         self.database = database or f"{folder}/relkvanu.db"
@@ -220,6 +217,38 @@ class Server:
         return answer.status, {name.lower(): value for name, value in answer.getheaders()}, told
 
 
+class Numbered(relkvanu_service.Job):
+    """A job whose tasks the test is: it makes their calls in the term that runs, and numbers their files itself, by names that it reserved."""
+
+    def _make(self, calls, key, **more):
+        if any(call["call"] in ("ack", "decline") and "term" not in call for call in calls):
+            more["term"] = self.term()["term"]
+        return super()._make(calls, key, **more)
+
+    def log(self, after=0, terms=True):
+        return super().log(after, terms)
+
+    def reserve(self, count):
+        """Reserves names in the term that runs, and returns them."""
+        term = self.term()["term"]
+        told = [self.call(relkvanu_service.reserve(term, min(count - done, 1 << 16))) for done in range(0, count, 1 << 16)]
+        return range(int(told[0]["first"]), int(told[0]["first"]) + count)
+
+
+class Service(relkvanu_service.Service):
+    """A client whose jobs are `Numbered`. One that it opens has reserved the names from 1 to 500, or to another one, by its second call."""
+
+    def open(self, name, settings, shape, reserved=500, **more):
+        opened = super().open(name, settings, shape, **more)
+        job = Numbered(self, name, opened.opened, opened.storage)
+        if reserved and job.state()["next_name"] == "1":
+            job.reserve(reserved)
+        return job
+
+    def job(self, name):
+        return Numbered(self, name)
+
+
 @contextmanager
 def kept(*servers):
     """Until the end of the block each of these services is started again if it ended, as systemd does. Gives the statuses that they ended with."""
@@ -292,12 +321,10 @@ def served(config=None, args=(), **given):
 
 
 @contextmanager
-def served_job(name, settings, shape, **given):
+def served_job(name, settings, shape, reserved=500, **given):
     """The same with a job."""
-    from relkvanu_service import Service
-
     with served(**given) as server:
-        yield server, Service(server.url).open(name, settings, shape)
+        yield server, Service(server.url).open(name, settings, shape, reserved)
 
 
 def configured(at, text):
@@ -333,8 +360,6 @@ def counts(job):
 @contextmanager
 def over_copy(server, job="orders"):
     """Starts a service over a copy of a database. Gives the state of a job and the calls that its log has."""
-    from relkvanu_service import Service
-
     server.start()
     try:
         it = Service(server.url).job(job)
@@ -385,11 +410,9 @@ def script(state, shape, log):
 def check_log(state, shape, log):
     """The log is without gaps, and the proved program answers its lines as the service did."""
     assert [entry["seq"] for entry in log] == list(range(1, len(log) + 1)), "the log has gaps"
-    has_names = any(entry["line"].startswith("fence ") for entry in log)
-    oracle = LOG_ORACLE if has_names else ORACLE
-    if not os.path.exists(oracle):
-        raise Skipped(os.path.basename(oracle), "it is not built")
-    told = subprocess.run([oracle], input=script(state, shape, log), stdout=subprocess.PIPE, text=True, check=False)
+    if not os.path.exists(LOG_ORACLE):
+        raise Skipped(os.path.basename(LOG_ORACLE), "it is not built")
+    told = subprocess.run([LOG_ORACLE], input=script(state, shape, log), stdout=subprocess.PIPE, text=True, check=False)
     assert told.returncode == 0, f"the oracle ended with {told.returncode}"
     lines = [line for line in told.stdout.splitlines() if not begins_term(line)]
     assert len(lines) == len(log), f"{len(lines)} answers of {len(log)} calls"

@@ -6,7 +6,7 @@ from contextlib import contextmanager
 
 from harness import Archive, PgArchive, served, until
 from relkvanu_service import Service
-from writers import SETTINGS, NamedWriter, Writer, check, end, made_by
+from writers import SETTINGS, Writer, check, end, made_by
 
 JOBS = ["orders", "users"]
 SETTINGS = {**SETTINGS, "interval": 15}
@@ -17,23 +17,24 @@ EACH = 20  # calls at least between two kills
 
 
 @contextmanager
-def writers_at(urls, told, archive=None, names=False, pause=Writer.PAUSE):
-    """Writers at work, until the end. Then `told` has what `check` says of them. The jobs give out names or not."""
+def writers_at(urls, told, archive=None, pause=Writer.PAUSE):
+    """Writers at work, until the end, and until each job was restored. Then `told` has what `check` says of them."""
     service = Service(*urls)
     for job in JOBS:
-        service.open(job, SETTINGS, SHAPE, names=names)
-    writers = [(NamedWriter if names else Writer)(urls, JOBS[number % len(JOBS)], number) for number in range(8)]
+        service.open(job, SETTINGS, SHAPE)
+    writers = [Writer(urls, JOBS[number % len(JOBS)], number) for number in range(8)]
     for writer in writers:
         writer.PAUSE = pause
         writer.start()
     yield writers
     time.sleep(0.3)
+    until(lambda: all(service.job(job).term()["term"] > 1 for job in JOBS), 60)
     end(writers)
     found = [check(writers, service, job, SHAPE, archive) for job in JOBS]
     acknowledged, logged = sum(one[0] for one in found), sum(one[1] for one in found)
     oracle = sum(one[2] or 0 for one in found)
-    fenced = f", {sum(writer.fenced for writer in writers)} of ended terms refused" if names else ""
-    told.append(f"{acknowledged} acknowledged calls, {logged} in the log, {oracle} answered alike by the proved program{fenced}")
+    fenced = sum(writer.fenced for writer in writers)
+    told.append(f"{acknowledged} acknowledged calls, {logged} in the log, {oracle} answered alike by the proved program, {fenced} of ended terms refused")
     told.append(acknowledged)
 
 
@@ -49,12 +50,12 @@ def check_images(server, archive):
     return f"the last start made {again} of {sum(calls.values())} calls again, and {cut} were cut"
 
 
-def run(kills, database=None, config=KEEPING, seed=1, names=False):
+def run(kills, database=None, config=KEEPING, seed=1):
     chance = random.Random(seed)
     told = []
     with served(config, database=database and database.url) as server:
         archive = PgArchive(database) if database else Archive(server.database)
-        with writers_at([server.url], told, archive, names) as writers:
+        with writers_at([server.url], told, archive) as writers:
             for _ in range(kills):
                 # on a busy machine they make few calls meanwhile
                 before = made_by(writers)
@@ -62,7 +63,6 @@ def run(kills, database=None, config=KEEPING, seed=1, names=False):
                 time.sleep(chance.uniform(0.05, 0.4))
                 server.again()
             until(lambda: any(archive.cut(job) for job in JOBS) and all(archive.images(job) for job in JOBS), 60)
-            until(lambda: not names or all(Service(server.url).job(job).term()["term"] > 1 for job in JOBS), 60)
         server.kill()
         if database:
             database.quiet()

@@ -7,7 +7,7 @@ import time
 
 from harness import PgArchive, Server, configured, folder, kept, save
 from network import Network
-from partition import HOUR, Client, Faults, Floor, NamedClient
+from partition import HOUR, Client, Faults, Floor
 from postgres import Postgres
 from preloaded import Clocks
 from relkvanu_service import Service
@@ -24,10 +24,6 @@ SERVICES, DATABASE = (1, 2), 3
 
 
 class MachineClient(Client):
-    TOKEN, LEAST = TOKEN, 30
-
-
-class NamedMachineClient(NamedClient):
     TOKEN, LEAST = TOKEN, 30
 
 
@@ -125,11 +121,11 @@ def worked(at, network, database, seconds, chance):
     servers[1].stand_by()
     addresses, floor = [server.url for server in servers], Floor()
     service = Service(*addresses, token=TOKEN)
-    clients = [(MachineClient, NamedMachineClient)[number % 2](addresses, JOBS[number % 2], number, floor) for number in range(CLIENTS)]
+    clients = [MachineClient(addresses, JOBS[number % 2], number, floor) for number in range(CLIENTS)]
     faults = FaultsOfMachines(network, chance, database, servers, None, clocks)
     with kept(*servers) as ended:
-        for job, names in zip(JOBS, (False, True)):
-            service.open(job, SETTINGS, SHAPE, names=names)
+        for job in JOBS:
+            service.open(job, SETTINGS, SHAPE)
         faults.go_on(clients, seconds)
         found = [check(clients, service, job, SHAPE, archive) for job in JOBS]
     for server in servers:

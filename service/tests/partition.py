@@ -13,7 +13,7 @@ from postgres import postgres
 from preloaded import Clocks
 from relkvanu_service import Service
 from slow import Proxy
-from writers import SETTINGS, NamedWriter, Writer, check, end
+from writers import SETTINGS, Writer, check, end
 
 JOBS = ["orders", "users"]
 SETTINGS = {**SETTINGS, "interval": 25, "timeout": 3000}
@@ -93,10 +93,6 @@ class Client(Writer):
         super().send(calls)
         for _, answer in self.made[before:]:
             self.floor.raised(self.name_of_job, answer["seq"])
-
-
-class NamedClient(Client, NamedWriter):
-    """The same of a job that gives out names."""
 
 
 def family(database):
@@ -218,9 +214,9 @@ def run(seconds, seed=1):
         archive = PgArchive(database)
         servers[1].stand_by()
         service, addresses, floor = Service(*(server.url for server in servers)), [server.url for server in servers], Floor()
-        for job, names in zip(JOBS, (False, True)):
-            service.open(job, SETTINGS, SHAPE, names=names)
-        clients = [(Client, NamedClient)[number % 2](addresses, JOBS[number % 2], number, floor) for number in range(10)]
+        for job in JOBS:
+            service.open(job, SETTINGS, SHAPE)
+        clients = [Client(addresses, JOBS[number % 2], number, floor) for number in range(10)]
         faults = FaultsOfTwo(chance, database, servers, lines, clocks)
         with kept(*servers) as ended:
             faults.go_on(clients, seconds, seconds // 30 + 1)

@@ -159,7 +159,7 @@ def files(place):
 @contextmanager
 def a_job(kind):
     """A service, a job that gives out names, and a place that has its marker."""
-    with served(names=True) as server:
+    with served() as server:
         job, place = Service(server.url).open("a", SETTINGS, [1]), kind(server.folder)
         name, text = job.marker()
         place.put(name, text.encode())

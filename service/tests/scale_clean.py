@@ -121,7 +121,7 @@ def measured(server, places, count, cleaner, usage):
 
 def main(count, places):
     with folder() as at, storages(at, places) as found:
-        server = Server(at, names=True).start()
+        server = Server(at).start()
         cleaner = Cleaner(server)
         try:
             with closing(Usage(cleaner.process.pid)) as usage:

@@ -35,6 +35,7 @@ BAD = [
     ("POST", "/v1/jobs", {**JOB, "name": "b", "shape": [4097]}, 400, "shape"),
     ("POST", "/v1/jobs", {**JOB, "name": "b", "shape": [1.5]}, 400, "shape"),
     ("POST", "/v1/jobs", {**JOB, "name": "b", "shape": [1] * 257}, 400, "shape"),
+    ("POST", "/v1/jobs", {**JOB, "name": "b", "names": False}, 400, "names"),
     ("POST", "/v1/jobs", {**JOB, "name": "b", "storage": "/srv"}, 400, "storage"),
     ("POST", "/v1/jobs", {**JOB, "name": "b", "storage": {}}, 400, "storage.folder"),
     ("POST", "/v1/jobs", {**JOB, "name": "b", "storage": {"folder": "srv"}}, 400, "storage.folder"),
@@ -85,7 +86,7 @@ def test_bad_requests_name_the_field_and_change_nothing():
         assert server.request("POST", "/v1/jobs", JOB, headers=headers)[0] == 415
         assert server.request("GET", "/v1/jobs", headers=[("Host", "evil.example")])[0] == 403
         assert server.request("POST", "/v1/jobs/orders/calls", b"x" * (8 << 20) + b"x")[0] == 413
-        assert server.get("/v1/jobs/orders/log")[2]["calls"] == []
+        assert [it["line"] for it in server.get("/v1/jobs/orders/log")[2]["calls"]] == ["fence 1"]
         after = server.get("/v1/jobs")[2]["jobs"]
         moving = {"now"}
         assert [{k: v for k, v in job.items() if k not in moving} for job in before] == [
@@ -145,8 +146,8 @@ def test_malformed_requests_by_the_thousand():
         assert server.get("/healthz")[0] == 200
         # Only this call was made, at most once for each request that was answered so or had no answer in time.
         log = server.get("/v1/jobs/orders/log?limit=1000")[2]["calls"]
-        assert all(entry["line"].split()[0] == "savepoint" for entry in log), log
-        assert 1 <= len(log) <= seen["200"] + seen.get("none", 0), (len(log), seen)
+        assert [entry["line"].split()[0] for entry in log] == ["fence"] + ["savepoint"] * (len(log) - 1), log
+        assert 1 < len(log) <= 1 + seen["200"] + seen.get("none", 0), (len(log), seen)
         assert seen.get("400", 0) > 100, seen
         return f"{made} requests: {', '.join(f'{count} were answered {status}' for status, count in sorted(seen.items()))}"
 
@@ -157,7 +158,7 @@ def test_a_key_makes_calls_once():
         path, key = "/v1/jobs/orders/calls", [("Idempotency-Key", "7f3a")]
         body = {"calls": [{"call": "savepoint"}]}
         first = server.request("POST", path, body, headers=key)
-        assert first[2]["answers"] == [{"seq": 1, "savepoint": "triggered", "id": 1}], first
+        assert first[2]["answers"] == [{"seq": 2, "savepoint": "triggered", "id": 1}], first
         assert server.request("POST", path, body, headers=key)[2] == first[2]
         server.again()
         assert server.request("POST", path, body, headers=key)[2] == first[2]
@@ -260,15 +261,20 @@ def test_a_job_that_was_rescaled_is_opened_with_any_shape():
 
 
 def test_refusals_and_large_files():
-    largest = str(2**64 - 1)
+    first, second, largest = (str(2**62 - place) for place in (3, 2, 1))
     with served() as server:
         server.request("POST", "/v1/jobs", {**JOB, "shape": [2]})
+        server.request("POST", "/v1/jobs/orders/advance", {"term": 1, "first_name": first})
         path, key = "/v1/jobs/orders/calls", [("Idempotency-Key", "a")]
         calls = [
+            {"call": "reserve", "count": 3},
+            {"call": "reserve", "count": 1},
             {"call": "savepoint"},
             {"call": "ack", "id": 1, "subtask": "0.0", "fresh": [largest]},
-            {"call": "ack", "id": 1, "subtask": "0.0", "fresh": ["1"]},
-            {"call": "ack", "id": 1, "subtask": "0.1", "fresh": [largest, "5"]},
+            {"call": "ack", "id": 1, "subtask": "0.0", "fresh": [first]},
+            {"call": "ack", "id": 1, "subtask": "0.1", "fresh": [second, largest]},
+            {"call": "ack", "id": 1, "subtask": "0.1", "fresh": [str(2**62)]},
+            {"call": "ack", "term": 1, "id": 1, "subtask": "0.1"},
             {"call": "ack", "id": 1, "subtask": "0.1", "reused": ["9"]},
             {"call": "ack", "id": 2, "subtask": "0.1"},
             {"call": "ack", "id": 1, "subtask": "1.0"},
@@ -279,23 +285,27 @@ def test_refusals_and_large_files():
             {"call": "take", "most": 8},
             {"call": "deleted", "file": largest},
         ]
-        told = server.request("POST", path, {"calls": calls}, headers=key)[2]["answers"]
+        told = server.request("POST", path, {"term": 2, "calls": calls}, headers=key)[2]["answers"]
         assert told == [
-            {"seq": 1, "savepoint": "triggered", "id": 1},
-            {"seq": 2, "ack": "pending", "missing": 1},
+            {"seq": 3, "reserve": "reserved", "first": first, "count": 3},
+            {"fenced": "NamesUsedUp"},
+            {"seq": 4, "savepoint": "triggered", "id": 1},
+            {"seq": 5, "ack": "pending", "missing": 1},
             {"refused": "AlreadyAcknowledged"},
-            {"refused": "NameTaken", "file": largest},
+            {"fenced": "Spent", "file": largest},
+            {"fenced": "NeverReserved", "file": str(2**62)},
+            {"fenced": "OldTerm"},
             {"refused": "FileGone", "file": "9"},
             {"refused": "UnknownCheckpoint"},
             {"refused": "UnknownSubtask"},
-            {"seq": 3, "ack": "completed", "dropped": 0, "released": 0},
+            {"seq": 6, "ack": "completed", "dropped": 0, "released": 0},
             {"refused": "NotTaken"},
-            {"seq": 4, "dispose": "disposed", "released": 1},
-            {"seq": 5, "files": [largest]},
+            {"seq": 7, "dispose": "disposed", "released": 1},
+            {"seq": 8, "files": [largest]},
             {"files": []},
-            {"seq": 6, "deleted": largest},
+            {"seq": 9, "deleted": largest},
         ], told
-        log = server.get("/v1/jobs/orders/log")[2]["calls"]
+        log = server.get("/v1/jobs/orders/log?terms=1")[2]["calls"]
         check_log(server.get("/v1/jobs/orders")[2], [2], log)
         return f"{len(told)} answers"
 
@@ -308,10 +318,10 @@ def test_the_timer_triggers_and_expires():
         server.request("POST", "/v1/jobs", {"name": "t", "settings": settings, "shape": [1]})
         first = until(lambda: server.get("/v1/jobs/t/events?after=0&wait=5")[2]["events"], 5)
         assert first[0]["event"] == "triggered" and first[0]["id"] == 1
-        server.request("POST", "/v1/jobs/t/calls", {"calls": [{"call": "ack", "id": 1, "subtask": "0.0"}]})
+        server.request("POST", "/v1/jobs/t/calls", {"term": 1, "calls": [{"call": "ack", "id": 1, "subtask": "0.0"}]})
         # nobody acknowledges 2 and 3: each expires, and the second failure is one too many
         state = until(lambda: (it := server.get("/v1/jobs/t")[2])["mode"] == "failed" and it)
-        log = server.get("/v1/jobs/t/log")[2]["calls"]
+        _, *log = server.get("/v1/jobs/t/log")[2]["calls"]
         texts = [entry["answer"] for entry in log]
         assert texts == [
             "tick expired 0 triggered 1", "ack completed 0 0", "tick expired 0 triggered 2", "tick expired 1 triggered 3", "tick expired 1 failed",
@@ -320,9 +330,9 @@ def test_the_timer_triggers_and_expires():
         assert 100 <= times[0] - state["opened"] < late, (times, state)
         assert all(timeout <= after - before < timeout + late for before, after in zip(times[2:], times[3:])), times
         time.sleep(0.5)
-        assert server.get("/v1/jobs/t")[2]["seq"] == 5, "a failed job is ticked"
+        assert server.get("/v1/jobs/t")[2]["seq"] == 6, "a failed job is ticked"
         server.request("POST", "/v1/jobs/t/calls", {"calls": [{"call": "restore", "from": "latest"}]})
-        until(lambda: server.get("/v1/jobs/t")[2]["seq"] >= 7, 5)
+        until(lambda: server.get("/v1/jobs/t")[2]["seq"] >= 8, 5)
 
 
 def test_a_slow_client_and_many_connections():

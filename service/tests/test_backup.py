@@ -117,5 +117,5 @@ def test_what_is_no_backup():
         process.wait()
         assert not os.path.exists(copy), "the backup ended before it was killed"
         backup(server.database, copy)
-        assert os.path.getsize(copy) > MEGABYTES * 1_000_000 and job.state()["seq"] == 0
+        assert os.path.getsize(copy) > MEGABYTES * 1_000_000 and job.state()["seq"] == 1
         assert content(f"{server.folder}/there") == "mine"

@@ -155,7 +155,7 @@ def test_one_key_twice_at_once():
             it.join()
         same = [it for key, it in told if key == "same"]
         assert [it[0] for it in same] == [200, 200] and same[0][2] == same[1][2], told
-        assert server.process.poll() is None and job.state()["seq"] == 2, job.state()
+        assert server.process.poll() is None and job.state()["seq"] == 3, job.state()
 
 
 def commit_under_way(server):

@@ -4,7 +4,8 @@ import json
 import os
 import threading
 
-from harness import COMMAND, Server, beside, folder, served, until
+from harness import COMMAND, Server, Service, beside, folder, served, until
+from relkvanu_service import ack, savepoint
 from test_connections import memory
 
 FILES, SUBTASKS, ROUNDS = 4096, 32, 4
@@ -53,19 +54,16 @@ def test_a_body_takes_little_more_than_its_bytes():
 
 def filled(server, rounds=ROUNDS):
     """A log of calls that name thousands of files each."""
-    files = [str((1 << 62) + place) for place in range(FILES)]
-    key = [("Idempotency-Key", "first")]
-    first = [{"call": "savepoint"}, {"call": "ack", "id": 1, "subtask": "0.0", "fresh": files}]
-    rest = [{"call": "ack", "id": 1, "subtask": f"0.{place}"} for place in range(1, SUBTASKS)]
-    server.request("POST", "/v1/jobs", LARGE)
-    assert server.request("POST", PATH, {"calls": [*first, *rest]}, headers=key)[0] == 200
+    job = Service(server.url).open("large", LARGE["settings"], LARGE["shape"], 0)
+    job.advance(1, (1 << 62) - FILES)
+    files = list(job.reserve(FILES))
+    job.calls([savepoint(), ack(1, "0.0", files), *(ack(1, f"0.{place}") for place in range(1, SUBTASKS))])
     for number in range(2, rounds + 2):
-        key = [("Idempotency-Key", str(number))]
-        calls = [{"call": "savepoint"}] + [{"call": "ack", "id": number, "subtask": f"0.{place}", "reused": files} for place in range(SUBTASKS)]
+        calls = [savepoint(), *(ack(number, f"0.{place}", reused=files) for place in range(SUBTASKS))]
         for part in calls[: SUBTASKS // 2], calls[SUBTASKS // 2 :]:
-            told = server.request("POST", PATH, {"calls": part}, headers=[("Idempotency-Key", f"{number} {len(part)}")])
-            assert told[0] == 200 and not any("refused" in answer for answer in told[2]["answers"]), str(told)[:300]
-    return server.get("/v1/jobs/large")[2]["seq"]
+            told = job.calls(part)
+            assert all("seq" in answer for answer in told), str(told)[:300]
+    return job.state()["seq"]
 
 
 def test_a_start_over_large_calls():
@@ -88,7 +86,7 @@ def test_a_start_over_large_calls():
             after, pages = calls[-1]["seq"], pages + 1
         assert [place for place, _ in got] == list(range(1, seq + 1)) and pages > 5, (len(got), pages)
         assert largest < 3 << 20, largest
-        readers = [threading.Thread(target=server.get, args=("/v1/jobs/large/log?after=66&limit=1000",)) for _ in range(16)]
+        readers = [threading.Thread(target=server.get, args=("/v1/jobs/large/log?after=69&limit=1000",)) for _ in range(16)]
         rose = kept_peak(server, lambda: [it.start() for it in readers] + [it.join() for it in readers])
         server.stop()
         assert peak < 45 and later < 45 and rose < 40, (size, live, peak, later, rose)

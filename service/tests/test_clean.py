@@ -139,18 +139,18 @@ def all_jobs(server):
 
 
 def test_all_jobs_over_sqlite():
-    with served(names=True) as server:
+    with served() as server:
         return all_jobs(server)
 
 
 def test_all_jobs_over_postgres():
-    with postgres() as database, served(database=database.url, names=True) as server:
+    with postgres() as database, served(database=database.url) as server:
         return all_jobs(server)
 
 
 def test_storages_that_are_wrong():
     """Each is refused with its reason, and the others go on. Once the storage is right, its job is cleaned."""
-    with served(names=True) as server:
+    with served() as server:
         right = new_folder(server, "right")
         good = (opened(server, "good", right, "s-"), right, "s-")
         foreign, marked = new_folder(server, "foreign"), new_folder(server, "marked")
@@ -187,7 +187,7 @@ class Keys:
 
 def test_a_storage_that_hangs_holds_up_no_other():
     """Three jobs hang on a file system, each at a FIFO, and one on a server that gives no answer. All others are cleaned, on that file system too."""
-    with served(names=True) as server, closing(socket.create_server(("127.0.0.1", 0))) as stalled:
+    with served() as server, closing(socket.create_server(("127.0.0.1", 0))) as stalled:
         def made(name):
             place = new_folder(server, name)
             return opened(server, name, place, "s-"), place, "s-"
@@ -218,7 +218,7 @@ def test_a_storage_that_hangs_holds_up_no_other():
 
 def test_two_cleaners_at_once():
     """They take turns: each file is reported once, and none in use goes."""
-    with served(names=True) as server:
+    with served() as server:
         place = new_folder(server, "shared")
         jobs = [(opened(server, f"job-{number}", place, f"s{number}-"), f"s{number}-") for number in range(4)]
         with cleaning(server, "--every", "1s") as one, cleaning(server, "--every", "1s") as other:
@@ -256,7 +256,7 @@ def ended_at_each_write(server, at, most):
 
 
 def test_a_cleaner_that_is_ended_at_each_write():
-    with served(names=True) as server, folder() as at:
+    with served() as server, folder() as at:
         trials = ended_at_each_write(server, at, 60)
         assert 8 < trials < 60, trials
         return f"{trials} trials"
@@ -264,13 +264,13 @@ def test_a_cleaner_that_is_ended_at_each_write():
 
 def test_a_cleaner_that_is_ended_over_postgres():
     with postgres() as database, folder() as at:
-        server = Server(at, database.url, names=True).start()
+        server = Server(at, database.url).start()
         return f"{ended_at_each_write(server, at, 5)} trials"
 
 
 def test_a_job_that_is_deleted_in_between():
     """Between a take and the deletion somebody deletes the job, and opens another one of its name. None of its files is deleted by the old marker."""
-    with served(names=True) as server:
+    with served() as server:
         place = new_folder(server, "files")
         job, changed = opened(server, "a", place, "s-"), threading.Event()
         names = worked(job, place, "s-")
@@ -301,7 +301,7 @@ def test_inside_the_service():
         port = free_port()
         for name, text in (("tokens", f"read {'r' * 20}\nwrite {'w' * 20}\n"), ("config", f'[clean]\nrun = true\noptions = ["--every", "1s", "--metrics", "127.0.0.1:{port}"]\n')):
             save(f"{at}/{name}", text)
-        server = Server(at, args=["--config", f"{at}/config", "--token-file", f"{at}/tokens"], names=True).start()
+        server = Server(at, args=["--config", f"{at}/config", "--token-file", f"{at}/tokens"]).start()
         place = Folder(at)
         job = Service(server.url, token="w" * 20).open("a", SETTINGS, [1], storage=place.storage("s-"))
         names = worked(job, place, "s-")

@@ -5,9 +5,10 @@ import shutil
 import subprocess
 import time
 
-from harness import COMMAND, ENGINE, SERVICE, SETTINGS, beside, check_log, folder, raised, served, until
-from relkvanu_service import Failed, Refused, Service, ack, decline, deleted, dispose, restore, savepoint, take
+from harness import COMMAND, ENGINE, SERVICE, SETTINGS, Service, beside, check_log, folder, raised, served, until
+from relkvanu_service import Failed, Refused, ack, decline, deleted, dispose, restore, savepoint, take
 from run import Skipped
+from test_api import MAKING
 
 
 def as_json_schema(node):
@@ -43,34 +44,34 @@ def test_answers_fit_the_description():
 
     with served() as server:
         job = "/v1/jobs/{job}"
-        fits("POST", "/v1/jobs", "/v1/jobs", {"name": "a", "settings": SETTINGS, "shape": [2], "names": False})
-        fits("POST", "/v1/jobs", "/v1/jobs", {"name": "n", "settings": SETTINGS, "shape": [1], "names": True})
+        fits("POST", "/v1/jobs", "/v1/jobs", {"name": "a", "settings": SETTINGS, "shape": [2]})
+        fits("POST", "/v1/jobs", "/v1/jobs", {"name": "n", "settings": SETTINGS, "shape": [1]})
         calls = [
-            {"call": "savepoint"}, {"call": "ack", "id": 1, "subtask": "0.0", "fresh": ["1", "2"], "bytes": [10, 20]}, {"call": "ack", "id": 1, "subtask": "0.1"},
-            {"call": "tick"}, {"call": "savepoint"}, {"call": "decline", "id": 2, "subtask": "0.0"}, {"call": "decline", "id": 2, "subtask": "0.0"},
+            {"call": "reserve", "count": 9}, {"call": "savepoint"}, {"call": "ack", "id": 1, "subtask": "0.0", "fresh": ["1", "2"], "bytes": [10, 20]},
+            {"call": "ack", "id": 1, "subtask": "0.1"}, {"call": "tick"}, {"call": "savepoint"}, {"call": "decline", "id": 2, "subtask": "0.0"}, {"call": "decline", "id": 2, "subtask": "0.0"},
             {"call": "ack", "id": 2, "subtask": "0.0", "fresh": ["9"]}, {"call": "restore", "from": 1}, {"call": "restore", "from": "latest", "shape": [1]},
             {"call": "take", "most": 9}, {"call": "deleted", "file": "9"}, {"call": "undeleted", "file": "9"}, {"call": "dispose", "id": 1},
-            {"call": "cancel"}, {"call": "dispose", "id": 1}, {"call": "ack", "id": 99, "subtask": "0.0"},
+            {"call": "cancel"}, {"call": "dispose", "id": 1}, {"call": "ack", "term": 4, "id": 99, "subtask": "0.0"},
         ]
-        answers = fits("POST", "/v1/jobs/a/calls", f"{job}/calls", {"calls": calls}, "k")[2]["answers"]
+        answers = fits("POST", "/v1/jobs/a/calls", f"{job}/calls", {"term": 1, "calls": calls}, "k")[2]["answers"]
         assert [answer for answer in answers if "refused" in answer] == [
             {"refused": "NotTaken"}, {"refused": "InUse"}, {"refused": "UnknownCheckpoint"},
         ], answers
-        fits("POST", "/v1/jobs", "/v1/jobs", {"name": "p", "settings": SETTINGS, "shape": [2], "names": False})
+        fits("POST", "/v1/jobs", "/v1/jobs", {"name": "p", "settings": SETTINGS, "shape": [2]})
         more = [
-            {"call": "savepoint"}, {"call": "ack", "id": 1, "subtask": "0.0", "fresh": ["2", "1"], "payload": "eA==", "bytes": 7, "millis": 3},
+            {"call": "reserve", "count": 2}, {"call": "savepoint"}, {"call": "ack", "id": 1, "subtask": "0.0", "fresh": ["2", "1"], "payload": "eA==", "bytes": 7, "millis": 3},
             {"call": "ack", "id": 1, "subtask": "0.1"}, {"call": "savepoint"}, {"call": "decline", "id": 2, "subtask": "0.1", "reason": "no disk"},
             {"call": "ack", "id": 2, "subtask": "0.1", "payload": ""}, {"call": "restore", "from": 1}, {"call": "cancel"}, {"call": "dispose", "id": 1},
-            {"call": "take", "most": 9}, {"call": "deleted", "file": "1"}, {"call": "ack", "id": 9, "subtask": "0.0"},
+            {"call": "take", "most": 9}, {"call": "deleted", "file": "1"}, {"call": "ack", "term": 3, "id": 9, "subtask": "0.0"},
         ]
-        told = fits("POST", "/v1/jobs/p/calls", f"{job}/calls", {"calls": more[:7], "ended": True}, "k")[2]["answers"]
+        told = fits("POST", "/v1/jobs/p/calls", f"{job}/calls", {"term": 1, "calls": more[:8], "ended": True}, "k")[2]["answers"]
         assert fits("GET", "/v1/jobs/p/records/1/states", f"{job}/records/{{id}}/states")[2]["subtasks"] == [
             {"subtask": "0.0", "files": ["2", "1"], "sizes": [None, None], "payload": "eA==", "bytes": 7, "millis": 3},
             {"subtask": "0.1", "files": [], "sizes": [], "payload": "", "bytes": 0, "millis": 0},
         ]
-        told += fits("POST", "/v1/jobs/p/calls", f"{job}/calls", {"calls": more[7:], "ended": True}, "k2")[2]["answers"]
+        told += fits("POST", "/v1/jobs/p/calls", f"{job}/calls", {"calls": more[8:], "ended": True}, "k2")[2]["answers"]
         assert [(answer.get("kind"), answer.get("ended")) for answer in told] == [
-            ("savepoint", []), ("savepoint", []), ("savepoint", []), ("savepoint", []), ("savepoint", [2]), (None, []), ("savepoint", []), (None, []), ("savepoint", [1]),
+            (None, []), ("savepoint", []), ("savepoint", []), ("savepoint", []), ("savepoint", []), ("savepoint", [2]), (None, []), ("savepoint", []), (None, []), ("savepoint", [1]),
             (None, []), (None, []), (None, None),
         ], told
         until(lambda: fits("GET", "/v1/jobs/p/history?last=5", f"{job}/history")[2]["records"][:1] and server.get("/v1/jobs/p/files")[2]["upto"] == server.get("/v1/jobs/p")[2]["seq"])
@@ -82,9 +83,11 @@ def test_answers_fit_the_description():
         answers = fits("POST", "/v1/jobs/n/calls", f"{job}/calls", {"term": 2, "calls": named}, "k")[2]["answers"]
         assert [answer for answer in answers if "fenced" in answer] == [{"fenced": "Spent", "file": "1"}, {"fenced": "OldTerm"}], answers
         assert [answer.get("term") for answer in answers if "restore" in answer or "cancel" in answer] == [2, 3], answers
+        fits("POST", "/v1/jobs", "/v1/jobs", {"name": "m", "settings": MAKING, "shape": [1]})
+        assert [fits("GET", f"/v1/jobs/m{path}", f"{job}{path}")[0] for path in ("", "/term")] == [200, 409]
         for name, word, body, status in [
-            ("n", "garbage", {"files": ["1", "2", "9"]}, 200), ("a", "garbage", {"files": []}, 409), ("x", "garbage", {"files": []}, 404), ("n", "garbage", {"file": 1}, 400),
-            ("n", "fence", {"first_name": "20"}, 409), ("a", "fence", {"first_name": 100}, 200), ("a", "fence", {"first_name": 0}, 400),
+            ("n", "garbage", {"files": ["1", "2", "9"]}, 200), ("m", "garbage", {"files": []}, 409), ("x", "garbage", {"files": []}, 404), ("n", "garbage", {"file": 1}, 400),
+            ("n", "fence", {"first_name": "20"}, 409), ("m", "fence", {"first_name": 100}, 200), ("m", "fence", {"first_name": 0}, 400),
         ]:
             assert fits("POST", f"/v1/jobs/{name}/{word}", f"{job}/{word}", body)[0] == status, (name, word, body)
         until(lambda: server.get("/v1/jobs/a/files")[2]["upto"] == server.get("/v1/jobs/a")[2]["seq"])
@@ -115,7 +118,7 @@ def test_answers_fit_the_description():
         assert fits("POST", "/v1/jobs", "/v1/jobs", {"name": "b", "settings": SETTINGS, "shape": [2]})[1]["location"] == "/v1/jobs/b"
         assert "location" not in fits("POST", "/v1/jobs", "/v1/jobs", {"name": "b", "settings": SETTINGS, "shape": [2]})[1]
         texts = {entry["answer"] for entry in server.get("/v1/jobs/a/log")[2]["calls"]}
-        check_log(server.get("/v1/jobs/a")[2], [2], server.get("/v1/jobs/a/log")[2]["calls"])
+        check_log(server.get("/v1/jobs/a")[2], [2], server.get("/v1/jobs/a/log?terms=1")[2]["calls"])
         for path, status in ("/v1/jobs/b", 409), ("/v1/jobs/a", 409), ("/v1/jobs/a?abandon=1", 200), ("/v1/jobs/a", 404):
             assert fits("DELETE", path, job)[0] == status, path
         return f"20 requests, {len(texts)} kinds of answers"
@@ -125,8 +128,8 @@ def test_the_client_in_python():
     with served() as server:
         service = Service(server.url)
         job = service.open("orders", SETTINGS, [1])
-        assert job.call(savepoint()) == {"seq": 1, "savepoint": "triggered", "id": 1}
-        assert job.call(ack(1, "0.0", [2**64 - 1]))["ack"] == "completed"
+        assert job.call(savepoint()) == {"seq": 3, "savepoint": "triggered", "id": 1}
+        assert job.call(ack(1, "0.0", [7]))["ack"] == "completed"
         job.call(ack(1, "9.9", reused=[5]))
         refused = raised(Refused, lambda: job.call(dispose(7)))
         assert (refused.name, refused.file) == ("NoSuchSavepoint", None)
@@ -140,7 +143,7 @@ def test_the_client_in_python():
         time.sleep(0.3)
         server.start()
         taking.join(COMMAND)
-        assert found == [2**64 - 1], found
+        assert found == [7], found
         assert job.call(deleted(found[0])) and job.calls([take(5)]) == [{"files": []}]
         assert job.call(restore())["restore"] == "fresh" and job.call(decline(1, "0.0"))["decline"] == "late"
         seen = []
@@ -153,7 +156,7 @@ def test_the_client_in_python():
 
 def test_a_job_claims_its_folder():
     """And none that has files of somebody else, that is not mounted, or whose marker is of another opening."""
-    with folder() as at, served(names=True) as server:
+    with folder() as at, served() as server:
         job, other = (Service(server.url).open(name, SETTINGS, [1]) for name in "ab")
         files, empty, strange = (f"{at}/{name}" for name in ("files", "empty", "strange"))
         for it in (files, empty, strange):
@@ -173,7 +176,7 @@ def test_a_job_claims_its_folder():
 def test_the_client_in_rust():
     if not os.path.exists(ENGINE):
         raise Skipped("the client in Rust", f"{ENGINE} is not built")
-    with served(names=True) as server:
+    with served() as server:
         run = subprocess.Popen([ENGINE, server.url, "rust", "20"], stdout=subprocess.PIPE, stderr=subprocess.STDOUT, text=True)
         until(lambda: (server.get("/v1/jobs/rust")[2] or {}).get("seq", 0) > 40)
         server.kill()

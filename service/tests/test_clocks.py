@@ -1,10 +1,10 @@
 """Clocks that are wrong, that are set while the service runs, and that stop while its machine is suspended."""
 import time
 
-from harness import Server, folder, leader_and_standby, lease_of, until
+from harness import Server, Service, folder, leader_and_standby, lease_of, until
 from postgres import postgres
 from preloaded import Clocks, Suspended
-from relkvanu_service import Refused, Service, ack, savepoint
+from relkvanu_service import Refused, ack, savepoint
 
 HOUR, DAY = 3600, 24 * 3600
 SETTINGS = {"interval": 1 << 40, "timeout": 600_000}

@@ -12,10 +12,13 @@ import subprocess
 import sys
 import time
 
-from harness import ACK_COMPLETED, COMMAND, ENVIRONMENT, HERE, PROGRAM, SETTINGS, TOP, Server, beside, caught_up, content, folder, free_port, save, served, served_job, sqlite, until
+from harness import (
+    ACK_COMPLETED, COMMAND, ENVIRONMENT, HERE, PROGRAM, SETTINGS, TOP, Server, Service, beside, caught_up, content, folder, free_port, save, served,
+    served_job, sqlite, until
+)
 from places import Bucket, around
 from postgres import postgres
-from relkvanu_service import Service, ack, deleted, dispose, savepoint
+from relkvanu_service import ack, deleted, dispose, savepoint
 from run import Skipped
 from test_runner import Lines
 
@@ -53,7 +56,7 @@ def test_what_a_job_is():
         assert file == 21
         caught_up(job)
         row = ask("jobs").splitlines()[1].split()
-        assert row == ["orders", "running", "8", "1", "2", "0", "1"], row
+        assert row == ["orders", "running", "10", "1", "2", "0", "1"], row
         # what each says as JSON is what the API says, at the same moment or another
         [listed], shown = ask.json("jobs"), ask.json("show", "orders")
         for told in (listed, shown):
@@ -66,10 +69,10 @@ def test_what_a_job_is():
         assert "2 of 3: 1.0 1.1" in text and "savepoint" in text, text
         text = ask("show", "orders", 1)
         assert "completed" in text and "disposed" in text, text
-        assert ask("files", "orders").splitlines()[1].split() == ["21", "taken", "3", "7", "8"], ask("files", "orders")
+        assert ask("files", "orders").splitlines()[1].split() == ["21", "taken", "5", "9", "10"], ask("files", "orders")
         assert ask.json("files", "orders", 21) == job.file(21)
         text = ask("files", "orders", 21)
-        assert "savepoint 1 was disposed of" in text and "by call 3: ack" in text, text
+        assert "savepoint 1 was disposed of" in text and "by call 5: in * ack" in text, text
         assert "record 2, subtask 0.0" in ask("files", "orders", 11)
 
 
@@ -95,13 +98,13 @@ def test_the_log():
         ask, job = Asked(server), Service(server.url).open("orders", SETTINGS, [1])
         for _ in range(3):
             job.calls([{"call": "tick"}] * 700)
-        log = list(job.log())
+        log = list(job.log(terms=False))
         lines = ask("log", "orders", "--json").splitlines()
-        assert [json.loads(line) for line in lines] == log and len(log) == 2100
+        assert [json.loads(line) for line in lines] == log and len(log) == 2102
         text = ask("log", "orders", "--after", 1995, "--most", 10).splitlines()
         assert [int(line.split()[0]) for line in text] == list(range(1996, 2006)), text
         assert text[0].endswith(f"{log[1995]['line']}  ->  {log[1995]['answer']}"), text[0]
-        assert len(ask("log", "orders", "--most", 1500).splitlines()) == 1500 and ask("log", "orders", "--after", 2100) == ""
+        assert len(ask("log", "orders", "--most", 1500).splitlines()) == 1500 and ask("log", "orders", "--after", 2102) == ""
         # a reader that has read enough
         piped = subprocess.run(["bash", "-c", 'set -o pipefail; "$@" | head -1', "log", PROGRAM, "log", "orders", *ask.more], stdout=subprocess.PIPE, stderr=subprocess.PIPE, text=True, check=False)
         assert piped.returncode == 0 and len(piped.stdout.splitlines()) == 1 and not piped.stderr, piped
@@ -128,7 +131,7 @@ def test_calls_of_a_user():
         assert told.startswith("savepoint 3 is triggered\n") and "savepoint 3 is not complete yet" in told and time.monotonic() - began > 0.9, told
         assert ask("dispose", "orders", 1) == "the savepoint is disposed of; files that wait for deletion now: 1 more\n"
         assert "the coordinator refuses it: NoSuchSavepoint" in ask("dispose", "orders", 1, status=1)
-        assert ask("restore", "orders", "--savepoint", 2, "--shape", "2,1", "--without-look") == "the job begins again, from savepoint 2; files that wait for deletion now: 0 more\n"
+        assert ask("restore", "orders", "--savepoint", 2, "--shape", "2,1", "--without-look") == "the job begins again, from savepoint 2; files that wait for deletion now: 0 more; the term is 2\n"
         assert job.state()["shape"] == [2, 1]
         assert ask.json("restore", "orders")["restore"] == "savepoint"
         assert "NoSuchSavepoint" in ask("restore", "orders", "--savepoint", 9, status=1)
@@ -176,7 +179,7 @@ def worked(job, rounds, first=1):
 
 
 def test_check():
-    with served_job("orders", SETTINGS, [1], args=KEEPING) as (server, job):
+    with served_job("orders", SETTINGS, [1], 130, args=KEEPING) as (server, job):
         Service(server.url).open("users", SETTINGS, [1]).call(savepoint())
         worked(job, 8)
         database, check = server.database, ["check", "--database", server.database]
@@ -185,7 +188,7 @@ def test_check():
         until(lambda: sqlite(database, "select count(*) from image where job = 1")[0] == (images,))
         told = [json.loads(line) for line in ran(*check, "--json").splitlines()]
         assert told == [
-            {"job": "orders", "alike": True, "calls": seq, "images": images}, {"job": "users", "alike": True, "calls": 1, "images": 0},
+            {"job": "orders", "alike": True, "calls": seq, "images": images}, {"job": "users", "alike": True, "calls": 3, "images": 0},
         ], (told, seq)
         # while a service commits, and cuts
         worked(job, 60, 9)
@@ -204,7 +207,7 @@ def test_check():
         sqlite(database, "update call set a = 7, b = 7 where job = 1 and seq = ?", place)
         told = ran(*check, status=1)
         assert f'job orders, call {place} ' in told and f'the log says "ack completed 7 7", and this program answers "ack completed {was[0]} {was[1]}"' in told, told
-        assert "job users: 1 calls" in told and json.loads(ran(*check, "--json", "--job", "orders", status=1))["alike"] is False
+        assert "job users: 3 calls" in told and json.loads(ran(*check, "--json", "--job", "orders", status=1))["alike"] is False
         ran(*check, "--job", "users")
         sqlite(database, "update call set a = ?, b = ? where job = 1 and seq = ?", *was, place)
         row = sqlite(database, "select job, seq, at, shape, completed, event, text, digest from image where job = 1 order by seq desc limit 1")[0]
@@ -224,7 +227,7 @@ def test_check():
         assert f"call {last - 1} is missing" in ran(*check, status=1)
         # the log ends before the last image
         sqlite(database, "delete from call where job = 1 and seq >= ?", row[1])
-        assert f"call {row[1]} is missing" in ran(*check, status=1)
+        assert f"call {min(row[1], last - 1)} is missing" in ran(*check, status=1)
         return f"{last - first + 1} calls of {last}, with 10 checks beside a service"
 
 
@@ -238,7 +241,7 @@ def test_check_of_other_databases():
         check = ["check", "--database", database.url]
         assert "no tables of a service" in ran(*check, status=78)
         server = Server(at, database.url, KEEPING).start()
-        job = Service(server.url).open("orders", SETTINGS, [1])
+        job = Service(server.url).open("orders", SETTINGS, [1], 30)
         worked(job, 30)
         until(lambda: job.state()["first"] > 1)
         told = ran(*check)

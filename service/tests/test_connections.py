@@ -7,7 +7,8 @@ import select
 import socket
 import time
 
-from harness import COMMAND, Server, folder, lease_of, save, served, until
+from harness import COMMAND, Server, Service, folder, lease_of, save, served, until
+from relkvanu_service import ack, savepoint
 from test_api import JOB
 
 POLLS = 1500
@@ -149,18 +150,15 @@ def test_a_slow_reader_gets_its_whole_answer():
     idle = lease_of(2)
     slowly = idle + 3
     with served(f"[limits]\nidle_seconds = {idle}\n") as server:
-        server.request("POST", "/v1/jobs", {**JOB, "shape": [64]})
-        fresh = [str((1 << 63) + place) for place in range(3000)]
-        calls = [{"call": "ack", "id": 1, "subtask": "0.0", "fresh": fresh}] + [
-            {"call": "ack", "id": 1, "subtask": f"0.{place}", "reused": []} for place in range(1, 64)]
-        key = [("Idempotency-Key", "a")]
-        server.request("POST", "/v1/jobs/orders/calls", {"calls": [{"call": "savepoint"}, *calls, {"call": "savepoint"}]}, headers=key)
-        again = [{"call": "ack", "id": 2, "subtask": f"0.{place}", "reused": fresh} for place in range(63)]
-        assert server.request("POST", "/v1/jobs/orders/calls", {"calls": again})[0] == 200
+        job = Service(server.url).open("orders", JOB["settings"], [64], 0)
+        job.advance(1, (1 << 62) - 3000)
+        files = list(job.reserve(3000))
+        job.calls([savepoint(), ack(1, "0.0", files), *(ack(1, f"0.{place}") for place in range(1, 64)), savepoint()])
+        job.calls([ack(2, f"0.{place}", reused=files) for place in range(63)])
         it = socket.socket()
         it.setsockopt(socket.SOL_SOCKET, socket.SO_RCVBUF, 1 << 14)
         it.connect(("127.0.0.1", server.port))
-        it.sendall(b"GET /v1/jobs/orders/log?after=66&limit=1000 HTTP/1.1\r\nHost: localhost\r\nConnection: close\r\n\r\n")
+        it.sendall(b"GET /v1/jobs/orders/log?after=69&limit=1000 HTTP/1.1\r\nHost: localhost\r\nConnection: close\r\n\r\n")
         got, started = b"", time.monotonic()
         while part := it.recv(1 << 16):
             got += part
@@ -169,6 +167,6 @@ def test_a_slow_reader_gets_its_whole_answer():
         took = time.monotonic() - started
         head, body = got.split(b"\r\n\r\n", 1)
         length = int(head.lower().split(b"content-length: ")[1].split(b"\r\n")[0])
-        assert len(body) == length > 1_000_000 and json.loads(body)["calls"][0]["seq"] == 67, (len(body), length)
+        assert len(body) == length > 1_000_000 and json.loads(body)["calls"][0]["seq"] == 70, (len(body), length)
         assert took > idle, took
         return f"{length} bytes in {took:.1f} s, with idle_seconds = {idle}"

@@ -2,9 +2,9 @@
 import json
 import subprocess
 
-from harness import CALL, COMMAND, PROGRAM, SERVICE, Server, configured, folder, lease_of, served, sqlite, until
+from harness import CALL, COMMAND, PROGRAM, SERVICE, Server, Service, configured, folder, lease_of, served, sqlite, until
 from postgres import postgres
-from relkvanu_service import Service, ack, savepoint
+from relkvanu_service import ack, savepoint
 from test_clients import as_json_schema
 from test_metrics import scraped
 
@@ -12,10 +12,10 @@ SETTINGS = {"interval": 1 << 40, "timeout": 86_400_000}
 SHAPE = [2]
 # What is done to a job's rows, by its name, and what its damage says then.
 DAMAGES = {
-    "differs": ("update call set a = a + 1 where job = {job} and seq = 3", "and this program answers"),
-    "cut": ("delete from call where job = {job} and seq = 3", "call 3 is missing"),
-    "garbled": ("update call set line = 'x' || line where job = {job} and seq = 3", "is no call"),
-    "negative": ("update call set waiting = -1 where job = {job} and seq = 3", "a row of call has"),
+    "differs": ("update call set a = a + 1 where job = {job} and seq = 5", "and this program answers"),
+    "cut": ("delete from call where job = {job} and seq = 5", "call 5 is missing"),
+    "garbled": ("update call set line = 'x' || line where job = {job} and seq = 5", "is no call"),
+    "negative": ("update call set waiting = -1 where job = {job} and seq = 5", "a row of call has"),
     "imaged": ("update image set event = event + 1 where job = {job}", "its digest is not that of what it says"),
     "opened": ("update job set config = 'x' || config where job = {job}", "a row of job has"),
     "phased": ("insert into phase values({job}, 'dancing', null, null, null, null)", "a row of phase has"),
@@ -58,7 +58,7 @@ def number_of(database, name):
 def filled(service, names):
     """Jobs with a complete savepoint and a pending one."""
     for name in names:
-        job = service.open(name, SETTINGS, SHAPE, names=False)
+        job = service.open(name, SETTINGS, SHAPE, 10)
         job.calls([savepoint(), ack(1, "0.0", [1], sizes=[10]), ack(1, "0.1", [2], sizes=[20]), savepoint(), ack(2, "0.0", [3], sizes=[30])])
 
 
@@ -192,7 +192,7 @@ def damaged_and_mended(server, database, start, stop):
 
 def damaged_key(server, database, damage):
     """A key whose answer can't be read: its request alone is refused, and nothing is made under it again. The process goes on."""
-    job = Service(server.url).open("orders", SETTINGS, SHAPE, names=False)
+    job = Service(server.url).open("orders", SETTINGS, SHAPE)
     path, body = "/v1/jobs/orders/calls", {"calls": [{"call": "savepoint"}]}
 
     def told(key):
@@ -242,7 +242,7 @@ def test_a_take_over():
         before = seen(service.job("good"))
         put_damage(database, ["differs"])
         second.stand_by()
-        assert service.damaged() == {} and service.job("differs").state()["seq"] == 5
+        assert service.damaged() == {} and service.job("differs").state()["seq"] == 7
         first.kill()
         second.wait_ready()
         service = Service(second.url)

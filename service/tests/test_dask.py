@@ -39,7 +39,7 @@ def test_a_driver_over_dask_whose_job_another_one_has_begun():
         raise Skipped("python3-distributed", str(error)) from error
     with folder() as at:
         os.mkdir(f"{at}/state")
-        server = Server(at, names=True).start()
+        server = Server(at).start()
         raised(Failed, driver, server, at, False)  # there is no such job
         old = driver(server, at)
         assert old.restore() is None
@@ -90,7 +90,7 @@ def test_a_driver_over_dask_whose_job_is_stopped_and_begun():
         raise Skipped("python3-distributed", str(error)) from error
     with folder() as at:
         os.mkdir(f"{at}/state")
-        server = Server(at, names=True).start()
+        server = Server(at).start()
         job, first = Service(server.url).job("words"), driver(server, at)
         assert first.restore() is None
         assert first.save("one", {"x": [1, 2]}).id == 1

@@ -1,16 +1,19 @@
-"""`relkvanu clean` in a wrong folder, in one that goes away, and where it or the service is killed: it gives up no file that is there."""
+"""`relkvanu clean` in a folder that goes away, and where it or the service is killed: it gives up no file that is there, and says what it waits for."""
 import contextlib
+import json
 import os
 import re
+import shutil
 import subprocess
 import time
 import urllib.request
 
 from proxy import Proxy
-from harness import COMMAND, PROGRAM, SETTINGS, Server, content, counts, folder, free_port, raised, save, served, until
+from harness import COMMAND, PROGRAM, SETTINGS, Server, Service, content, counts, folder, free_port, save, served, until
 from postgres import postgres
-from relkvanu_service import Failed, Service, ack, dispose, savepoint
+from relkvanu_service import ack, dispose, savepoint
 from run import Skipped
+from test_security import told_again, written
 
 
 def files_of(job, folder, first, count, there=None):
@@ -70,190 +73,6 @@ def test_a_history_that_lags():
         await_end(discard(server, place, "--once"), 0, "deleted=5")
 
 
-def test_a_wrong_prefix():
-    with a_job() as (server, job, folder):
-        files = files_of(job, folder, 100, 20)
-        told = await_end(discard(server, folder, "--once", prefix="state-"), 78, "none of 20 files")
-        assert "state-100" in told and "--allow-absent" in told, told
-        assert present(folder) == files and counts(job) == (20, 0), (present(folder), job.state())
-        # the right one deletes them, and those that are absent are counted apart
-        more = files_of(job, folder, 200, 3, there=[201])
-        told = await_end(discard(server, folder, "--once"), 0, "deleted=21 absent=2 failed=0")
-        assert present(folder) == [] and counts(job) == (0, 0)
-        # absent ones that are said to be
-        files_of(job, folder, 300, 5, there=[])
-        await_end(discard(server, folder, "--once"), 78, "none of 5 files")
-        await_end(discard(server, folder, "--once", "--allow-absent"), 0, "deleted=0 absent=5 failed=0")
-        assert counts(job) == (0, 0)
-        until(lambda: job.file(more[0])["history"]["deleted"])
-
-
-def test_a_folder_without_the_marker():
-    with a_job() as (server, job, folder):
-        marker = f"{folder}/.relkvanu-a"
-        other = f"{server.folder}/other"
-        os.mkdir(other)
-        files = files_of(job, folder, 100, 4)
-        await_end(discard(server, folder, "--once"), 0, "deleted=4")
-        text = content(marker)
-        assert f"the job a, opened at {job.state()['opened']}," in text, text
-        files = files_of(job, folder, 200, 4)
-        # an empty folder, as a mount point without its disk
-        await_end(discard(server, other, "--once"), 78, ".relkvanu-a")
-        # one of a job of this name in another service
-        save(f"{other}/.relkvanu-a", text.replace("opened at ", "opened at 9"))
-        await_end(discard(server, other, "--once"), 78, "names another job")
-        # a marker that goes while it works
-        with at_work(server, folder) as run:
-            until(lambda: counts(job) == (0, 0))
-            os.rename(marker, f"{server.folder}/kept")
-            files = files_of(job, folder, 300, 4)
-            await_end(run, 78, ".relkvanu-a")
-        assert present(folder) == files and counts(job) == (4, 0), job.state()
-        await_end(discard(server, folder, "--once", "--init"), 0, "deleted=4")
-        assert content(marker) == text
-        with at_work(server, folder):
-            # once it works it has the lock
-            files_of(job, folder, 400, 1)
-            until(lambda: counts(job) == (0, 0))
-            await_end(discard(server, folder, "--once"), 1, "another cleaner")
-
-
-def test_two_jobs_in_a_folder():
-    """Their names begin with 1 both. A job that may name its files as another one does gets no folder, and the files stay."""
-    with served(names=True) as server:
-        folder = f"{server.folder}/files"
-        os.mkdir(folder)
-        jobs = [Service(server.url).open(name, SETTINGS, [1]) for name in ("a", "b")]
-
-        def released(job, prefix):
-            """A file of the job that waits for deletion, and one that stays in use."""
-            task = job.begin().session(block=10)
-            names = [task.name(), task.name()]
-            for name in names:
-                save(f"{folder}/{prefix}{name}", prefix)
-            for name in reversed(names):
-                task.ack(job.call(savepoint())["id"], "0.0", [name])
-            job.call(dispose(2))
-            return names
-
-        def there():
-            return sorted(name for name in os.listdir(folder) if not name.startswith("."))
-
-        assert released(jobs[0], "s-") == [1, 2]
-        await_end(discard(server, folder, "--once"), 0, "deleted=1")
-        assert there() == ["s-2"]
-        # the other job would delete this file, which is in use
-        task = jobs[1].begin().session(block=10)
-        names = [task.name(), task.name()]
-        task.ack(jobs[1].call(savepoint())["id"], "0.0", names)
-        jobs[1].call(dispose(1))
-        for more, prefix in [([], "s-"), (["--init"], "s-"), ([], "s-0")]:
-            told = await_end(discard(server, folder, "--once", *more, prefix=prefix, job="b"), 78, "another job has files in")
-            assert ".relkvanu-a" in told and "--prefix" in told, told
-        assert there() == ["s-2"] and not os.path.exists(f"{folder}/.relkvanu-b") and counts(jobs[1]) == (2, 0)
-        # one of another name does not
-        for name in names:
-            with open(f"{folder}/t-{name}", "w", encoding="utf-8"):
-                pass
-        await_end(discard(server, folder, "--once", prefix="t-", job="b"), 0, "deleted=2")
-        await_end(discard(server, folder, "--once"), 0, "")
-        assert there() == ["s-2"]
-        # nobody has said how the files are named: somebody has to look at the first run
-        os.remove(f"{folder}/.relkvanu-a.names")
-        Service(server.url).open("c", SETTINGS, [1])
-        for more in ([], ["--init"]):
-            await_end(discard(server, folder, "--once", *more, prefix="", job="c"), 78, "--prefix or --suffix is needed")
-        await_end(discard(server, folder, "--once", prefix="u-", job="c"), 78, "--init")
-        assert not os.path.exists(f"{folder}/.relkvanu-c")
-        await_end(discard(server, folder, "--once", "--init", prefix="u-", job="c"), 0, "is marked")
-        # and a sweeper heeds it
-        told = swept(server, folder, "c", "t-")
-        assert told.returncode == 78 and ".relkvanu-b" in told.stderr and there() == ["s-2"], told
-
-
-def swept(server, folder, job, prefix):
-    words = [PROGRAM, "clean", "--only", "garbage", "--once", "--job", job, "--folder", folder, "--url", server.url, "--prefix", prefix]
-    return subprocess.run(words, capture_output=True, text=True, timeout=COMMAND, check=False)
-
-
-def contents(folder):
-    """The files of a folder with what they say."""
-    found = {}
-    for name in os.listdir(folder):
-        found[name] = content(f"{folder}/{name}")
-    return found
-
-
-def test_a_job_that_is_named_as_a_file_of_another_job():
-    """The marker of `a.names` is named as the file in which the discarder of `a` says how its files are named. Neither takes the folder from the
-    other one, nor takes files of the other one for its own garbage."""
-    with served(names=True) as server:
-        service = Service(server.url)
-        jobs = {name: service.open(name, SETTINGS, [1]) for name in ("a", "a.names", "a.begun", "a.new", "b")}
-
-        def in_use(job, folder, prefix):
-            """Three files of the job that are in use, so no other job may delete them."""
-            task = jobs[job].begin().session(block=3)
-            names = [task.name() for _ in range(3)]
-            for name in names:
-                save(f"{folder}/{prefix}{name}", job)
-            task.ack(jobs[job].call(savepoint())["id"], "0.0", names)
-
-        # the other job has a restart behind it, so it would take the files for garbage of its own
-        for name in ("a", "b"):
-            jobs[name].begin().session(block=10).name()
-            jobs[name].begin()
-        for first, second in (("a.names", "a"), ("a.begun", "a"), ("a", "a.names"), ("a", "a.begun")):
-            folder = f"{server.folder}/{first}-{second}"
-            os.mkdir(folder)
-            in_use(first, folder, "s-")
-            await_end(discard(server, folder, "--once", "--init", job=first), 0, "is marked")
-            before = contents(folder)
-            for more, prefix in [([], "s-"), (["--init"], "s-"), (["--init"], "t-")]:
-                told = await_end(discard(server, folder, "--once", *more, job=second, prefix=prefix), 78, "another job has files in")
-                assert f".relkvanu-{first} says" in told and "a folder of its own" in told, told
-                assert contents(folder) == before, (first, second, contents(folder))
-            await_end(discard(server, folder, "--once", job=first), 0, "")
-        # both markers are there, as two engines have made them in a folder without files
-        folder = f"{server.folder}/both"
-        os.mkdir(folder)
-        for name in ("a.names", "a"):
-            marker, text = jobs[name].marker()
-            save(f"{folder}/{marker}", text)
-        in_use("a.names", folder, "s-")
-        before = contents(folder)
-        for name in ("a", "a.names"):
-            told = swept(server, folder, name, "s-")
-            assert told.returncode == 78 and "a folder of its own" in told.stderr, told
-            await_end(discard(server, folder, "--once", job=name), 78, "a folder of its own")
-        assert contents(folder) == before, contents(folder)
-        folder = f"{server.folder}/claimed"
-        os.mkdir(folder)
-        jobs["b"].claim(folder)
-        why = raised(Failed, lambda: service.open("b.begun", SETTINGS, [1]).claim(folder))
-        assert "each needs a folder of its own" in str(why), why
-
-
-def test_a_marker_whose_name_begins_as_that_of_another_job():
-    """`a.new` works beside `a`, and a third job heeds both."""
-    with served(names=True) as server:
-        folder = f"{server.folder}/files"
-        os.mkdir(folder)
-        jobs = {name: Service(server.url).open(name, SETTINGS, [1]) for name in ("a", "a.new", "b")}
-        for name, prefix in (("a", "s-"), ("a.new", "t-"), ("a", "s-"), ("a.new", "t-")):
-            await_end(discard(server, folder, "--once", job=name, prefix=prefix), 0, "")
-        before = contents(folder)
-        assert {name for name in before if name.startswith(".relkvanu-a")} == {".relkvanu-a", ".relkvanu-a.names", ".relkvanu-a.new", ".relkvanu-a.new.names"}, before
-        for name in ("a", "a.new"):
-            assert f"the job {name}, opened at {jobs[name].state()['opened']}," in before[f".relkvanu-{name}"], before
-        for prefix, name in (("s-", "a"), ("t-", "a.new")):
-            told = await_end(discard(server, folder, "--once", "--init", job="b", prefix=prefix), 78, "another job has files in")
-            assert f"as .relkvanu-{name} says" in told, told
-        assert contents(folder) == before
-        await_end(discard(server, folder, "--once", job="b", prefix="u-"), 0, "is marked")
-
-
 def test_a_disk_that_goes():
     """Its mount is taken away lazily, while somebody holds it open: the discarder deletes there, and not in the mount point."""
     with a_job() as (server, job, folder):
@@ -292,7 +111,10 @@ def test_it_syncs_the_folder_before_it_reports():
         await_end(run, 0, "deleted=20")
         lines = content(trace).splitlines()
         unlinks = [at for at, line in enumerate(lines) if "unlinkat(" in line and '"s-' in line]
-        syncs = [at for at, line in enumerate(lines) if re.search(r"fsync\(\d+<[^>]*/files>\) += 0", line) and at > unlinks[-1]]
+        # another thread may have a line between the two of a call
+        begun = {line.split()[0]: at for at, line in enumerate(lines) if re.search(r"fsync\(\d+<[^>]*/files> <unfinished", line) and at > unlinks[-1]}
+        syncs = [at for at, line in enumerate(lines) if at > unlinks[-1] and (
+            re.search(r"fsync\(\d+<[^>]*/files>\) += 0", line) or re.search(r"fsync resumed>\) += 0", line) and at > begun.get(line.split()[0], at))]
         reports = [at for at, line in enumerate(lines) if "/calls" in line and at > unlinks[0]]
         assert len(unlinks) == 20 and syncs and reports and unlinks[-1] < syncs[0] < reports[0], (unlinks, syncs, reports)
 
@@ -313,6 +135,20 @@ def test_it_is_killed_before_it_reports():
         assert len(job.take(20)) == 20
         await_end(discard(server, folder, "--once"), 78, "none of 20 files")
         assert counts(job) == (20, 0), job.state()
+
+
+def test_it_survives_the_service():
+    with a_job() as (server, job, folder), at_work(server, folder):
+        files = []
+        for first in range(1, 401, 100):
+            files += files_of(job, folder, first, 80)
+            server.again()
+        # what is deleted is reported a moment later
+        until(lambda: present(folder) == [] and counts(job) == (0, 0), 30)
+        assert not [entry for entry in job.log() if entry["line"].startswith("take") and entry["answer"] == "take none"]
+        twice = [entry["line"] for entry in job.log() if entry["line"].startswith("deleted")]
+        assert len(twice) == len(set(twice)) == len(files)
+        return f"{len(twice)} files deleted once each, over 4 kills of the service"
 
 
 def test_it_never_gives_up_by_itself():
@@ -349,9 +185,75 @@ def test_it_never_gives_up_by_itself():
         return f"{outcomes}, {lost:.0f} tries that were not answered"
 
 
-def test_words_that_it_refuses():
+def test_names_that_are_not_synced():
+    """They are not written, and those before them stay."""
+    if not shutil.which("strace"):
+        raise Skipped("strace", "it is not here")
+    with a_job() as (server, _, folder):
+        await_end(discard(server, folder, "--once", "--init"), 0, "is marked")
+        said = content(f"{folder}/.relkvanu-a.names")
+        failing = ["strace", "-f", "-qq", "-o", "/dev/null", "-e", "trace=fsync", "-e", "inject=fsync:error=EIO:when=1"]
+        await_end(discard(server, folder, "--once", "--init", prefix="t-", before=failing), 0, "how the files are named can't be written")
+        assert content(f"{folder}/.relkvanu-a.names") == said
+        await_end(discard(server, folder, "--once", "--init", prefix="t-"), 0, "")
+        with open(f"{folder}/.relkvanu-a.names", encoding="utf-8") as it:
+            assert json.load(it) == {"prefix": "t-", "suffix": ""}
+
+
+def works(port):
+    """Whether a cleaner says that it works: "1" or "0", or None without its metrics."""
+    try:
+        with urllib.request.urlopen(f"http://127.0.0.1:{port}/metrics", timeout=COMMAND) as it:
+            lines = it.read().decode().splitlines()
+    except OSError:
+        return None
+    return next((line.rsplit(" ", 1)[1] for line in lines if line.startswith("relkvanu_clean_works")), None)
+
+
+def test_a_running_cleaner_tells_that_it_waits_for_the_service():
+    """By its metric, which an alert reads: while its token is refused, and while nobody answers. Then it goes on by itself."""
+    token, other, port = "a" * 20, "b" * 20, free_port()
     with folder() as at:
-        for more, status, text in [(["--url", "here"], 1, "no address"), (["--metrics", "here"], 2, "--metrics"), (["--url", "ftp://a"], 1, "no address"),
-                                   (["--prefix", ".relkvanu-"], 1, "files that begin with .relkvanu-")]:
-            told = subprocess.run([PROGRAM, "clean", "--once", "--job", "a", "--folder", at, *more], stderr=subprocess.PIPE, text=True, timeout=COMMAND, check=False)
-            assert told.returncode == status and text in told.stderr, told
+        files = f"{at}/files"
+        os.mkdir(files)
+        for name, words in (("tokens", f"write {token}"), ("token", token)):
+            written(f"{at}/{name}", words)
+        server = Server(at, args=["--token-file", f"{at}/tokens"]).start()
+        job = Service(server.url, token=token).open("a", SETTINGS, [1])
+        with at_work(server, files, "--token-file", f"{at}/token", "--metrics", f"127.0.0.1:{port}") as run:
+            until(lambda: works(port) == "1")
+            for words, wanted in ((f"write {other}", "0"), (f"write {token}", "1")):
+                written(f"{at}/tokens", words)
+                told_again(server)
+                until(lambda wanted=wanted: works(port) == wanted)
+            server.kill()
+            until(lambda: works(port) == "0")
+            server.start()
+            until(lambda: works(port) == "1")
+            files_of(job, files, 100, 2)
+            until(lambda: present(files) == [])
+            assert run.poll() is None
+
+
+def test_a_second_cleaner_waits_for_the_first():
+    """It waits within its process, and serves its metrics meanwhile. Then it goes on."""
+    with a_job() as (server, job, folder):
+        files_of(job, folder, 100, 3)
+        ports = [free_port() for _ in range(2)]
+        words = [PROGRAM, "clean", "--url", server.url, "--job", "a", "--folder", folder, "--prefix", "s-"]
+        run = [subprocess.Popen([*words, "--metrics", f"127.0.0.1:{port}"], stderr=subprocess.DEVNULL) for port in ports[:1]]
+        try:
+            until(lambda: works(ports[0]) == "1")
+            run.append(subprocess.Popen([*words, "--metrics", f"127.0.0.1:{ports[1]}"], stderr=subprocess.DEVNULL))
+            until(lambda: works(ports[1]) == "0")
+            time.sleep(2)  # longer than its first pauses
+            assert run[1].poll() is None and works(ports[1]) == "0"
+            run[0].kill()
+            run[0].wait()
+            until(lambda: works(ports[1]) == "1")
+            files_of(job, folder, 200, 2)
+            until(lambda: present(folder) == [])
+        finally:
+            for it in run:
+                it.kill()
+                it.wait()

@@ -21,17 +21,17 @@ def test_sqlite():
         kept, number = 0, 0
         until(lambda: server.get("/v1/jobs/orders")[2]["seq"] >= 1)
         while server.process.poll() is None and number < 5000:
-            number += 1
             # a late acknowledgement is always made
-            ack = {"call": "ack", "id": 1, "subtask": "0.0", "fresh": [str(number * 1000 + one) for one in range(200)]}
-            told = server.request("POST", "/v1/jobs/orders/calls", {"calls": [ack]})
+            ack = {"call": "ack", "id": 1, "subtask": "0.0", "fresh": [str(number * 200 + one) for one in range(1, 201)]}
+            told = server.request("POST", "/v1/jobs/orders/calls", {"term": 1, "calls": [{"call": "reserve", "count": 200}, ack]})
             if told[0] == 200:
                 kept = max([kept] + [answer["seq"] for answer in told[2]["answers"] if "seq" in answer])
+                number += 1
         assert server.ended() == 75, server.log()[-500:]
         assert "is tried again" in server.log(), server.log()[-500:]
         subprocess.run(["mount", "-o", "remount,size=64m", small], check=True)
         server.start()
-        log = list(Service(server.url).job("orders").log())
+        log = list(Service(server.url).job("orders").log(terms=True))
         assert len(log) >= kept > 50, (len(log), kept)
         check_log(server.get("/v1/jobs/orders")[2], [1], log)
         return f"{kept} calls were acknowledged before the disk was full, and all were there after"

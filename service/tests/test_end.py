@@ -48,7 +48,7 @@ def is_gone(server, at):
 
 
 def test_an_end():
-    with served(names=True) as server:
+    with served() as server:
         at = pathlib.Path(server.folder) / "state"
         has_a_job(server, at, keep_on_cancel=True)
         told = end(server, at)
@@ -67,7 +67,7 @@ def test_an_end():
 
 
 def test_an_end_with_a_file_that_nobody_knows():
-    with served(names=True) as server:
+    with served() as server:
         at = pathlib.Path(server.folder) / "state"
         job = has_a_job(server, at)
         state_file(at, 1 << 40)
@@ -80,7 +80,7 @@ def test_an_end_with_a_file_that_nobody_knows():
 
 def test_an_end_that_is_killed():
     chance, kills = random.Random(os.environ.get("SEED", "1")), 0
-    with served(names=True) as server:
+    with served() as server:
         at = pathlib.Path(server.folder) / "state"
         for _ in range(3):
             has_a_job(server, at)

@@ -7,9 +7,9 @@ import subprocess
 import threading
 import time
 
-from harness import COMMAND, ENGINE, SETTINGS, Server, configured, folder, raised, served, slowed, until
+from harness import COMMAND, ENGINE, SETTINGS, Server, Service, configured, folder, raised, served, slowed, until
 from postgres import postgres
-from relkvanu_service import Gone, OtherLog, Service, ack, cancel, deleted, dispose, restore, savepoint
+from relkvanu_service import Gone, OtherLog, ack, cancel, deleted, dispose, reserve, restore, savepoint
 from run import Skipped
 from slow import Slow
 from test_images import read_and_cut
@@ -37,8 +37,8 @@ def test_after_a_cut():
     with served(args=CUTTING) as server:
         service = Service(server.url)
         job = service.open("a", SETTINGS, [1])
-        job.calls([savepoint(), ack(1, "0.0", list(range(300))), savepoint()])
-        assert [server.get(f"/v1/jobs/a/events?after={after}&limit={most}")[2]["upto"] for after, most in ((0, 1), (1, 1), (1, 0), (3, 1))] == [1, 2, 1, 3]
+        job.calls([savepoint(), ack(1, "0.0", range(1, 301)), savepoint()])
+        assert [server.get(f"/v1/jobs/a/events?after={after}&limit={most}")[2]["upto"] for after, most in ((0, 1), (3, 1), (3, 0), (5, 1))] == [3, 4, 3, 5]
         missed = job.events()[0] - 1  # an engine that has not heard of savepoint 2
         job.call(dispose(1))
         knew = job.state()["last_event"]  # and one that has heard of all
@@ -134,29 +134,29 @@ def restored(server, database):
     early, after, log = told["events"][2]["seq"], told["upto"], told["log"]
     server.again()
     state = job.state()
-    assert state["log"] != log and after == state["last_event"] == 6
+    assert state["log"] != log and after == state["last_event"] == 8
     # places from before the start are places of this log
     follower = job.follower(after, log)
     job.call(savepoint())
-    assert [event["seq"] for event in follower.next(5)] == [7]
+    assert [event["seq"] for event in follower.next(5)] == [9]
     copy.make()
     job.call(ack(4, "0.0", [4]))
     for number in range(5, 9):
         job.calls([savepoint(), ack(number, "0.0", [number])])
-    assert len(follower.next(5)) == 9 and follower.after == 16
+    assert len(follower.next(5)) == 9 and follower.after == 18
     other = job.follower(follower.after, follower.log)
     copy.restore()
     # the log is shorter than the place
-    assert job.state()["seq"] == 7
+    assert job.state()["seq"] == 9
     for _ in range(2):
         ends(follower)
-    assert follower.after == 16
+    assert follower.after == 18
     # the log has grown beyond the place again, by other calls
     for number in range(20):
         job.calls([savepoint(), ack(5 + number, "0.0", [100 + number])])
     ends(other)
     # a place from before the backup is one of this log
-    assert [event["seq"] for event in job.follower(early, log).next(5)] == list(range(early + 1, 48))
+    assert [event["seq"] for event in job.follower(early, log).next(5)] == list(range(early + 1, 50))
     status, _, body = server.get("/v1/jobs/a/events?after=5&log=nobody")
     assert (status, body["field"], body["reason"]) == (410, "after", "other_log"), body
     return "410 after a restore, before and after the log grew beyond the place; none after a start"
@@ -175,7 +175,7 @@ def test_after_a_restored_dump_of_postgres():
 def test_an_engine_in_rust_over_a_restored_backup():
     if not os.path.exists(ENGINE):
         raise Skipped("the client in Rust", f"{ENGINE} is not built")
-    with served(names=True) as server:
+    with served() as server:
         run = subprocess.Popen([ENGINE, server.url, "rust", "100000"], stdout=subprocess.PIPE, stderr=subprocess.STDOUT, text=True)
         job, copy = Service(server.url).job("rust"), Copy(server, None)
         until(lambda: (server.get("/v1/jobs/rust")[2] or {}).get("seq", 0) > 40)
@@ -198,7 +198,7 @@ def test_an_engine_in_rust_hears_of_others():
     """Somebody restores its job, and later cancels it."""
     if not os.path.exists(ENGINE):
         raise Skipped("the client in Rust", f"{ENGINE} is not built")
-    with served(names=True) as server:
+    with served() as server:
         run = subprocess.Popen([ENGINE, server.url, "rust", "100000"], stdout=subprocess.PIPE, stderr=subprocess.STDOUT, text=True)
         job = Service(server.url).job("rust")
         until(lambda: (server.get("/v1/jobs/rust")[2] or {}).get("seq", 0) > 40)

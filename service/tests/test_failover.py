@@ -12,9 +12,9 @@ import time
 import requests
 
 from proxy import Proxy
-from harness import BUSY, COMMAND, ENGINE, PROGRAM, SETTINGS, Server, configured, content, folder, free_port, raised, served, slowed, until
+from harness import BUSY, COMMAND, ENGINE, PROGRAM, SETTINGS, Server, Service, configured, content, folder, free_port, raised, served, slowed, until
 from postgres import postgres
-from relkvanu_service import Failed, Service, ack, cancel, dispose, restore, savepoint
+from relkvanu_service import Failed, ack, cancel, dispose, restore, savepoint
 from run import Skipped
 
 PATIENCE = 25  # seconds: so a try has 10 of them
@@ -40,7 +40,7 @@ def test_a_machine_that_is_gone():
     """Python, the engine in Rust, and `clean`: each gets to the second address."""
     if not os.path.exists(ENGINE):
         raise Skipped("the client in Rust", f"{ENGINE} is not built")
-    with served(names=True) as server, gone() as first:
+    with served() as server, gone() as first:
         os.mkdir(f"{server.folder}/files")
         Service(server.url).open("files", SETTINGS, [1])
         runs, took = {}, {}
@@ -76,9 +76,9 @@ def test_answers_that_are_lost_are_answered_again():
         assert job.take() == [8]
         assert job.call(cancel())["seq"]
         made = [entry["line"].split(" ")[0] for entry in Service(server.url).job("a").log()]
-        assert made == ["savepoint", "ack"] * 2 + ["restore", "dispose", "take", "cancel"], made
+        assert made == ["fence", "reserve", "savepoint", "in", "savepoint", "in", "restore", "dispose", "take", "cancel"], made
         keys = [key for method, path, key in proxy.came if path.endswith("/calls")]
-        assert None not in keys and keys[::2] == keys[1::2] and len(set(keys)) == 8, keys
+        assert None not in keys and keys[::2] == keys[1::2] and len(set(keys)) == 9, keys
         proxy.http.shutdown()
         return f"{len(proxy.came)} requests, {len(made)} calls"
 
@@ -149,7 +149,7 @@ def test_the_leader_that_a_standby_names():
 def test_keys_are_looked_up_for_a_group():
     """Many requests at once, beside a commit that takes a while: those that wait share a statement that looks up their keys."""
     clients, rounds = 32, 4
-    body = len(json.dumps({"calls": [ack(1, "0.0", [1000])]}))
+    body = len(json.dumps({"calls": [ack(1, "0.0", [100], term=1)]}))
     with postgres() as database, folder() as at:
         with open(f"{database.data}/postgresql.conf", "a", encoding="utf-8") as it:
             it.write("log_statement = 'all'\nlog_min_messages = log\n")
@@ -163,9 +163,9 @@ def test_keys_are_looked_up_for_a_group():
         database.sql("""create table held(); create function slow() returns trigger language plpgsql as
             'begin while exists(select from held) loop perform pg_sleep(0.01); end loop; return null; end';
             create trigger slow after insert on request for each statement execute function slow()""")
-        for _ in range(rounds):
+        for first in range(100, 100 + rounds * clients, clients):
             database.sql("insert into held default values")
-            threads = [threading.Thread(target=lambda number: job.calls([ack(1, "0.0", [1000 + number])]), args=(number,)) for number in range(clients)]
+            threads = [threading.Thread(target=lambda name: job.calls([ack(1, "0.0", [name], term=1)]), args=(first + number,)) for number in range(clients)]
             threads[0].start()
             # its commit is under way, and no other one, such as that of a lease
             until(lambda: database.sql("select count(*) from pg_stat_activity where wait_event = 'PgSleep'") == "1")
@@ -201,7 +201,7 @@ def a_certificate(path):
 def test_https():
     if not os.path.exists(ENGINE):
         raise Skipped("the client in Rust", f"{ENGINE} is not built")
-    with served(names=True) as server:
+    with served() as server:
         path, renewed = (a_certificate(f"{server.folder}/{name}") for name in ("certificate", "renewed"))
         url, context = with_tls(server, path)
         trusting = {**os.environ, "SSL_CERT_FILE": path}

@@ -6,8 +6,8 @@ import sqlite3
 import threading
 import time
 
-from harness import Server, folder, served, served_job, sqlite, until
-from relkvanu_service import Service, ack, dispose, savepoint, take
+from harness import Server, Service, folder, served, served_job, sqlite, until
+from relkvanu_service import ack, dispose, savepoint, take
 from writers import SETTINGS, SHAPE, Writer, end
 
 
@@ -31,7 +31,9 @@ class Model:
 
     def follow(self, entry):
         before = self.present()
-        getattr(self, "on_" + entry["line"].split(" ")[0])(entry, entry["line"].split(" "))
+        words = entry["line"].removeprefix("in * ").split(" ")
+        if words[0] not in ("fence", "reserve"):
+            getattr(self, "on_" + words[0])(entry, words)
         for file in before - self.present():
             self.files[file]["released"] = entry["seq"]
         assert sorted(set(map(int, entry["ended"]))) == sorted(self.ended(entry)), entry
@@ -173,7 +175,7 @@ def test_records_and_files_against_a_model():
             assert not writer.errors, writer.errors
         # nothing moves any more: pending records expire, and the job fails over
         until(lambda: job.state()["mode"] == "failed", 30)
-        log = list(job.log())
+        log = list(job.log(terms=False))
         until(lambda: job.files()["upto"] == len(log), 20)
         first = compare(job, log)
         server.stop()
@@ -205,7 +207,7 @@ def test_the_history_of_another_log_is_forgotten():
         server.stop()
         server.args = []
         server.start()
-        until(lambda: (it := job.files())["upto"] == 5 and not it["taken"])
+        until(lambda: (it := job.files())["upto"] == 7 and not it["taken"])
         assert job.file(11)["history"]["released"] is None and len(job.records()) == 3, job.file(11)
 
 
@@ -216,7 +218,7 @@ def test_the_history_of_an_earlier_version_is_set_aside():
         [path] = glob.glob(f"{server.folder}/history-*[0-9]")
         sqlite(path, "alter table progress drop column at")
         server.start()
-        until(lambda: job.files()["upto"] == 1)
+        until(lambda: job.files()["upto"] == 3)
         assert os.path.exists(f"{path}.bad") and "it is made again" in server.log(), server.log()
 
 
@@ -231,7 +233,7 @@ def test_a_database_is_no_history():
             job.call(savepoint())
             until(lambda: "it is the database of a service, and no history" in other.log())
             assert "the history is broken" in until(lambda: (it := other.get("/healthz"))[0] == 200 and it)[2]
-            assert job.call(savepoint())["seq"] == 2 and glob.glob(f"{history}.bad*") == [], os.listdir(at)
+            assert job.call(savepoint())["seq"] == 4 and glob.glob(f"{history}.bad*") == [], os.listdir(at)
             assert other.stop() == 0
             assert sqlite(history, "select count(*) from sqlite_master where name = 'progress'") == [(0,)]
-        assert first.call(savepoint())["seq"] == 2 and server.process.poll() is None
+        assert first.call(savepoint())["seq"] == 4 and server.process.poll() is None

@@ -1,5 +1,5 @@
 """Images of jobs: a start begins with the last one, the log is cut behind it, and nothing that was promised is lost. Also damaged
-images, file numbers that were chosen against a coordinator of an image, and databases of other versions."""
+images, and databases of other versions."""
 import hashlib
 import re
 import signal
@@ -9,12 +9,11 @@ import time
 from contextlib import closing
 
 from harness import (
-    ACK_PENDING, COMMAND, PROGRAM, SETTINGS, TOP, Archive, PgArchive, Server, beside, caught_up, check_log, configured, folder, lease_of, lose_history,
-    over_copy, served, served_job, until
+    ACK_PENDING, COMMAND, PROGRAM, SETTINGS, Archive, PgArchive, Server, Service, beside, caught_up, check_log, configured, folder, lease_of,
+    lose_history, over_copy, served, served_job, until
 )
-from load import processor_times
 from postgres import postgres
-from relkvanu_service import Gone, Service, ack, decline, deleted, dispose, savepoint
+from relkvanu_service import Gone, ack, decline, deleted, dispose, savepoint
 from writers import check_kept
 
 KEEPING = ["--image-calls", "20", "--keep-calls", "30"]
@@ -82,35 +81,6 @@ def test_a_start_goes_from_the_last_image():
         return f"{server.replayed()[-1]} of {len(whole)} calls made again, {first - 1} cut; a key from before the cut is answered"
 
 
-def cost_from_an_image(kind):
-    """The processor time, in seconds, of a service that starts with an image of a job which names 24,000 files, and goes on with them.
-    tests/meeting.c makes the numbers: `random`, or `meeting`, which collide in maps that hash under words that are 0."""
-    with folder() as at:
-        subprocess.run(["cc", "-O2", f"{TOP}/tests/meeting.c", "-o", f"{at}/meeting"], check=True)
-        told = subprocess.run([f"{at}/meeting", kind, "24000"], stdout=subprocess.PIPE, text=True, check=True).stdout.split()
-    parts = [[int(number) for number in told[first : first + 4000]] for first in range(0, 24000, 4000)]
-    with served_job("orders", SETTINGS, [6], args=["--image-calls", "7"]) as (server, job):
-        job.calls([savepoint(), *(ack(1, f"0.{index}", part) for index, part in enumerate(parts))])
-        until(lambda: (it := job.state()["image"]) and it["seq"] == 7)
-        server.stop()
-        server.start()
-        assert server.replayed()[-1] == 0, server.replayed()
-        job.calls([savepoint(), *(ack(2, f"0.{index}", reused=part) for index, part in enumerate(parts)), dispose(1), dispose(2)])
-        assert job.state()["files"]["waiting"] == 24000, job.state()
-        return processor_times(server)[0]
-
-
-def test_chosen_file_numbers_cost_no_more_after_a_start_from_an_image():
-    costs = {"random": [], "meeting": []}
-    # the least of some: what else the machine does can only add to it
-    while len(costs["random"]) < 2 or min(costs["meeting"]) > 2 * min(costs["random"]) and len(costs["random"]) < 6:
-        for kind, found in costs.items():
-            found.append(cost_from_an_image(kind))
-    plain, meeting = min(costs["random"]), min(costs["meeting"])
-    assert meeting <= 2 * plain, costs
-    return f"{meeting:.2f} s of processor time for numbers that meet, {plain:.2f} s for others"
-
-
 def digest(row):
     """The digest of an image, by its columns."""
     job, seq, at, shape, completed, event, text = row
@@ -147,7 +117,9 @@ def test_an_image_that_is_damaged_stops_the_start():
         server.start()
         read_and_cut(job, 30)  # and one is made in its place
         after = seen(job, [200])
-        assert after[0]["image"] is not None and after[1:] == before[1:], (before, after)
+        # this image is later, and with it the cut, so files that were deleted long ago may be forgotten
+        was = {**before[1], "deleted": before[1]["deleted"][:len(after[1]["deleted"])]}
+        assert after[0]["image"] is not None and after[1:] == (was, *before[2:]), (before, after)
         job.calls([savepoint(), ack(21, "0.0")])
         server.stop()
         image = base.execute("select max(seq) from image").fetchone()[0]
@@ -163,7 +135,7 @@ def test_an_image_that_is_damaged_stops_the_start():
 def test_databases_of_other_versions():
     """Those of a newer program are refused, and stay as they are. Those of an older one are read."""
     with served(args=KEEPING) as server:
-        Service(server.url).open("orders", SETTINGS, [2]).call(savepoint())
+        Service(server.url).open("orders", SETTINGS, [2], 0).call(savepoint())
         server.stop()
         base = sqlite3.connect(server.database, isolation_level=None)
         for version in (3, 99):
@@ -171,16 +143,16 @@ def test_databases_of_other_versions():
             refused(server, f"the tables of the database have version {version}, and this program knows those up to 2")
         base.executescript("drop table storage; pragma user_version = 1;")  # of a program before that table
         server.start()
-        assert Service(server.url).job("orders").state()["seq"] == 1
+        assert Service(server.url).job("orders").state()["seq"] == 2
     with postgres() as database, served(database=database.url, args=KEEPING) as server:
-        Service(server.url).open("orders", SETTINGS, [2]).call(savepoint())
+        Service(server.url).open("orders", SETTINGS, [2], 0).call(savepoint())
         server.stop()
         assert database.sql("select number from schema_version") == "2"
         database.sql("update schema_version set number = 3")
         refused(server, "the tables of the database have version 3")
         database.sql("drop table storage; update schema_version set number = 1")
         server.start()
-        assert Service(server.url).job("orders").state()["seq"] == 1
+        assert Service(server.url).job("orders").state()["seq"] == 2
 
 
 def test_a_history_that_is_lost_after_a_cut():
@@ -207,7 +179,7 @@ def test_a_history_that_is_lost_after_a_cut():
 
 def test_a_backup_while_images_are_made():
     with served(args=KEEPING) as server:
-        archive, job = Archive(server.database), Service(server.url).open("orders", SETTINGS, [2])
+        archive, job = Archive(server.database), Service(server.url).open("orders", SETTINGS, [2], 1510)
         working = beside(worked, job, 150)
         until(lambda: job.state()["first"] > 100)
         copy = f"{server.folder}/copy.db"

@@ -5,9 +5,9 @@ import shutil
 import signal
 import subprocess
 
-from harness import PROGRAM, Server, beside, caught_up, configured, folder, lease_of, served, sqlite, until
+from harness import PROGRAM, Server, Service, beside, caught_up, configured, folder, lease_of, served, sqlite, until
 from postgres import postgres
-from relkvanu_service import Failed, Service, ack, cancel, deleted, dispose, savepoint
+from relkvanu_service import Failed, ack, cancel, deleted, dispose, savepoint
 from run import Skipped
 from test_images import SETTINGS, worked
 from test_metrics import scraped
@@ -40,9 +40,9 @@ def rows(path, tables, number):
 
 def ended(server, service, name):
     """A job with much in its log, its history and its metrics, that has ended; its number."""
-    job = service.open(name, SETTINGS, [2], storage={"folder": "/srv"})
+    job = service.open(name, SETTINGS, [2], 620, storage={"folder": "/srv"})
     worked(job, 60)
-    job.calls([savepoint(), ack(61, "0.0", [7001], sizes=[5])])
+    job.calls([savepoint(), ack(61, "0.0", [620], sizes=[5])])
     caught_up(job)
     until(lambda: f'job_name="{name}"' in server.get("/metrics")[2])
     refused(service, name, "the job runs")
@@ -70,13 +70,13 @@ def test_a_job_is_deleted_with_what_was_kept_of_it():
         assert server.get("/v1/jobs/orders")[0] == 404 and [it["name"] for it in service.jobs()] == ["users"]
         until(lambda: not rows(server.database, TABLES, 2), told=lambda: rows(server.database, TABLES, 2))
         until(lambda: not rows(f"{server.folder}/history-{server.port}", HISTORY, 2))
-        assert not [line for line in server.get("/metrics")[2].splitlines() if 'job_name="orders"' in line]
+        until(lambda: 'job_name="orders"' not in server.get("/metrics")[2])
         # the same name is another job then, after a start too: no number is given twice
         for _ in range(2):
             server.again()
             assert server.get("/v1/jobs/orders")[0] == 404
         new = service.open("orders", SETTINGS, [2])
-        assert new.state()["seq"] == 0 and list(new.log()) == [] and new.file(10)["history"] is None
+        assert new.state()["seq"] == len(list(new.log())) == 2 and new.file(10)["history"] is None
         worked(new, 2)
         assert sqlite(server.database, "select job, name from job order by job") == [(1, "users"), (3, "orders")]
         assert sqlite(server.database, "select job, name, is_empty from gone_job") == [(2, "orders", 1)]
@@ -182,7 +182,7 @@ def test_logs_are_cut_by_their_bytes():
     text = "image_calls = 50\nkeep_calls = 1000000\nkeep_bytes = 100000\n"
     with served(text) as server:
         service = Service(server.url)
-        jobs = [service.open(name, SETTINGS, [1]) for name in ("large", "larger", "small")]
+        jobs = [service.open(name, SETTINGS, [1], 0) for name in ("large", "larger", "small")]
         jobs[2].calls([{"call": "tick"}] * 200)
         for round_number in range(20):
             jobs[0].calls([{"call": "tick"}] * 100)
@@ -198,9 +198,9 @@ def test_logs_are_cut_by_their_bytes():
         # a tick and its answer have some 50 bytes, and count as 120
         until(lambda: sum(kept()) * 120 < 160_000, 20, told=kept)
         large, larger, small = kept()
-        assert small == 200 and large > 200 and larger > 200, kept()
+        assert small == 201 and large > 200 and larger > 200, kept()
         server.again()
-        assert [job.state()["seq"] for job in jobs] == [2000, 4000, 200]
+        assert [job.state()["seq"] for job in jobs] == [2001, 4001, 201]
         for _ in range(5):
             jobs[0].calls([{"call": "tick"}] * 100)
             caught_up(jobs[0])

@@ -89,7 +89,7 @@ def test_a_durable_coordinator():
 def test_a_service_over_sqlite():
     """Which is killed too, now and then."""
     def run(at, kills):
-        with served(names=True) as server:
+        with served() as server:
             def meanwhile():
                 if random.random() < 0.3:
                     server.again()
@@ -104,7 +104,7 @@ def test_a_service_over_postgresql_whose_standby_takes_over():
     def run(at, kills):
         with postgres() as database, folder() as place:
             database.sql("create table lines (line text)")
-            leader, other = Server(place, database.url, names=True).start(), Server(place, database.url, names=True).stand_by()
+            leader, other = Server(place, database.url).start(), Server(place, database.url).stand_by()
             lead = [leader, other]
 
             def meanwhile():
@@ -122,7 +122,7 @@ def test_a_service_over_postgresql_whose_standby_takes_over():
 
 def test_a_second_process_takes_the_job():
     """The first one ends, and says why."""
-    with folder() as at, served(names=True) as server:
+    with folder() as at, served() as server:
         for it in ("state", "target"):
             os.mkdir(f"{at}/{it}")
         first = started(at, server.url)
@@ -137,7 +137,7 @@ def test_a_second_process_takes_the_job():
 
 def test_a_job_whose_records_all_expire():
     """The runner gives it up, in either language, and says which tasks did not acknowledge."""
-    with folder() as at, served(names=True) as server:
+    with folder() as at, served() as server:
         for it in ("state", "target", "files", "out"):
             os.mkdir(f"{at}/{it}")
         run = Run(at, server.url, f"{at}/files", f"{at}/out", RELKVANU_PATIENCE="1")
@@ -157,7 +157,7 @@ def carried(at, *table):
     one, two = f"{at}/one", f"{at}/two"
     for it in ("one/state", "one/target", "two/target"):
         os.makedirs(f"{at}/{it}")
-    with served(names=True) as first, served(names=True) as second:
+    with served() as first, served() as second:
         run, job = started(one, first.url, *table), Service(first.url).job("kit")
         until(lambda: first.get("/v1/jobs/kit")[0] == 200 and len(job.history(3)) == 3)
         job.stop_job()

@@ -5,11 +5,11 @@ import shutil
 import sqlite3
 import subprocess
 
-from harness import COMMAND, PROGRAM, TOP, Server, beside, folder, made_once, until
+from harness import COMMAND, PROGRAM, TOP, Server, Service, beside, folder, made_once, until
 from postgres import postgres
 from relkvanu import SavepointTriggered, Settings
 from relkvanu.store import Store
-from relkvanu_service import Service, ack, decline, deleted, dispose, forfeit, reserve, restore, savepoint, trigger, undeleted
+from relkvanu_service import ack, decline, deleted, dispose, forfeit, restore, savepoint, trigger, undeleted
 from run import Skipped
 from test_commands import KEEPING, SETTINGS
 from test_damaged import Sqlite
@@ -61,9 +61,7 @@ class Damages:
         copied = [self.columns.format(place=it) for it in (self.place, str(at + 1))]
         self.sql(f"insert into {{table}}({copied[0]}) select {copied[1]} from {{table}} where {{of}} {{place}} = {at}")
         told = checked(self.path, self.url, status=1)
-        # of a record that is complete: a name is spent, and without names all files are known
-        again = "fenced Spent" if line.startswith("in ") else "ack late 0`"
-        assert f": call {at + 1}, {line}: the log has `ack completed " in told and f", and the definitions answer `{again}" in told, told
+        assert f": call {at + 1}, {line}: the log has `ack completed " in told and ", and the definitions answer `fenced Spent" in told, told
         self.sql(f"delete from {{table}} where {{of}} {{place}} = {at + 1}")
         self.move(at, -1)
         assert "are as the laws have them" in checked(self.path, self.url)
@@ -81,9 +79,9 @@ class Damages:
 
 
 def worked(job, rounds, first=1):
-    """A job without names: records that become complete, are declined and are disposed of, and files that go."""
+    """Records that become complete, are declined and are disposed of, and files that go."""
     for number in range(first, first + 2 * rounds, 2):
-        job.calls([savepoint(), ack(number, "0.0", [number]), ack(number, "0.1", [10**19 + number]), trigger(), ack(number + 1, "0.1", [10**6 + number])])
+        job.calls([savepoint(), ack(number, "0.0", [number]), ack(number, "0.1", [100 + number]), trigger(), ack(number + 1, "0.1", [200 + number])])
         assert job.call(decline(number + 1, "0.0"))["decline"] == "aborted", number
         if number > 1:
             job.call(dispose(number - 2))
@@ -91,15 +89,13 @@ def worked(job, rounds, first=1):
             job.calls([undeleted(file) if file % 5 == 0 else deleted(file)])
 
 
-def named(job):
-    """One with names, two terms and another shape."""
+def two_terms(job):
+    """Two terms, and another shape."""
     for shape in ([1], [2]):
-        term = job.term()["term"]
-        first = int(job.call(reserve(term, 5))["first"])
-        record = job.call(savepoint())["id"]
+        names, record = job.reserve(5), job.call(savepoint())["id"]
         for index in range(shape[0]):
-            job.call(ack(record, f"0.{index}", [first + index], term=term))
-        job.call(forfeit(term, [first + 3]))
+            job.call(ack(record, f"0.{index}", [names[index]]))
+        job.call(forfeit(job.term()["term"], [names[3]]))
         job.call(restore(shape=[2]))
         job.set(interval=5000)
     job.call({"call": "cancel"})
@@ -109,8 +105,8 @@ def audited(path, database, url, args):
     """A service's log is right, while it runs too, and with each damage it is not."""
     server = Server(*args, args=KEEPING).start()
     service = Service(server.url)
-    orders = service.open("orders", {**SETTINGS, "tolerable": 1000}, [2], names=False)
-    named(service.open("users", SETTINGS, [1], names=True, first=69))  # as one that is recovered
+    orders = service.open("orders", {**SETTINGS, "tolerable": 1000}, [2])
+    two_terms(service.open("users", SETTINGS, [1], 0, first=69))  # as one that is recovered
     worked(orders, 30)
     until(lambda: orders.state()["first"] > 1)
     told = checked(path, url).splitlines()
@@ -181,7 +177,7 @@ def test_the_program_of_the_laws():
                 it.write(f"#!/bin/sh\n{text}\n")
             os.chmod(it.name, 0o755)
             server = Server(at).start()
-            Service(server.url).open("orders", SETTINGS, [1], names=False).call(savepoint())
+            Service(server.url).open("orders", SETTINGS, [1]).call(savepoint())
             assert server.stop() == 0
             assert said in checked(at, server.database, status=78)
         assert "no tables of a service" in checked(at, f"{at}/other", status=78)

@@ -25,9 +25,9 @@ def test_load_by_wrk():
         scraping.join()
         assert not errors, errors[:3]
         job = Service(server.url).job("load")
-        log = list(job.log())
+        log = list(job.log(terms=True))
         assert len(log) >= made
         # the first part of a log is a log
         compared = check_log(job.state(), [4096], log[:20_000])
         rates = ", ".join(f"{rate:.0f}/s with {connections} of {batch}" for connections, batch, rate, *_ in told)
-        return f"{rates}; {made} acknowledged, the first {compared} answered alike by ckpt_job"
+        return f"{rates}; {made} acknowledged, the first {compared} answered alike by ckpt_log"

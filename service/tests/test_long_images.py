@@ -1,11 +1,12 @@
 """Images of jobs with many files: they are made beside the writer and written in parts, so no call of another job waits for one."""
 import os
 
-from harness import BUSY, SETTINGS, Server, beside, check_log, folder, served, sqlite, until
+from harness import BUSY, SETTINGS, Server, Service, beside, check_log, folder, served, sqlite, until
 from postgres import postgres
 from preloaded import built
-from relkvanu_service import Service, ack, savepoint
+from relkvanu_service import ack, savepoint
 
+LARGE = 10**15  # its first file
 TICK = {"call": "tick"}
 PART = 256 << 10
 NOT_WHOLE = "select count(*) from image_part it where not exists (select 1 from image where image.job = it.job and image.seq = it.seq)"
@@ -13,11 +14,12 @@ NOT_WHOLE = "select count(*) from image_part it where not exists (select 1 from 
 
 def opened(service, name="large"):
     """A job with 300,000 files, whose image has some 5 MB."""
-    job = service.open(name, SETTINGS, [76])
+    job = service.open(name, SETTINGS, [76], 0)
+    job.advance(1, LARGE)
+    names = job.reserve(300_001)
     job.call(savepoint())
     for subtask in range(75):
-        first = 10**15 + subtask * 4000
-        job.call(ack(1, f"0.{subtask}", range(first, first + 4000)))
+        job.call(ack(1, f"0.{subtask}", names[subtask * 4000:][:4000]))
     return job
 
 
@@ -29,26 +31,26 @@ def ticked_to(job, seq):
 def test_other_jobs_are_called_while_an_image_is_made():
     with folder() as at:
         held = f"{at}/held"
-        server = Server(at, prefix=["env", f"LD_PRELOAD={built(at, 'held')}", f"HELD={held}"], args=["--image-calls", "80"]).start()
+        server = Server(at, prefix=["env", f"LD_PRELOAD={built(at, 'held')}", f"HELD={held}"], args=["--image-calls", "90"]).start()
         service = Service(server.url)
-        large, others = opened(service), [service.open(f"j{number}", SETTINGS, [1]) for number in range(50)]
+        large, others = opened(service), [service.open(f"j{number}", SETTINGS, [1], 0) for number in range(50)]
         with open(held, "w", encoding="utf-8"):
-            ticked_to(large, 80)
+            ticked_to(large, 90)
         until(lambda: os.path.exists(f"{held}.waits"))
         # from here on the image is being made, until the file goes
         told = []
         waiting = beside(lambda: told.append(large.within(BUSY * 60).call(TICK)["seq"]))
         for round_ in range(1, 4):
-            assert [job.call(TICK)["seq"] for job in others] == [round_] * len(others)
+            assert [job.call(TICK)["seq"] for job in others] == [round_ + 1] * len(others)
         states = {state["name"]: state for state in service.jobs()}
-        assert states["large"] == {**large.state(), "now": states["large"]["now"]} and states["large"]["seq"] == 80, states["large"]
-        assert states["large"]["image"] is None and len(states) == 51 and states["j7"]["seq"] == 3
+        assert states["large"] == {**large.state(), "now": states["large"]["now"]} and states["large"]["seq"] == 90, states["large"]
+        assert states["large"]["image"] is None and len(states) == 51 and states["j7"]["seq"] == 4
         assert server.get("/metrics")[0] == 200 and waiting.is_alive() and not told
         os.remove(held)
         waiting.join(BUSY * 60)
-        assert told == [81], told
+        assert told == [91], told
         image = until(lambda: large.state()["image"])
-        assert image["seq"] == 80 and image["bytes"] > 4_000_000, image
+        assert image["seq"] == 90 and image["bytes"] > 4_000_000, image
         parts = [length for (length,) in sqlite(server.database, "select length(text) from image_part order by part")]
         assert len(parts) == -(-image["bytes"] // PART) and sum(parts) == image["bytes"] and max(parts) == PART, parts
         before = large.state()
@@ -57,8 +59,8 @@ def test_other_jobs_are_called_while_an_image_is_made():
         server.start()
         # those of an image that is not whole went at the start
         assert sqlite(server.database, NOT_WHOLE) == [(0,)] and sqlite(server.database, "select count(*) from image_part") == [(len(parts),)]
-        assert server.replayed()[-1] == 1 + 3 * 50 and large.state()["files"] == before["files"], server.replayed()
-        large.call(ack(1, "0.75", [1]))
+        assert server.replayed()[-1] == 1 + 4 * 50 and large.state()["files"] == before["files"], server.replayed()
+        large.call(ack(1, "0.75", [LARGE + 300_000]))
         state, log = large.state(), list(large.log())
         server.stop()
         check_log(state, [76], log)
@@ -66,20 +68,20 @@ def test_other_jobs_are_called_while_an_image_is_made():
 
 
 def test_each_part_has_a_commit_of_its_own():
-    with postgres() as database, served(database=database.url, args=["--image-calls", "80"]) as server:
+    with postgres() as database, served(database=database.url, args=["--image-calls", "90"]) as server:
         job = opened(Service(server.url))
         database.sql("""create table written(tx bigint, what text);
             create function noted() returns trigger language plpgsql as 'begin insert into written values(txid_current(), tg_table_name); return new; end';
             create trigger noted before insert on image_part for each row execute function noted();
             create trigger noted before insert on image for each row execute function noted()""")
-        ticked_to(job, 80)
+        ticked_to(job, 90)
         image = until(lambda: job.state()["image"])
         parts, commits = map(int, database.sql("select count(*), count(distinct tx) from written where what = 'image_part'").split("|"))
         assert parts == commits == -(-image["bytes"] // PART), (parts, commits, image)
         assert database.sql("select (select tx from written where what = 'image') = (select max(tx) from written)") == "t"
         # the next image takes the place of this one, with its parts
         server.stop()
-        server.args = ["--image-calls", "80", "--keep-calls", "0"]
+        server.args = ["--image-calls", "90", "--keep-calls", "0"]
         server.start()
         assert server.replayed()[-1] == 0, server.replayed()
         return f"{parts} commits"
@@ -87,7 +89,7 @@ def test_each_part_has_a_commit_of_its_own():
 
 def test_an_image_that_is_not_written_whole():
     """Its parts go: those of one that was put off, and those that a process left which was killed."""
-    with postgres() as database, served(database=database.url, args=["--image-calls", "80"]) as server:
+    with postgres() as database, served(database=database.url, args=["--image-calls", "90"]) as server:
         job = opened(Service(server.url))
         database.sql("""create function refused() returns trigger language plpgsql as
             $$ begin raise exception 'no room' using errcode = '53100'; end $$;
@@ -95,13 +97,13 @@ def test_an_image_that_is_not_written_whole():
             create table gone(part bigint);
             create function noted() returns trigger language plpgsql as 'begin insert into gone values(old.part); return old; end';
             create trigger noted after delete on image_part for each row execute function noted()""")
-        ticked_to(job, 80)
+        ticked_to(job, 90)
 
         def tries():
             return server.log().count("an image of job large is put off")
 
         until(lambda: tries() > 0, each=0.01)
-        assert job.call(TICK)["seq"] == 81 and job.state()["image"] is None
+        assert job.call(TICK)["seq"] == 91 and job.state()["image"] is None
         # they are deleted before the next try, which comes after 2 s, and then after twice as long each time
         until(lambda: tries() > 1, each=0.01)
         server.kill()
@@ -111,7 +113,7 @@ def test_an_image_that_is_not_written_whole():
         assert left == "3" and gone == wanted, (left, gone, tries())
         database.sql("drop trigger refused on image_part; create trigger refused before insert on image_part for each row execute function refused()")
         server.start()
-        assert database.sql(NOT_WHOLE) == "0" and server.replayed()[-1] == 81, server.replayed()
+        assert database.sql(NOT_WHOLE) == "0" and server.replayed()[-1] == 91, server.replayed()
         database.sql("drop trigger refused on image_part")
         image = until(lambda: job.call(TICK) and job.state()["image"], 30)
         assert database.sql(NOT_WHOLE) == "0" and int(database.sql("select sum(length(text)) from image_part")) == image["bytes"]

@@ -8,15 +8,7 @@ import time
 from harness import PROGRAM, TOP, Server, folder, until
 from relkvanu_service import Service
 from run import Skipped
-from writers import SETTINGS, SHAPE, NamedWriter, Writer, check, end
-
-
-def test_no_memory_in_calls():
-    return hungry(False)
-
-
-def test_no_memory_in_calls_of_a_job_with_names():
-    return hungry(True)
+from writers import SETTINGS, SHAPE, Writer, check, end
 
 
 def is_taken(process, number):
@@ -26,7 +18,7 @@ def is_taken(process, number):
     return not int(waiting, 16) >> number - 1 & 1
 
 
-def hungry(has_names):
+def test_no_memory_in_calls():
     if not (shutil.which("cc") and shutil.which("nm")):
         raise Skipped("cc", "no C compiler is here")
     with folder() as at:
@@ -36,8 +28,8 @@ def hungry(has_names):
         offsets = f"{symbols['rattle_alloc']} {symbols['rattle_realloc']} 2"
         server = Server(at, args=["--image-calls", "30"], prefix=["env", f"LD_PRELOAD={at}/hungry.so", f"HUNGRY={offsets}"]).start()
         service = Service(server.url)
-        job = service.open("orders", SETTINGS, SHAPE, names=has_names)
-        writers = [(NamedWriter if has_names else Writer)([server.url], "orders", number) for number in range(4)]
+        job = service.open("orders", SETTINGS, SHAPE)
+        writers = [Writer([server.url], "orders", number) for number in range(4)]
         for writer in writers:
             writer.start()
         opened = {}
@@ -50,7 +42,7 @@ def hungry(has_names):
             time.sleep(0.2)
             os.kill(server.process.pid, signal.SIGUSR2)
             until(lambda: is_taken(server.process.pid, signal.SIGUSR2))
-            body = {"name": f"new-{len(opened)}", "settings": {"interval": 1 << 40}, "shape": [1], "names": has_names}
+            body = {"name": f"new-{len(opened)}", "settings": {"interval": 1 << 40}, "shape": [1]}
             opened[body["name"]] = server.request("POST", "/v1/jobs", body)[0]
         end(writers)
         not_made = sum(writer.not_made for writer in writers)
@@ -60,7 +52,7 @@ def hungry(has_names):
         # a job whose names can't be given out for want of memory is not there
         assert set(opened.values()) <= {201, 507}, opened
         there = {it["name"]: it["seq"] for it in service.jobs() if it["name"] != "orders"}
-        assert there == {name: int(has_names) for name, status in opened.items() if status == 201}, (there, opened)
+        assert there == {name: 1 for name, status in opened.items() if status == 201}, (there, opened)
         before = job.state()
         server.kill()
         server.prefix = []

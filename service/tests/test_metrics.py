@@ -5,8 +5,8 @@ import shutil
 import subprocess
 import time
 
-from harness import SERVICE, TOP, content, folder, save, served, served_job, until
-from relkvanu_service import Service, ack, cancel, savepoint
+from harness import SERVICE, TOP, Service, content, folder, save, served, served_job, until
+from relkvanu_service import ack, cancel, savepoint
 from run import Skipped
 
 DEPLOY = f"{SERVICE}/deploy"
@@ -48,7 +48,7 @@ def test_metrics_say_what_was_done():
         assert abs(values['relkvanu_last_completed_timestamp_seconds{job_name="orders"}'] - opened) < 0.001
         job.calls([savepoint(), ack(1, "0.0", [1, 2]), ack(1, "0.0", [3]), ack(1, "5.5")])
         server.get("/nowhere")
-        until(lambda: 'relkvanu_history_calls{job_name="orders"} 2' in scraped(server)[0])
+        until(lambda: 'relkvanu_history_calls{job_name="orders"} 4' in scraped(server)[0])
         text, values = scraped(server)
         for name, wanted in {
             'relkvanu_calls_total{call="ack",job_name="orders",outcome="made"}': 1,
@@ -61,9 +61,9 @@ def test_metrics_say_what_was_done():
             'relkvanu_interval_seconds{job_name="orders"}': 3600,
             'relkvanu_timeout_seconds{job_name="orders"}': 600,
             'relkvanu_mode{job_name="orders"}': 1,
-            'relkvanu_log_calls{job_name="orders"}': 2,
-            'relkvanu_log_kept_calls{job_name="orders"}': 2,
-            'relkvanu_calls_since_image{job_name="orders"}': 2,
+            'relkvanu_log_calls{job_name="orders"}': 4,
+            'relkvanu_log_kept_calls{job_name="orders"}': 4,
+            'relkvanu_calls_since_image{job_name="orders"}': 4,
             'relkvanu_image_bytes{job_name="orders"}': 0,
             'relkvanu_http_requests_total{route="none",status="404"}': 1,
             "relkvanu_leader": 1,

@@ -4,8 +4,8 @@ import os
 import re
 import sqlite3
 
-from harness import LOCKED, SERVICE, TOP, beside, content, served, until
-from relkvanu_service import Service, ack, cancel, savepoint
+from harness import LOCKED, SERVICE, TOP, Service, beside, content, served, until
+from relkvanu_service import ack, cancel, savepoint
 from test_metrics import scraped
 
 # Of these another test compares two values of a running service.
@@ -17,7 +17,7 @@ ELSEWHERE = {
     "relkvanu_clean_stopped": "test_sweep",
     "relkvanu_clean_sweep_timestamp_seconds": "test_sweep",
     "relkvanu_clean_unissued_files": "test_sweep",
-    "relkvanu_clean_works": "test_discard_names",
+    "relkvanu_clean_works": "test_discard_folder",
     "relkvanu_clock_ahead_seconds": "test_clocks",
     "relkvanu_followed_timestamp_seconds": "test_lease_lengths",
     "relkvanu_history_lag_seconds": "test_summaries",

@@ -1,7 +1,6 @@
-"""Terms and names: zombies after a restore, names that are given out once, what is garbage, and jobs that are turned."""
+"""Terms and names: zombies after a restore, names that are given out once, what is garbage, and the jobs of a recovery."""
 import http.client
 import json
-import os
 import random
 import re
 import signal
@@ -16,6 +15,7 @@ from harness import (
 )
 from postgres import postgres
 from relkvanu_service import Failed, Fenced, OldTerm, Refused, Service, ack, cancel, decline, deleted, dispose, reserve, restore, savepoint
+from test_api import MAKING
 
 JOB = {"name": "orders", "settings": SETTINGS, "shape": [1]}
 
@@ -30,36 +30,24 @@ def over_both(test):
     return "; ".join(said)
 
 
-def test_a_new_job_has_names_unless_it_says_otherwise():
-    def names(server, given):
-        status, _, told = server.request("POST", "/v1/jobs", {**JOB, **given})
-        return status, told.get("names", told.get("field"))
-
-    with served(names=True) as server:
-        assert names(server, {}) == (201, True) and names(server, {}) == (200, True) and names(server, {"names": True}) == (200, True)
-        assert names(server, {"names": False}) == (409, "names")
-        assert names(server, {"name": "old", "names": False}) == (201, False) and names(server, {"name": "old"}) == (200, False)
-        assert names(server, {"name": "old", "names": True}) == (409, "names")
-        jobs = {job["name"]: job for job in server.get("/v1/jobs")[2]["jobs"]}
-        assert (jobs["orders"]["names"], jobs["orders"]["next_name"], jobs["orders"]["seq"]) == (True, "1", 1)
-        assert (jobs["old"]["names"], jobs["old"]["next_name"], jobs["old"]["seq"]) == (False, None, 0)
-        (first,) = server.get("/v1/jobs/orders/log")[2]["calls"]
-        assert (first["line"], first["answer"]) == ("fence 1", "term 1")
-        # the engines of before go on
-        old = Service(server.url).job("old")
-        assert old.call(savepoint())["id"] == 1 and old.call(ack(1, "0.0", [7]))["ack"] == "completed" and "term" not in old.call(restore())
-        assert raised(Fenced, lambda: old.call(reserve(1, 5))).name == "NoNames"
-        assert raised(Fenced, lambda: old.call(ack(1, "0.0", [8], term=1))).name == "NoNames"
-        for ask in (old.term, lambda: old.garbage([7]), lambda: old.session(1).name()):
-            assert raised(Fenced, ask).name == "NoNames"
-        assert old.begin().term is None and raised(Fenced, old.begin().session)
-    with served(names=False) as server:
-        assert names(server, {}) == (201, False) and names(server, {"name": "new", "names": True}) == (201, True)
+def test_each_job_gives_out_names():
+    """From its first call on. One that a recovery makes has none before it has its records."""
+    with served() as server:
+        for names in (False, True):
+            status, _, told = server.request("POST", "/v1/jobs", {**JOB, "names": names})
+            assert (status, told["field"]) == (400, "names") and "every job gives out the names" in told["error"], told
+        job = Service(server.url).open("orders", SETTINGS, [1])
+        assert (job.state()["next_name"], job.state()["seq"], [(it["line"], it["answer"]) for it in job.log()]) == ("1", 1, [("fence 1", "term 1")])
+        made = Service(server.url).open("made", MAKING, [1])
+        assert (made.state()["next_name"], made.state()["seq"]) == (None, 0)
+        assert made.call(savepoint())["id"] == 1 and made.call(ack(1, "0.0", [7]))["ack"] == "completed" and "term" not in made.call(restore())
+        asks = (lambda: made.call(reserve(1, 5)), lambda: made.call(ack(1, "0.0", [8], term=1)), made.term, lambda: made.garbage([7]), made.session(1).name)
+        assert [raised(Fenced, ask).name for ask in asks] == ["NoNames"] * len(asks)
 
 
 def test_a_zombie_after_a_restore():
     def zombies(at, url):
-        server = Server(at, url, names=True).start()
+        server = Server(at, url).start()
         job = Service(server.url).open("orders", SETTINGS, [1])
         old = job.begin().session(block=10)
         names = [old.name() for _ in range(3)]
@@ -118,7 +106,7 @@ def terms_in(told):
 
 
 def test_no_event_no_list_and_no_stream_has_the_term():
-    with served(names=True) as server:
+    with served() as server:
         service = Service(server.url)
         job = service.open("orders", SETTINGS, [1])
         for base in ("latest", 1, 2):
@@ -167,7 +155,7 @@ def streamed(server, path, count):
 def test_tokens_for_terms():
     with folder() as at:
         save(f"{at}/tokens", f"read {'r' * 20}\nwrite {'w' * 20}\nwrite {'o' * 20} jobs=other\n")
-        server = Server(at, args=["--token-file", f"{at}/tokens"], names=True).start()
+        server = Server(at, args=["--token-file", f"{at}/tokens"]).start()
         read, write, other = "r" * 20, "w" * 20, "o" * 20
         assert server.request("POST", "/v1/jobs", JOB, token=write)[0] == 201
         job = "/v1/jobs/orders"
@@ -192,7 +180,7 @@ def test_a_reserve_is_durable_before_it_is_told():
     """The service is killed right after answers, over and over. Each name was given out once, and the log has what was told."""
 
     def reserves(at, url):
-        server = Server(at, url, configured(at, "lease_seconds = 1\n"), names=True).start()
+        server = Server(at, url, configured(at, "lease_seconds = 1\n")).start()
         service, chance = Service(server.url), random.Random(7)
         job = service.open("orders", SETTINGS, [1])
         term, told, over = job.begin().term, [], threading.Event()
@@ -229,15 +217,6 @@ def test_a_reserve_is_durable_before_it_is_told():
     return over_both(reserves)
 
 
-def test_kills_with_names():
-    return kills.run(int(os.environ.get("RELKVANU_KILLS", "4")), names=True)
-
-
-def test_kills_with_names_over_postgresql():
-    with postgres() as database:
-        return kills.run(int(os.environ.get("RELKVANU_KILLS_PG", "2")), database, "lease_seconds = 1\n" + kills.KEEPING, names=True)
-
-
 def uses(log):
     """When each file was in use, by the log: from the place of the acknowledgement that named it to that at which its record ended."""
     live, found = {}, []
@@ -256,7 +235,7 @@ def test_garbage_is_never_in_use():
     """Tasks, restores, a discarder, kills and a sweeper, all at once. What was told to be garbage was in use at no later place of the log."""
     seconds = 4
     with folder() as at:
-        server = Server(at, args=configured(at, kills.KEEPING), names=True).start()
+        server = Server(at, args=configured(at, kills.KEEPING)).start()
         service, over, errors, told = Service(server.url), threading.Event(), [], []
         job = service.open("orders", {"interval": 30, "retained": 2, "timeout": 1000, "tolerable": 5}, [2])
         keeps = Archive(server.database)
@@ -335,10 +314,10 @@ def test_garbage_is_never_in_use():
         return f"{len(told)} answers beside {len(log)} calls and 4 kills, {len(garbage)} of {next_name - 1} names garbage at the end"
 
 
-def test_a_job_is_turned():
+def test_a_job_of_a_recovery_is_turned():
     def turned(at, url):
-        server = Server(at, url, names=False).start()
-        job = Service(server.url).open("orders", SETTINGS, [1])
+        server = Server(at, url).start()
+        job = Service(server.url).open("orders", MAKING, [1])
         job.calls([savepoint(), ack(1, "0.0", [5, 7])])
         assert [raised(Fenced, lambda: job.fence(first)).name for first in (1, 5, 7)] == ["NameInUse"] * 3
         before = job.state()["seq"]
@@ -370,7 +349,7 @@ def test_a_job_is_turned():
 
 def test_images_and_checks_of_a_job_with_names():
     """A start goes on from an image with names, and `check` compares images and answers."""
-    with served_job("orders", SETTINGS, [1], config="image_calls = 10\nkeep_calls = 10\n", names=True) as (server, job):
+    with served_job("orders", SETTINGS, [1], 0, config="image_calls = 10\nkeep_calls = 10\n") as (server, job):
         for _ in range(30):
             task = job.begin().session(block=5)
             record = job.call(savepoint())["id"]
@@ -395,7 +374,7 @@ def test_a_leader_that_is_over_answers_no_garbage():
     rounds = 3
     with postgres() as database, folder() as at:
         first, second = leader_and_standby(at, database.url, f"lease_seconds = {lease_of(3)}\n")
-        Service(first.url).open("orders", SETTINGS, [1], names=True)
+        Service(first.url).open("orders", SETTINGS, [1])
         old, new, later = first, second, []
         for _ in range(rounds):
             # each is in the socket of the old leader before it is suspended, or comes while it is
@@ -425,7 +404,7 @@ def test_a_leader_that_is_over_answers_no_garbage():
 
 
 def test_the_session_of_the_client():
-    with served_job("orders", SETTINGS, [2], names=True) as (server, job):
+    with served_job("orders", SETTINGS, [2], 0) as (server, job):
         start = job.begin()
         session, found = start.session(block=10), []
 

@@ -8,10 +8,10 @@ import sqlite3
 import subprocess
 import threading
 
-from harness import COMMAND, LOCKED, PROGRAM, save, served, until
+from harness import COMMAND, LOCKED, PROGRAM, Service, save, served, until
 from postgres import postgres
 from preloaded import SHIM, Clocks, built, shim
-from relkvanu_service import Service, ack, cancel, dispose, savepoint
+from relkvanu_service import ack, cancel, dispose, savepoint
 from test_commands import SETTINGS
 
 DAY = 86400
@@ -33,7 +33,7 @@ class Engine(threading.Thread):
             for job in self.jobs:
                 for it in job.state()["live"]:
                     if not it["done"]:
-                        job.call(ack(it["id"], "0.0"))
+                        job.calls([ack(it["id"], "0.0")])  # somebody may have ended it, or the term
 
     def stop(self):
         self.over.set()

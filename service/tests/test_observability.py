@@ -4,8 +4,8 @@ import os
 import re
 import time
 
-from harness import SETTINGS, Server, folder, save, served, until
-from relkvanu_service import Service, ack, savepoint
+from harness import SETTINGS, Server, Service, folder, save, served, until
+from relkvanu_service import ack, savepoint
 from test_metrics import scraped
 
 TRACE = "0af7651916cd43dd8448eb211c80319c"
@@ -17,7 +17,7 @@ def test_the_process_and_what_waits():
     with served() as server:
         ready = time.time()
         job = Service(server.url).open("orders", {"interval": 50}, [1])
-        until(lambda: job.state()["seq"] >= 1)
+        until(lambda: job.state()["seq"] >= 3)
         pid = server.process.pid
 
         def agreed():
@@ -49,9 +49,9 @@ def lines(server):
 
 def make_requests(server):
     """Some requests with a trace: what a user does, what a task does, and a read that fails."""
-    Service(server.url).open("orders", SETTINGS, [1])
+    Service(server.url).open("orders", SETTINGS, [1], 0)
     trace = [("traceparent", PARENT), ("Idempotency-Key", "k")]
-    server.request("POST", "/v1/jobs/orders/calls", {"calls": [savepoint(), ack(1, "0.0", [1])]}, headers=trace)
+    server.request("POST", "/v1/jobs/orders/calls", {"calls": [savepoint(), ack(1, "0.0", term=1)]}, headers=trace)
     server.request("POST", "/v1/jobs/orders/calls", {"calls": [{"call": "tick"}]}, headers=trace[:1])
     server.request("POST", "/v1/jobs/orders/calls", {"calls": [{"call": "cancel"}]}, headers=[("traceparent", "00-x")])
     server.request("DELETE", "/v1/jobs/orders?abandon=1", headers=trace[:1])

@@ -5,8 +5,8 @@ import time
 
 import requests
 
-from harness import COMMAND, PROGRAM, beside, caught_up, served, served_job, until
-from relkvanu_service import Failed, Fenced, Refused, Service, ack, cancel
+from harness import COMMAND, PROGRAM, Service, beside, caught_up, served, served_job, until
+from relkvanu_service import Failed, Fenced, Refused, ack, cancel
 
 NEVER = 1 << 40
 DEFAULTS = {"pause": 0, "at_once": 1, "timeout": 600_000, "tolerable": 0, "retained": 1, "keep_on_cancel": False}
@@ -38,12 +38,12 @@ def test_a_changed_interval_holds_without_a_restart():
         assert job.state()["due"] > NEVER and not job.state()["live"]
         told = job.set(interval=50)
         assert told["settings"] == {**DEFAULTS, "interval": 50} == job.state()["settings"], told
-        assert (told["configure"], told["dropped"], told["released"], told["seq"]) == ("configured", 0, 0, 1), told
+        assert (told["configure"], told["dropped"], told["released"], told["seq"]) == ("configured", 0, 0, 3), told
         # the timer of the service triggers by it, again and again
         for made in (1, 2, 3):
             until(lambda: [one["id"] for one in job.state()["live"] if not one["done"]] == [made])
             job.call(ack(made, "0.0", [10 + made]))
-        [first, *_] = job.log()
+        first = list(job.log())[2]
         assert first["line"].split() == ["configure", str(first["at"]), "50", "0", "1", "600000", "0", "1", "delete"], first
         assert "configure interval=50" in server.log(), server.log()
         # an open finds the job by any settings, and says those of now
@@ -184,20 +184,14 @@ def test_a_full_checkpoint_has_no_base():
 class Tasks:
     """The two subtasks of a job whose timer triggers at once. Each checkpoint has a new file of each, and that of the first one."""
 
-    def __init__(self, server, names, name="orders", **settings):
-        self.job = Service(server.url).open(name, {"interval": 10, "retained": 3, "tolerable": 1000, **settings}, [2], names=names)
-        self.files, self.count = {}, 0
+    def __init__(self, server, name="orders", **settings):
+        self.job = Service(server.url).open(name, {"interval": 10, "retained": 3, "tolerable": 1000, **settings}, [2], 0)
+        self.files = {}
         self.take_over(self.job.begin())
 
     def take_over(self, start):
         """The tasks that were started with what a restore tells."""
-        self.start, self.task = start, start.session() if start.term else None
-
-    def number(self):
-        if self.task:
-            return self.task.name()
-        self.count += 1
-        return self.count
+        self.start, self.task = start, start.session()
 
     def pending(self):
         return [one["id"] for one in self.job.state()["live"] if not one["done"] and one["kind"] == "checkpoint"]
@@ -206,7 +200,7 @@ class Tasks:
         """Completes the checkpoint that is pending next, and returns its number."""
         until(self.pending)
         [made] = self.pending()
-        fresh = [self.number(), self.number()]
+        fresh = [self.task.name(), self.task.name()]
         reused = [] if first is None else [first]
         acks = [ack(made, "0.0", [fresh[0]], reused, term=self.start.term), ack(made, "0.1", [fresh[1]], term=self.start.term)]
         self.files[made] = {"0.0": sorted([fresh[0], *reused]), "0.1": [fresh[1]]}
@@ -218,9 +212,9 @@ class Tasks:
         return {part["subtask"]: sorted(int(file) for file in part["files"]) for part in live["acks"]}
 
 
-def back(names):
-    with served(names=names) as server:
-        tasks = Tasks(server, names)
+def test_back_to_an_older_checkpoint():
+    with served() as server:
+        tasks = Tasks(server)
         job, made = tasks.job, [tasks.complete()]
         first = tasks.files[made[0]]["0.0"][0]
         made += [tasks.complete(first), tasks.complete(first)]
@@ -231,15 +225,14 @@ def back(names):
         assert "NoSuchCheckpoint" in ran(server, "restore", "orders", "--checkpoint", 99, "--accept-published", status=1)
         assert [one["id"] for one in job.state()["live"] if one["done"]] == made
         tasks.take_over(job.go_back(made[1], accept_published=True))
-        assert tasks.start.kind == "savepoint" and (tasks.start.term is not None) == names, tasks.start
+        assert (tasks.start.kind, tasks.start.term) == ("savepoint", old.term + 1), tasks.start
         copy = tasks.start.id
         # a savepoint with the files of that checkpoint, and nothing else is left
         assert tasks.held(copy) == tasks.files[made[1]] and [one["id"] for one in job.state()["live"] if one["done"]] == [copy]
         kept = {file for files in tasks.files[made[1]].values() for file in files}
         every = {file for files in tasks.files.values() for part in files.values() for file in part}
         assert set(job.take(1000)) == every - kept, (every, kept)
-        if names:
-            assert job.calls([ack(copy + 1, "0.0", term=old.term)])[0] == {"fenced": "OldTerm"}
+        assert job.calls([ack(copy + 1, "0.0", term=old.term)])[0] == {"fenced": "OldTerm"}
         server.again()
         assert tasks.held(copy) == tasks.files[made[1]] and job.state()["choice"] == {"kind": "savepoint", "id": copy}
         # the job goes on from there
@@ -258,7 +251,7 @@ def back(names):
 
 def test_an_advance():
     """The job goes on above all terms and names that were given out: as after a restored backup, which lacks some."""
-    with served_job("orders", {"interval": NEVER}, [1], names=True) as (server, job):
+    with served_job("orders", {"interval": NEVER}, [1], 0) as (server, job):
         task, made = job.begin().session(), job.checkpoint()["id"]
         task.ack(made, "0.0", [task.name()])
         told = job.advance(100, 5000)
@@ -269,7 +262,7 @@ def test_an_advance():
         assert job.garbage([1, 4000, 9000]) == ([4000], [9000])
         # smaller ones lower nothing, and one under a key is made once
         assert [job.advance(0, 1, "k")["term"] for _ in range(2)] == [102, 102] and job.term() == {"term": 102, "next_name": 6000}
-        [first, *_] = [entry for entry in job.log() if entry["line"].startswith("advance")]
+        [first, *_] = [entry for entry in job.log(terms=False) if entry["line"].startswith("advance")]
         assert first["line"].split()[2:] == ["*", "5000"] and next(entry for entry in job.log(terms=True) if entry["seq"] == first["seq"])["line"].split()[2:] == ["100", "5000"], first
         told = ran(server, "advance", "orders")
         assert told == f"the job begins again, from checkpoint {made}; files that wait for deletion now: 0 more; the term is {102 + 2**32 + 1}\n", told
@@ -289,8 +282,6 @@ def test_an_advance():
         job.begin_job()
         job.call(cancel())
         assert refused(lambda: job.advance(0, 1)) == "NotRunning"
-        Service(server.url).open("users", {"interval": NEVER}, [1], names=False)
-        assert "NoNames" in ran(server, "advance", "users", status=1) and fenced(lambda: Service(server.url).job("users").advance(0, 1)) == "NoNames"
         assert server.stop() == 0
         told = subprocess.run([PROGRAM, "check", "--database", server.database], stdout=subprocess.PIPE, stderr=subprocess.STDOUT, text=True, timeout=COMMAND, check=False)
         assert told.returncode == 0, told
@@ -305,14 +296,9 @@ def fenced(make):
     return None
 
 
-def test_back_to_an_older_checkpoint():
-    for names in (False, True):
-        back(names)
-
-
 def test_a_kill_leaves_all_of_the_way_back_or_nothing():
     with served() as server:
-        tasks, whole, turn = Tasks(server, False), 0, 0
+        tasks, whole, turn = Tasks(server), 0, 0
         job, kills = tasks.job, 25
         # a busy machine makes none so soon
         while turn < kills or whole == 0 and turn < 10 * kills:
@@ -323,6 +309,7 @@ def test_a_kill_leaves_all_of_the_way_back_or_nothing():
             server.kill()
             going.join()
             server.start()
+            tasks.take_over(job.begin())
             lines = [one["line"].split() for one in job.log()]
             copies = [one["record"] for one in job.log() if one["line"].startswith("savepoint ")]
             restores = [int(words[2]) for words in lines if words[0] == "restore" and words[2] != "latest"]

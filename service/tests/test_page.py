@@ -20,7 +20,7 @@ class Engine(threading.Thread):
 
     def __init__(self, url):
         super().__init__(daemon=True)
-        self.job = Service(url).open("orders", {"interval": 250, "timeout": 3000, "tolerable": 100, "retained": 2}, [2, 3], names=True)
+        self.job = Service(url).open("orders", {"interval": 250, "timeout": 3000, "tolerable": 100, "retained": 2}, [2, 3])
         self.task = self.job.begin().session()
         self.over, self.number, self.completed = threading.Event(), 0, 0
 

@@ -4,8 +4,8 @@ import json
 import time
 
 import test_page
-from harness import Server, caught_up, folder, save, served, served_job, until
-from relkvanu_service import Service, ack, decline, savepoint
+from harness import Server, Service, caught_up, folder, save, served, served_job, until
+from relkvanu_service import ack, decline, savepoint
 
 SETTINGS = {"interval": 3_600_000, "timeout": 7_200_000, "tolerable": 1000}
 READ, WRITE = "r" * 20, "w" * 20
@@ -89,13 +89,13 @@ def act_by_keyboard(page, server):
     assert focus(page) == "ask-yes" and nameless(page) == []
     keys(page, Keys.ENTER)
     until(lambda: focus(page) == "ask-token", 5)
-    assert "write token" in test_page.texts(page, "#ask-wrong")[0] and job.state()["seq"] == 0
+    assert "write token" in test_page.texts(page, "#ask-wrong")[0] and job.state()["seq"] == 2
     test_page.picture(page, "service-page-asks")
     keys(page, WRITE, Keys.ENTER)
     until(lambda: not is_asking(page), 5)
-    assert test_page.texts(page, "#done") == ["Savepoint 1 is triggered, as call 1."], test_page.texts(page, "#done")
+    assert test_page.texts(page, "#done") == ["Savepoint 1 is triggered, as call 3."], test_page.texts(page, "#done")
     until(lambda: focus(page) == "do-savepoint", 5)
-    assert [entry["line"].split()[0] for entry in job.log()] == ["savepoint"]
+    assert [entry["line"].split()[0] for entry in job.log()] == ["fence", "reserve", "savepoint"]
 
     # what can't be taken back begins at the other button, and Escape does nothing
     job.calls([ack(1, "0.0", [1]), ack(1, "1.0", [2]), ack(1, "1.1", [3])])
@@ -107,7 +107,7 @@ def act_by_keyboard(page, server):
     opened(page, "#savepoints button")
     keys(page, Keys.ENTER)
     until(lambda: not is_asking(page), 5)
-    assert job.state()["seq"] == 4
+    assert job.state()["seq"] == 6
 
     # a restore from the savepoint, in another shape
     opened(page, "#do-restore")
@@ -205,7 +205,7 @@ def settings_changed(page, server, job):
     typed("set-retained", "2")
     keys(page, Keys.ENTER)
     until(lambda: not is_asking(page), 10, told=lambda: test_page.texts(page, "#ask-wrong"))
-    assert test_page.texts(page, "#done") == ["The settings are changed, as call 1."], test_page.texts(page, "#done")
+    assert test_page.texts(page, "#done") == ["The settings are changed, as call 3."], test_page.texts(page, "#done")
     assert job.state()["settings"] == {**before, **wanted, "retained": 2}
     until(lambda: "30" in test_page.texts(page, "[data-fact='Interval']")[0], 10, told=lambda: test_page.texts(page, "[data-fact='Interval']"))
     return "an interval, a number that is refused, and a choice"
@@ -229,7 +229,7 @@ def stopped_and_back(page, server, job):
 
     page.get(f"{server.url}/#/jobs/orders")
     are("running", True, False, True, True)
-    done("#do-stop", "The job stops: savepoint 1 is triggered, as call 1.")
+    done("#do-stop", "The job stops: savepoint 1 is triggered, as call 3.")
     assert asked_call(page) == "POST /v1/jobs/orders/stop\n{}", asked_call(page)
     are("stopping", False, False, True, False)
     assert "waits for the acknowledgements of savepoint 1" in test_page.texts(page, "#hint")[0]
@@ -237,16 +237,16 @@ def stopped_and_back(page, server, job):
     are("stopped", False, True, False, False)
     assert "has stopped at savepoint 1" in test_page.texts(page, "#hint")[0] and test_page.texts(page, "[data-fact='Next is due']") == ["not while it is stopped"]
     assert test_page.contrast(page) >= 4.5
-    done("#do-begin", "The job begins again from savepoint 1, as call 4.")
+    done("#do-begin", "The job begins again from savepoint 1, as call 6. The term is 3.")
     are("running", True, False, True, True)
     # a stop that fails
     job.stop_job()
     job.call(decline(2, "0.0"))
     until(lambda: "savepoint 2 has ended (declined)" in test_page.texts(page, "#hint")[0], 10)
     # the older checkpoints that are retained, and the word of consent
-    for number in (3, 4, 5):
+    for number, name in zip((3, 4, 5), job.reserve(3)):
         job.checkpoint()
-        job.call(ack(number, "0.0", [number]))
+        job.call(ack(number, "0.0", [name]))
     until(lambda: test_page.texts(page, "[data-fact='Would restart']") == ["from checkpoint 5"], 10)
     opened(page, "#do-restore")
     offered = test_page.texts(page, "#restore-from option")
@@ -274,7 +274,7 @@ def test_a_record_and_older_ones():
         job.calls([savepoint()])
         for index in (0, 1):
             time.sleep(0.1)
-            job.calls([ack(61, f"0.{index}", [1000 + index], [2], sizes=[2_500_000])])
+            job.calls([ack(61, f"0.{index}", [100 + index], [2], sizes=[2_500_000])])
         job.calls([savepoint(), ack(62, "0.0")])
         caught_up(job)
         page.get(f"{server.url}/#/jobs/orders")
@@ -354,7 +354,7 @@ def check_records_page(page, job):
     until(lambda: focus(page) == "record-title", 10)
     of_61 = test_page.records(page)[1]
     assert row.text == of_61["No"] == "61" and (of_61["Size"], of_61["New"]) == ("5.0 MB", "5.0 MB"), of_61
-    log = [entry["at"] for entry in job.log() if entry["line"].split()[:3:2] == ["ack", "61"]]
+    log = [entry["at"] for entry in job.log() if entry["line"].split()[2:5:2] == ["ack", "61"]]
     started = job.record(61)["history"]["started"]
     rows = page.execute_script("return [...document.querySelectorAll('#acks tr')].map(it => [...it.children].map(c => c.textContent))")
     assert [row[:2] for row in rows] == [["0.1", test_page.shown(log[1] - started)], ["0.0", test_page.shown(log[0] - started)]], (rows, log, started)
@@ -385,9 +385,8 @@ def test_the_term_is_shown_when_it_is_asked_for():
 
     with test_page.started(1200, 1000) as page, folder() as at:
         save(f"{at}/token", f"read {READ}\nwrite {WRITE}\n")
-        server = Server(at, args=["--token-file", f"{at}/token"], names=True).start()
-        job = Service(server.url, token=WRITE).open("orders", SETTINGS, [1])
-        Service(server.url, token=WRITE).open("other", SETTINGS, [1], names=False)
+        server = Server(at, args=["--token-file", f"{at}/token"]).start()
+        job = Service(server.url, token=WRITE).open("orders", SETTINGS, [1], 0)
         page.get(f"{server.url}/#/jobs/orders")
         until(lambda: not page.execute_script("return document.getElementById('token').hidden"), 10)
         keys_at(page, "token-text", READ, Keys.ENTER)
@@ -409,6 +408,3 @@ def test_the_term_is_shown_when_it_is_asked_for():
         keys_at(page, "ask-yes", Keys.ENTER)
         until(lambda: not is_asking(page), 10)
         assert test_page.texts(page, "#done")[0].endswith("The term is 3."), test_page.texts(page, "#done")
-        page.get(f"{server.url}/#/jobs/other")
-        until(lambda: test_page.texts(page, "#job-name") == ["other"], 10)
-        assert page.execute_script("return document.getElementById('do-term').hidden") and not test_page.texts(page, "[data-fact='Next name']")

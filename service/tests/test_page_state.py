@@ -2,8 +2,8 @@
 import time
 
 import test_page
-from harness import BUSY, caught_up, served, until
-from relkvanu_service import Service, ack, decline, savepoint
+from harness import BUSY, Service, caught_up, served, until
+from relkvanu_service import ack, decline, savepoint
 
 SETTINGS = {"interval": 3_600_000, "timeout": 7_200_000, "tolerable": 0, "retained": 2}
 

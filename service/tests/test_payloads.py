@@ -3,9 +3,9 @@ import base64
 import os
 import time
 
-from harness import caught_up, folder, leader_and_standby, lease_of, lose_history, raised, served, served_job, sqlite, until
+from harness import Service, caught_up, folder, leader_and_standby, lease_of, lose_history, raised, served, served_job, sqlite, until
 from postgres import postgres
-from relkvanu_service import Failed, Service, ack, cancel, decline, dispose, restore, savepoint, trigger
+from relkvanu_service import Failed, ack, cancel, decline, dispose, restore, savepoint, trigger
 
 SETTINGS = {"interval": 1 << 40, "timeout": 1 << 39, "retained": 3}
 PAYLOAD = bytes(range(256)) * 16  # 4096 bytes
@@ -58,7 +58,7 @@ def test_a_payload_is_there_as_long_as_its_record():
 
 
 def test_a_load_looks_at_the_files():
-    with served(names=True) as server, folder() as at:
+    with served() as server, folder() as at:
         start = Service(server.url).open("orders", SETTINGS, [1]).begin()
         task = start.session()
         name = task.name()
@@ -146,7 +146,7 @@ def test_a_deleted_job_leaves_no_rows():
         service = Service(server.url)
         job = service.open("orders", SETTINGS, [2])
         job.calls([savepoint(), *both(1, b"a"), savepoint(), decline(2, "0.0", reason="no disk"), ack(1, "0.0", size=5), cancel()])
-        assert rows(server) == [1, 1] and rows(server, "figure") == [5], rows(server, "figure")
+        assert rows(server) == [1, 1] and rows(server, "figure") == [7], rows(server, "figure")
         assert service.delete("orders")
         until(lambda: not rows(server) and not rows(server, "figure"))
 
@@ -165,7 +165,7 @@ def figured(job):
     job.calls([savepoint(), ack(2, "0.3", payload=b"x"), decline(2, "0.1", reason="the disk of host 7 is full: ä"), decline(2, "0.0", reason="late")])
     time.sleep(0.02)
     job.calls([ack(1, "0.3", [31, 30], sizes=[5, 6]), trigger()])
-    at = [entry["at"] for entry in job.log()]
+    at = [entry["at"] for entry in job.log(2)]
     first = {
         "id": 1, "kind": "checkpoint", "how": "completed", "triggered": at[0], "ended": at[8], "acks": 4, "first": at[1] - at[0], "median": at[2] - at[0],
         "p99": at[8] - at[0], "slowest": at[8] - at[0], "bytes": 123, "millis": 30, "reason": None,

@@ -93,7 +93,7 @@ class Racing(Service):
         told = super().delete(name, abandon)
         if self.opened < 3:
             self.opened += 1
-            self.open(name, SETTINGS, [1], names=True)
+            self.open(name, SETTINGS, [1])
         return told
 
 
@@ -112,7 +112,7 @@ def test_lost_databases():
     """Each time the engine goes on from its last record, and in the end each input was published once. Some engines start before the recovery, and during it: a
     supervisor starts them. They open an empty job, and end, because the folder is another's."""
     chance = random.Random(SEED)
-    with served(names=True) as server:
+    with served() as server:
         folder, last = pathlib.Path(server.folder) / "job", 0
         folder.mkdir()
         for loss in range(LOSSES):
@@ -261,7 +261,7 @@ class Base:
 
 
 def test_a_recovery_at_each_end():
-    with served(names=True) as server:
+    with served() as server:
         base, ends = Base(server), Ends(pathlib.Path(server.folder))
         lose(server)
 
@@ -289,7 +289,7 @@ def exported(base):
 
 def test_imports_at_each_end():
     """With a claim the files leave what was exported, and not before they are in the new folder."""
-    with served(names=True) as server:
+    with served() as server:
         base, ends, told = Base(server), Ends(pathlib.Path(server.folder)), []
         out = exported(base)
         lose(server)
@@ -317,7 +317,7 @@ def test_imports_at_each_end():
 
 
 def test_exports_at_each_end():
-    with served(names=True) as server:
+    with served() as server:
         base, ends = Base(server), Ends(pathlib.Path(server.folder))
 
         def words(n):
@@ -378,8 +378,8 @@ def emptied(server):
 
 def test_all_jobs_go_to_postgresql_and_back():
     """Each of the commands is ended before and after writes and requests, and given again."""
-    with served(names=True) as server, postgres() as database, temporary() as elsewhere:
-        at, other = pathlib.Path(server.folder), Server(elsewhere, database.url, names=True).start()
+    with served() as server, postgres() as database, temporary() as elsewhere:
+        at, other = pathlib.Path(server.folder), Server(elsewhere, database.url).start()
         found, ends = with_jobs(server, at / "files"), Ends(at)
 
         def is_exported(given, is_killed):
@@ -421,7 +421,7 @@ def test_all_jobs_go_to_postgresql_and_back():
 
 def test_all_jobs_of_a_lost_database_are_recovered():
     """Each whose marker is in a folder; given again after an end, the command passes over those that are there."""
-    with served(names=True) as server:
+    with served() as server:
         at = pathlib.Path(server.folder)
         found, ends = with_jobs(server, at / "files"), Ends(at)
         for name in found:
@@ -454,7 +454,7 @@ def test_between_the_service_and_the_durable_coordinator():
     from relkvanu import Settings
     from relkvanu.store import Store, StoreError
 
-    with served(names=True) as server:
+    with served() as server:
         base = Base(server)
         job = Service(server.url).job("orders")
         held, record = job._held(job.state()["choice"]["id"]), job.state()["choice"]["id"]
@@ -487,7 +487,7 @@ def test_between_the_service_and_the_durable_coordinator():
 
 
 def test_what_the_commands_refuse():
-    with served(names=True) as server:
+    with served() as server:
         base = Base(server)
         here, there = place_of(server, base.folder / "state"), place_of(server, base.at)
         did([PROGRAM, "export", "orders", base.at / "out", *there], 78, "no marker")
@@ -518,7 +518,7 @@ def test_what_the_commands_refuse():
 
 def test_savepoints_live_on():
     """A job whose database is lost keeps its savepoints, under new numbers, and its shape and settings. A manifest whose files are gone is passed over."""
-    with served(names=True) as server:
+    with served() as server:
         at = pathlib.Path(server.folder) / "state"
         at.mkdir()
         job = Service(server.url).open("orders", {**SETTINGS, "pause": 5}, [1, 2])
@@ -555,7 +555,7 @@ def test_checksums():
     """Each file is read once: what changes afterwards is found in a folder that is exported, after later checkpoints and after a recovery too."""
     from relkvanu.manifest import sums_in
 
-    with served(names=True) as server:
+    with served() as server:
         at = pathlib.Path(server.folder) / "state"
         at.mkdir()
         job = Service(server.url).open("orders", SETTINGS, [1])
@@ -631,7 +631,7 @@ def test_figures_go_with_their_records():
     from relkvanu.manifest import sealed
     from relkvanu.store import Store
 
-    with served(names=True) as server:
+    with served() as server:
         at = pathlib.Path(server.folder) / "state"
         at.mkdir()
         job = Service(server.url).open("orders", SETTINGS, [3, 1])
@@ -684,7 +684,7 @@ def test_figures_go_with_their_records():
 
 def test_a_look_at_the_records_of_a_job():
     """It needs no service. It names what is missing and what has changed, of a manifest that has checksums."""
-    with served(names=True) as server:
+    with served() as server:
         base = Base(server)
         job, state = Service(server.url).job("orders"), base.folder / "state"
         record = job.state()["choice"]["id"]
@@ -713,7 +713,7 @@ def test_a_manifest_says_what_was_acknowledged():
     """A file that is cut short stays lost: a record that uses it again does not make it whole, and no engine that starts."""
     from relkvanu.service_manifests import Manifests, NotKept, service_folder
 
-    with served(names=True) as server:
+    with served() as server:
         at = pathlib.Path(server.folder) / "state"
         at.mkdir()
         job = Service(server.url).open("orders", {**SETTINGS, "retained": 4}, [1])
@@ -760,7 +760,7 @@ def test_payloads_go_with_their_records():
     """A job that is recovered has the payloads of each record, and the order of its files, though a savepoint has files that the last checkpoint has too."""
     from relkvanu.manifest import sealed
 
-    with served(names=True) as server:
+    with served() as server:
         at = pathlib.Path(server.folder) / "state"
         job, alone, ordered, last, wanted = with_payloads(server, at)
         did([PROGRAM, "keep", "orders", *place_of(server, at)], 0, f"record {last} has a manifest")
@@ -802,7 +802,7 @@ def test_payloads_of_a_record_that_is_carried():
     from relkvanu import Settings
     from relkvanu.store import Store
 
-    with served(names=True) as server:
+    with served() as server:
         at = pathlib.Path(server.folder) / "state"
         _, alone, ordered, last, wanted = with_payloads(server, at)
         for record in (alone, ordered, last):
@@ -835,7 +835,7 @@ def test_a_job_over_a_bucket():
     from relkvanu.service_manifests import Manifests, service_bucket
 
     s3, words = s3_client()
-    with served(names=True) as server:
+    with served() as server:
         bucket, at = f"b{uuid.uuid4().hex}", pathlib.Path(server.folder)
         s3.create_bucket(Bucket=bucket)
         job = Service(server.url).open("orders", SETTINGS, [TASKS])

@@ -28,7 +28,7 @@ EACH_GOES_ON = 8
 
 def server_in(root, at, prefix=()):
     """A service with all of its files in a folder, and its output elsewhere."""
-    server = Server(root, args=[*KEEPING, "--history", f"{root}/history"], prefix=prefix, names=True)
+    server = Server(root, args=[*KEEPING, "--history", f"{root}/history"], prefix=prefix)
     server.log_path = f"{at}/log-{server.port}"
     return server
 

@@ -1,10 +1,11 @@
 """Images and summaries that a database has no room for: calls go on, and they are made later. A metric tells it of images."""
 import errno
 
-from harness import SETTINGS, caught_up, check_log, lose_history, served_job, until
+from harness import SETTINGS, Service, caught_up, check_log, lose_history, served, served_job, until
 from postgres import postgres
 from preloaded import SHIM, built, shim
 from relkvanu_service import ack, dispose, savepoint
+from test_long_images import opened
 
 TICK = {"calls": [{"call": "tick"}]}
 FAILING = 'relkvanu_image_failing{job_name="orders"}'
@@ -34,7 +35,7 @@ def test_an_image_that_postgresql_has_no_room_for():
             assert tick(server), server.log()[-400:]
         until(lambda: server.metric(FAILING) == 1, told=lambda: server.log()[-400:])
         assert job.state()["image"] is None
-        assert "an image of job orders is put off" in server.log(), server.log()[-400:]
+        until(lambda: "an image of job orders is put off" in server.log(), told=lambda: server.log()[-400:])
         assert server.process.poll() is None
         # one that is too long for the database is no reason to end either
         refuse(database, ["image"], "too long", "54000")
@@ -56,7 +57,7 @@ def test_a_summary_that_postgresql_has_no_room_for():
             refuse(database, ["summary"], text, code)
             job.call(savepoint())
             ended = max(record["id"] for record in job.state()["live"])
-            job.call(ack(ended, "0.0", [1000 + ended]))
+            job.call(ack(ended, "0.0", [ended]))
             job.call(dispose(ended))
             said = f"a summary of the history was not written: ERROR:  {text}"
             until(lambda said=said: tick(server) and said in server.log() and job.state()["image"], 20, 0.02)
@@ -81,11 +82,8 @@ def test_a_summary_that_postgresql_has_no_room_for():
 
 def test_an_image_that_sqlite_has_no_room_for():
     """The write-ahead log has room for calls, and not for a part of the image: on a full disk, and by a quota."""
-    with served_job("orders", SETTINGS, [76], args=["--image-calls", "0"]) as (server, job):
-        job.call(savepoint())
-        for subtask in range(75):
-            first = 10**15 + subtask * 4000
-            job.call(ack(1, f"0.{subtask}", list(range(first, first + 4000))))
+    with served(args=["--image-calls", "0"]) as server:
+        job = opened(Service(server.url), "orders")
         server.stop()
         server.args = ["--image-calls", "20"]
         library = built(server.folder, SHIM)

@@ -2,9 +2,9 @@
 import http.server
 import json
 
-from harness import SERVICE, SETTINGS, Server, beside, configured, folder, lease_of, raised, until
+from harness import SERVICE, SETTINGS, Server, Service, beside, configured, folder, lease_of, raised, until
 from postgres import postgres
-from relkvanu_service import Failed, Service, ack, savepoint
+from relkvanu_service import Failed, ack, savepoint
 from test_clients import as_json_schema
 from test_damaged import REQUESTS
 from test_metrics import scraped
@@ -21,12 +21,12 @@ def seen(job):
 def filled(service, jobs, files):
     """Opens jobs with so many acknowledgements each, of so many files. Returns what they are."""
     for name, acks in jobs.items():
-        job = service.open(name, SETTINGS, [100])
+        job = service.open(name, SETTINGS, [100], 0)
+        job.advance(1, 10**15)
         for subtask in range(acks):
             if subtask == 0:
                 job.call(savepoint())
-            first = 10**15 + subtask * files
-            job.call(ack(1, f"0.{subtask}", list(range(first, first + files))))
+            job.call(ack(1, f"0.{subtask}", job.reserve(files)))
     return {name: seen(service.job(name)) for name in jobs}
 
 
@@ -98,8 +98,8 @@ def test_jobs_that_are_not_replayed_yet():
             until(lambda: server.get("/readyz")[0] == 200)
             other.stand_by()
             not_replayed(server, len(JOBS))
-            made = service.open("new", SETTINGS, [1]).call(savepoint())
-            assert made["seq"] == 1, made
+            made = service.open("new", SETTINGS, [1], 0).call(savepoint())
+            assert made["seq"] == 2, made
             failed = raised(Failed, lambda: service.within(2).job("few").state())
             assert failed.status == 503, failed
             called = []
@@ -114,7 +114,7 @@ def test_jobs_that_are_not_replayed_yet():
         assert server.get("/v1/view")[2]["replay"] is None
         server.kill()
         other.wait_ready(60)
-        assert seen(Service(other.url).job("large")) == before["large"] and Service(other.url).job("new").state()["seq"] == 1
+        assert seen(Service(other.url).job("large")) == before["large"] and Service(other.url).job("new").state()["seq"] == 2
         return f"{len(REQUESTS)} kinds of requests wait; a standby that takes over has all jobs"
 
 

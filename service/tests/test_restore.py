@@ -5,11 +5,11 @@ import os
 import shutil
 import subprocess
 
-from harness import COMMAND, PROGRAM, Server, caught_up, folder, lose_history, raised, save, served, until
+from harness import COMMAND, PROGRAM, Server, Service, caught_up, folder, lose_history, raised, save, served, until
 from places import Bucket, around
 from places import files as files_in
 from postgres import postgres
-from relkvanu_service import Service, ack, dispose, restore, savepoint
+from relkvanu_service import ack, dispose, restore, savepoint
 from test_commands import SETTINGS, Asked
 
 
@@ -84,10 +84,10 @@ def test_files_of_another_length():
 
 def test_a_restore_by_number_looks_first():
     """Whether the record has all its files, since all records behind it go. If it has not, or nobody says where they are, nothing changes."""
-    with served(names=True) as server:
+    with served() as server:
         files = f"{server.folder}/files"
         os.mkdir(files)
-        job = Service(server.url).open("orders", {**SETTINGS, "retained": 3}, [1])
+        job = Service(server.url).open("orders", {**SETTINGS, "retained": 3}, [1], 0)
         job.claim(files)
         session, ask, numbers = job.begin().session(), Asked(server), []
         for _ in range(3):
@@ -118,42 +118,12 @@ def test_a_restore_by_number_looks_first():
         assert [one["kind"] for one in job.state()["live"] if one["done"]] == ["savepoint", "savepoint"]
 
 
-def test_a_place_that_has_no_file_of_any_record():
-    """A wrong folder or a disk that is not mounted, a wrong prefix and a wrong suffix: nobody shall cancel the job because of that."""
-    with served() as server:
-        files, empty = f"{server.folder}/files", f"{server.folder}/empty"
-        os.mkdir(files)
-        os.mkdir(empty)
-        job = Service(server.url).open("orders", SETTINGS, [1])
-        job.claim(files)
-        ask = Asked(server)
-
-        def warnings(place, prefix, suffix, status):
-            told = ask("savepoints", "orders", "--folder", place, "--prefix", prefix, "--suffix", suffix, status=status)
-            return [line for line in told.splitlines() if "no file of these records is" in line]
-
-        assert warnings(files, "s-", ".bin", 1) == []
-        for number in (1, 2):
-            job.calls([savepoint(), ack(number, "0.0", [number])])
-        write(files, 1, 2)
-        assert warnings(files, "s-", ".bin", 0) == []
-        for place, prefix, suffix in [(empty, "s-", ".bin"), (files, "state-", ".bin"), (files, "s-", "")]:
-            found = warnings(place, prefix, suffix, 1)
-            assert len(found) == 1 and f"{prefix}1{suffix}:" in found[0], found
-        os.remove(f"{files}/s-1.bin")
-        os.rename(f"{files}/s-2.bin", f"{files}/s-3.bin")
-        assert len(warnings(files, "s-", ".bin", 1)) == 1
-        # one file of one record is there, which has not all of its own
-        job.calls([savepoint(), ack(3, "0.0", [3, 4])])
-        assert warnings(files, "s-", ".bin", 1) == []
-
-
 def test_a_job_goes_on_from_a_backup():
     """Above its terms and names, from the last record that has all its files, none too short; also if the command is given again."""
-    with served(names=True) as server:
+    with served() as server:
         files = f"{server.folder}/files"
         os.mkdir(files)
-        job = Service(server.url).open("orders", SETTINGS, [1])
+        job = Service(server.url).open("orders", SETTINGS, [1], 0)
         job.claim(files)
         ask, words = Asked(server), ["restore", "orders", "--from-backup", "--folder", files, "--prefix", "s-", "--suffix", ".bin"]
         start = job.begin()
@@ -187,8 +157,8 @@ def test_files_of_a_bucket_are_restored():
     """When the backup is made savepoints 1 and 2 have their files, and file 4 waits for deletion. Later 3 and 4 are deleted, and 5 and 6 are new."""
     with folder() as at:
         place = Bucket(at)
-        server = Server(at, names=True).start()
-        job = Service(server.url).open("orders", SETTINGS, [1])
+        server = Server(at).start()
+        job = Service(server.url).open("orders", SETTINGS, [1], 0)
         name, text = job.marker()
         place.put(name, text.encode())
         task = job.begin().session(block=2)
@@ -266,10 +236,10 @@ def test_a_dump_is_restored():
         job.call(ack(1, "0.0", [2]))
         until(lambda: job.record(1)["history"]["how"] == "completed" and not job.file(1)["history"])
         aside = f"postgres://postgres@127.0.0.1:{database.port}/relkvanu_aside"
-        assert database.run("psql", "-XAtq", aside, "-c", "select count(*) from call").strip() == "2"
+        assert database.run("psql", "-XAtq", aside, "-c", "select count(*) from call").strip() == "4"
         server.stop()
         assert "there is a database relkvanu_aside already" in run(commands, status=1)  # a service has run over the copy
         run(commands.replace("copy.dump", "--back"))
         server.start()
-        assert job.state()["seq"] == 2
+        assert job.state()["seq"] == 4
         until(lambda: job.file(1)["history"])

@@ -138,7 +138,7 @@ def durable(at):
 @contextlib.contextmanager
 def over_sqlite(at):
     """The service is killed too, and started again."""
-    server = Server(at, names=True).start()
+    server = Server(at).start()
 
     def kill_service(dice):
         if dice.random() < 0.3:
@@ -153,7 +153,7 @@ def over_sqlite(at):
 def over_postgres(at):
     """The leader is killed too: the standby takes over, and what was killed stands by."""
     with postgres() as database:
-        servers = [Server(f"{at}/{it}", database=database.url, names=True) for it in ("one", "two")]
+        servers = [Server(f"{at}/{it}", database=database.url) for it in ("one", "two")]
         for it in servers:
             os.mkdir(it.folder)
         leads = [servers[0].start(), servers[1]]
@@ -210,7 +210,7 @@ def test_the_sample():
 
 
 def test_the_sample_ends_if_a_backup_was_restored():
-    with folder() as at, served(names=True) as server:
+    with folder() as at, served() as server:
         copy, run = Copy(server, None), sample(at, server.url)
         run.start()
         until(run.lines.check, told=run.told)

@@ -9,8 +9,8 @@ import subprocess
 import time
 import urllib.request
 
-from harness import COMMAND, PROGRAM, Server, caught_up, folder, raised, save, served, until
-from relkvanu_service import Failed, Service, ack, deleted, dispose, savepoint
+from harness import COMMAND, PROGRAM, Server, Service, caught_up, folder, raised, save, served, until
+from relkvanu_service import Failed, ack, deleted, dispose, savepoint
 from test_images import SETTINGS
 from test_start import refused
 from test_stream import Stream
@@ -135,7 +135,7 @@ def test_tls_of_its_own():
             [PROGRAM, "show", "orders", "--json", "--url", f"https://127.0.0.1:{server.port}"],
             env={**os.environ, "SSL_CERT_FILE": f"{at}/certificate.pem"}, stdout=subprocess.PIPE, stderr=subprocess.PIPE, text=True, check=False,
         )
-        assert told.returncode == 0 and '"seq":2' in told.stdout, told
+        assert told.returncode == 0 and '"seq":4' in told.stdout, told
         assert Server.get(server, "/healthz")[0] == 0  # without TLS
         # old versions are refused, and one that says nothing does not stay
         words = ["openssl", "s_client", "-connect", f"127.0.0.1:{server.port}", "-tls1_1"]

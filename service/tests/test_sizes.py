@@ -1,8 +1,8 @@
 """Sizes that acknowledgements say: each file's through its life, a record's, over starts, take-overs, cuts and a lost history."""
 
-from harness import CALL, caught_up, folder, leader_and_standby, lease_of, lose_history, raised, served_job, sqlite, until
+from harness import CALL, Service, caught_up, folder, leader_and_standby, lease_of, lose_history, raised, served_job, sqlite, until
 from postgres import postgres
-from relkvanu_service import Failed, Service, ack, deleted, dispose, savepoint, undeleted
+from relkvanu_service import Failed, ack, deleted, dispose, savepoint, undeleted
 from test_images import KEEPING, SETTINGS, read_and_cut
 from test_metrics import scraped
 
@@ -13,7 +13,7 @@ def worked(job):
     job.calls([savepoint(), ack(2, "0.0", [21], [11], sizes=[7]), ack(2, "0.1", [14], [13])])  # nobody says how large 14 is
     job.calls([dispose(1), savepoint(), ack(3, "0.0", [31], sizes=[1 << 52])])
     assert job.take(1) == [12]
-    job.calls([ack(1, "0.0", [41, 21], sizes=[50, 9999])])  # late: 41 is handed out, and 21 keeps its size
+    job.calls([ack(1, "0.0", [41], sizes=[50])])  # late: it is handed out
     return {"in_use": 110 + (1 << 52), "waiting": 50, "taken": 20, "files": 6}, {1: (123, 123), 2: (7, 110), 3: (1 << 52, 1 << 52)}
 
 

@@ -62,8 +62,8 @@ def driven(server, calls=20):
         live = server.get("/v1/jobs/orders")[2]["live"]
         pending = [record["id"] for record in live if not record["done"]]
         if pending:
-            ack = {"call": "ack", "id": pending[0], "subtask": "0.0", "fresh": [str(1000 + number)]}
-            acknowledged += server.request("POST", "/v1/jobs/orders/calls", {"calls": [ack]})[0] == 200
+            ack = {"call": "ack", "id": pending[0], "subtask": "0.0"}
+            acknowledged += server.request("POST", "/v1/jobs/orders/calls", {"term": 1, "calls": [ack]})[0] == 200
         number += 1
         time.sleep(0.02)
 
@@ -127,10 +127,10 @@ def test_two_processes_of_one_database():
 def test_a_stop_loses_nothing():
     with served() as server:
         driven(server, 30)
-        before = server.get("/v1/jobs/orders/log?limit=1000")[2]["calls"]
+        before = server.get("/v1/jobs/orders/log?limit=1000&terms=1")[2]["calls"]
         assert server.stop() == 0
         server.start()
-        after = server.get("/v1/jobs/orders/log?limit=1000")[2]["calls"]
+        after = server.get("/v1/jobs/orders/log?limit=1000&terms=1")[2]["calls"]
         assert after[: len(before)] == before
         check_log(server.get("/v1/jobs/orders")[2], [1], after)
         return f"{len(before)} calls"
@@ -149,7 +149,7 @@ def test_a_backup_of_a_service_that_runs():
         subprocess.run(["sqlite3", server.database, f".backup {copy}"], check=True)
         over.set()
         driving.join()
-        last = list(Service(server.url).job("orders").log())
+        last = list(Service(server.url).job("orders").log(terms=True))
         server.stop()
         with over_copy(Server(at, database=copy)) as (_, log):
             pass

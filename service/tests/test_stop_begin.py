@@ -11,10 +11,10 @@ import time
 
 import requests
 
-from harness import BUSY, COMMAND, PROGRAM, SERVICE, Server, beside, caught_up, folder, leader_and_standby, lease_of, served, served_job, until
+from harness import BUSY, COMMAND, PROGRAM, SERVICE, Server, Service, beside, caught_up, folder, leader_and_standby, lease_of, served, served_job, until
 from postgres import postgres
 from preloaded import SHIM, Clocks, built, shim
-from relkvanu_service import Failed, Fenced, OtherLog, Refused, Service, ack, cancel, decline, restore
+from relkvanu_service import Failed, Fenced, OtherLog, Refused, ack, cancel, decline, restore
 from test_operate import NEVER, Tasks, ran, refused
 
 HOUR = 3600
@@ -34,15 +34,15 @@ def stops(tasks):
 
 def take_part(tasks, savepoint, subtasks=("0.0", "0.1")):
     term = tasks.start.term
-    answers = tasks.job.calls([ack(savepoint, subtask, [tasks.number()], term=term) for subtask in subtasks])
+    answers = tasks.job.calls([ack(savepoint, subtask, [tasks.task.name()], term=term) for subtask in subtasks])
     assert all("ack" in one for one in answers), answers
     return answers
 
 
 def test_a_key_is_of_its_path():
     """The bodies of a stop, a begin and a checkpoint are the same. A script that gives one key to all is told so."""
-    with served(names=True) as server:
-        tasks = Tasks(server, True)
+    with served() as server:
+        tasks = Tasks(server)
         tasks.job.stop_job(key="deploy-42")
         take_part(tasks, tasks.job.state()["stop"]["savepoint"])
         for call in (tasks.job.begin_job, tasks.job.checkpoint):
@@ -58,8 +58,8 @@ def test_a_key_is_of_its_path():
 def test_who_waits_for_a_begin_hears_of_a_backup():
     """An engine waits where its job has stopped. The service goes on from a copy of before the stop: the engine may not go on by itself."""
     with folder() as at:
-        server = Server(at, names=True).start()
-        tasks, told = Tasks(server, True), []
+        server = Server(at).start()
+        tasks, told = Tasks(server), []
         tasks.complete()
         server.stop()
         for end in ("", "-wal"):
@@ -94,8 +94,8 @@ def test_openapi_names_what_a_checkpoint_is_refused_for():
     """While the job stops, once it has stopped, and once it is cancelled."""
     with open(f"{SERVICE}/web/openapi.json", encoding="utf-8") as it:
         said = json.load(it)["paths"]["/v1/jobs/{job}/checkpoints"]["post"]["responses"]["409"]["description"]
-    with served(names=True) as server:
-        tasks = Tasks(server, True)
+    with served() as server:
+        tasks = Tasks(server)
         job = tasks.job
         tasks.complete()
         savepoint = job.stop_job()["id"]
@@ -108,9 +108,9 @@ def test_openapi_names_what_a_checkpoint_is_refused_for():
         return ", ".join(words)
 
 
-def stopped_and_begun(names):
-    with served(names=names) as server:
-        tasks = Tasks(server, names)
+def test_a_job_stops_and_begins():
+    with served() as server:
+        tasks = Tasks(server)
         job, done = tasks.job, tasks.complete()
         assert stop_of(job) == ("running", None)
         told = job.stop_job()
@@ -131,8 +131,7 @@ def stopped_and_begun(names):
         assert restored["line"].split()[0::2] == ["restore", str(savepoint)] and restored["at"] == acknowledged["at"], restored
         state = job.state()
         assert (state["phase"], state["stop"]) == ("stopped", before["stop"]) and state["choice"] == {"kind": "savepoint", "id": savepoint}, state
-        if names:
-            assert refused_by_term(tasks, savepoint), "the term of the tasks goes on"
+        assert refused_by_term(tasks, savepoint), "the term of the tasks goes on"
         assert all(refused(make) == "Stopped" for make in (job.stop_job, job.checkpoint, job.begin, lambda: job.call({"call": "tick"}), lambda: job.go_back(done, True)))
         seq = job.state()["seq"]
         time.sleep(0.1)
@@ -144,11 +143,11 @@ def stopped_and_begun(names):
         time.sleep(0.05)
         assert waits.is_alive()
         told = job.begin_job()
-        assert (told["restore"], told["id"], "term" in told) == ("savepoint", savepoint, names), told
+        assert (told["restore"], told["id"], "term" in told) == ("savepoint", savepoint, True), told
         waits.join(BUSY * 20)
         assert stop_of(job) == ("running", None) and tasks.start.id == savepoint
         assert tasks.complete() > savepoint
-        return job.state()["seq"]
+        return f"{job.state()['seq']} calls"
 
 
 def begun(job):
@@ -163,11 +162,6 @@ def refused_by_term(tasks, record):
     except Fenced as told:
         return told.name == "OldTerm"
     return False
-
-
-def test_a_job_stops_and_begins():
-    calls = [stopped_and_begun(names) for names in (False, True)]
-    return f"{calls[0]} calls without names and {calls[1]} with them"
 
 
 def test_a_stop_that_fails_says_why_and_the_timer_goes_on():
@@ -205,7 +199,7 @@ def test_a_stop_that_fails_says_why_and_the_timer_goes_on():
 
 def test_a_stopped_job_is_cancelled_and_deleted():
     with served() as server:
-        tasks = Tasks(server, False)
+        tasks = Tasks(server)
         stops(tasks)
         tasks.job.call(cancel())
         assert stop_of(tasks.job) == ("running", None) and tasks.job.state()["mode"] == "cancelled"
@@ -248,7 +242,7 @@ def test_the_commands_of_a_stop():
 
 def test_a_stop_under_a_key_is_asked_for_once():
     with served_job("orders", {"interval": NEVER}, [1]) as (server, job):
-        assert [job.stop_job("k")["id"] for _ in range(2)] == [1, 1] and len(list(job.log())) == 1
+        assert [job.stop_job("k")["id"] for _ in range(2)] == [1, 1] and len(list(job.log())) == 3
         job.call(ack(1, "0.0"))
         # its repeat after the job has begun again stops nothing
         assert [job.begin_job("b")["id"] for _ in range(2)] == [1, 1] and job.stop_job("k")["id"] == 1 and stop_of(job)[0] == "running"
@@ -313,7 +307,7 @@ class Steps:
         self.at, self.step, self.library, self.trials = at, step, built(at, SHIM), 0
         os.mkdir(f"{at}/base")
         server = Server(f"{at}/base", args=["--history", f"{at}/base/history"]).start()
-        tasks = Tasks(server, True, interval=NEVER)
+        tasks = Tasks(server, interval=NEVER)
         self.given = prepared(tasks)
         caught_up(tasks.job)
         # what the history saves in the database comes at any time: a trial shall have nothing to save
@@ -377,7 +371,7 @@ def half_stopped(tasks):
     """The acknowledgement that lacks."""
     savepoint = tasks.job.stop_job()["id"]
     take_part(tasks, savepoint, ["0.0"])
-    return ack(savepoint, "0.1", [tasks.number()], term=tasks.start.term)
+    return ack(savepoint, "0.1", [tasks.task.name()], term=tasks.start.term)
 
 
 def with_three(tasks):
@@ -409,8 +403,8 @@ def test_a_step_is_made_whole_or_not_at_all_at_each_write():
 
 
 def test_kills_at_many_moments_of_a_stop():
-    with served(names=True) as server:
-        tasks, seen, turn = Tasks(server, True), {}, 0
+    with served() as server:
+        tasks, seen, turn = Tasks(server), {}, 0
         job, kills = tasks.job, 40
         # a busy machine may come too late for a phase
         while turn < kills or len(seen) < 3 and turn < 10 * kills:

@@ -8,9 +8,9 @@ from contextlib import closing
 
 import requests
 
-from harness import COMMAND, PROGRAM, Server, folder, free_port, served, served_job, sqlite, until
+from harness import COMMAND, PROGRAM, Server, Service, folder, free_port, served, served_job, sqlite, until
 from postgres import postgres
-from relkvanu_service import Failed, Service, ack, restore, savepoint
+from relkvanu_service import Failed, ack, restore, savepoint
 from test_operate import NEVER, Tasks
 from test_stop_begin import ends, half_stopped, stop_of, stops
 
@@ -95,7 +95,7 @@ def a_trial(database, between, server, name, message, how):
     None if no step sent so many messages."""
     jobs, answered = {}, 0
     for step, (prepared, *_) in STEPS.items():
-        tasks = Tasks(server, True, f"{step} {name} {how}".replace(" ", "-"), interval=NEVER)
+        tasks = Tasks(server, f"{step} {name} {how}".replace(" ", "-"), interval=NEVER)
         jobs[step] = (tasks.job, prepared(tasks))
     before = {step: rows(database, job.name) for step, (job, _) in jobs.items()}
     between.arm(server, message, how)
@@ -193,8 +193,8 @@ def put(base, number, phases):
 
 
 def test_a_check_compares_phases_with_the_log():
-    with served(names=True, args=["--image-calls", "10", "--keep-calls", "10"]) as server:
-        jobs = {name: Tasks(server, True, name, interval=NEVER) for name in ("runs", "stops", "stopped", "begun", "back")}
+    with served(args=["--image-calls", "10", "--keep-calls", "10"]) as server:
+        jobs = {name: Tasks(server, name, interval=NEVER) for name in ("runs", "stops", "stopped", "begun", "back")}
         for tasks in jobs.values():
             tasks.job.checkpoint()
             tasks.complete()
@@ -228,7 +228,7 @@ def test_a_check_of_a_restore_that_is_no_stop():
     with served_job("orders", {"interval": NEVER}, [1]) as (server, job):
         made = job.call(savepoint())["id"]
         job.call(ack(made, "0.0", [1]))
-        until(lambda: job.state()["now"] > job.log(1).__next__()["at"])
+        until(lambda: job.state()["now"] > next(job.log(3))["at"])
         job.call(restore(made))
         assert server.stop() == 0
         checked(server, 0)

@@ -4,8 +4,8 @@ import socket
 import threading
 import time
 
-from harness import COMMAND, SETTINGS, caught_up, served, served_job, slowed, until
-from relkvanu_service import Service, ack, decline, dispose, savepoint
+from harness import COMMAND, SETTINGS, Service, caught_up, served, served_job, slowed, until
+from relkvanu_service import ack, decline, dispose, savepoint
 
 
 class Stream(threading.Thread):
@@ -53,11 +53,11 @@ def test_a_stream_tells_what_comes():
     with served_job("orders", SETTINGS, [2], config="[limits]\nidle_seconds = 2\n") as (server, job):
         job.calls([savepoint()])
         path = "/v1/jobs/orders/stream"
-        whole, later = Stream(server, path), Stream(server, f"{path}?after=1")
+        whole, later = Stream(server, path), Stream(server, f"{path}?after=3")
         until(lambda: whole.events() == ["triggered"])
         assert b"200 OK" in whole.head and b"text/event-stream" in whole.head and later.events() == [], whole.head
         job.calls([ack(1, "0.0", [1])])  # no event, but told
-        until(lambda: any(name == "calls" and data["seq"] == 2 for name, data in later.told), 5)
+        until(lambda: any(name == "calls" and data["seq"] == 4 for name, data in later.told), 5)
         job.calls([ack(1, "0.1", [2]), savepoint(), decline(2, "0.0")])
         for stream in (whole, later):
             until(lambda it=stream: it.events()[-3:] == ["completed", "triggered", "declined"], 5)
@@ -98,7 +98,7 @@ def test_the_times_of_acknowledgements():
         job.calls([savepoint(), dispose(1), ack(1, "0.3", [99])])
         caught_up(job)
         told = server.get("/v1/jobs/orders/records/1/acks?limit=2")[2]
-        log = {entry["line"].split()[3]: entry for entry in job.log() if entry["line"].startswith("ack") and "late" not in entry["answer"]}
+        log = {entry["line"].split()[5]: entry for entry in job.log() if entry["line"].startswith("in ") and "late" not in entry["answer"]}
         started = job.record(1)["history"]["started"]
         took = sorted(entry["at"] - started for entry in log.values())
         assert [told[name] for name in ("count", "late", "are_all", "first", "median", "p99", "slowest")] == [5, 1, True, took[0], took[2], took[4], took[4]], told

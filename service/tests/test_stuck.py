@@ -179,9 +179,9 @@ def test_files_of_long_lists():
         server.request("POST", "/v1/jobs", JOB)
         path = "/v1/jobs/orders/calls"
         files = [str(9000 - place) for place in range(3000)]
-        calls = [{"call": "savepoint"}, {"call": "ack", "id": 1, "subtask": "0.0", "fresh": files}, {"call": "ack", "id": 1, "subtask": "0.1"},
+        calls = [{"call": "reserve", "count": 9000}, {"call": "savepoint"}, {"call": "ack", "id": 1, "subtask": "0.0", "fresh": files}, {"call": "ack", "id": 1, "subtask": "0.1"},
                  {"call": "ack", "id": 1, "subtask": "1.0"}, {"call": "dispose", "id": 1}]
-        server.request("POST", path, {"calls": calls}, headers=[("Idempotency-Key", "a")])
+        server.request("POST", path, {"term": 1, "calls": calls}, headers=[("Idempotency-Key", "a")])
         taken = []
         for key in "bcd":
             taken += server.request("POST", path, {"calls": [{"call": "take", "most": 20}]}, headers=[("Idempotency-Key", key)])[2]["answers"][0]["files"]
@@ -192,7 +192,7 @@ def test_files_of_long_lists():
             told = server.get(f"/v1/jobs/orders/files?limit={limit}")[2]
             return [row["file"] for row in sorted(told["taken"], key=lambda row: (row["taken"] or 0, int(row["file"])))], told
 
-        until(lambda: listed()[1]["upto"] == 9)
+        until(lambda: listed()[1]["upto"] == 11)
         assert listed()[0] == wanted, (listed()[0], wanted)
         assert [row["file"] for row in listed()[1]["deleted"]] == [taken[0]]
         assert len(listed(1000)[0]) == 59 and len(listed(5)[0]) == 5

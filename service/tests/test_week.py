@@ -143,7 +143,7 @@ def go_back(week):
 def test_an_operators_week():
     with folder() as at:
         os.makedirs(f"{at}/orders")
-        server = Server(at, names=True).start()
+        server = Server(at).start()
         week = Week(server, at)
         with engine(server, week.files, f"{at}/engine"):
             operate(week, look(week))

@@ -13,7 +13,7 @@ import time
 WRITE = "w" * 20
 OVER_TLS = "https://relkvanu.example:7780"
 # no checkpoint is due between two looks at the job
-JOB = {"name": "orders", "settings": {"interval": 1 << 40}, "shape": [1], "names": False}
+JOB = {"name": "orders", "settings": {"interval": 1 << 40}, "shape": [1]}
 
 
 def run(*words, check=True):
@@ -122,6 +122,7 @@ def check_it_runs():
     assert os.stat("/var/lib/private/relkvanu/relkvanu.db").st_uid == uid
     assert os.stat("/etc/relkvanu/token").st_mode & 0o777 == 0o600
     assert request("POST", "/v1/jobs", JOB)[0] == 201
+    calls("names", {"call": "reserve", "term": 1, "count": 50})
     told = request("POST", "/v1/jobs/orders/calls", {"calls": [{"call": "savepoint"}]})
     assert told[0] == 200 and told[1]["answers"][0]["id"] == 1, told
 
@@ -164,16 +165,24 @@ def after(number):
     return took
 
 
+def term_of(ask):
+    """The term that runs, as `ask` is told it."""
+    return (ask("/v1/jobs/orders/term")[1] or {}).get("term", 1)
+
+
 def calls(key, *made):
     told = []
 
     # it has a key: where it was not answered it may be asked again
     def is_answered():
-        told[:] = request("POST", "/v1/jobs/orders/calls", {"calls": list(made)}, key)
+        body = {"calls": list(made)}
+        if any(call["call"] == "ack" for call in made):
+            body["term"] = term_of(lambda path: request("GET", path))
+        told[:] = request("POST", "/v1/jobs/orders/calls", body, key)
         return told[0] not in (0, 503)
 
     until(is_answered)
-    assert told[0] == 200 and not any("refused" in answer for answer in told[1]["answers"]), told
+    assert told[0] == 200 and all("seq" in answer for answer in told[1]["answers"]), told
     return told[1]["answers"]
 
 
@@ -340,9 +349,9 @@ def check_a_restore_is_tried():
 class Engine(threading.Thread):
     """Acknowledges each savepoint of the job `orders`, without files, until it is told to stop."""
 
-    def __init__(self, ask, term=None):
+    def __init__(self, ask):
         super().__init__(daemon=True)
-        self.ask, self.term, self.over = ask, {} if term is None else {"term": term}, threading.Event()
+        self.ask, self.over = ask, threading.Event()
         self.start()
 
     def run(self):
@@ -350,7 +359,7 @@ class Engine(threading.Thread):
             for record in (self.ask("/v1/jobs/orders")[1] or {}).get("live", ()):
                 told = {} if record["done"] else self.ask(f"/v1/jobs/orders/records/{record['id']}")[1] or {}
                 for subtask in told.get("missing") or ():
-                    self.ask("/v1/jobs/orders/calls", {"calls": [{"call": "ack", "id": record["id"], "subtask": subtask, **self.term}]})
+                    self.ask("/v1/jobs/orders/calls", {"term": term_of(self.ask), "calls": [{"call": "ack", "id": record["id"], "subtask": subtask}]})
 
     def stop(self):
         self.over.set()
@@ -443,9 +452,9 @@ def check_tls_from_nothing():
     open("/etc/ca-certificates.conf", "a", encoding="utf-8").close()
     given(*procedure("install"))
     given(*procedure("trust"))
-    assert given(f"curl --silent {OVER_TLS}/readyz") == "ready\n" and over_tls("write", "/v1/jobs", {**JOB, "shape": [1, 2], "names": True})[0] == 201
+    assert given(f"curl --silent {OVER_TLS}/readyz") == "ready\n" and over_tls("write", "/v1/jobs", {**JOB, "shape": [1, 2]})[0] == 201
     given(*procedure("over-tls"), "systemctl enable --now relkvanu-backup.timer")
-    engine = Engine(lambda path, body=None: over_tls("write", path, body), 1)
+    engine = Engine(lambda path, body=None: over_tls("write", path, body))
     given("systemctl start relkvanu-backup")
     engine.stop()
     shown = given(*procedure("over-tls"), "relkvanu show orders --token-file /etc/relkvanu/read-token")

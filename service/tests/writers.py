@@ -13,7 +13,8 @@ PATIENCE = harness.BUSY * 60  # seconds, in which a service or its database is t
 
 
 class Writer(threading.Thread):
-    """Calls one job until it is stopped. `made` has each acknowledged call, with its answer."""
+    """Calls one job until it is stopped. `made` has each acknowledged call, with its answer. It is also who starts tasks: where its term has ended,
+    by a restore of another writer, it begins the next one."""
 
     TOKEN = None
     PAUSE = 0.05  # seconds between two turns: eight of them so leave a processor for others, and make some hundred calls a second
@@ -24,7 +25,7 @@ class Writer(threading.Thread):
         self.job = self.service.job(job)
         self.name_of_job = job
         self.random = random.Random(number)
-        self.next_file = (number + 1) << 40
+        self.session, self.turns = None, 7 * number
         self.made, self.refused, self.fenced, self.errors = [], 0, 0, []
         self.no_memory, self.not_made = 0, 0
         self.over = threading.Event()
@@ -43,12 +44,18 @@ class Writer(threading.Thread):
                 raise
 
     def files(self, count):
-        self.next_file += count
-        return list(range(self.next_file - count, self.next_file))
+        while True:
+            try:
+                if self.session is None:
+                    self.session = self.job.session(self.job.term()["term"], block=7)
+                return [self.session.name() for _ in range(count)]
+            except OldTerm:
+                self.session = None
 
     def turn(self):
+        self.turns += 1
         state = self.job.state()
-        if state["mode"] == "failed":
+        if state["mode"] == "failed" or self.turns % 20 == 0:
             return self.send([restore()])
         pending = [record for record in state["live"] if not record["done"]]
         if pending and self.random.random() < 0.9:
@@ -84,6 +91,10 @@ class Writer(threading.Thread):
         return [take(self.random.randint(1, 32))]
 
     def send(self, calls):
+        if self.session is None:
+            self.files(1)
+        term = self.session.term
+        calls = [{**call, "term": term} if call["call"] in ("ack", "decline") else call for call in calls]
         answers = self.job.calls(calls)
         for call, answer in zip(calls, answers):
             if "seq" in answer:
@@ -111,39 +122,11 @@ def made_by(writers):
     return sum(len(writer.made) for writer in writers)
 
 
-class NamedWriter(Writer):
-    """The same of a job that gives out names. It is also who starts tasks: where its term has ended, by a restore of another writer, it
-    begins the next one."""
-
-    def __init__(self, urls, job, number):
-        super().__init__(urls, job, number)
-        self.session, self.turns = None, 7 * number
-
-    def turn(self):
-        self.turns += 1
-        return self.send([restore()]) if self.turns % 20 == 0 else super().turn()
-
-    def files(self, count):
-        while True:
-            try:
-                if self.session is None:
-                    self.session = self.job.session(self.job.term()["term"], block=7)
-                return [self.session.name() for _ in range(count)]
-            except OldTerm:
-                self.session = None
-
-    def send(self, calls):
-        if self.session is None:
-            self.files(1)
-        term = self.session.term
-        super().send([{**call, "term": term} if call["call"] in ("ack", "decline") else call for call in calls])
-
-
 def same_call(call, line):
     """Whether a line of the log is this call."""
     words = line.split(" ")
     if words[0] == "in":
-        if int(words[1]) != call.get("term"):
+        if int(words[1]) != call["term"]:
             return False
         words = words[2:]
     if call["call"] != words[0]:
@@ -220,7 +203,6 @@ def check(writers, service, job, shape, archive=None):
     for writer in (writer for writer in writers if writer.name_of_job == job):
         assert not writer.errors, writer.errors[:3]
         check_made(writer.made, log, seen)
-    if state["names"]:
-        names, term = check_names(log)
-        assert names > 0 and term > 1, f"the writers did next to nothing: {names} names, term {term}, {len(log)} calls"
+    names, term = check_names(log)
+    assert names > 0 and term > 1, f"the writers did next to nothing: {names} names, term {term}, {len(log)} calls"
     return len(seen), len(log), harness.check_log(service.job(job).state(), shape, log)

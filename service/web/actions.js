@@ -176,8 +176,7 @@ export function outcome(told) {
 // A restore in words.
 function begun(answer) {
   const from = answer.restore === "fresh" ? "nothing" : `${answer.restore} ${answer.id}`;
-  const term = answer.term === undefined ? "" : ` The term is ${answer.term}.`;
-  return [`The job begins again from ${from}, as call ${answer.seq}.${term}`, true];
+  return [`The job begins again from ${from}, as call ${answer.seq}. The term is ${answer.term}.`, true];
 }
 
 const asking = { action: null, key: null, text: "", then: null, opener: null };

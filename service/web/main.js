@@ -72,7 +72,6 @@ function showJob(told, rows) {
   at("do-restore").disabled = job.mode === "cancelled" || doing === "stopped";
   at("do-cancel").disabled = job.mode === "cancelled";
   at("do-delete").disabled = job.mode === "running";
-  at("do-term").hidden = !job.names;
   // an event since may have ended the term
   if (job.last_event !== shown.termAt) at("term").textContent = "";
   list("savepoints", told.savepoints.map((one) => views.savepoint(one, job.choice, (id) => act(actions.dispose(job, id)))), "no-savepoints");

@@ -175,7 +175,7 @@ export function facts(job, waiting) {
     fact("Files waiting", job.files.waiting),
     fact("Files taken", job.files.taken, job.files.taken > 0 ? "other" : null),
     ...sizes(job),
-    ...(job.names ? [fact("Next name", job.next_name)] : []),
+    fact("Next name", job.next_name),
     fact("Calls made", job.seq),
     fact("Last image", image(job)),
   ];

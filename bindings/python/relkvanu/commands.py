@@ -103,7 +103,7 @@ class Answers:
             "oldest_expiry": None if expiry is None else self._unix(expiry), "files": files, "bytes": {**dict.fromkeys(files, 0), "files": 0},
             "choice": {"kind": "fresh"} if choice is None else {"kind": choice.kind.value, "id": choice.id},
             "last_completed": self._unix(max(done)) if done else None, "last_event": seq, "first": 1, "image": None, "live": self._live(),
-            "log": self.store.identity, "names": True, "next_name": str(self.store.term().next_name), "storage": None,
+            "log": self.store.identity, "next_name": str(self.store.term().next_name), "storage": None,
         }
 
     def _stop(self) -> Optional[Body]:

@@ -219,7 +219,7 @@ def _of_service(coordinator: Any, place: Place, create: bool) -> Tuple[Driver, P
 
     with _told(True), answers():
         if create:
-            coordinator.open({"interval": LONGEST, "timeout": LONGEST, "tolerable": TOLERABLE}, [SUBTASKS], names=True)
+            coordinator.open({"interval": LONGEST, "timeout": LONGEST, "tolerable": TOLERABLE}, [SUBTASKS])
         job = ServiceJob(coordinator)
         driver, marker, choice = Driver(job, is_service=True), job.storage_marker(), job.choice()
         is_new = choice is None and driver.counts() == (0, 0)

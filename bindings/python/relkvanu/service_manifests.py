@@ -95,7 +95,7 @@ def service_bucket(job: str, bucket: str, prefix: str, suffix: str, s3: Any) -> 
 
 
 class Below(NamedTuple):
-    """Each number of a record, term and name that anybody was told is below these. Term and name are 0 without names."""
+    """Each number of a record, term and name that anybody was told is below these."""
 
     number: int
     term: int
@@ -239,7 +239,5 @@ def told_by(job: Any, state: Dict[str, Any]) -> Tuple[int, Below]:
     """The term that runs, and what is above all that the job has told and may tell before it is asked again."""
     records = [*state["live"], *job.records(limit=1), state["choice"]]
     number = max(it.get("id", 0) for it in records) + 1 + SOME_NUMBERS
-    if not state["names"]:
-        return 0, Below(number, 0, 0)
     now = job.term()
     return now["term"], Below(number, now["term"] + 1 + SOME_TERMS, now["next_name"] + SOME_NAMES)

@@ -1,6 +1,6 @@
-"""A job of the service is made of a record by ordinary calls, as relkvanu_store_recover makes one of the durable coordinator: without names, so that its first
-acknowledgements may name the files that are there by the numbers that they have; then it gets names above all that were told. Until it has all, its settings are
-such that no engine can open it."""
+"""A job of the service is made of a record by ordinary calls, as relkvanu_store_recover makes one of the durable coordinator. Until it has all, its settings are
+such that no engine can open it, and the service opens a job of these settings without names, so that its first acknowledgements may name the files that are there by
+the numbers that they have; then it gets names above all that were told."""
 import contextlib
 import fcntl
 import os
@@ -160,9 +160,8 @@ class Making:
 
     def names(self, below: Below) -> None:
         """Names, in a term above each that a task was told, and above each name that was given out."""
-        if below.name:
-            self.job.fence(below.name)
-            self.job.advance(below.term, below.name)
+        self.job.fence(below.name)
+        self.job.advance(below.term, below.name)
 
 
 @dataclass(frozen=True)
@@ -285,15 +284,12 @@ class Recovery:
 
     def open(self, state: Optional[Dict[str, Any]], owner: str, found: Found) -> None:
         """Opens the new job. An engine that was not ended may open one that has nothing after each drop, until it has looked at the marker and ends."""
-        for left in reversed(range(TRIES)):
+        for _ in range(TRIES):
             self.drop(state)
-            try:
-                self.service.open(self.name, MAKING, found.choice["shape"], names=False, first=found.record)
+            if not self.service.open(self.name, MAKING, found.choice["shape"], first=found.record).opened.settings_differ:
                 return
-            except self.client.Failed as failed:
-                if failed.field != "names" or not left:
-                    raise
             state = self.check(owner)
+        raise StoreError("Present", f"{self.name}: an engine opens the job again and again: end it first", False)
 
     def make(self, found: Found) -> None:
         """All but the settings. Once the marker names the new job, an old one is refused."""

@@ -99,7 +99,7 @@ def _fenced(name, file=None):
 
 def ack(record, subtask, fresh=(), reused=(), sizes=None, term=None, payload=None, size=None, millis=None):
     """A subtask has taken its part of a record: its new files, and those of live records that it uses again. `sizes` are the bytes of
-    each new file, which the service shows; one of an earlier version refuses them. `term` is that of the task, if the job has names.
+    each new file, which the service shows; one of an earlier version refuses them. `term` is that of the task.
 
     A `payload` of at most 4096 bytes is the state of the task, if it is small: it is committed with the acknowledgement, and `Job.load` gives it
     back as long as the record is there. `size` (the bytes of the whole snapshot, in place of `sizes`) and `millis` are figures for `Job.history`. With
@@ -224,13 +224,11 @@ class Service:
         it._notice = notice
         return it
 
-    def open(self, name, settings, shape, names=None, first=1, storage=None):
+    def open(self, name, settings, shape, first=1, storage=None):
         """Opens a job, or finds it. A job that is there keeps its settings and its shape, which an operator may have changed: `opened` of the
-        job has them, and an engine goes on with these. A new job gives out names, but for one that a recovery opens without them. Its first record has the
-        number `first`. `storage` says where its files are, for cleaners, as {"folder": "/srv/orders", "prefix": "state-"}; a job that knows it keeps
-        what it knows. A service of an earlier version refuses it."""
-        said = {**({} if names is None else {"names": names}), **({} if first == 1 else {"first": first})}
-        said.update({} if storage is None else {"storage": storage})
+        job has them, and an engine goes on with these. The first record of a new job has the number `first`. `storage` says where its files are, for
+        cleaners, as {"folder": "/srv/orders", "prefix": "state-"}; a job that knows it keeps what it knows. A service of an earlier version refuses it."""
+        said = {**({} if first == 1 else {"first": first}), **({} if storage is None else {"storage": storage})}
         told = self.request("POST", "/v1/jobs", {"name": name, "settings": settings, "shape": shape, **said})
         return Job(self, name, Opened(told["settings"], told["shape"], told.get("settings_differ", False)), told.get("storage"))
 
@@ -383,11 +381,11 @@ class Job:
 
     def within(self, seconds):
         """The same job, which makes a request again for this many seconds, or for ever if that is None."""
-        return Job(self._service.within(seconds), self.name, self.opened, self.storage)
+        return type(self)(self._service.within(seconds), self.name, self.opened, self.storage)
 
-    def open(self, settings, shape, names=None, storage=None):
+    def open(self, settings, shape, storage=None):
         """Opens this job, or finds it, as `Service.open` does."""
-        return self._service.open(self.name, settings, shape, names, storage=storage)
+        return self._service.open(self.name, settings, shape, storage=storage)
 
     def calls(self, calls, key=None):
         """Makes calls in order and returns the answer of each, a refusal too. They are no transaction. The service makes them once
@@ -437,9 +435,8 @@ class Job:
 
     def begin(self, start="latest", shape=None, key=None, folder=None):
         """Begins the job again, from the latest record or from a savepoint: makes the call `restore`, and returns a `Start`. Pending records
-        end, and so does the term of the tasks; those of a job without names have all ended before. Raises `Refused` if the job is
-        cancelled. **The records behind a savepoint end**: give the folder of the state files, so that it is looked first, as `load` does,
-        whether the savepoint is whole. If it is not, nothing changes."""
+        end, and so does the term of the tasks. Raises `Refused` if the job is cancelled. **The records behind a savepoint end**: give the folder of the
+        state files, so that it is looked first, as `load` does, whether the savepoint is whole. If it is not, nothing changes."""
         if folder is not None and start != "latest":
             self.load(start, folder)
         told = self._make([restore(start, shape)], key)
@@ -461,13 +458,13 @@ class Job:
 
     def term(self):
         """The term that runs and the next name, for whoever starts tasks: each learns its term there. A task never asks, since one that
-        should be dead would learn the new term. Raises `Fenced` if the job has no names."""
+        should be dead would learn the new term."""
         told = self._get("/term")
         return {"term": told["term"], "next_name": int(told["next_name"])}
 
     def fence(self, first_name, key=None):
-        """Makes the job give out names, from this one on: all numbers of files that it ever used are below. The call is made between the
-        end of all tasks and `begin`. Raises `Fenced` if the job has names, or a file of it has this number or a greater one."""
+        """Makes a job that a recovery opened give out names, from this one on: all numbers of files that it ever used are below. Raises `Fenced` if
+        the job has names, or a file of it has this number or a greater one."""
         key = uuid.uuid4().hex if key is None else key
         return self._service.request("POST", f"{self._path}/fence", {"first_name": str(first_name)}, key)
 
@@ -500,8 +497,8 @@ class Job:
 
     def advance(self, term, first_name, key=None):
         """Lets the job go on from an older copy of the service's log, as a backup: it begins again, as by `begin`, in a term above `term`, which is
-        at least each that was told, and gives out names from `first_name` on, which is above each that was given out. Raises `Fenced` if the
-        job has no names, and `Refused` if it is cancelled."""
+        at least each that was told, and gives out names from `first_name` on, which is above each that was given out. Raises `Refused`
+        if it is cancelled."""
         key = uuid.uuid4().hex if key is None else key
         return self._service.request("POST", f"{self._path}/advance", {"term": term, "first_name": str(first_name)}, key)
 
@@ -629,10 +626,10 @@ class Job:
 class Start:
     """What a job begins from: the `kind` of a record, which is `checkpoint` or `savepoint`, its number `id`, and the `files` that each
     subtask loads. Or the kind is `fresh`, and there is no record. `follower` has the events after it. `term` is for each task that is
-    started from here, and for nobody else; it is None if the job has no names."""
+    started from here, and for nobody else."""
 
     def __init__(self, job, answer, log):
-        self.kind, self.id, self.term = answer["restore"], answer.get("id"), answer.get("term")
+        self.kind, self.id, self.term = answer["restore"], answer.get("id"), answer["term"]
         self._job = job
         self.files = {} if self.id is None else job._held(self.id)
         if self.files is None:
@@ -645,8 +642,6 @@ class Start:
 
     def session(self, block=_RESERVED):
         """A task of this start in this process."""
-        if self.term is None:
-            raise Fenced("NoNames")
         return self._job.session(self.term, block)
 
     def events(self):

@@ -4,15 +4,6 @@ use crate::files::{self, FileNames, Gone, Marked, Need, Owner, Refusal, Stop, St
 use crate::log;
 use std::collections::HashSet;
 
-/// The job, and what is known of its files.
-pub struct Known {
-    pub owner: Owner,
-    /// None of the job's files was taken before.
-    pub is_first: bool,
-    /// Whether the job gives out the names of its files, from 1 on. Otherwise its engine sees to it that no other file has them.
-    pub has_names: bool,
-}
-
 /// The place that a cleaner works in. Its marker is locked, which keeps other cleaners out.
 pub struct Deletions {
     marked: Marked,
@@ -24,25 +15,24 @@ pub struct Deletions {
 }
 
 impl Deletions {
-    /// Begins in a place, and checks its marker, which says this. Makes the marker in the first run for a job, or with `--init`.
+    /// Begins in a place, and checks its marker, which says this. Makes the marker in the first run for a job, of which no file was taken before,
+    /// or with `--init`.
     pub fn begin(
         place: Box<dyn Storage>,
         found: Option<String>,
         shared: &Shared,
         names: &FileNames,
-        known: &Known,
+        owner: &Owner,
+        is_first: bool,
     ) -> Result<Deletions, Stop> {
-        let (name, text) = (known.owner.marker(), known.owner.text());
-        if place.is_bucket() && !known.has_names {
-            return Err(Stop::Never(Refusal::NoNames, no_names(&known.owner.job)));
-        }
+        let (name, text) = (owner.marker(), owner.text());
         let is_ours = found.as_ref() == Some(&text);
-        check(&*place, &name, names, known, if is_ours || shared.accepted.init { Need::Prefix } else { Need::Look })?;
-        if !is_ours && (shared.accepted.init || found.is_none() && known.is_first) {
+        files::check(&*place, &name, names, if is_ours || shared.accepted.init { Need::Prefix } else { Need::Look })?;
+        if !is_ours && (shared.accepted.init || found.is_none() && is_first) {
             place.write(&name, &text)?;
-            log::info(&format!("{} is marked as the folder of the job {}", place.title(), known.owner.job));
+            log::info(&format!("{} is marked as the folder of the job {}", place.title(), owner.job));
         }
-        let marked = Marked::open(place, &known.owner)?;
+        let marked = Marked::open(place, owner)?;
         if !marked.lock()? {
             return Err(Stop::Busy(format!("another cleaner works in {}", marked.title())));
         }
@@ -55,8 +45,8 @@ impl Deletions {
             false
         });
         // another cleaner may have begun meanwhile
-        check(&*marked, &name, names, known, Need::Prefix)?;
-        let (owner, names) = (known.owner.clone(), names.clone());
+        files::check(&*marked, &name, names, Need::Prefix)?;
+        let (owner, names) = (owner.clone(), names.clone());
         Ok(Deletions { marked, owner, names, allow_absent: shared.accepted.allow_absent, says_first })
     }
 
@@ -129,22 +119,6 @@ impl Deletions {
     fn begun(&self) -> String {
         format!("{}{BEGUN}", self.marked.marker())
     }
-}
-
-/// Refuses a place in which another job may have files of the same names.
-fn check(place: &dyn Storage, marker: &str, names: &FileNames, known: &Known, need: Need) -> Result<(), Stop> {
-    if known.has_names {
-        files::check(place, marker, names, need)
-    } else {
-        files::check_markers(place, marker)
-    }
-}
-
-/// A bucket does not say of each file whether it was there. With names, one that is reported wrongly is garbage, which is found as such.
-fn no_names(job: &str) -> String {
-    format!(
-        "the job {job} has no names, so a file of a bucket that is reported wrongly would stay for good: a recovery has not made it whole"
-    )
 }
 
 #[cfg(test)]

@@ -1,5 +1,5 @@
 //! A turn that deletes the files which a job hands out. They have their numbers in their names.
-use super::deletions::{Deletions, Known};
+use super::deletions::Deletions;
 use super::Shared;
 use crate::files::{Gone, JobStorage, Owner, Refusal, Stop};
 use crate::log;
@@ -66,8 +66,7 @@ impl Discard<'_> {
         let mut place = self.storage.open(&owner)?;
         let found = place.hold(&owner.marker())?;
         let is_first = found.is_none() && !self.shared.accepted.init && self.is_first(&state).await?;
-        let known = Known { is_first, has_names: state["names"] == true, owner };
-        Deletions::begin(place, found, self.shared, &self.storage.names(), &known)
+        Deletions::begin(place, found, self.shared, &self.storage.names(), &owner, is_first)
     }
 
     /// Whether no file of the job was taken before. A history that lags can't tell it yet.

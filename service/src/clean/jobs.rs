@@ -21,8 +21,6 @@ const CLOSE_AFTER: Duration = Duration::from_secs(60);
 pub struct Listed {
     pub name: String,
     pub opened: u64,
-    /// Whether the job gives out the names of its files: only then it can tell its garbage.
-    pub has_names: bool,
     /// Files that wait for deletion, and those that were taken and not reported.
     pub waiting: u64,
     pub taken: u64,
@@ -35,7 +33,6 @@ impl Listed {
         Some(Listed {
             name: told["name"].as_str()?.to_string(),
             opened: told["opened"].as_u64()?,
-            has_names: told["names"] == true,
             waiting: told["files"]["waiting"].as_u64()?,
             taken: told["files"]["taken"].as_u64()?,
             storage: serde_json::from_value(told["storage"].clone()).ok(),
@@ -145,7 +142,7 @@ impl Known {
     pub fn wants(&self, kind: Kind, now: Instant) -> bool {
         match kind {
             Kind::Released => self.released.may_begin(now) && (self.listed.waiting > 0 || self.wants_look(now)),
-            Kind::Garbage => self.listed.has_names && self.garbage.may_begin(now),
+            Kind::Garbage => self.garbage.may_begin(now),
         }
     }
 
@@ -168,7 +165,7 @@ impl Known {
     pub fn is_over(&self, kind: Kind) -> bool {
         match kind {
             Kind::Released => self.released.has_ended && (self.listed.waiting == 0 || self.released.stopped.is_some()),
-            Kind::Garbage => self.garbage.has_ended || !self.listed.has_names,
+            Kind::Garbage => self.garbage.has_ended,
         }
     }
 
@@ -192,8 +189,7 @@ mod tests {
 
     #[test]
     fn a_row_of_the_list_is_read() {
-        let mut row =
-            json!({"name": "a", "opened": 7, "names": true, "files": {"in_use": 1, "waiting": 2, "taken": 3}});
+        let mut row = json!({"name": "a", "opened": 7, "files": {"in_use": 1, "waiting": 2, "taken": 3}});
         let read = |row: &Value| Listed::of(row).map(|it| (it.waiting, it.taken, it.storage));
         assert_eq!(read(&row), Some((2, 3, None)));
         row["storage"] = json!({"folder": "/a", "prefix": "s-"});
@@ -224,9 +220,9 @@ mod tests {
     #[test]
     fn a_turn_begins_if_there_is_something_to_do() {
         let now = Instant::now();
-        let listed = Listed { name: "a".to_string(), opened: 7, has_names: false, waiting: 0, taken: 0, storage: None };
+        let listed = Listed { name: "a".to_string(), opened: 7, waiting: 0, taken: 0, storage: None };
         let mut known = Known::new(1, listed, now);
-        assert!(known.wants(Kind::Released, now) && !known.wants(Kind::Garbage, now));
+        assert!(known.wants(Kind::Released, now) && known.wants(Kind::Garbage, now));
         known.look(Some(now));
         assert!(!known.wants(Kind::Released, now));
         known.listed.taken = 2;
@@ -235,7 +231,5 @@ mod tests {
         assert!(known.wants(Kind::Released, now));
         known.released.begin(now);
         assert!(!known.wants(Kind::Released, now));
-        known.listed.has_names = true;
-        assert!(known.wants(Kind::Garbage, now));
     }
 }

@@ -82,11 +82,11 @@ impl Metrics {
     }
 
     /// A job was found, whose garbage is looked for or not.
-    pub fn found(&self, job: &str, has_garbage: bool) {
+    pub fn found(&self, job: &str, has_place: bool) {
         for (kind, outcome) in OUTCOMES {
             self.files.with_label_values(&[job, kind, outcome]);
         }
-        if has_garbage {
+        if has_place {
             self.swept.with_label_values(&[job]).set(now());
         }
         self.works.with_label_values(&[job]).set(0);

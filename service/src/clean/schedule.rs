@@ -198,8 +198,6 @@ impl Schedule {
         }
         for mut job in jobs {
             job.storage = self.shared.place.clone().or(job.storage);
-            // who asks for the garbage of one job is told if it can't be told
-            job.has_names |= self.one.is_some() && self.kinds == [Kind::Garbage];
             let is_same = |known: &Known| (known.listed.opened, &known.listed.storage) == (job.opened, &job.storage);
             match self.jobs.get_mut(&job.name).filter(|known| is_same(known)) {
                 Some(known) => known.listed = job,
@@ -215,7 +213,7 @@ impl Schedule {
 
     fn find(&mut self, job: Listed, now: Instant) {
         self.found += 1;
-        self.shared.metrics.found(&job.name, job.has_names && job.storage.is_some());
+        self.shared.metrics.found(&job.name, job.storage.is_some());
         if job.storage.is_none() {
             log::info(&format!("job {}: nobody has said where its files are, so they stay", job.name));
         }

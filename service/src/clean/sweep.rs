@@ -2,9 +2,9 @@
 //! it may run at any time, beside the job's tasks, beside another one, and late.
 use super::discard::{away, owner};
 use super::Shared;
-use crate::files::{self, FileNames, Found, Gone, JobStorage, Marked, Need, Refusal, Stop};
+use crate::files::{self, FileNames, Found, Gone, JobStorage, Marked, Need, Stop};
 use crate::log;
-use relkvanu_client::{Error, Job};
+use relkvanu_client::Job;
 use std::collections::BTreeMap;
 use std::fmt;
 use std::io::Write;
@@ -12,7 +12,6 @@ use std::time::Instant;
 
 /// How many files one request asks of.
 const PAGE: usize = 10_000;
-const NO_NAMES: &str = "NoNames";
 
 /// Files by their numbers: one that is being written has another name.
 type Page = BTreeMap<u64, Vec<Found>>;
@@ -45,8 +44,6 @@ pub async fn sweep(shared: &Shared, name: &str, job: &Job, storage: &JobStorage)
     let place = Marked::open(storage.open(&owner)?, &owner)?;
     let names = storage.names();
     files::check(&*place, place.marker(), &names, Need::Prefix)?;
-    // a job without names has no garbage to ask for, also if the place has no file
-    job.garbage(&[]).await.map_err(stopped)?;
     let mut sweep = Sweep { shared, name, job, names: &names, place: &place, swept: Swept::default() };
     let told = sweep.pages().await;
     let sums = format!("{} seconds={:.1}", sweep.swept, began.elapsed().as_secs_f64());
@@ -102,7 +99,7 @@ impl Sweep<'_> {
 
     async fn page(&mut self, page: &Page) -> Result<(), Stop> {
         let numbers: Vec<u64> = page.keys().copied().collect();
-        let (garbage, unissued) = self.job.garbage(&numbers).await.map_err(stopped)?;
+        let (garbage, unissued) = self.job.garbage(&numbers).await.map_err(away)?;
         let (garbage, unissued) = (named(page, &garbage)?, named(page, &unissued)?);
         self.swept.listed += page.values().map(Vec::len).sum::<usize>() as u64;
         let mut lines = self.garbage(&garbage)?;
@@ -164,15 +161,4 @@ fn say(lines: &[String]) -> Result<(), Stop> {
     let mut out = std::io::stdout().lock();
     let written = lines.iter().try_for_each(|line| writeln!(out, "{line}")).and_then(|()| out.flush());
     written.map_err(|error| Stop::Again(format!("the output: {error}")))
-}
-
-/// Why the service gave no answer to go on with.
-fn stopped(error: Error) -> Stop {
-    match error {
-        Error::Fenced { name, .. } if name == NO_NAMES => Stop::Never(
-            Refusal::NoNames,
-            "the job gives out no names, so nobody can tell its garbage: a recovery has not made it whole".to_string(),
-        ),
-        other => away(other),
-    }
 }

@@ -113,9 +113,6 @@ pub struct Serve {
     /// How many records of a job the history keeps once they have ended [default: a tenth of --keep-calls, and at least 1000]
     #[arg(long, value_name = "RECORDS")]
     pub keep_records: Option<u64>,
-    // of tests, whose jobs have files with numbers of their own
-    #[arg(long, value_name = "BOOL", hide = true)]
-    pub names: Option<bool>,
     /// The address that a standby names to clients [default: http://LISTEN]
     #[arg(long, value_name = "URL")]
     pub advertise: Option<String>,

@@ -165,9 +165,7 @@ async fn restore(job: &Job, given: &commands::Restore) -> Result<(), Ended> {
 async fn go_on(job: &Job, given: &commands::Restore) -> Result<Option<u64>, Ended> {
     let state = job.state().await?;
     let record = folder::last_whole(job, given).await?;
-    if state["names"] == true {
-        above(job, None, None).await?;
-    }
+    above(job, None, None).await?;
     Ok(Some(record).filter(|id| state["choice"]["id"] != *id))
 }
 

@@ -53,10 +53,8 @@ pub fn job(job: &Value) -> String {
             cell(&files["taken"])
         ),
         format!("calls\t{}, of which the log has those from {} on", cell(&job["seq"]), cell(&job["first"])),
+        format!("next name\t{}", cell(&job["next_name"])),
     ];
-    if job["names"] == true {
-        rows.push(format!("next name\t{}", cell(&job["next_name"])));
-    }
     let bytes = &job["bytes"];
     if bytes["files"].as_u64() > Some(0) {
         let [in_use, waiting, taken] = ["in_use", "waiting", "taken"].map(|name| cell(&bytes[name]));

@@ -11,7 +11,7 @@ pub use folder::Folder;
 pub use job_storage::JobStorage;
 pub use marked::{no_marker, Marked, Owner};
 pub use names::FileNames;
-pub use others::{check, check_markers, check_own, forget, say, Need, BEGUN, MARK};
+pub use others::{check, check_own, forget, say, Need, BEGUN, MARK};
 
 use bucket::Bucket;
 use clap::Args;
@@ -56,8 +56,6 @@ pub enum Refusal {
     Names,
     /// All files that were handed out together are absent.
     AllAbsent,
-    /// The job gives out no names.
-    NoNames,
     /// The bucket keeps versions of what is deleted.
     KeepsVersions,
     /// Nobody has said where the files are.
@@ -65,12 +63,11 @@ pub enum Refusal {
 }
 
 impl Refusal {
-    const ALL: [Refusal; 7] = [
+    const ALL: [Refusal; 6] = [
         Refusal::NoMarker,
         Refusal::OtherMarker,
         Refusal::Names,
         Refusal::AllAbsent,
-        Refusal::NoNames,
         Refusal::KeepsVersions,
         Refusal::NoPlace,
     ];
@@ -81,7 +78,6 @@ impl Refusal {
             Refusal::OtherMarker => "other_marker",
             Refusal::Names => "names",
             Refusal::AllAbsent => "all_absent",
-            Refusal::NoNames => "no_names",
             Refusal::KeepsVersions => "keeps_versions",
             Refusal::NoPlace => "no_storage",
         }

@@ -28,7 +28,7 @@ pub enum Need {
 
 /// Refuses a folder with the marker of a job that is named as a file beside this job's marker is, or the other way round. Each of the two
 /// would overwrite what the other one wrote.
-pub fn check_markers(place: &dyn Storage, own: &str) -> Result<(), Stop> {
+fn check_markers(place: &dyn Storage, own: &str) -> Result<(), Stop> {
     let clash = |one: &str, other: &str| [NAMES, BEGUN].iter().any(|end| one.strip_suffix(end) == Some(other));
     let Some(other) = others(place, own)?.into_iter().find(|other| clash(other, own) || clash(own, other)) else {
         return Ok(());

@@ -70,8 +70,6 @@ pub struct App {
     /// Room for large answers that were not sent yet, in units of [`UNIT`] bytes.
     pub answers: Arc<Semaphore>,
     pub limits: Limits,
-    /// Whether a new job gives out names if its creation does not say.
-    pub names: bool,
 }
 
 /// Room for this many bytes.

@@ -10,7 +10,7 @@ use crate::writer::{Read, ReadDone};
 use hyper::{Body, Request};
 use serde_json::json;
 
-/// A job that gives out no names.
+/// Of a job that a recovery has not made whole.
 const NO_NAMES: &str = "NoNames";
 
 /// Gives a job names, from a first one on. The call is in its log, and is made once under a key.
@@ -41,7 +41,7 @@ fn turned(answers: &str, first_name: u64) -> HttpReply {
 /// What the term or the names refuse, by its name.
 fn fenced(name: &str) -> HttpReply {
     let text = match name {
-        NO_NAMES => "the job gives out no names; POST /v1/jobs/JOB/fence makes it do so, between the end of all its tasks and their restart",
+        NO_NAMES => "the job gives out no names: a recovery has not made it whole",
         "HasNames" => "the job gives out names already",
         "NameInUse" => "first_name: a file of the job has this number or a greater one",
         _ => name,

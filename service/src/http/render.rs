@@ -55,7 +55,6 @@ pub fn job(state: &JobState, log: &str) -> Value {
         "image": state.image.map(|image| json!({"seq": image.seq, "at": image.at, "bytes": image.bytes})),
         "live": state.live.iter().map(live).collect::<Vec<_>>(),
         // not the term: a task of an ended term could learn it here
-        "names": state.term.is_some(),
         "next_name": state.term.map(|now| now.next_name.to_string()),
     })
 }

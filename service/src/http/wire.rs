@@ -191,8 +191,6 @@ pub struct NewJob {
     pub name: String,
     pub settings: Settings,
     pub shape: Vec<u64>,
-    /// Whether it gives out names, if that is said.
-    pub names: Option<bool>,
     /// The number of its first record.
     pub first: u64,
     /// Where its files are, if that is said.
@@ -208,11 +206,13 @@ pub fn new_job(bytes: &[u8]) -> Checked<NewJob> {
     }
     let settings = settings(Members::of("settings", members.wanted("settings")?)?)?;
     let shape = members.shape()?.ok_or_else(|| members.wrong("shape", "is missing"))?;
-    let names = members.flag("names")?;
+    if members.has("names") {
+        return Err(members.wrong("names", "is no field here: every job gives out the names of its files"));
+    }
     let storage = members.take("storage").map(|value| storage_of(Members::of("storage", value)?)).transpose()?;
     let first = if members.has("first") { members.number("first", 1, GREATEST)? } else { 1 };
     members.finish()?;
-    Ok(NewJob { name, settings, shape, names, first, storage })
+    Ok(NewJob { name, settings, shape, first, storage })
 }
 
 /// Reads the body that says where a job's files are.
@@ -586,16 +586,8 @@ mod tests {
     fn reads_jobs() {
         let body = br#"{"name":"orders","settings":{"interval":1000,"retained":2},"shape":[2,1]}"#;
         let settings = settings_of([1000, 0, 1, 600_000, 0, 2], false);
-        let wanted = |names| {
-            let name = "orders".to_string();
-            Ok(NewJob { name, settings, shape: vec![2, 1], names, first: 1, storage: None })
-        };
-        assert_eq!(new_job(body), wanted(None));
-        let with =
-            |names: &str| String::from_utf8_lossy(body).replace("{\"name\"", &format!("{{\"names\":{names},\"name\""));
-        assert_eq!(new_job(with("false").as_bytes()), wanted(Some(false)));
-        assert_eq!(new_job(with("true").as_bytes()), wanted(Some(true)));
-        assert_eq!(new_job(with("1").as_bytes()).err().map(|invalid| invalid.field).as_deref(), Some("names"));
+        let name = "orders".to_string();
+        assert_eq!(new_job(body), Ok(NewJob { name, settings, shape: vec![2, 1], first: 1, storage: None }));
         let wrong = |body: &str| new_job(body.as_bytes()).err().map(|invalid| invalid.field).unwrap_or_default();
         assert_eq!(wrong(r#"{"name":"../x","settings":{"interval":1000},"shape":[1]}"#), "name");
         assert_eq!(wrong(r#"{"name":"x","settings":{},"shape":[1]}"#), "settings.interval");
@@ -604,5 +596,6 @@ mod tests {
         assert_eq!(wrong(r#"{"name":"x","settings":{"interval":1000,"every":1},"shape":[1]}"#), "settings.every");
         assert_eq!(wrong(r#"{"name":"x","settings":{"interval":1000},"shape":[]}"#), "shape");
         assert_eq!(wrong(r#"{"name":"x","settings":{"interval":1000}}"#), "shape");
+        assert_eq!(wrong(r#"{"name":"x","settings":{"interval":1000},"shape":[1],"names":false}"#), "names");
     }
 }

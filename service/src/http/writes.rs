@@ -6,7 +6,7 @@ use super::reply::{bad_field, bad_key, body, damaged, error, invalid, json_reply
 use super::{gate, no_job, wire, App};
 use crate::auth::Caller;
 use crate::model::{settings_json, Call};
-use crate::writer::{CallsDone, Created, Delete, Deletion, Key, Message, NamesWanted};
+use crate::writer::{CallsDone, Created, Delete, Deletion, Key, Message};
 use hyper::body::HttpBody;
 use hyper::header::{HeaderMap, LOCATION};
 use hyper::{Body, Request};
@@ -23,35 +23,29 @@ const STOP_BODIES: Duration = Duration::from_secs(5);
 
 pub async fn new_job(app: &App, caller: &Caller, request: Request<Body>) -> Result<HttpReply, Box<HttpReply>> {
     let (bytes, _room) = read_body(app, caller, request.into_body()).await?;
-    let wire::NewJob { name, settings, shape, names, first, storage } =
-        wire::new_job(&bytes).map_err(|why| invalid(&why))?;
+    let wire::NewJob { name, settings, shape, first, storage } = wire::new_job(&bytes).map_err(|why| invalid(&why))?;
     if !caller.may_see(&name) {
         return Err(gate::not_for(&name).into());
     }
     app.replayed(&name).await?;
     let mut told = json!({"name": name, "settings": settings_json(&settings), "shape": shape, "storage": storage});
     let wanted = (settings, shape.clone());
-    let (place, by_default) = (format!("/v1/jobs/{name}"), app.names);
-    let names = NamesWanted { wanted: names, by_default, first };
+    let place = format!("/v1/jobs/{name}");
     if let Some(why) = app.board.damage(&name) {
         return Err(damaged(&name, &why).into());
     }
     let at = name.clone();
-    let created = app.ask(|reply| Message::Create { name, settings, shape, names, storage, reply }).await?;
+    let created = app.ask(|reply| Message::Create { name, settings, shape, first, storage, reply }).await?;
     Ok(match created {
-        Created::New { names } => {
-            told["names"] = json!(names);
-            with_header(json_reply(201, &told), LOCATION, &place)
-        }
+        Created::New => with_header(json_reply(201, &told), LOCATION, &place),
         // its settings and its shape are the operator's since it was opened
-        Created::Found { names, settings, shape, storage } => {
+        Created::Found { settings, shape, storage } => {
             let differ = (settings, &shape) != (wanted.0, &wanted.1);
             (told["settings"], told["storage"]) = (settings_json(&settings), json!(storage.as_deref()));
-            (told["shape"], told["names"], told["settings_differ"]) = (json!(shape), json!(names), json!(differ));
+            (told["shape"], told["settings_differ"]) = (json!(shape), json!(differ));
             json_reply(200, &told)
         }
         Created::Making => making(&at),
-        Created::OtherNames { names } => other_names(names),
         Created::NotOpened(why) => error(507, &format!("the job was not opened: {why}")),
         Created::Damaged(why) => damaged(&at, &why),
     })
@@ -60,15 +54,6 @@ pub async fn new_job(app: &App, caller: &Caller, request: Request<Body>) -> Resu
 fn making(job: &str) -> HttpReply {
     let why = format!("name: the job {job} is being recovered or imported, and is not whole: give that command again");
     refusal(409, json!({"error": why, "field": "name"}))
-}
-
-fn other_names(has: bool) -> HttpReply {
-    let why = if has {
-        "names: the job gives out names, so it can't be opened without"
-    } else {
-        "names: the job gives out none; POST /v1/jobs/JOB/fence makes it do so, between the end of all its tasks and their restart"
-    };
-    refusal(409, json!({"error": why, "field": "names"}))
 }
 
 /// Deletes a job with its log and its history.

@@ -26,10 +26,10 @@ const WHOLE: [Told<Option<u64>>; 9] = [
     }),
     (
         "relkvanu_term",
-        "The term of the job's tasks, which each restore and cancel ends; none if it gives out no names.",
+        "The term of the job's tasks, which each restore and cancel ends.",
         |job| job.term.map(|now| now.term),
     ),
-    ("relkvanu_next_name", "The next name that the job gives out; none if it gives out no names.", |job| {
+    ("relkvanu_next_name", "The next name that the job gives out.", |job| {
         job.term.map(|now| now.next_name)
     }),
 ];

@@ -37,7 +37,8 @@ pub enum Message {
         name: String,
         settings: Settings,
         shape: Vec<u64>,
-        names: NamesWanted,
+        /// The number of its first record.
+        first: u64,
         /// Where its files are. A job that is there takes it if it knows none.
         storage: Option<JobStorage>,
         reply: oneshot::Sender<Created>,
@@ -106,33 +107,17 @@ pub enum CallsDone {
     NoJob,
 }
 
-/// Whether a job gives out names: what its creation wants, and what a new one has if that says nothing.
-#[derive(Clone, Copy, Debug)]
-pub struct NamesWanted {
-    /// The number of its first record.
-    pub first: u64,
-    pub wanted: Option<bool>,
-    pub by_default: bool,
-}
-
 #[derive(Debug)]
 pub enum Created {
-    New {
-        names: bool,
-    },
+    New,
     /// A job of this name was there, with these settings and this shape.
     Found {
-        names: bool,
         settings: Settings,
         shape: Vec<u64>,
         storage: Option<Arc<JobStorage>>,
     },
     /// A recovery makes a job of this name, and has not made it whole.
     Making,
-    /// A job of this name gives out names, or none, and the other was wanted.
-    OtherNames {
-        names: bool,
-    },
     NotOpened(NoJob),
     /// A job of this name is kept out, and why.
     Damaged(String),
@@ -182,7 +167,7 @@ pub enum ReadDone {
     },
     /// Ascending; `None` if memory ran out.
     Taken(Option<Vec<u64>>),
-    /// `None` if the job gives out no names.
+    /// `None` if a recovery has not made the job whole.
     Term(Option<RunningTerm>),
     Garbage(Result<Garbage, Fault>),
     NoJob,

@@ -26,7 +26,7 @@ pub use delete::Delete;
 pub use imager::Imager;
 pub use jobs::Jobs;
 pub use lease::Lease;
-pub use message::{CallsDone, Created, Deletion, ForKeeping, Key, Message, NamesWanted, Read, ReadDone, MOST_JOBS};
+pub use message::{CallsDone, Created, Deletion, ForKeeping, Key, Message, Read, ReadDone, MOST_JOBS};
 pub use pool::{OpenReader, Pool, Progress};
 pub use queue::{queue, Inbox, Messages, NotSent};
 pub use replay::StartError;
@@ -276,8 +276,8 @@ impl Writer {
             Message::Read(read, reply) => round.reads.push((read, reply)),
             Message::Keep(given, reply) => round.given.push((given, reply)),
             Message::Delete(delete) => round.deletions.push(delete),
-            Message::Create { name, settings, shape, names, storage, reply } => {
-                let created = round.create(&mut self.jobs, &name, settings, shape, names, self.clock.now());
+            Message::Create { name, settings, shape, first, storage, reply } => {
+                let created = round.create(&mut self.jobs, &name, settings, shape, first, self.clock.now());
                 let created = round.created_at(&mut self.jobs, &name, created, storage);
                 round.created.push((created, reply));
             }

@@ -2,7 +2,7 @@
 use super::delete::Delete;
 use super::jobs::Jobs;
 use super::keeper::Upkeep;
-use super::message::{CallsDone, Created, Deletion, ForKeeping, Key, NamesWanted, Read, ReadDone};
+use super::message::{CallsDone, Created, Deletion, ForKeeping, Key, Read, ReadDone};
 use crate::files::JobStorage;
 use crate::model::{Call, Held, NoJob, Opening, Settings, MAKING};
 use crate::store::{Group, Keyed};
@@ -59,37 +59,33 @@ impl Round {
         self.group.requests.push(Keyed { job, key: key.name, at, digest: key.digest, answers });
     }
 
-    /// Opens a job of this name, unless there is one.
+    /// Opens a job of this name, unless there is one. It gives out names from its first call on. One that a recovery makes gets them once it has its records.
     pub fn create(
         &mut self,
         jobs: &mut Jobs,
         name: &str,
         settings: Settings,
         shape: Vec<u64>,
-        names: NamesWanted,
+        first: u64,
         now: u64,
     ) -> Created {
         if let Some(place) = jobs.place(name) {
             let job = jobs.at(place);
-            let has = job.engine().term().is_some();
-            return match names.wanted {
-                _ if job.settings == MAKING && settings != MAKING => Created::Making,
-                Some(wanted) if wanted != has => Created::OtherNames { names: has },
-                _ => Created::Found { names: has, settings: job.settings, shape: job.shape.clone(), storage: None },
-            };
+            if job.settings == MAKING && settings != MAKING {
+                return Created::Making;
+            }
+            return Created::Found { settings: job.settings, shape: job.shape.clone(), storage: None };
         }
         if let Some(why) = jobs.kept_out().why(name) {
             return Created::Damaged(why);
         }
-        let (number, first) = (jobs.next_number(), names.first);
-        let names = names.wanted.unwrap_or(names.by_default);
-        let opening = Opening { number, name: name.to_string(), settings, shape, started: now, first };
+        let opening =
+            Opening { number: jobs.next_number(), name: name.to_string(), settings, shape, started: now, first };
         let place = match jobs.open(opening.clone()) {
             Ok(place) => place,
             Err(why) => return Created::NotOpened(why),
         };
-        if names {
-            // its first call, so the log says that it gives out names
+        if settings != MAKING {
             let (_, logged) = jobs.at(place).call(&Call::Fence { first_name: FIRST_NAME }, now);
             let Some(logged) = logged else {
                 jobs.unopen(place);
@@ -99,12 +95,12 @@ impl Round {
         }
         self.group.jobs.push(opening);
         self.touched.insert(place);
-        Created::New { names }
+        Created::New
     }
 
     /// Says where the files of a job are that was opened or found. One that knows it keeps what it knows, which may be an operator's.
     pub fn created_at(&mut self, jobs: &mut Jobs, name: &str, created: Created, said: Option<JobStorage>) -> Created {
-        let is_there = matches!(created, Created::New { .. } | Created::Found { .. });
+        let is_there = matches!(created, Created::New | Created::Found { .. });
         let Some(place) = jobs.place(name).filter(|_| is_there) else {
             return created;
         };
@@ -112,8 +108,8 @@ impl Round {
             self.locate(jobs, name, said);
         }
         match created {
-            Created::Found { names, settings, shape, .. } => {
-                Created::Found { names, settings, shape, storage: jobs.at(place).storage.clone() }
+            Created::Found { settings, shape, .. } => {
+                Created::Found { settings, shape, storage: jobs.at(place).storage.clone() }
             }
             other => other,
         }

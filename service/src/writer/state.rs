@@ -35,7 +35,7 @@ pub struct JobState {
     pub pending_savepoints: usize,
     /// The live records in rising number, each with how many subtasks are missing.
     pub live: Vec<(LiveRecord, u64)>,
-    /// `None` if the job gives out no names.
+    /// `None` if a recovery has not made the job whole.
     pub term: Option<RunningTerm>,
 }
 

@@ -111,8 +111,7 @@ impl Service {
     }
 
     /// Opens a job, or finds it. A job that is there keeps its settings and its shape, which an operator may have changed:
-    /// [`Job::opened`] has them, and an engine goes on with these. Settings are those of the API, as `{"interval": 60000}`. A new job
-    /// gives out names, unless the service is set otherwise.
+    /// [`Job::opened`] has them, and an engine goes on with these. Settings are those of the API, as `{"interval": 60000}`.
     pub async fn open(&self, name: &str, settings: Value, shape: &[u64]) -> Result<Job, Error> {
         self.opened(name, json!({"name": name, "settings": settings, "shape": shape})).await
     }
@@ -210,7 +209,7 @@ impl Job {
     }
 
     /// The term that runs and the next name, for whoever starts tasks: each learns its term there. A task never asks, since one that should
-    /// be dead would learn the new term. Fails with [`Error::Fenced`] if the job has no names.
+    /// be dead would learn the new term.
     pub async fn term(&self) -> Result<Value, Error> {
         self.get("/term").await
     }
@@ -269,7 +268,7 @@ impl Job {
 
     /// Lets the job go on from an older copy of the service's log, as a backup: it begins again, as by [`begin`](Self::begin), in a term above
     /// this one, and gives out names from this one on. The first is at least each term that was told, and the second above each name that
-    /// was given out. Fails with [`Error::Fenced`] if the job has no names, and [`Error::Refused`] if it is cancelled.
+    /// was given out. Fails with [`Error::Refused`] if it is cancelled.
     pub async fn advance(&self, term: u64, first_name: u64) -> Result<Value, Error> {
         self.posted("advance", &json!({"term": term, "first_name": first_name.to_string()})).await
     }

@@ -10,7 +10,7 @@ pub struct Start {
     pub id: Option<u64>,
     /// The files that each subtask loads.
     pub files: Vec<(String, Vec<u64>)>,
-    /// For each task that is started from here, and for nobody else; `None` if the job has no names.
+    /// For each task that is started from here, and for nobody else; `None` as long as a recovery makes the job.
     pub term: Option<u64>,
     /// The events after it.
     pub follower: Follower,

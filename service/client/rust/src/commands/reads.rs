@@ -98,7 +98,7 @@ impl<E: Engine> Served<E> {
             "name": self.name, "settings": settings_json(&settings), "shape": shape, "opened": self.opened, "mode": mode, "phase": phase,
             "stop": self.stop(&past)?, "seq": seq, "now": unix_now(), "due": self.unix(due), "oldest_expiry": expiry.map(|it| self.unix(it)),
             "files": files, "bytes": {"in_use": 0, "waiting": 0, "taken": 0, "files": 0}, "choice": choice_json(store.choice()?),
-            "last_completed": last, "last_event": seq, "first": 1, "image": null, "live": self.live()?, "log": self.log(), "names": true,
+            "last_completed": last, "last_event": seq, "first": 1, "image": null, "live": self.live()?, "log": self.log(),
             "next_name": store.term()?.next_name.to_string(), "storage": null,
         }))
     }
