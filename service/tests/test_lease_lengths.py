@@ -165,4 +165,4 @@ def test_a_standby_says_when_it_had_read_all():
         assert second.metric("relkvanu_leader") == 0
         first.kill()
         second.wait_ready()
-        assert second.metric("relkvanu_leader") == 1
+        until(lambda: second.metric("relkvanu_leader") == 1)

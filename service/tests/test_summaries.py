@@ -4,9 +4,10 @@ import glob
 import os
 import sqlite3
 
-from harness import Server, caught_up, configured, folder, lease_of, lose_history, served_job, small_disk, sqlite, until
+from harness import Server, Service, caught_up, configured, folder, lease_of, lose_history, served_job, small_disk, sqlite, until
 from postgres import postgres
-from relkvanu_service import Service, ack, deleted, dispose, savepoint
+from relkvanu_service import ack, deleted, dispose, savepoint
+from test_disks import fill
 from test_images import KEEPING, SETTINGS, read_and_cut, seen, worked
 from test_metrics import scraped
 
@@ -108,9 +109,8 @@ def test_a_history_that_cannot_be_written_is_kept():
         job = Service(server.url).open("orders", SETTINGS, [2])
         before = prepared(job)
         server.stop()
-        room = os.statvfs(small)
-        with open(f"{small}/fill", "wb") as it:
-            it.write(b"x" * (room.f_bavail * room.f_frsize))
+        with open(f"{small}/fill", "wb", buffering=0) as it:
+            fill(it)
         for _ in range(2):
             server.start()
             job.calls([savepoint()])
@@ -137,9 +137,8 @@ def test_a_broken_history_is_seen():
         server = Server(at, args=["--history", f"{small}/h.db", "--image-calls", "100", "--keep-calls", "100"]).start()
         job = Service(server.url).open("orders", SETTINGS, [1])
         assert server.get("/healthz")[::2] == (200, "ok\n")
-        room = os.statvfs(small)
-        with open(f"{small}/fill", "wb") as it:
-            it.write(b"x" * (room.f_bavail * room.f_frsize))
+        with open(f"{small}/fill", "wb", buffering=0) as it:
+            fill(it)
         for _ in range(12):
             job.calls([{"call": "tick"}] * 100)
         until(lambda: scraped(server)[1]["relkvanu_history_up"] == 0, 10)
@@ -171,4 +170,5 @@ def test_the_history_of_a_newer_version():
         server.start()
         assert server.get("/v1/jobs/orders")[0] == 200
         until(lambda: scraped(server)[1]["relkvanu_history_up"] == 0)
-        assert "a newer program has made them" in server.log() and not os.path.exists(f"{path}.bad")
+        until(lambda: "a newer program has made them" in server.log())
+        assert not os.path.exists(f"{path}.bad")
