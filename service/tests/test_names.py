@@ -16,6 +16,7 @@ from harness import (
 from postgres import postgres
 from relkvanu_service import Failed, Fenced, OldTerm, Refused, Service, ack, cancel, decline, deleted, dispose, reserve, restore, savepoint
 from test_api import MAKING
+from test_metrics import scraped
 
 JOB = {"name": "orders", "settings": SETTINGS, "shape": [1]}
 
@@ -431,16 +432,11 @@ def test_the_session_of_the_client():
         session.forfeit([name])
         assert job.garbage([name])[0] == [name]
         job.call(restore())
-        before = sum(value for name, value in counted(server).items() if "reserve" in name)
+        before = sum(value for name, value in scraped(server)[1].items() if "reserve" in name)
         for _ in range(3):
             assert raised(OldTerm, lambda: [session.name() for _ in range(20)]) and raised(OldTerm, lambda: session.calls([decline(record, "0.1")]))
-        assert sum(value for name, value in counted(server).items() if "reserve" in name) == before + 1, "it asks once, and then knows"
-        assert counted(server)['relkvanu_calls_total{call="reserve",job_name="orders",outcome="fenced"}'] == 1
-        gauges = counted(server)
+        assert sum(value for name, value in scraped(server)[1].items() if "reserve" in name) == before + 1, "it asks once, and then knows"
+        assert scraped(server)[1]['relkvanu_calls_total{call="reserve",job_name="orders",outcome="fenced"}'] == 1
+        gauges = scraped(server)[1]
         assert gauges['relkvanu_term{job_name="orders"}'] == 3 and gauges['relkvanu_next_name{job_name="orders"}'] == int(job.state()["next_name"])
         return f"{len(found)} names of 4 threads, refusals, and the end of a term"
-
-
-def counted(server):
-    lines = (line for line in server.get("/metrics")[2].splitlines() if not line.startswith("#"))
-    return {line.rsplit(" ", 1)[0]: float(line.rsplit(" ", 1)[1]) for line in lines}

@@ -5,7 +5,7 @@ import time
 
 import requests
 
-from harness import COMMAND, PROGRAM, Service, beside, caught_up, served, served_job, until
+from harness import COMMAND, PROGRAM, Service, beside, caught_up, raised, served, served_job, until
 from relkvanu_service import Failed, Fenced, Refused, ack, cancel
 
 NEVER = 1 << 40
@@ -257,7 +257,7 @@ def test_an_advance():
         told = job.advance(100, 5000)
         assert (told["restore"], told["id"], told["term"]) == ("checkpoint", made, 101) and job.term() == {"term": 101, "next_name": 5000}, told
         late = [lambda: task.ack(made, "0.0"), lambda: job.session(100).name()]
-        assert [fenced(make) for make in late] == ["OldTerm"] * 2 and job.session(101).name() == 5000
+        assert [raised(Fenced, make).name for make in late] == ["OldTerm"] * 2 and job.session(101).name() == 5000
         # a file of the lost part is garbage, and one of a record is not
         assert job.garbage([1, 4000, 9000]) == ([4000], [9000])
         # smaller ones lower nothing, and one under a key is made once
@@ -286,14 +286,6 @@ def test_an_advance():
         told = subprocess.run([PROGRAM, "check", "--database", server.database], stdout=subprocess.PIPE, stderr=subprocess.STDOUT, text=True, timeout=COMMAND, check=False)
         assert told.returncode == 0, told
         return f"terms up to {before['term']}"
-
-
-def fenced(make):
-    try:
-        make()
-    except Fenced as told:
-        return told.name
-    return None
 
 
 def test_a_kill_leaves_all_of_the_way_back_or_nothing():

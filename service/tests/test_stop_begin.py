@@ -131,7 +131,7 @@ def test_a_job_stops_and_begins():
         assert restored["line"].split()[0::2] == ["restore", str(savepoint)] and restored["at"] == acknowledged["at"], restored
         state = job.state()
         assert (state["phase"], state["stop"]) == ("stopped", before["stop"]) and state["choice"] == {"kind": "savepoint", "id": savepoint}, state
-        assert refused_by_term(tasks, savepoint), "the term of the tasks goes on"
+        assert job.calls([ack(savepoint, "0.0", term=tasks.start.term)]) == [{"fenced": "OldTerm"}], "the term of the tasks goes on"
         assert all(refused(make) == "Stopped" for make in (job.stop_job, job.checkpoint, job.begin, lambda: job.call({"call": "tick"}), lambda: job.go_back(done, True)))
         seq = job.state()["seq"]
         time.sleep(0.1)
@@ -139,7 +139,7 @@ def test_a_job_stops_and_begins():
         # settings and files change meanwhile, and an engine that starts waits
         job.set(retained=2)
         job.take()
-        waits = beside(lambda: tasks.take_over(begun(job)))
+        waits = beside(lambda: tasks.take_over(job.until_begun() and job.begin()))
         time.sleep(0.05)
         assert waits.is_alive()
         told = job.begin_job()
@@ -148,20 +148,6 @@ def test_a_job_stops_and_begins():
         assert stop_of(job) == ("running", None) and tasks.start.id == savepoint
         assert tasks.complete() > savepoint
         return f"{job.state()['seq']} calls"
-
-
-def begun(job):
-    """What an engine does that starts."""
-    job.until_begun()
-    return job.begin()
-
-
-def refused_by_term(tasks, record):
-    try:
-        tasks.job.call(ack(record, "0.0", term=tasks.start.term))
-    except Fenced as told:
-        return told.name == "OldTerm"
-    return False
 
 
 def test_a_stop_that_fails_says_why_and_the_timer_goes_on():
