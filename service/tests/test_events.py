@@ -9,7 +9,7 @@ import time
 
 from harness import COMMAND, ENGINE, SETTINGS, Server, Service, configured, folder, raised, served, slowed, until
 from postgres import postgres
-from relkvanu_service import Gone, OtherLog, ack, cancel, deleted, dispose, reserve, restore, savepoint
+from relkvanu_service import Gone, OtherLog, ack, cancel, deleted, dispose, restore, savepoint
 from run import Skipped
 from slow import Slow
 from test_images import read_and_cut
