@@ -63,26 +63,35 @@ void rks_note_image(relkvanu_store *s) {
     s->group.led.images++;
 }
 
-static int insert(relkvanu_store *s, const struct rks_row *row) {
-    sqlite3_stmt *it = s->log.statements[RKS_INSERT];
-    int code = sqlite3_bind_int64(it, 1, (sqlite3_int64)row->place);
-    code |= sqlite3_bind_text(it, 2, (const char *)row->line.at, (int)row->line.len, SQLITE_STATIC);
-    code |= sqlite3_bind_int64(it, 3, row->answer.what);
-    code |= sqlite3_bind_int64(it, 4, (sqlite3_int64)row->answer.a);
-    code |= sqlite3_bind_int64(it, 5, (sqlite3_int64)row->answer.b);
+/* Binds a row to the parameters behind this one. */
+static int bind(sqlite3_stmt *it, int behind, const struct rks_row *row) {
+    int code = sqlite3_bind_int64(it, behind + 1, (sqlite3_int64)row->place);
+    code |= sqlite3_bind_text(it, behind + 2, (const char *)row->line.at, (int)row->line.len, SQLITE_STATIC);
+    code |= sqlite3_bind_int64(it, behind + 3, row->answer.what);
+    code |= sqlite3_bind_int64(it, behind + 4, (sqlite3_int64)row->answer.a);
+    code |= sqlite3_bind_int64(it, behind + 5, (sqlite3_int64)row->answer.b);
     if (row->answer.what == RELKVANU_TAKEN) {
-        code |= sqlite3_bind_blob64(it, 6, row->files, row->answer.a * sizeof *row->files, SQLITE_STATIC);
+        code |= sqlite3_bind_blob64(it, behind + 6, row->files, row->answer.a * sizeof *row->files, SQLITE_STATIC);
     } else {
-        code |= sqlite3_bind_null(it, 6);
+        code |= sqlite3_bind_null(it, behind + 6);
     }
-    code |= sqlite3_bind_int64(it, 7, row->chain);
-    return code == SQLITE_OK ? rks_step(s, RKS_INSERT, "call") : rks_fault(s, "call");
+    return code | sqlite3_bind_int64(it, behind + 7, row->chain);
 }
 
+static int insert(relkvanu_store *s, enum rks_statement statement, const struct rks_row *rows, size_t len) {
+    int code = SQLITE_OK;
+    for (size_t i = 0; i < len; i++) {
+        code |= bind(s->log.statements[statement], (int)i * RKS_COLUMNS, &rows[i]);
+    }
+    return code == SQLITE_OK ? rks_step(s, statement, "call") : rks_fault(s, "call");
+}
+
+/* Many rows by one statement take SQLite less than two thirds of the time that they take one by one. */
 static int insert_all(relkvanu_store *s) {
     int status = RELKVANU_STORE_OK;
-    for (size_t i = 0; i < s->group.rows_len && status == RELKVANU_STORE_OK; i++) {
-        status = insert(s, &s->group.rows[i]);
+    for (size_t at = 0, len; at < s->group.rows_len && status == RELKVANU_STORE_OK; at += len) {
+        len = s->group.rows_len - at < RKS_MANY ? 1 : RKS_MANY;
+        status = insert(s, len == 1 ? RKS_INSERT : RKS_INSERT_MANY, &s->group.rows[at], len);
     }
     return status;
 }

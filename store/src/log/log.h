@@ -53,7 +53,20 @@ struct rks_tail {
     uint32_t chain;
 };
 
-enum rks_statement { RKS_BEGIN, RKS_COMMIT, RKS_ROLLBACK, RKS_INSERT, RKS_IMAGE, RKS_CUT_LOG, RKS_DROP_IMAGES, RKS_STATEMENTS };
+enum rks_statement {
+    RKS_BEGIN,
+    RKS_COMMIT,
+    RKS_ROLLBACK,
+    RKS_INSERT,
+    RKS_INSERT_MANY,
+    RKS_IMAGE,
+    RKS_CUT_LOG,
+    RKS_DROP_IMAGES,
+    RKS_STATEMENTS
+};
+
+/* The rows of RKS_INSERT_MANY, and the columns of a row. */
+enum { RKS_MANY = 32, RKS_COLUMNS = 7 };
 
 /* The log and its images, in SQLite. Only of the thread that leads. `place` and `chain` are those of the last call, whether it is committed or not: a
  * commit that fails closes the store. */

@@ -129,17 +129,27 @@ int rks_open_database(relkvanu_store *s) {
     if (status == RELKVANU_STORE_OK) {
         status = rks_run(s, "PRAGMA synchronous=FULL");
     }
+    if (status == RELKVANU_STORE_OK) { /* Debian's SQLite would write each page of a payload once more, with zeros, when its record ends */
+        status = rks_run(s, "PRAGMA secure_delete=FAST");
+    }
     sqlite3_wal_autocheckpoint(s->log.db, 0); /* SQLite would hide that one failed */
     sqlite3_wal_hook(s->log.db, count_pages, s);
     return status;
 }
+
+/* After a row that fails the transaction is rolled back, so SQLite has to keep nothing for a rollback of the statement alone. */
+#define ROW "(?, ?, ?, ?, ?, ?, ?)"
+#define FOUR ROW ", " ROW ", " ROW ", " ROW
+#define SIXTEEN FOUR ", " FOUR ", " FOUR ", " FOUR
+#define INSERT "INSERT OR FAIL INTO log(place, line, what, a, b, files, chain) VALUES"
 
 int rks_prepare(relkvanu_store *s) {
     static const char *const sql[RKS_STATEMENTS] = {
         [RKS_BEGIN] = "BEGIN IMMEDIATE",
         [RKS_COMMIT] = "COMMIT",
         [RKS_ROLLBACK] = "ROLLBACK",
-        [RKS_INSERT] = "INSERT INTO log(place, line, what, a, b, files, chain) VALUES(?1, ?2, ?3, ?4, ?5, ?6, ?7)",
+        [RKS_INSERT] = INSERT ROW,
+        [RKS_INSERT_MANY] = INSERT SIXTEEN ", " SIXTEEN,
         [RKS_IMAGE] = "INSERT OR REPLACE INTO image(place, chain, sum, text) VALUES(?1, ?2, ?3, ?4)",
         [RKS_CUT_LOG] = "DELETE FROM log WHERE place <= ?1",
         [RKS_DROP_IMAGES] = "DELETE FROM image WHERE place < ?1",
