@@ -132,7 +132,9 @@ static int transact(relkvanu_store *s, bool has_image, bool *may_retry) {
         status = cut_log(s, &cut);
     }
     if (status == RELKVANU_STORE_OK) {
+        uint64_t began = rks_clock_ns();
         status = rks_step(s, RKS_COMMIT, "commit");
+        s->group.took = rks_clock_ns() - began;
     }
     if (status == RELKVANU_STORE_OK) {
         s->log.first = cut;

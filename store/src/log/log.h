@@ -92,7 +92,7 @@ struct rks_group {
     uint64_t *receipts;     /* and these are the receipts of the answers, in the order of the group's calls */
     size_t rows_len, receipts_len, rows_room;
     struct rks_block *lines;
-    uint64_t took;             /* the last commit, in ns */
+    uint64_t took;             /* the sync of the last commit, in ns */
     size_t callers, expected;  /* of the group; those of the last one, and the ones that waited when it ended */
     size_t rests, resting;     /* for how many groups no leader waits for callers who did not come back; how many are left */
     relkvanu_store_counts led; /* counts of the leaders */
@@ -102,6 +102,7 @@ struct rks_group {
 struct rks_queue {
     struct rks_waiter *head, **tail;
     struct rks_waiter *sleepers, **sleepers_tail; /* who are answered, and have to be woken */
+    atomic_bool has_sleepers;                     /* it changes with the mutex, and is read without it */
     size_t queued, loners;                        /* how many wait in it; and of these, join no group */
     bool is_led;
     size_t gathers; /* who leads waits until so many do; 0: it does not wait for them */

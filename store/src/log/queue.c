@@ -20,6 +20,9 @@ void rks_drop_answers(relkvanu_store_call *calls, size_t calls_len) {
 
 /* Wakes the next of those who are answered, and belong to their own threads from then on. Returns whether some are left. */
 static bool wake_some(relkvanu_store *s) {
+    if (!s->queue.has_sleepers) {
+        return false;
+    }
     pthread_mutex_lock(&s->mutex);
     struct rks_waiter *first = s->queue.sleepers, *behind = first;
     for (size_t len = 0; behind != NULL && len < WOKEN_AT_ONCE; len++) {
@@ -27,6 +30,7 @@ static bool wake_some(relkvanu_store *s) {
     }
     s->queue.sleepers = behind;
     s->queue.sleepers_tail = behind == NULL ? &s->queue.sleepers : s->queue.sleepers_tail;
+    s->queue.has_sleepers = behind != NULL;
     pthread_mutex_unlock(&s->mutex);
     for (struct rks_waiter *w = first, *next; w != behind; w = next) {
         next = w->next;
@@ -141,6 +145,7 @@ static void wake_all(relkvanu_store *s, struct rks_waiter *answered) {
         return;
     }
     pthread_mutex_lock(&s->mutex);
+    s->queue.has_sleepers = true;
     *s->queue.sleepers_tail = answered;
     while (*s->queue.sleepers_tail != NULL) {
         s->queue.sleepers_tail = &(*s->queue.sleepers_tail)->next;
@@ -276,7 +281,7 @@ static uint64_t monotonic_ns(void) {
     return (uint64_t)now.tv_sec * 1000000000 + (uint64_t)now.tv_nsec;
 }
 
-/* At most half as long as the last commit took, from now on. */
+/* At most half as long as the last sync took, from now on: what calls cost one by one they also cost in a later group. */
 static struct gathering begin_gathering(relkvanu_store *s) {
     uint64_t most = s->group.took / 2 < LONGEST_GATHERING ? s->group.took / 2 : LONGEST_GATHERING;
     bool rests = s->group.resting != 0;
@@ -351,9 +356,7 @@ static int commit_group(relkvanu_store *s, bool others_go_on) {
 /* The next one leads before all are awake. Who waits for a turn to lead waits for the -wal too, and who is answered does not. */
 void rks_lead(relkvanu_store *s, struct rks_waiter *own) {
     struct rks_waiter *group = make_group(s);
-    uint64_t began = rks_clock_ns();
     int status = commit_group(s, s->group.callers > 1 || s->group.expected > 1);
-    s->group.took = rks_clock_ns() - began;
     bool is_dead = closes(s, status);
     struct rks_waiter *sleepers = answer_all(s, group, status, own);
     if (is_untidy(s)) {
