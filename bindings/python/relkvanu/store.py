@@ -9,6 +9,7 @@ import contextlib
 import ctypes
 import enum
 import os
+import struct
 import threading
 import time
 from dataclasses import dataclass
@@ -19,7 +20,7 @@ from relkvanu.coordinator import (
     U64, BadArgument, Coordinator, Error, Fenced, OutOfMemory, Refused, Settings, _done, _loaded, _made, _settings, _told, _u64, _within, _words,
 )
 from relkvanu.jobs import (
-    Call as Call, JobPhase as JobPhase, Made as Made, Opening, Outcome, Phase as Phase, Step as Step, StopFailed as StopFailed, StoreError as StoreError, made_of, subtasks_of,
+    Call as Call, JobPhase as JobPhase, Made as Made, Opening, Outcome, Phase as Phase, Step as Step, StopFailed as StopFailed, StoreError as StoreError, made_of, subtasks_of, with_fields,
 )
 from relkvanu.nexts import (
     Next as Next, NextBarrier as NextBarrier, NextBegun as NextBegun, NextCancelled as NextCancelled, NextEnded as NextEnded, NextFailed as NextFailed,
@@ -27,7 +28,7 @@ from relkvanu.nexts import (
 )
 from relkvanu.reads import CHOSEN, Chosen, FileCounts, Garbage, Kind, Live, Mode, RunningTerm
 from relkvanu.replies import (
-    Failed, Reserved, RestoredCheckpoint, RestoredFresh, RestoredSavepoint, SavepointTriggered, Taken, Triggered,
+    MADE, Failed, Reserved, RestoredCheckpoint, RestoredFresh, RestoredSavepoint, SavepointTriggered, Taken, Triggered,
 )
 from relkvanu.storage import MARKER, Marker, OtherJob
 from relkvanu.waits import Once, Task, is_main
@@ -213,45 +214,85 @@ STANDSTILLS: Dict[Mode, Callable[[], Next]] = {Mode.FAILED: NextFailed, Mode.CAN
 ENDED = {header.CALL_ACK: 80, header.CALL_RESERVE: 0, header.CALL_FORFEIT: 0, header.CALL_TAKE: 0}  # records that such a call ends at most
 
 
-def _more(ended: int, given: Optional[Call] = None) -> Any:
-    """What a call has beside its numbers, with a buffer for so many records that it ends."""
+def _more(ended: int) -> Any:
+    """What a call tells beside its answer, with a buffer for so many records that it ends."""
     more = store_header.relkvanu_store_more()
-    if given is not None:
-        more.kept = ctypes.c_char_p(bytes(given.payload))
-        more.payload, more.payload_len = ctypes.cast(more.kept, ctypes.c_void_p), len(given.payload)
-        more.bytes, more.millis = map(_u64, given.figures)
-        reason = given.reason.encode()
-        more.reason, more.reason_len = reason, len(reason)
     more.ended, more.ended_room = (U64 * ended)(), ended
     return more
 
 
+def _layout(kind: Any) -> str:
+    """The fields of a type of C, as struct has them."""
+    if issubclass(kind, ctypes.Structure):
+        return "".join(_layout(it) for _, it in kind._fields_)
+    if issubclass(kind, ctypes.Array):
+        return _layout(kind._type_) * int(kind._length_)
+    return str(kind._type_) if kind._type_ in ("H", "I", "L") else "P"
+
+
+def _layouts(kind: Any) -> Tuple[struct.Struct, struct.Struct]:
+    """Of a structure: the fields that the library reads, up to "reserved"; and all of it, with the others as values."""
+    length, zeros = [name for name, *_ in kind._fields_].index("reserved"), kind.reserved.size
+    read, written = ("".join(_layout(it) for _, it in fields) for fields in (kind._fields_[:length], kind._fields_[length + 1:]))
+    return struct.Struct(f"{read}{zeros}x"), struct.Struct(f"{struct.calcsize(read) + zeros}x{written}0P")
+
+
+def _check_range(call: Call) -> None:
+    """Raises OutOfRange for a number that has no room in its field."""
+    for value, bits in ((call.vertex, 16), (call.index, 16), (call.number, 64), (call.term, 64), *((it, 64) for it in call.figures)):
+        _within(value, bits)
+
+
+READ_CALL, TOLD_CALL = _layouts(store_header.relkvanu_store_call)
+READ_MORE, TOLD_MORE = _layouts(store_header.relkvanu_store_more)
+
+
 class _List:
-    """Calls as the library takes them, with the arrays that they point to."""
+    """Calls as the library takes them, with what they point to: one array has all numbers, and one all texts. An object of ctypes for each field of each call
+    would take longer than the commit."""
 
     def __init__(self, calls: Sequence[Call]) -> None:
         self.length = len(calls)
         self.calls = (store_header.relkvanu_store_call * len(calls))()
-        self.kept: List[Any] = []
-        for given, call in zip(calls, self.calls):
-            more = _more(ENDED.get(given.kind, store_header.MOST_ENDED), given)
-            self.kept += [more, given]
-            call.more = ctypes.pointer(more)
-            now = store_header.NOW if given.now is None else _within(given.now, 63)
-            call.call = header.relkvanu_call(
-                given.kind, _within(given.vertex, 16), _within(given.index, 16), now, _u64(given.number), _u64(given.term))
-            places = _within(given.number, 20) if given.kind == header.CALL_TAKE else 0
-            for name, array, length in (
-                ("first", _words(given.first), len(given.first)),
-                ("second", _words(given.second), len(given.second)),
-                ("files", (U64 * places)(), places),
-            ):
-                self.kept.append(array)
-                setattr(call, name, ctypes.cast(array, ctypes.POINTER(U64)))
-                setattr(call, f"{name}_len", length)
+        self._more = (store_header.relkvanu_store_more * len(calls))()
+        texts = [it for call in calls for it in (bytes(call.payload), call.reason.encode())]
+        self._texts = ctypes.c_char_p(b"".join(texts))
+        self._numbers = _words([it for call in calls for it in (*call.first, *call.second)])
+        rooms = [ENDED.get(it.kind, store_header.MOST_ENDED) for it in calls]
+        taken = [_within(it.number, 20) if it.kind == header.CALL_TAKE else 0 for it in calls]
+        self._rooms = (U64 * (sum(rooms) + sum(taken)))()
+        try:
+            self._write(calls, [len(it) for it in texts], rooms, taken)
+        except struct.error as why:
+            for call in calls:
+                _check_range(call)
+            raise TypeError(str(why)) from None
+
+    def _write(self, calls: Sequence[Call], texts: List[int], rooms: List[int], taken: List[int]) -> None:
+        """The calls, with the lengths of what they point to."""
+        text, number = ctypes.cast(self._texts, ctypes.c_void_p).value or 0, ctypes.addressof(self._numbers)
+        room, more, at_call, at_more = ctypes.addressof(self._rooms), ctypes.addressof(self._more), 0, 0
+        pack_call, pack_more, now = READ_CALL.pack_into, READ_MORE.pack_into, store_header.NOW
+        for it, payload, reason, ended, files in zip(calls, texts[::2], texts[1::2], rooms, taken):
+            first, second = len(it.first), len(it.second)
+            pack_more(self._more, at_more, text, payload, *it.figures, text + payload, reason, room, ended)
+            pack_call(
+                self.calls, at_call, it.kind, it.vertex, it.index, now if it.now is None else _within(it.now, 63), it.number, it.term,
+                number, first, number + 8 * first, second, room + 8 * ended, files, more + at_more)
+            text, number, room = text + payload + reason, number + 8 * (first + second), room + 8 * (ended + files)
+            at_call, at_more = at_call + TOLD_CALL.size, at_more + TOLD_MORE.size
 
     def outcomes(self) -> List[Outcome]:
-        return [self.outcome(call) for call in self.calls[: self.length]]
+        """Nearly every call was made, and has ended no record."""
+        outcomes: List[Outcome] = []
+        answers, more = TOLD_CALL.iter_unpack(self.calls), TOLD_MORE.iter_unpack(self._more)
+        for (code, what, a, b, _, choice, _, _, place, term), (ended, kind) in zip(answers, more):
+            if code == header.DONE and what in MADE and choice not in CHOSEN and ended == 0:
+                outcomes.append(with_fields(
+                    Made, reply=MADE[what](a, b), place=place, choice=None, term=term, kind=KINDS.get(kind), ended=()))
+            else:
+                outcomes.append(self.outcome(self.calls[len(outcomes)]))
+        return outcomes
 
     @staticmethod
     def outcome(call: store_header.relkvanu_store_call) -> Outcome:

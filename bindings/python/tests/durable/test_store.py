@@ -17,7 +17,7 @@ from concurrent.futures import ThreadPoolExecutor
 from unittest import mock
 
 from relkvanu import (
-    AckCompleted, AckLate, AckPending, BadArgument, Chosen, Closed, Configured, Fenced, Forfeited, Kind, Mode, OutOfRange, Refused, Reserved,
+    AckCompleted, AckLate, AckPending, BadArgument, Chosen, Closed, Configured, DeclineAborted, Fenced, Forfeited, Kind, Mode, OutOfRange, Refused, Reserved,
     RestoredCheckpoint, RestoredSavepoint, SavepointTriggered, Settings, Taken, Triggered, store_header,
 )
 from relkvanu.manifest import members, sums_in
@@ -417,6 +417,23 @@ class Payloads(Folder):
             outcomes = job.calls([Call.ack(2, 0, index, term=1, payload=b"%d" % index) for index in range(2)])
             self.assertEqual(outcomes[1].ended, (1,))
             self.assertEqual([it.payload for it in job.load().parts], [b"0", b"1"])
+
+    def test_what_the_calls_of_a_list_point_to(self):
+        """It is in arrays that they share: each call has its own part of them."""
+        with self.open(storage=self.storage) as job:
+            for name in job.reserve(1, 5):
+                job.put(name, b"x")
+            job.savepoint()
+            job.savepoint()
+            outcomes = job.calls([
+                Call.ack(1, 0, 0, [3, 1], term=1, payload=b"a", figures=(8, 9)), Call.take(2), Call.decline(2, 0, 0, term=1, reason="zu spät"),
+                Call.ack(1, 0, 1, [2], term=1, payload=b"bcd"), Call.savepoint(), Call.ack(3, 0, 1, [4], [2, 1], term=1, payload=b"e"), Call.ack(3, 0, 0, [5], term=1)])
+            self.assertEqual([it.reply for it in outcomes[:3]], [AckPending(1), Taken(()), DeclineAborted(0)])
+            self.assertEqual([it.reply for it in outcomes[3:]], [AckCompleted(0, 0), SavepointTriggered(3), AckPending(1), AckCompleted(0, 0)])
+            self.assertEqual([it.ended for it in outcomes], [(), (), (2,), (), (), (), ()])
+            self.assertEqual(job.load(1).parts, (Part(0, 0, (3, 1), b"a", 8, 9), Part(0, 1, (2,), b"bcd")))
+            self.assertEqual(job.load(3).parts, (Part(0, 0, (5,)), Part(0, 1, (4, 2, 1), b"e")))
+            self.assertEqual({it.id: it.reason for it in job.history()}, {1: "", 2: "zu spät", 3: ""})
 
 
 class Backups(Folder):
