@@ -1,6 +1,6 @@
 /* bench FOLDER [SECONDS]: durable acknowledgements a second of 1, 16 and 256 threads, without and with a discarder. Then, of 1 and of 256
- * threads, by turns with commits by SQLite alone, of as many rows as the groups of these threads have, the share of its rows a second. The
- * job has 4096 subtasks, and 3 files in each acknowledgement. */
+ * threads, and of one that acknowledges by lists of 512, by turns with commits by SQLite alone, of as many rows as the groups of these threads or the lists have,
+ * the share of its rows a second. The job has 4096 subtasks, and 3 files in each acknowledgement. */
 #define _GNU_SOURCE
 #include "../include/relkvanu_store.h"
 
@@ -14,7 +14,7 @@
 #include <time.h>
 #include <unistd.h>
 
-enum { SUBTASKS = 4096, FILES = 3, VERTICES = 4, AHEAD = 4, MOST_THREADS = 256, MOST_TIMES = 1 << 22, TURNS = 5 };
+enum { SUBTASKS = 4096, FILES = 3, VERTICES = 4, AHEAD = 4, LIST = 512, MOST_THREADS = 256, MOST_TIMES = 1 << 22, TURNS = 5 };
 enum { STEP = 1000000 }; /* ms between two triggers: no timer of the bench ever has a tick to make */
 
 static relkvanu_store *store;
@@ -23,6 +23,7 @@ static atomic_bool is_over;
 static uint64_t term;
 static uint32_t times[MOST_TIMES]; /* in units of 0.1 us */
 static double group;               /* calls a commit, in the last measurement */
+static bool by_lists;
 
 static void check(const char *what, bool is_so, const char *why) {
     if (!is_so) {
@@ -69,6 +70,30 @@ static void *acknowledges(void *unused) {
 static int by_length(const void *one, const void *other) {
     uint32_t a = *(const uint32_t *)one, b = *(const uint32_t *)other;
     return (a > b) - (a < b);
+}
+
+static void *acknowledges_lists(void *unused) {
+    static uint64_t fresh[LIST][FILES];
+    static relkvanu_store_call calls[LIST];
+    while (!atomic_load(&is_over)) {
+        uint64_t nth = atomic_fetch_add(&next_ack, LIST), record = nth / SUBTASKS + 1;
+        if (nth % SUBTASKS == 0) {
+            trigger(record + AHEAD);
+        }
+        for (uint64_t i = 0, ack = nth; i < LIST; i++, ack++) {
+            uint16_t vertex = (uint16_t)(ack % SUBTASKS / 1024), index = (uint16_t)(ack % 1024);
+            memcpy(fresh[i], (uint64_t[FILES]){ack * 3 + 1, ack * 3 + 2, ack * 3 + 3}, sizeof fresh[i]);
+            calls[i] = (relkvanu_store_call){
+                .call = {RELKVANU_CALL_ACK, vertex, index, record * STEP, record, term}, .first = fresh[i], .first_len = FILES};
+        }
+        uint64_t began = now_ns();
+        check("list", relkvanu_store_calls(store, calls, LIST) == RELKVANU_STORE_OK, "not committed");
+        for (size_t i = 0; i < LIST; i++) {
+            check("ack", calls[i].answer.code == RELKVANU_DONE, "not accepted");
+            note(began);
+        }
+    }
+    return unused;
 }
 
 /* Returns how many a second. */
@@ -131,14 +156,14 @@ static double measure(const char *path, unsigned len, unsigned seconds, bool has
     check("thread", !has_discarder || pthread_create(&discarder, NULL, discards, NULL) == 0, "none");
     uint64_t began = now_ns();
     for (unsigned i = 0; i < len; i++) {
-        check("thread", pthread_create(&threads[i], NULL, acknowledges, NULL) == 0, "none");
+        check("thread", pthread_create(&threads[i], NULL, by_lists ? acknowledges_lists : acknowledges, NULL) == 0, "none");
     }
     sleep(seconds);
     is_over = true;
     for (unsigned i = 0; i < len; i++) {
         pthread_join(threads[i], NULL);
     }
-    snprintf(what, sizeof what, "store, %u threads%s:", len, has_discarder ? ", a discarder" : "");
+    snprintf(what, sizeof what, "store, %u threads%s%s:", len, by_lists ? " by lists" : "", has_discarder ? ", a discarder" : "");
     double found = tell(what, began);
     note_group();
     relkvanu_store_stop(store);
@@ -198,11 +223,11 @@ static void measure_share(const char *path, unsigned threads, unsigned seconds) 
     double shares[TURNS];
     for (unsigned i = 0; i < TURNS; i++) {
         double stored = measure(path, threads, seconds, false);
-        shares[i] = stored / measure_sqlite(path, seconds, (unsigned)(group + 0.5));
+        shares[i] = stored / measure_sqlite(path, seconds, by_lists ? LIST : (unsigned)(group + 0.5));
     }
     qsort(shares, TURNS, sizeof *shares, by_size);
-    printf("%u threads: %.2f of what SQLite commits alone in groups of the same size (%.2f to %.2f)\n", threads, shares[TURNS / 2],
-        shares[0], shares[TURNS - 1]);
+    printf("%u threads%s: %.2f of what SQLite commits alone in groups of the same size (%.2f to %.2f)\n", threads,
+        by_lists ? " by lists" : "", shares[TURNS / 2], shares[0], shares[TURNS - 1]);
 }
 
 int main(int argc, char **argv) {
@@ -216,5 +241,7 @@ int main(int argc, char **argv) {
     }
     measure_share(path, 1, seconds);
     measure_share(path, MOST_THREADS, seconds);
+    by_lists = true;
+    measure_share(path, 1, seconds);
     return 0;
 }
