@@ -1,8 +1,8 @@
 -- A run in a shape is a run of the job of the keys.
 use Rattle.std.proofs.lemmas.Grind.{common_steps}
-use Rattle.std.proofs.Common.{arith, ◌≡◌, ◌≢◌, ℕ, Bool, true, false, List, ◌∷◌, ◌++◌, ◌∙◌, refl, sym, ap, subst, []}
+use Rattle.std.proofs.Common.{arith, ◌≡◌, ℕ, Bool, true, false, List, ◌∷◌, ◌++◌, ◌∙◌, refl, sym, ap, subst, []}
 use Rattle.std.specs.List.{filter}
-use Rattle.std.proofs.lemmas.Bool.{both_ways}
+use Rattle.std.proofs.lemmas.Bool.{both_ways, false_from_ne_true}
 use Rattle.std.proofs.lemmas.List.Elements.{filter-append}
 use Rattle.ckpt_ids.specs.declared.subtask.SubtaskId.{SubtaskId}
 use Rattle.ckpt_ids.specs.Ordered.{IsIn}
@@ -21,16 +21,9 @@ abbrev pub key_run : Job → Spread → States → Run → Run
 key_run job spread from [] = []
 key_run job spread from (step ∷ run) = spread.mover step.task (states_after job from run step.task) step.what ∷ key_run job spread from run
 
-other_subtask_by : (s t : SubtaskId) (b : Bool) → same_subtask s t ≡ b → s ≢ t → same_subtask s t ≡ false
-other_subtask_by s t true e apart = absurd (apart ((same_subtask-Decides s t).0 e))
-other_subtask_by s t false e apart = e
-
-other_subtask : (s t : SubtaskId) → s ≢ t → same_subtask s t ≡ false
-other_subtask s t apart = other_subtask_by s t (same_subtask s t) refl apart
-
 elsewhere : (spread : Spread) (task k : SubtaskId) (one : By Move) → spread.owner one.task ≡ task → same_subtask task (spread.owner k) ≡ false → same_subtask one.task k ≡ false
 elsewhere spread task k one own e =
-    other_subtask one.task k (λ same. both_ways (same_subtask task (spread.owner k)) e ((same_subtask-Decides task (spread.owner k)).1 (sym own ∙ ap spread.owner same)))
+    false_from_ne_true (same_subtask one.task k) (λ same. both_ways (same_subtask task (spread.owner k)) e ((same_subtask-Decides task (spread.owner k)).1 (sym own ∙ ap spread.owner ((same_subtask-Decides one.task k).0 same))))
 
 -- one move
 

@@ -2,24 +2,10 @@
 use Rattle.std.proofs.lemmas.Grind.{common_steps}
 use Rattle.std.proofs.Common.{◌≡◌, ◌≢◌, ℕ, zero, suc, ◌<◌, Bool, true, false, List, ◌∷◌, ◌++◌, ◌∙◌, refl, sym, ap, if◌then◌else◌, inl, inr, arith, []}
 use Rattle.std.specs.Prelude.{◌==◌}
-use Rattle.std.proofs.lemmas.Bool.{eqb-false}
-use Rattle.std.proofs.lemmas.Bool.Decides.{Decides-eqb}
+use Rattle.std.proofs.lemmas.Bool.{eq-eqb, eqb-false, eqb-true, ne_eqb}
 use Rattle.std.proofs.lemmas.List.{append-nil}
 use Rattle.ckpt_ids.specs.Ordered.{IsIn}
 use Rattle.ckpt_other_cuts.specs.Rescaled.{Entry, IsRecord, IsRouted, IsSplit, KeyStates, Redistributes, Rescaling, RescalingInvisible, RestoresKeys, Split, TwiceIsOnce, Vertex, after, after_one, all, begins, elements_of, emitted_for, entries_of, its_own, joined, loaded, redistributed}
-
-same_is : (m n : ℕ) → (m == n) ≡ true → m ≡ n
-same_is m n e = (Decides-eqb m n).0 e
-
-same_of : (m n : ℕ) → m ≡ n → (m == n) ≡ true
-same_of m n e = (Decides-eqb m n).1 e
-
-other_by : (m n : ℕ) (b : Bool) → (m == n) ≡ b → m ≢ n → (m == n) ≡ false
-other_by m n true e h = absurd (h (same_is m n e))
-other_by m n false e h = e
-
-other_of : (m n : ℕ) → m ≢ n → (m == n) ≡ false
-other_of m n h = other_by m n (m == n) refl h
 
 -- the lists of all subtasks, if all but one have none
 
@@ -28,7 +14,7 @@ joined_none lists zero none = refl
 joined_none lists (suc n) none = ap (λ l. l ++ lists n) (joined_none lists n (λ i within. none i (omega arith))) ∙ none n (omega arith)
 
 joined_one_by : {X : Type 0} (lists : ℕ → List X) (j n : ℕ) (b : Bool) → (j == n) ≡ b → j < suc n → ((i : ℕ) → j ≢ i → lists i ≡ []) → (j < n → joined lists n ≡ lists j) → joined lists n ++ lists n ≡ lists j
-joined_one_by lists j n true e within none on = grind (arith, common_steps, joined_none, same_is)
+joined_one_by lists j n true e within none on = grind (arith, common_steps, eqb-true, joined_none)
 joined_one_by lists j n false e within none on = grind (arith, common_steps, append-nil, eqb-false)
 
 joined_one : {X : Type 0} (lists : ℕ → List X) (j n : ℕ) → j < n → ((i : ℕ) → j ≢ i → lists i ≡ []) → joined lists n ≡ lists j
@@ -50,7 +36,7 @@ entries-joined k parts zero = refl
 entries-joined k parts (suc n) = entries-append k (joined parts n) (parts n) ∙ ap (λ l. l ++ entries_of k (parts n)) (entries-joined k parts n)
 
 no_entries_by : (k : ℕ) (e : Entry) (es : List Entry) (b : Bool) → (e.key == k) ≡ b → e.key ≢ k → entries_of k es ≡ [] → (if b then e ∷ entries_of k es else entries_of k es) ≡ []
-no_entries_by k e es true same apart h = absurd (apart (same_is e.key k same))
+no_entries_by k e es true same apart h = absurd (apart (eqb-true e.key k same))
 no_entries_by k e es false same apart h = h
 
 no_entries : (k : ℕ) (es : List Entry) → ((e : Entry) → IsIn e es → e.key ≢ k) → entries_of k es ≡ []
@@ -64,10 +50,10 @@ own_entries split i k [] = grind (arith, common_steps)
 own_entries split i k (e ∷ es) = grind (arith, common_steps, own_entries split i k es)
 
 own_here : (split : Split) (k : ℕ) (es : List Entry) → entries_of k (its_own split (split.owner k) es) ≡ entries_of k es
-own_here split k es = own_entries split (split.owner k) k es ∙ ap (λ b. if b then entries_of k es else []) (same_of (split.owner k) (split.owner k) refl)
+own_here split k es = own_entries split (split.owner k) k es ∙ ap (λ b. if b then entries_of k es else []) (eq-eqb (split.owner k) (split.owner k) refl)
 
 own_elsewhere : (split : Split) (i k : ℕ) (es : List Entry) → split.owner k ≢ i → entries_of k (its_own split i es) ≡ []
-own_elsewhere split i k es apart = own_entries split i k es ∙ ap (λ b. if b then entries_of k es else []) (other_of (split.owner k) i apart)
+own_elsewhere split i k es apart = own_entries split i k es ∙ ap (λ b. if b then entries_of k es else []) (ne_eqb (split.owner k) i apart)
 
 -- none is lost, and none comes twice
 all_own : (split : Split) (k : ℕ) (es : List Entry) → IsSplit split → entries_of k (all split (λ i. its_own split i es)) ≡ entries_of k es
@@ -140,7 +126,7 @@ emits_is v k s (x ∷ xs) =
 -- all subtasks together
 
 no_elements_by : (v : Vertex) (k x : ℕ) (xs : List ℕ) (b : Bool) → (v.key x == k) ≡ b → v.key x ≢ k → elements_of v k xs ≡ [] → (if b then x ∷ elements_of v k xs else elements_of v k xs) ≡ []
-no_elements_by v k x xs true same apart h = absurd (apart (same_is (v.key x) k same))
+no_elements_by v k x xs true same apart h = absurd (apart (eqb-true (v.key x) k same))
 no_elements_by v k x xs false same apart h = h
 
 no_elements : (v : Vertex) (k : ℕ) (xs : List ℕ) → ((x : ℕ) → IsIn x xs → v.key x ≢ k) → elements_of v k xs ≡ []

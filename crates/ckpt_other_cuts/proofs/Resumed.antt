@@ -1,8 +1,9 @@
 -- What a sink sealed up to a record is what it wrote before its snapshot; and so restarts from unaligned records are invisible.
-use Rattle.std.proofs.Common.{arith, ◌≡◌, ℕ, ◌<◌, ◌≤◌, Bool, true, false, nat_le, List, [], ◌∷◌, ◌++◌, ◌∙◌, refl, sym, ap, subst, if◌then◌else◌, map, inl, inr, ⊎_elim}
+use Rattle.std.proofs.Common.{arith, lt_irrefl, ◌≡◌, ℕ, ◌<◌, ◌≤◌, Bool, true, false, nat_le, List, [], ◌∷◌, ◌++◌, ◌∙◌, refl, sym, ap, subst, if◌then◌else◌, map, inl, inr, ⊎_elim}
 use Rattle.std.specs.Prelude.{◌&&◌, ◌||◌, ◌==◌, ◌⊎◌}
+use Rattle.std.proofs.lemmas.Bool.{eq-eqb, eqb-true, le-leb, lt-leb, or_left, or_right}
 use Rattle.std.proofs.lemmas.Grind.{common_steps}
-use Rattle.std.proofs.lemmas.List.{append-nil, append_assoc}
+use Rattle.std.proofs.lemmas.List.{append-nil, append_assoc, map-append}
 use Rattle.ckpt_ids.specs.declared.subtask.SubtaskId.{SubtaskId}
 use Rattle.ckpt_ids.specs.Ordered.{IsIn}
 use Rattle.ckpt_ids.specs.Shapes.{same_subtask}
@@ -17,7 +18,7 @@ use Rattle.ckpt_once.proofs.Sealing.{published_begins, published_up_to}
 use Rattle.ckpt_once.proofs.TurnLemmas.{on_output-append}
 use Rattle.ckpt_unaligned.specs.Laws.{HasPart}
 use Rattle.ckpt_unaligned.specs.Recording.{opened}
-use Rattle.ckpt_other_cuts.specs.Restarted.{AreStretches, Begin, Doing, Doings, IsRunFrom, Moves, Snaps, Stretch, before_snaps, begin_after, has_snapped, is_snap, kept_moves, moves, run_of_stretches, with_doing}
+use Rattle.ckpt_other_cuts.specs.Restarted.{AreStretches, Begin, Doing, Doings, Moves, Snaps, Stretch, before_snaps, begin_after, has_snapped, is_snap, kept_moves, moves, run_of_stretches, with_doing}
 use Rattle.ckpt_other_cuts.specs.Restarted as restarted
 use Rattle.ckpt_other_cuts.proofs.Resuming.{is_restored, not_snapped, prefix-behind, recorders_keep_channels, snapped, written-join}
 use Rattle.ckpt_other_cuts.proofs.Resuming as resuming
@@ -37,27 +38,17 @@ rising-split (x ∷ xs) ys h =
 abbrev id_of : Transaction → ℕ
 id_of one = one.id
 
-map-append : (xs ys : List Transaction) → map id_of (xs ++ ys) ≡ map id_of xs ++ map id_of ys
-map-append [] ys = refl
-map-append (x ∷ xs) ys = ap (λ (ns : List ℕ). id_of x ∷ ns) (map-append xs ys)
-
 contents-append : (xs ys : List Transaction) → contents (xs ++ ys) ≡ contents xs ++ contents ys
 contents-append [] ys = refl
 contents-append (x ∷ xs) ys = ap (λ l. x.content ++ l) (contents-append xs ys) ∙ sym (append_assoc x.content (contents xs) (contents ys))
 
-le_is : (m n : ℕ) → m ≤ n → nat_le m n ≡ true
-le_is m n h = grind (arith, common_steps)
-
-above_is : (m n : ℕ) → n < m → nat_le m n ≡ false
-above_is m n h = grind (arith, common_steps)
-
 up_to-all : (n : ℕ) (ones : List Transaction) → ((k : ℕ) → IsIn k (map id_of ones) → k ≤ n) → up_to n ones ≡ ones
 up_to-all n [] h = refl
 up_to-all n (one ∷ ones) h =
-    ap (λ b. if b then one ∷ up_to n ones else []) (le_is one.id n (h one.id (inl refl))) ∙ ap (λ (l : List Transaction). one ∷ l) (up_to-all n ones (λ k has. h k (inr has)))
+    ap (λ b. if b then one ∷ up_to n ones else []) (le-leb one.id n (h one.id (inl refl))) ∙ ap (λ (l : List Transaction). one ∷ l) (up_to-all n ones (λ k has. h k (inr has)))
 
 up_to-more : (n : ℕ) (ones : List Transaction) (one : Transaction) → n < one.id → up_to n (ones ++ one ∷ []) ≡ up_to n ones
-up_to-more n [] one h = ap (λ b. if b then one ∷ [] else []) (above_is one.id n h)
+up_to-more n [] one h = ap (λ b. if b then one ∷ [] else []) (lt-leb one.id n h)
 up_to-more n (x ∷ ones) one h = ap (λ (l : List Transaction). if nat_le x.id n then x ∷ l else []) (up_to-more n ones one h)
 
 -- A SINK'S SNAPSHOTS
@@ -65,7 +56,7 @@ up_to-more n (x ∷ ones) one h = ap (λ (l : List Transaction). if nat_le x.id 
 ids_by : (job : Job) (from : States) (sink : Sink) (before : Doings) (what : Doing) (s : Sealing) (xs : List ℕ) → map id_of s.sealed ≡ xs
     → map id_of (sealed_more job from sink before what s).sealed ≡ xs ++ with_one (snap_of what) []
 ids_by job from sink before (Moves m) s xs e = e ∙ sym (append-nil xs)
-ids_by job from sink before (Snaps id) s xs e = map-append s.sealed (record { id = id; content = s.open_one } ∷ []) ∙ ap (λ (ns : List ℕ). ns ++ id ∷ []) e
+ids_by job from sink before (Snaps id) s xs e = map-append id_of s.sealed (record { id = id; content = s.open_one } ∷ []) ∙ ap (λ (ns : List ℕ). ns ++ id ∷ []) e
 
 if_ids : (job : Job) (from : States) (sink : Sink) (before : Doings) (what : Doing) (same : Bool) → map id_of (sealing job from sink before).sealed ≡ snaps_in sink.task before
     → map id_of (if same then sealed_more job from sink before what (sealing job from sink before) else sealing job from sink before).sealed
@@ -77,24 +68,14 @@ sealed_ids : (job : Job) (from : States) (sink : Sink) (doings : Doings) → map
 sealed_ids job from sink [] = refl
 sealed_ids job from sink (it ∷ before) = if_ids job from sink before it.what (same_subtask it.task sink.task) (sealed_ids job from sink before)
 
-same_number : (n : ℕ) → (n == n) ≡ true
-same_number n = grind (arith, common_steps)
-
-or_first : (a b : Bool) → a ≡ true → (a || b) ≡ true
-or_first a b e = grind (arith, common_steps)
-
-or_second : (a b : Bool) → b ≡ true → (a || b) ≡ true
-or_second true b e = refl
-or_second false b e = e
-
 was_snapped_by : (n : ℕ) (what : Doing) (same before : Bool) (xs : List ℕ) → (IsIn n xs → before ≡ true) → IsIn n (if same then xs ++ with_one (snap_of what) [] else xs) → (before || (same && is_snap n what)) ≡ true
-was_snapped_by n what false before xs so h = or_first before false (so h)
-was_snapped_by n (Moves m) true before xs so h = or_first before false (so (subst (λ (l : List ℕ). IsIn n l) (append-nil xs) h))
+was_snapped_by n what false before xs so h = or_left before false (so h)
+was_snapped_by n (Moves m) true before xs so h = or_left before false (so (subst (λ (l : List ℕ). IsIn n l) (append-nil xs) h))
 was_snapped_by n (Snaps id) true before xs so h =
-    ⊎_elim (λ (k : IsIn n xs). or_first before (id == n) (so k)) (λ (k : IsIn n (id ∷ [])). or_second before (id == n) (is_it k)) (IsIn-append_cases n xs (id ∷ []) h)
+    ⊎_elim (λ (k : IsIn n xs). or_left before (id == n) (so k)) (λ (k : IsIn n (id ∷ [])). or_right before (id == n) (is_it k)) (IsIn-append_cases n xs (id ∷ []) h)
   where
     is_it : (n ≡ id) ⊎ ⊥ → (id == n) ≡ true
-    is_it (inl e) = ap (λ (k : ℕ). id == k) e ∙ same_number id
+    is_it (inl e) = eq-eqb id n (sym e)
     is_it (inr none) = absurd none
 
 was_snapped : (n : ℕ) (t : SubtaskId) (doings : Doings) → IsIn n (snaps_in t doings) → has_snapped n t doings ≡ true
@@ -147,7 +128,7 @@ seals_now : (n : ℕ) (job : Job) (from : States) (sink : Sink) (before : Doings
 seals_now n job from sink before rise =
     let s : Sealing = sealing job from sink before in
     let one : Transaction = record { id = n; content = s.open_one } in
-    let ids : map id_of (s.sealed ++ one ∷ []) ≡ snaps_in sink.task before ++ n ∷ [] = map-append s.sealed (one ∷ []) ∙ ap (λ (ns : List ℕ). ns ++ n ∷ []) (sealed_ids job from sink before) in
+    let ids : map id_of (s.sealed ++ one ∷ []) ≡ snaps_in sink.task before ++ n ∷ [] = map-append id_of s.sealed (one ∷ []) ∙ ap (λ (ns : List ℕ). ns ++ n ∷ []) (sealed_ids job from sink before) in
     let below : (k : ℕ) → IsIn k (snaps_in sink.task before ++ n ∷ []) → k ≤ n =
     λ k h. ⊎_elim (λ (has : IsIn k (snaps_in sink.task before)). least k n ((rising-split (snaps_in sink.task before) (n ∷ []) rise).0 k n has (inl refl))) (λ (has : IsIn k (n ∷ [])). same k n has)
     (IsIn-append_cases k (snaps_in sink.task before) (n ∷ []) h) in
@@ -194,22 +175,16 @@ if_same : (here : Bool) (run : Run) → run ≡ (if here then run else run)
 if_same true run = refl
 if_same false run = refl
 
-is_this : (id n : ℕ) → (id == n) ≡ true → n ≡ id
-is_this id n e = grind (arith, common_steps)
-
 in_by : (n : ℕ) (what : Doing) (same before : Bool) (xs : List ℕ) → (before ≡ true → IsIn n xs) → (before || (same && is_snap n what)) ≡ true → IsIn n (if same then xs ++ with_one (snap_of what) [] else xs)
 in_by n what true true xs so e = IsIn-append_left n xs (with_one (snap_of what) []) (so refl)
 in_by n what false true xs so e = so refl
-in_by n (Snaps id) true false xs so e = IsIn-append_right n xs (id ∷ []) (inl (is_this id n e))
+in_by n (Snaps id) true false xs so e = IsIn-append_right n xs (id ∷ []) (inl (sym (eqb-true id n e)))
 in_by n (Moves m) true false xs so e = grind (arith, common_steps)
 in_by n what false false xs so e = grind (arith, common_steps)
 
 snapped_in : (n : ℕ) (t : SubtaskId) (doings : Doings) → has_snapped n t doings ≡ true → IsIn n (snaps_in t doings)
 snapped_in n t [] e = grind (arith, common_steps)
 snapped_in n t (it ∷ before) e = in_by n it.what (same_subtask it.task t) (has_snapped n t before) (snaps_in t before) (snapped_in n t before) e
-
-not_twice : (n : ℕ) → n < n → ⊥
-not_twice n h = omega arith
 
 abbrev IsSealed : ℕ → Job → States → Sink → Doings → Type 0
 IsSealed n job from sink doings = up_to_record n job from sink doings ≡ written job from (before_snaps n doings) sink
@@ -234,7 +209,7 @@ sealed_now n job from sink it before here same is rise e = by_here here e
     rises = subst (λ (w : Doing). IsRising (xs ++ with_one (snap_of w) [])) is (subst (λ (b : Bool). IsRising (if b then xs ++ with_one (snap_of it.what) [] else xs)) same rise)
 
     by_here : (b : Bool) → has_snapped n sink.task before ≡ b → IsSealed n job from sink (it ∷ before)
-    by_here true f = absurd (not_twice n ((rising-split xs (n ∷ []) rises).0 n n (snapped_in n sink.task before f) (inl refl)))
+    by_here true f = absurd (lt_irrefl n ((rising-split xs (n ∷ []) rises).0 n n (snapped_in n sink.task before f) (inl refl)))
     by_here false f =
         ap (λ (b : Bool). contents (up_to n (if b then sealed_more job from sink before it.what s else s).sealed)) same
         ∙ ap (λ (w : Doing). contents (up_to n (sealed_more job from sink before w s).sealed)) is

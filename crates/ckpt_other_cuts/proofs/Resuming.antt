@@ -1,8 +1,8 @@
 -- A job that begins from the snapshots of a record, and from what its channels had still to give, goes on with one run.
-use Rattle.std.proofs.Common.{arith, ◌≡◌, ℕ, Bool, true, false, ◌||◌, List, [], ◌∷◌, ◌++◌, ◌∙◌, refl, sym, ap, subst, if◌then◌else◌}
+use Rattle.std.proofs.Common.{arith, ◌≡◌, ℕ, Bool, true, false, List, [], ◌∷◌, ◌++◌, ◌∙◌, refl, sym, ap, subst, if◌then◌else◌}
 use Rattle.std.specs.Prelude.{◌&&◌}
 use Rattle.std.proofs.Math.Path.{fun_ext}
-use Rattle.std.proofs.lemmas.Bool.{cases_Bool, both_ways}
+use Rattle.std.proofs.lemmas.Bool.{both_ways, or_left, or_parts}
 use Rattle.std.proofs.lemmas.Grind.{common_steps}
 use Rattle.std.proofs.lemmas.List.{append_assoc}
 use Rattle.ckpt_ids.specs.declared.subtask.SubtaskId.{SubtaskId}
@@ -16,6 +16,7 @@ use Rattle.ckpt_once.specs.Sinks.{Sink, written}
 use Rattle.ckpt_once.proofs.Joining.{emitted-append, from_input-append, put-join, states-join, taken-join}
 use Rattle.ckpt_once.proofs.TurnLemmas.{on_output-append}
 use Rattle.ckpt_unaligned.proofs.Parts.{global_part}
+use Rattle.ckpt_other_cuts.proofs.KeyRuns.{channel_of}
 use Rattle.ckpt_other_cuts.specs.Restarted.{AreStretches, Begin, Doing, Doings, IsRunFrom, Moves, RecordersKeepChannels, RestartsInvisible, Snaps, Stretch, anew, before_snaps, begin_after, has_snapped, is_snap, kept_moves, moves, published, run_of_stretches, with_doing}
 
 -- what recorders made has the channels
@@ -44,9 +45,6 @@ older-one x older all h = (x ∷ h.0, ap (λ l. x ∷ l) h.1)
 older-both : {X : Type 0} (x : X) (older all : List X) → older ≡ all → IsOlder (x ∷ older) (x ∷ all)
 older-both x older all e = ([], ap (λ l. x ∷ l) (sym e))
 
-or_first : (a b : Bool) → (a || b) ≡ false → a ≡ false
-or_first a b e = grind (arith, common_steps, cases_Bool a)
-
 -- a task that has not taken its snapshot has only moves before it
 not_snapped_by : (n : ℕ) (t u : SubtaskId) (w : Doing) (doings : Doings) (same here : Bool) → same_subtask u t ≡ same → has_snapped n u doings ≡ here → has_snapped n t doings ≡ false
     → of t (before_snaps n doings) ≡ of t (moves doings)
@@ -61,7 +59,7 @@ not_snapped_by n t u (Moves m) doings false false s h k e = grind (arith, common
 pub not_snapped : (n : ℕ) (t : SubtaskId) (doings : Doings) → has_snapped n t doings ≡ false → of t (before_snaps n doings) ≡ of t (moves doings)
 not_snapped n t [] e = refl
 not_snapped n t (it ∷ doings) e =
-    let k : has_snapped n t doings ≡ false = or_first (has_snapped n t doings) (same_subtask it.task t && is_snap n it.what) e in
+    let k : has_snapped n t doings ≡ false = (or_parts (has_snapped n t doings) (same_subtask it.task t && is_snap n it.what) e).0 in
     not_snapped_by n t it.task it.what doings (same_subtask it.task t) (has_snapped n it.task doings) refl refl k (not_snapped n t doings k)
 
 -- what a task did before its snapshot is the older part of what it did
@@ -108,12 +106,9 @@ snapped_by n t u (Moves m) doings run true false s h k e = absurd (both_ways tru
 snapped_by n t u (Moves m) doings run false true s h k e = e
 snapped_by n t u (Moves m) doings run false false s h k e = rw s e
 
-or_stays : (a b : Bool) → a ≡ true → (a || b) ≡ true
-or_stays a b e = grind (arith, common_steps)
-
 pub stays_snapped : (n : ℕ) (t : SubtaskId) (newer doings : Doings) → has_snapped n t doings ≡ true → has_snapped n t (newer ++ doings) ≡ true
 stays_snapped n t [] doings e = e
-stays_snapped n t (it ∷ newer) doings e = or_stays (has_snapped n t (newer ++ doings)) (same_subtask it.task t && is_snap n it.what) (stays_snapped n t newer doings e)
+stays_snapped n t (it ∷ newer) doings e = or_left (has_snapped n t (newer ++ doings)) (same_subtask it.task t && is_snap n it.what) (stays_snapped n t newer doings e)
 
 pub snapped : (n : ℕ) (t : SubtaskId) (newer doings : Doings) → has_snapped n t doings ≡ true → of t (before_snaps n (newer ++ doings)) ≡ of t (before_snaps n doings)
 snapped n t [] doings e = refl
@@ -220,11 +215,8 @@ has_all-join job b first second part later all k c has =
     ∙ sym (append_assoc (taken_off first c) (taken_off second c) (later c))
     ∙ ap (λ xs. xs ++ later c) (sym (taken-join second first c))
 
-abbrev as_channel : Sink → Channel
-as_channel sink = record { sender = sink.task; output = sink.output; receiver = sink.task; input = 0 }
-
 pub written-join : (job : Job) (from : States) (second first : Run) (sink : Sink) → written job from (second ++ first) sink ≡ written job from first sink ++ written job (states_after job from first) second sink
-written-join job from second first sink = put-join job from second first (as_channel sink)
+written-join job from second first sink = put-join job from second first (channel_of sink)
 
 -- after any number of failures
 

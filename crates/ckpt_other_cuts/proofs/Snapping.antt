@@ -2,7 +2,9 @@
 use Rattle.std.proofs.Common.{◌≡◌, ℕ, ◌<◌, ◌≤◌, Bool, true, false, List, [], ◌∷◌, ◌++◌, ◌∙◌, refl, sym, ap, subst, arith, inl, inr, ⊎_elim}
 use Rattle.std.specs.Prelude.{◌&&◌, ◌==◌, ◌⊎◌, Option, Some, None, Result, Ok, if◌then◌else◌, nat_lt, not, slice_get}
 use Rattle.std.specs.List.{list_any}
+use Rattle.std.proofs.lemmas.Bool.{and_parts}
 use Rattle.std.proofs.lemmas.Grind.{common_steps}
+use Rattle.std.proofs.lemmas.Option.{none-some, same_Some}
 use Rattle.ckpt_ids.specs.Ordered.{IsIn}
 use Rattle.ckpt_align.specs.declared.event.Refusal.{Refusal}
 use Rattle.ckpt_align.specs.declared.input.Input.{Input}
@@ -32,10 +34,7 @@ idle_above phase.Aligning m n h = omega arith
 idle_above phase.Recording m n h = h
 
 none_some : {X : Type 0} (o : Option ℕ) (k : ℕ) → o ≡ None → o ≡ Some k → X
-none_some o k e f = absurd (grind (arith, common_steps))
-
-some_is : (x y : ℕ) → Some x ≡ Some y → x ≡ y
-some_is x y e = grind (arith, common_steps)
+none_some o k e f = absurd (none-some k (sym e ∙ f))
 
 -- ONE STEP
 
@@ -75,9 +74,9 @@ whole_keeps r d phase.Aligning e busy moved = record {
   rises = λ n k h g.
       let At : Phase → Type 0 = λ q. Above q d.latest n in
       let below : n < d.latest = subst At e (moved.stays n h) in
-      let is : d.latest ≡ k = some_is d.latest k g in
+      let is : d.latest ≡ k = same_Some d.latest k g in
       subst (λ (j : ℕ). n < j) is below;
-  begins = λ k g. let is : d.latest ≡ k = some_is d.latest k g in omega arith;
+  begins = λ k g. let is : d.latest ≡ k = same_Some d.latest k g in omega arith;
   records = λ is. absurd (grind (arith, common_steps));
   wholes = λ k g. inl g;
 }
@@ -86,7 +85,7 @@ whole_keeps r d phase.Recording e busy moved = record {
   rises = λ n k h g. none_some None k refl g;
   begins = λ k g. none_some None k refl g;
   records = λ is. absurd (grind (arith, common_steps));
-  wholes = λ k g. let was = moved.same (ap is_recording e) in inr (was.0, was.1 ∙ some_is d.latest k g);
+  wholes = λ k g. let was = moved.same (ap is_recording e) in inr (was.0, was.1 ∙ same_Some d.latest k g);
 }
 
 settled_by_keeps : (r d : Recorder) (idle left : Bool) → is_idle d.phase ≡ idle → Moved r d → Keeps r (if idle then (d, Ok Nothing) else (if left then (d, Ok Wait) else (ended d, Ok (whole d.phase d.latest))))
@@ -162,21 +161,17 @@ not_late r phase.Idle n e l = grind (arith, common_steps)
 not_late r phase.Aligning n e l = grind (arith, common_steps)
 not_late r phase.Recording n e l = grind (arith, common_steps)
 
-and_second : (a b : Bool) → (a && b) ≡ true → b ≡ true
-and_second true b e = e
-and_second false b e = grind (arith, common_steps)
-
 overtake_by_keeps : (r : Recorder) (n : ℕ) (late free : Bool) → is_late r n ≡ late → (list_any is_open r.inputs && is_free_for r.phase (n == r.latest)) ≡ free
     → Keeps r (if late then (r, Ok Late) else (if free then (overtaken r n, Ok (Snap n)) else (r, Ok Nothing)))
 overtake_by_keeps r n true free e f = unchanged r (Ok Late) refl refl
 overtake_by_keeps r n false false e f = unchanged r (Ok Nothing) refl refl
 overtake_by_keeps r n false true e f =
     let above : (k : ℕ) → Above r.phase r.latest k → k < n =
-    λ k h. overtaken_above r.phase r.latest n k (and_second (list_any is_open r.inputs) (is_free_for r.phase (n == r.latest)) f) (not_late r r.phase n refl e) h in
+    λ k h. overtaken_above r.phase r.latest n k (and_parts (list_any is_open r.inputs) (is_free_for r.phase (n == r.latest)) f).1 (not_late r r.phase n refl e) h in
     record {
       stays = λ k h. let below : k < n = above k h in omega arith;
-      rises = λ k j h g. subst (λ (i : ℕ). k < i) (some_is n j g) (above k h);
-      begins = λ k g. let is : n ≡ k = some_is n k g in omega arith;
+      rises = λ k j h g. subst (λ (i : ℕ). k < i) (same_Some n j g) (above k h);
+      begins = λ k g. let is : n ≡ k = same_Some n k g in omega arith;
       records = λ is. inl refl;
       wholes = λ k g. none_some None k refl g;
     }

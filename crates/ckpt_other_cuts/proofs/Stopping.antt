@@ -48,16 +48,3 @@ elements_end c = elements-append c (End ∷ []) ∙ append-nil (elements c)
 
 pub ends : (n : ℕ) (c rest : List Item) → EndsWithout n c → before n (c ++ rest) ≡ elements c
 ends n c rest k = grind (arith, common_steps, append-nil, append_assoc, elements_end, runs)
-
-stop_last : (n : ℕ) (c : List Item) → has_stop n (c ++ End ∷ []) ≡ true
-stop_last n [] = refl
-stop_last n (Element x ∷ c) = stop_last n c
-stop_last n (Barrier m ∷ c) = stop_by (m == n) (has_stop n (c ++ End ∷ [])) (stop_last n c)
-  where
-    stop_by : (b s : Bool) → s ≡ true → (if b then true else s) ≡ true
-    stop_by true s e = refl
-    stop_by false s e = e
-stop_last n (End ∷ c) = refl
-
-pub ends_stopped : (n : ℕ) (c : List Item) → EndsWithout n c → has_stop n c ≡ true
-ends_stopped n c k = ap (has_stop n) k.1 ∙ stop_last n k.0

@@ -1,10 +1,8 @@
 -- What recorders were told in the worked example meets the premises of the law.
 use Rattle.std.proofs.Common.{◌≡◌, ◌<◌, [], ◌∷◌, ◌++◌, ◌∙◌, refl, sym, subst, inl, inr, arith}
-use Rattle.std.specs.Prelude.{◌⊎◌}
 use Rattle.ckpt_ids.specs.declared.subtask.SubtaskId.{SubtaskId}
 use Rattle.ckpt_ids.specs.Ordered.{IsIn}
 use Rattle.ckpt_align.specs.Histories.{Barrier, Element}
-use Rattle.ckpt_align.specs.Laws.{Channel}
 use Rattle.ckpt_once.specs.Jobs.{put_on, taken_off}
 use Rattle.ckpt_once.specs.WorkedExamples.{adder, job, line, source}
 use Rattle.ckpt_unaligned.specs.Histories.{Overtakes, Reads, Sends}
@@ -15,11 +13,7 @@ use Rattle.ckpt_unaligned.proofs.Parts.{global_part}
 use Rattle.ckpt_other_cuts.specs.Restarted.{anew, kept_moves}
 use Rattle.ckpt_other_cuts.specs.Resumed.{WasRecorded, snaps_in, snaps_said}
 use Rattle.ckpt_other_cuts.specs.WorkedRecorders.{attempt, network}
-use Rattle.ckpt_other_cuts.specs.WorkedResumes.{are_stretches, stretch}
-
-at_line : (P : Channel → Type 0) → P line → (c : Channel) → (c ≡ line) ⊎ ⊥ → P c
-at_line P here c (inl e) = subst P (sym e) here
-at_line P here c (inr none) = absurd none
+use Rattle.ckpt_other_cuts.specs.WorkedResumes.{are_stretches, at_line, stretch}
 
 pub at_task : (P : SubtaskId → Type 0) → P source → P adder → (t : SubtaskId) → IsIn t job.tasks → P t
 at_task P first second t (inl e) = subst P (sym e) first

@@ -50,7 +50,7 @@ written_once = refl
 
 -- The premises of the law hold for it.
 
-at_line : (P : Channel → Type 0) → P line → (c : Channel) → (c ≡ line) ⊎ ⊥ → P c
+pub at_line : (P : Channel → Type 0) → P line → (c : Channel) → (c ≡ line) ⊎ ⊥ → P c
 at_line P here c (inl e) = subst P (sym e) here
 at_line P here c (inr none) = absurd none
 

@@ -46,6 +46,7 @@ pub fn worked_is_shape()
 {}
 
 /// Its stage begins as the law of restores has it, from the starts of the keys, and it is routed.
+#[tactic(auto, using(crate::proofs::WorkedShaping::worked_is_job, crate::proofs::WorkedShaping::worked_begins, crate::proofs::WorkedShaping::worked_is_routed))]
 pub fn worked_begins()
     ensures keys_are_job { IsJob keys }
     ensures begins { IsBegun keys (recorded keys []) stage }
@@ -54,6 +55,7 @@ pub fn worked_begins()
 
 /// It cuts a record that the coordinator completes, and a stage in another shape, with a subtask for each
 /// key, begins from it: all premises of the law of restores hold, with a restart.
+#[tactic(auto, using(crate::proofs::WorkedRestarting::can_open, crate::proofs::WorkedRestarting::are_restarts, crate::proofs::WorkedRestarting::reshaped_begins, crate::proofs::WorkedRestarting::reshaped_is_routed))]
 pub fn worked_restores()
     ensures can_open { CanOpen opening }
     ensures restarts { AreRestarts opening keys (restart ∷ []) }

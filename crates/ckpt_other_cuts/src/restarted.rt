@@ -31,6 +31,7 @@ pub fn resumes_invisible()
 {}
 
 /// A job that fails with an element on the way, and begins from a record that has it: the premises hold.
+#[tactic(auto, using(crate::specs::WorkedResumes::are_stretches, crate::specs::WorkedResumes::is_run_from))]
 pub fn worked_resumes()
     ensures stretches { AreStretches job stretches }
     ensures run { IsRunFrom job (begin_after job stretches) (moves again) }
