@@ -3,6 +3,7 @@ use Rattle.std.proofs.lemmas.Grind.{common_steps}
 use Rattle.std.proofs.Common.{arith, ◌≡◌, ℕ, Bool, true, false, List, ◌∷◌, ◌++◌, ◌∙◌, refl, sym, ap, subst, if◌then◌else◌, Option, Some, None, inl, inr, []}
 use Rattle.std.specs.Prelude.{◌⊎◌}
 use Rattle.std.proofs.lemmas.List.{append-nil}
+use Rattle.std.proofs.lemmas.Option.{none-some}
 use Rattle.ckpt_ids.specs.declared.call.Call.{Call}
 use Rattle.ckpt_ids.specs.declared.subtask.SubtaskId.{SubtaskId}
 use Rattle.ckpt_ids.specs.Ordered.{IsIn}
@@ -124,10 +125,7 @@ comes_more n p s a us [] waits k l same comes = grind (arith, common_steps)
 comes_more n p s a us (turn ∷ turns) waits k l kept comes = grind (arith, common_steps, after_more, at_of, comes_by, comes_more n p s a us turns waits k kept.0)
 
 comes_first : (n : ℕ) (p : Program) (s : ℕ) (a : Alignment) (x : Around) → x.deeds ≡ [] → under n x.saved ≡ None → Comes n x.saved (snapped_by p s a (came_in x.deeds))
-comes_first n p s a x unused none k is = absurd (nothing k (sym (ap state_of none) ∙ is))
-  where
-    nothing : (k : ℕ) → None ≡ Some k → ⊥
-    nothing k e = cc
+comes_first n p s a x unused none k is = absurd (none-some k (sym (ap state_of none) ∙ is))
 
 comes_runs : (n : ℕ) (p : Program) (s : ℕ) (a : Alignment) (begins : List Around) (x y : Around) → x.task ≡ at_of p s a [] → x.deeds ≡ [] → under n x.saved ≡ None → AreRuns p begins x y
     → Comes n y.saved (snapped_by p s a (came_in y.deeds))

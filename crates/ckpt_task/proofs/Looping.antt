@@ -139,7 +139,7 @@ follows p s a (begin ∷ begins) x y task unused runs = let one = runs.1 in foll
 
 -- THE JOB
 
-abbrev by : SubtaskId → Turn → By Turn
+abbrev pub by : SubtaskId → Turn → By Turn
 by t turn = record { task = t; what = turn }
 
 -- the turns of one task, in front of a history

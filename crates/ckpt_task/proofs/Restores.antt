@@ -3,6 +3,7 @@ use Rattle.std.proofs.lemmas.Grind.{common_steps}
 use Rattle.std.proofs.Common.{arith, ◌≡◌, ℕ, List, ◌∷◌, ◌++◌, sym, ap, ◌∙◌, inl, inr, []}
 use Rattle.std.specs.Prelude.{Option, Some, None}
 use Rattle.ckpt_ids.specs.Ordered.{IsIn}
+use Rattle.ckpt_ids.proofs.OrderedLemmas.{IsIn-append_right}
 use Rattle.ckpt_ids.specs.declared.subtask.SubtaskId.{SubtaskId}
 use Rattle.ckpt_align.specs.Alignment.{Alignment, opened}
 use Rattle.ckpt_once.specs.Jobs.{History, Job, States, of, snapshots}
@@ -18,16 +19,12 @@ use Rattle.ckpt_task.specs.declared.turn.Outcome.TheVariants.{Moved, Held, Nothi
 abbrev pub snap : ℕ → ℕ → Snapped
 snap n s = record { id = n; state = s }
 
-later : (xs ys : List Snapped) (one : Snapped) → IsIn one ys → IsIn one (xs ++ ys)
-later [] ys one has = has
-later (x ∷ xs) ys one has = inr (later xs ys one has)
-
 -- each snapshot of the record that is here is one of those that the task took
 abbrev pub Comes : ℕ → List Saved → List Snapped → Type 0
 Comes n ones taken = (s : ℕ) → state_of (under n ones) ≡ Some s → IsIn (snap n s) taken
 
 pub stays : (n : ℕ) (before now : List Saved) (new taken : List Snapped) → now ≡ before → Comes n before taken → Comes n now (new ++ taken)
-stays n before now new taken same comes s is = later new taken (snap n s) (comes s (sym (ap (λ (ones : List Saved). state_of (under n ones)) same) ∙ is))
+stays n before now new taken same comes s is = IsIn-append_right (snap n s) new taken (comes s (sym (ap (λ (ones : List Saved). state_of (under n ones)) same) ∙ is))
 
 -- one more, that of this cut
 pub adds : (n m x : ℕ) (one : Saved) (before now : List Saved) (cut : Option ℕ) (taken : List Snapped) → one.id ≡ m → one.state ≡ x → Some m ≡ cut → now ≡ one ∷ before

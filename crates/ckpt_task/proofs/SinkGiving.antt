@@ -3,7 +3,8 @@ use Rattle.std.proofs.Common.{◌≡◌, ℕ, ◌≤◌, ◌<◌, eqb, true, fal
 use Rattle.std.specs.Prelude.{◌⊎◌}
 use Rattle.std.proofs.lemmas.Bool.{cond_both, eqb-true}
 use Rattle.std.proofs.lemmas.Grind.{common_steps}
-use Rattle.std.proofs.lemmas.List.{append-nil, append_assoc}
+use Rattle.std.proofs.lemmas.List.{append-nil, append_assoc, map-append}
+use Rattle.std.proofs.lemmas.Option.{none-some, same_Some}
 use Rattle.ckpt_ids.specs.Ordered.{IsIn}
 use Rattle.ckpt_align.specs.Alignment.{Alignment, opened}
 use Rattle.ckpt_align.specs.Histories.{Action, Ends, GivesUp, Reads, Sends, after, cut_by, elements, has_cut, has_ended, replay, sent_by}
@@ -18,7 +19,7 @@ use Rattle.ckpt_once.specs.Sinks.{Sink, Transaction, above, contents, published_
 use Rattle.ckpt_once.proofs.ActionLemmas.{replay-append}
 use Rattle.ckpt_task.proofs.LoopLaws.{loops_make_history}
 use Rattle.ckpt_task.proofs.Looping.{comes_on}
-use Rattle.ckpt_task.proofs.SinkLooping.{IsTold, entries-append, held-append, held_at, moments-append, told_first, told_reaches, told_run, told_word}
+use Rattle.ckpt_task.proofs.SinkLooping.{IsTold, entries-append, held-append, held_at, told_first, told_reaches, told_run, told_word}
 use Rattle.ckpt_once.proofs.Publishing.{cut_stays}
 use Rattle.ckpt_task.proofs.Snapping.{cut_later, is_cut_by, not_ended_in}
 use Rattle.ckpt_task.proofs.Turning.{cut_moves_none}
@@ -105,13 +106,10 @@ Seals o inputs n moments saved = (w : List Transaction) → waiting_of (under n 
 seals_stay : (o inputs n : ℕ) (moments more now : List Moment) (before after : List Saved) → now ≡ moments ++ more → after ≡ before → Seals o inputs n moments before → Seals o inputs n now after
 seals_stay o inputs n moments more now before after is same was w has = sealed_later o inputs n moments more now w is (was w (sym (ap (λ (l : List Saved). waiting_of (under n l)) same) ∙ has))
 
-same_waiting : (w v : List Transaction) → Some w ≡ Some v → w ≡ v
-same_waiting w v e = cc
-
 -- one more, that of this cut
 seals_more : (o inputs n m : ℕ) (moments more now : List Moment) (one : Saved) (before after : List Saved) → now ≡ moments ++ more → one.id ≡ m → after ≡ one ∷ before
     → (m ≡ n → IsSealed o inputs n now one.waiting) → Seals o inputs n moments before → Seals o inputs n now after
-seals_more o inputs n m moments more now one before after is id grows sealed was w has = grind (arith, common_steps, cond_both, eqb, eqb-true, same_waiting, sealed_later)
+seals_more o inputs n m moments more now one before after is id grows sealed was w has = grind (arith, common_steps, cond_both, eqb, eqb-true, same_Some {A = List Transaction}, sealed_later)
 
 seals_by : (o inputs n s : ℕ) (cut given : Option ℕ) (waiting : List Transaction) (k l : Kept) (moments more now : List Moment) → now ≡ moments ++ more → IsKeptBy cut given s waiting k l
     → (cut ≡ Some n → IsSealed o inputs n now waiting) → Seals o inputs n moments k.saved → Seals o inputs n now l.saved
@@ -150,7 +148,7 @@ seals_turns p s o inputs n x records told (turn ∷ turns) k l kept was =
     let ys : List Action = acts_in p at.state at.alignment turn in
     let before : List Moment = told.moments ++ map Acts xs in
     let all : told.moments ++ map Acts (xs ++ ys) ≡ before ++ map Acts ys =
-    ap (λ (l : List Moment). told.moments ++ l) (moments-append xs ys) ∙ sym (append_assoc told.moments (map Acts xs) (map Acts ys)) in
+    ap (λ (l : List Moment). told.moments ++ l) (map-append Acts xs ys) ∙ sym (append_assoc told.moments (map Acts xs) (map Acts ys)) in
     let reached : replay (opened inputs) (acts before) ≡ at.alignment = told_reaches p s o inputs x records told turns in
     let waiting : List Transaction = (held_after p x.at (turn ∷ turns)).waiting in
     let sealed : cut_of at.alignment turn ≡ Some n → IsSealed o inputs n (told.moments ++ map Acts (xs ++ ys)) waiting = λ e.
@@ -174,10 +172,7 @@ record IsSunk (p : Program) (s o inputs n : ℕ) (x : Sinking) (records : List �
   pub seals : Seals o inputs n told.moments x.saved
 
 no_snapshot : (o inputs n : ℕ) (moments : List Moment) (saved : List Saved) → under n saved ≡ None → Seals o inputs n moments saved
-no_snapshot o inputs n moments saved none w has = absurd (nothing_is w (sym (ap waiting_of none) ∙ has))
-  where
-    nothing_is : (w : List Transaction) → None ≡ Some w → ⊥
-    nothing_is w e = cc
+no_snapshot o inputs n moments saved none w has = absurd (none-some w (sym (ap waiting_of none) ∙ has))
 
 sunk_steps : (p : Program) (s o inputs n : ℕ) (steps : List Step) (x y : Sinking) → IsSunk p s o inputs n x [] → AreSteps p steps x y → IsSunk p s o inputs n y (sinks.told_of steps)
 unfolding told_run told_word

@@ -1,7 +1,7 @@
 -- What a sink in a loop publishes is what its ledger was told to.
 use Rattle.std.proofs.lemmas.Grind.{common_steps}
 use Rattle.std.proofs.Common.{arith, ◌≡◌, ℕ, true, List, ◌∷◌, ◌++◌, ◌∙◌, map, refl, sym, ap, subst, Option, Some, None, []}
-use Rattle.std.proofs.lemmas.List.{append-nil, append_assoc}
+use Rattle.std.proofs.lemmas.List.{append-nil, append_assoc, map-append}
 use Rattle.ckpt_align.specs.Alignment.{Alignment, opened}
 use Rattle.ckpt_align.specs.Histories.{Action, after, cut_by, elements, has_cut, replay, sent_by}
 use Rattle.ckpt_ledger.specs.Ledgers.{Acts, Completes, Entry, HaveBeenCut, Held, Moment, Told, Writes, acts, after_entries, after_entry, all_published, completed, entries, nothing, told_of}
@@ -46,10 +46,6 @@ pub completes_none : (xs : List Action) → completed (map Acts xs) ≡ []
 completes_none [] = refl
 completes_none (x ∷ xs) = completes_none xs
 
-pub moments-append : (xs ys : List Action) → map Acts (xs ++ ys) ≡ map Acts xs ++ map Acts ys
-moments-append [] ys = refl
-moments-append (x ∷ xs) ys = ap (λ (l : List Moment). Acts x ∷ l) (moments-append xs ys)
-
 pub been_more : (inputs : ℕ) (done : List Action) (moments : List Moment) (xs : List Action) → HaveBeenCut inputs done moments → HaveBeenCut inputs done (moments ++ map Acts xs)
 been_more inputs done [] [] have = tt
 been_more inputs done [] (x ∷ xs) have = been_more inputs (done ++ x ∷ []) [] xs tt
@@ -78,7 +74,7 @@ acts_publish o a h (x ∷ xs) =
 held_is : (p : Program) (m : SinkAt) (turns : List Turn)
     → held_after p m turns ≡ after_entries m.held (entries m.output m.task.alignment (map Acts (actions p m.task.state m.task.alignment turns)))
 held_is p m [] = grind (arith, common_steps)
-held_is p m (turn ∷ turns) = grind (arith, common_steps, acts_all, aligned_is, entries-append, held-append, map, moments-append, held_is p m turns)
+held_is p m (turn ∷ turns) = grind (arith, common_steps, acts_all, aligned_is, entries-append, held-append, map, map-append, held_is p m turns)
 
 -- A SINK
 

@@ -1,6 +1,6 @@
 -- A snapshot that a task took is its state before its cut.
-use Rattle.std.proofs.Common.{◌≡◌, ℕ, ◌<◌, Bool, true, false, ◌||◌, List, ◌∷◌, ◌++◌, ◌∙◌, refl, sym, ap, subst, arith, if◌then◌else◌, Option, Some, None, inl, inr, []}
-use Rattle.std.proofs.lemmas.Bool.{both_ways}
+use Rattle.std.proofs.Common.{◌≡◌, ℕ, ◌<◌, Bool, true, false, List, ◌∷◌, ◌++◌, ◌∙◌, refl, sym, ap, subst, arith, if◌then◌else◌, Option, Some, None, inl, inr, []}
+use Rattle.std.proofs.lemmas.Bool.{both_ways, or_from}
 use Rattle.std.proofs.lemmas.Grind.{common_steps}
 use Rattle.ckpt_ids.specs.declared.subtask.SubtaskId.{SubtaskId}
 use Rattle.ckpt_ids.specs.Ordered.{IsIn}
@@ -94,9 +94,6 @@ not_cut_yet n inputs xs b turn at e = by_test (has_cut n (opened inputs) xs) ref
 stopped_by : (n : ℕ) (p : Program) (s : ℕ) (a : Alignment) (turn : Turn) (turns : List Turn) → has_cut n a (actions p s a (turn ∷ turns)) ≡ true → turns_before n p s a (turn ∷ turns) ≡ turns_before n p s a turns
 stopped_by n p s a turn turns e = grind (arith, common_steps)
 
-or_none : (b c : Bool) → b ≡ false → c ≡ false → (b || c) ≡ false
-or_none b c e f = grind (arith, common_steps)
-
 -- what the law says, of the turns of a task
 abbrev pub IsSnap : Program → ℕ → Alignment → List Turn → Snapped → Type 0
 IsSnap p s a turns one = (has_cut one.id a (actions p s a turns) ≡ true) × (one.state ≡ state p s (moves_in a (turns_before one.id p s a turns)))
@@ -106,7 +103,7 @@ snap_stays p s a turn turns one k = grind (arith, common_steps, cut_stays, stopp
 
 snap_now : (p : Program) (s inputs n : ℕ) (turn : Turn) (turns : List Turn) → has_ended_in turns ≡ false → cut_of (aligned (opened inputs) turns) turn ≡ Some n
     → IsSnap p s (opened inputs) (turn ∷ turns) (record { id = n; state = state p s (moves_in (opened inputs) turns) })
-snap_now p s inputs n turn turns going e = grind (arith, common_steps, aligned_is, cut_later, not_cut_yet, not_ended_in, or_none, stopped, stopped_by, turn_cuts, turns_all)
+snap_now p s inputs n turn turns going e = grind (arith, common_steps, aligned_is, cut_later, not_cut_yet, not_ended_in, or_from, stopped, stopped_by, turn_cuts, turns_all)
 
 snap_by : (p : Program) (s inputs : ℕ) (turn : Turn) (turns : List Turn) (one : Snapped) (o : Option ℕ) → has_ended_in turns ≡ false → cut_of (aligned (opened inputs) turns) turn ≡ o
     → IsIn one (snapped_at o (state p s (moves_in (opened inputs) turns)) ++ snapped_by p s (opened inputs) turns)

@@ -1,6 +1,6 @@
 -- What a fault leaves of a turn.
 use Rattle.std.proofs.lemmas.Grind.{common_steps}
-use Rattle.std.proofs.Common.{arith, ◌≡◌, ℕ, ◌+◌, ◌<◌, List, ◌∷◌, ◌++◌, ◌∙◌, refl, sym, ap, subst, false, true, Ok, Err, inl, inr, drop, length, slice_index_or, []}
+use Rattle.std.proofs.Common.{arith, ◌≡◌, ℕ, ◌<◌, List, ◌∷◌, ◌++◌, ◌∙◌, refl, sym, ap, subst, false, true, Ok, Err, inl, inr, drop, length, slice_index_or, []}
 use Rattle.std.specs.Prelude.{OnErr, Result}
 use Rattle.std.proofs.lemmas.Bool.{both_ways}
 use Rattle.std.proofs.lemmas.List.{append_assoc, at_drop_more}

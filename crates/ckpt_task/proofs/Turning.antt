@@ -1,5 +1,5 @@
 -- One turn of the code is one of `ckpt_once`.
-use Rattle.std.proofs.Common.{◌≡◌, ℕ, ◌+◌, Bool, true, false, List, ◌∷◌, ◌++◌, ◌∙◌, refl, sym, ap, subst, arith, if◌then◌else◌, Option, Some, None, Ok, inl, inr, []}
+use Rattle.std.proofs.Common.{◌≡◌, ℕ, Bool, true, false, List, ◌∷◌, ◌++◌, ◌∙◌, refl, sym, ap, subst, arith, if◌then◌else◌, Option, Some, None, Ok, inl, inr, []}
 use Rattle.std.specs.Prelude.{◌==◌, ◌⊎◌, ◌≢◌, map, slice_get}
 use Rattle.std.proofs.lemmas.Bool.{both_ways}
 use Rattle.std.proofs.lemmas.Grind.{common_steps}
@@ -98,12 +98,6 @@ entries_turn p s o a (Offered i item) = grind (arith, common_steps, entries_send
 entries_turn p s o a (GivenUp id) = grind (arith, common_steps, elements_barriers)
 entries_turn p s o a Drawn = grind (arith, common_steps, entries_sendings)
 entries_turn p s o a Ended = grind (arith, common_steps)
-
-pub is_this : (m n k : ℕ) → n ≡ m → n ≡ k → (m == k) ≡ true
-is_this m n k e f = grind (arith, common_steps)
-
-pub is_other : (m n k : ℕ) → n ≡ m → n ≢ k → (m == k) ≡ false
-is_other m n k e f = grind (arith, common_steps)
 
 outcome_enters : (o : ℕ) (h : Held) (one : Outcome) → is_unsaved one ≡ false → after_outcome o h one ≡ after_entries h (told_of (cut_in one) [] ++ map Writes (on_output o (emitted_in one)))
 outcome_enters o h (outcome.Moved ones) e = refl

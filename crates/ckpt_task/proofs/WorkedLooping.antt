@@ -112,12 +112,12 @@ adder_looped_again = record { task = refl; unused = refl; begins = []; runs = re
 
 -- the job
 
-at_tasks : (P : SubtaskId → Type 0) → P source → P adder → (t : SubtaskId) → IsIn t job.tasks → P t
+pub at_tasks : (P : SubtaskId → Type 0) → P source → P adder → (t : SubtaskId) → IsIn t job.tasks → P t
 at_tasks P first second t (inl e) = subst P (sym e) first
 at_tasks P first second t (inr (inl e)) = subst P (sym e) second
 at_tasks P first second t (inr (inr none)) = absurd none
 
-at_line : (P : Channel → Type 0) → P line → (c : Channel) → IsIn c job.channels → P c
+pub at_line : (P : Channel → Type 0) → P line → (c : Channel) → IsIn c job.channels → P c
 at_line P it c (inl e) = subst P (sym e) it
 at_line P it c (inr none) = absurd none
 
@@ -156,10 +156,10 @@ failed_looping = record {
 
 -- record 1
 
-abbrev acked : SubtaskId → Acked
+abbrev pub acked : SubtaskId → Acked
 acked t = record { subtask = t; files = [] }
 
-accepted_are : along (accepted_by 1) (model.opened opening) calls ≡ acked source ∷ acked adder ∷ []
+pub accepted_are : along (accepted_by 1) (model.opened opening) calls ≡ acked source ∷ acked adder ∷ []
 unfolding step_computes
 accepted_are = refl
 

@@ -1,6 +1,7 @@
 -- What an engine does with tasks over channels is a history.
 use Rattle.std.proofs.Common.{◌≡◌, ℕ, Bool, true, false, List, ◌∷◌, ◌++◌, ◌∙◌, refl, sym, ap, subst, arith, if◌then◌else◌, Option, Some, None, []}
 use Rattle.std.specs.Prelude.{drop, length, ◌==◌, ◌&&◌}
+use Rattle.std.proofs.lemmas.Bool.{eqb-true}
 use Rattle.std.proofs.lemmas.Grind.{common_steps}
 use Rattle.std.proofs.lemmas.List.{append-nil, append_assoc}
 use Rattle.ckpt_ids.specs.declared.subtask.SubtaskId.{SubtaskId}
@@ -72,11 +73,8 @@ splits_none on = refl
 splits_one : (item : Item) (rest on : List Item) → on ≡ item ∷ rest → Splits (item ∷ []) on
 splits_one item rest on e = subst (λ (l : List Item). Splits (item ∷ []) l) (sym e) refl
 
-is_same : (m n : ℕ) → (m == n) ≡ true → m ≡ n
-is_same m n e = grind (arith, common_steps)
-
 splits_by : (j i : ℕ) (item : Item) (same is : Bool) (more on : List Item) → (i == j) ≡ same → more ≡ [] → (i ≡ j → (rest : List Item) × (on ≡ item ∷ rest)) → Splits ((if same && is then item ∷ [] else []) ++ more) on
-splits_by j i item true true more on e none front = let f = front (is_same i j e) in subst (λ (l : List Item). Splits (item ∷ l) on) (sym none) (splits_one item f.0 on f.1)
+splits_by j i item true true more on e none front = let f = front (eqb-true i j e) in subst (λ (l : List Item). Splits (item ∷ l) on) (sym none) (splits_one item f.0 on f.1)
 splits_by j i item true false more on e none front = subst (λ (l : List Item). Splits l on) (sym none) (splits_none on)
 splits_by j i item false is more on e none front = subst (λ (l : List Item). Splits l on) (sym none) (splits_none on)
 

@@ -142,11 +142,11 @@ pub record HasSunkOnce (p : Program) (m l : SinkAt) (x y : Around) : Type 0 wher
 -- THE CLAUSES OF THE LOOPS: a run of a task, or one turn if anything came, over channels and snapshots of any types. Their traits
 -- tell what they did.
 
-abbrev pub RunsOver : {C S : Type 0} → Program → ℕ → (C → List Deed) → (S → List Saved) → (S → List ℕ) → At → C → S → At → C → S → Type 0
-RunsOver p n deeds saved refused m c s l d t = HasRun p waits_none n (around m (deeds c) (saved s) (refused s)) (around l (deeds d) (saved t) (refused t))
+abbrev pub RunsOver : {C S : Type 0} → Program → (C → List Deed) → (S → List Saved) → (S → List ℕ) → At → C → S → At → C → S → ℕ → Type 0
+RunsOver p deeds saved refused m c s l d t n = HasRun p waits_none n (around m (deeds c) (saved s) (refused s)) (around l (deeds d) (saved t) (refused t))
 
-abbrev pub TurnsOver : {C S : Type 0} → Program → Bool → (C → List Deed) → (S → List Saved) → (S → List ℕ) → At → C → S → At → C → S → Type 0
-TurnsOver p came deeds saved refused m c s l d t =
+abbrev pub TurnsOver : {C S : Type 0} → Program → (C → List Deed) → (S → List Saved) → (S → List ℕ) → At → C → S → At → C → S → Bool → Type 0
+TurnsOver p deeds saved refused m c s l d t came =
     let x : Around = around m (deeds c) (saved s) (refused s) in
     let y : Around = around l (deeds d) (saved t) (refused t) in
     MatchBool came (HasTurned p (λ _. []) x y) (y ≡ x)
@@ -157,11 +157,11 @@ RunStops p deeds saved refused m c s l d t = HasStopped p waits_none (around m (
 abbrev pub TurnStops : {C S : Type 0} → Program → (C → List Deed) → (S → List Saved) → (S → List ℕ) → At → C → S → At → C → S → Type 0
 TurnStops p deeds saved refused m c s l d t = IsStopped p (λ _. []) (around m (deeds c) (saved s) (refused s)) (around l (deeds d) (saved t) (refused t))
 
-abbrev pub SinksOver : {C S : Type 0} → Program → ℕ → (C → List Deed) → (S → List Saved) → (S → List ℕ) → SinkAt → C → S → SinkAt → C → S → Type 0
-SinksOver p n deeds saved refused m c s l d t = HasSunk p n m l (around m.task (deeds c) (saved s) (refused s)) (around l.task (deeds d) (saved t) (refused t))
+abbrev pub SinksOver : {C S : Type 0} → Program → (C → List Deed) → (S → List Saved) → (S → List ℕ) → SinkAt → C → S → SinkAt → C → S → ℕ → Type 0
+SinksOver p deeds saved refused m c s l d t n = HasSunk p n m l (around m.task (deeds c) (saved s) (refused s)) (around l.task (deeds d) (saved t) (refused t))
 
-abbrev pub SinksOnce : {C S : Type 0} → Program → Bool → (C → List Deed) → (S → List Saved) → (S → List ℕ) → SinkAt → C → S → SinkAt → C → S → Type 0
-SinksOnce p came deeds saved refused m c s l d t =
+abbrev pub SinksOnce : {C S : Type 0} → Program → (C → List Deed) → (S → List Saved) → (S → List ℕ) → SinkAt → C → S → SinkAt → C → S → Bool → Type 0
+SinksOnce p deeds saved refused m c s l d t came =
     let x : Around = around m.task (deeds c) (saved s) (refused s) in
     let y : Around = around l.task (deeds d) (saved t) (refused t) in
     MatchBool came (HasSunkOnce p m l x y) ((y ≡ x) × (l ≡ m))
@@ -169,6 +169,6 @@ SinksOnce p came deeds saved refused m c s l d t =
 abbrev pub SinkStops : {C S : Type 0} → Program → (C → List Deed) → (S → List Saved) → (S → List ℕ) → SinkAt → C → S → SinkAt → C → S → Type 0
 SinkStops p deeds saved refused m c s l d t = HasStopped p (sink_waits p m) (around m.task (deeds c) (saved s) (refused s)) (around l.task (deeds d) (saved t) (refused t))
 
-abbrev pub SinkStopsOnce : {C S : Type 0} → Program → (C → List Deed) → (S → List Saved) → (S → List ℕ) → SinkAt → C → S → SinkAt → C → S → Type 0
-SinkStopsOnce p deeds saved refused m c s l d t =
+abbrev pub StopsOnce : {C S : Type 0} → Program → (C → List Deed) → (S → List Saved) → (S → List ℕ) → SinkAt → C → S → SinkAt → C → S → Type 0
+StopsOnce p deeds saved refused m c s l d t =
     IsStopped p (λ turn. (after_turn p m turn).waiting) (around m.task (deeds c) (saved s) (refused s)) (around l.task (deeds d) (saved t) (refused t))

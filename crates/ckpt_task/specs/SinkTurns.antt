@@ -1,5 +1,5 @@
 -- What the turns of a sink enter into its ledger.
-use Rattle.std.specs.Prelude.{◌≡◌, ℕ, Bool, map, Option, Some, Result}
+use Rattle.std.specs.Prelude.{◌≡◌, ℕ, Bool, false, map, Option, Some, Result, Err}
 use Rattle.ckpt_align.specs.declared.event.Answer.{Answer}
 use Rattle.ckpt_align.specs.declared.event.Refusal.{Refusal}
 use Rattle.ckpt_ledger.specs.Ledgers.{Acts, Cuts, Held, Writes, after_entries, after_entry, entries}
@@ -8,7 +8,7 @@ use Rattle.ckpt_task.specs.declared.sink_task.SinkFault.{SinkFault}
 use Rattle.ckpt_task.specs.declared.sink_task.SinkFault.TheVariants as sink_fault
 use Rattle.ckpt_task.specs.declared.turn.Outcome.{Outcome}
 use Rattle.ckpt_task.specs.declared.turn.Outcome.TheVariants.{Moved, Cut}
-use Rattle.ckpt_task.specs.Turns.{At, refusal_as}
+use Rattle.ckpt_task.specs.Turns.{At, answer_in, refusal_as}
 
 -- the task of a sink, its ledger, its own output, and whether memory ran out in the middle of a turn
 pub record SinkAt : Type 0 where
@@ -20,6 +20,10 @@ pub record SinkAt : Type 0 where
 -- if it says that the aligner refused the turn, the answer was that
 abbrev pub IsRefusedAs : SinkFault → Option (Result Answer Refusal) → Type 0
 IsRefusedAs why one = (r : Refusal) → why ≡ sink_fault.Refused r → refusal_as one ≡ Some r
+
+-- a sink that has not failed says why the aligner refused the turn
+abbrev pub SaysRefusal : SinkAt → Turn → Result Outcome SinkFault → Type 0
+SaysRefusal m turn result = (why : Refusal) → m.has_failed ≡ false → refusal_as (answer_in m.task.alignment turn) ≡ Some why → result ≡ Err (sink_fault.Refused why)
 
 -- the ledger after a turn: it is told each write and each cut
 abbrev pub after_turn : Program → SinkAt → Turn → Held

@@ -115,7 +115,7 @@ impl<P: Program> Task<P> {
         snapshots: &mut S,
         turns: u64,
     ) -> Result<u64, RunFault>
-        ensures ran { IfOk result (λ n. RunsOver P.program n C.deeds S.saved S.refused self.old channels.old snapshots.old self.new channels.new snapshots.new) }
+        ensures ran { IfOk result (RunsOver P.program C.deeds S.saved S.refused self.old channels.old snapshots.old self.new channels.new snapshots.new) }
         ensures stopped { OnErr result (RunStops P.program C.deeds S.saved S.refused self.old channels.old snapshots.old self.new channels.new snapshots.new) }
     {
         for done in 0..turns {
@@ -142,7 +142,7 @@ impl<P: Program> Task<P> {
         channels: &mut C,
         snapshots: &mut S,
     ) -> Result<bool, RunFault>
-        ensures turned { IfOk result (λ b. TurnsOver P.program b C.deeds S.saved S.refused self.old channels.old snapshots.old self.new channels.new snapshots.new) }
+        ensures turned { IfOk result (TurnsOver P.program C.deeds S.saved S.refused self.old channels.old snapshots.old self.new channels.new snapshots.new) }
         ensures stopped { OnErr result (TurnStops P.program C.deeds S.saved S.refused self.old channels.old snapshots.old self.new channels.new snapshots.new) }
     {
         let Some(next) = channels.next(self.aligner())? else {

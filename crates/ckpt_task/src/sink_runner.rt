@@ -1,7 +1,7 @@
 //! The loop of a sink: it takes turns until nothing comes.
 
 ghost use Rattle.std.specs.Prelude.{IfOk, OnErr};
-ghost use Rattle.ckpt_task.specs.Runs.{SinkStops, SinkStopsOnce, SinksOnce, SinksOver};
+ghost use Rattle.ckpt_task.specs.Runs.{SinkStops, SinksOnce, SinksOver, StopsOnce};
 
 use crate::channels::Channels;
 use crate::program::Program;
@@ -19,7 +19,7 @@ impl<P: Program> SinkTask<P> {
         snapshots: &mut S,
         turns: u64,
     ) -> Result<u64, RunFault>
-        ensures ran { IfOk result (λ n. SinksOver P.program n C.deeds S.saved S.refused self.old channels.old snapshots.old self.new channels.new snapshots.new) }
+        ensures ran { IfOk result (SinksOver P.program C.deeds S.saved S.refused self.old channels.old snapshots.old self.new channels.new snapshots.new) }
         ensures stopped { OnErr result (SinkStops P.program C.deeds S.saved S.refused self.old channels.old snapshots.old self.new channels.new snapshots.new) }
     {
         for done in 0..turns {
@@ -36,8 +36,8 @@ impl<P: Program> SinkTask<P> {
         channels: &mut C,
         snapshots: &mut S,
     ) -> Result<bool, RunFault>
-        ensures turned { IfOk result (λ b. SinksOnce P.program b C.deeds S.saved S.refused self.old channels.old snapshots.old self.new channels.new snapshots.new) }
-        ensures stopped { OnErr result (SinkStopsOnce P.program C.deeds S.saved S.refused self.old channels.old snapshots.old self.new channels.new snapshots.new) }
+        ensures turned { IfOk result (SinksOnce P.program C.deeds S.saved S.refused self.old channels.old snapshots.old self.new channels.new snapshots.new) }
+        ensures stopped { OnErr result (StopsOnce P.program C.deeds S.saved S.refused self.old channels.old snapshots.old self.new channels.new snapshots.new) }
     {
         let Some(next) = channels.next(self.aligner())? else {
             return Ok(false);

@@ -8,7 +8,7 @@ ghost use Rattle.ckpt_ledger.specs.Ledgers.{Completes, Writes, after_entries, af
 ghost use Rattle.ckpt_once.specs.Programs.{on_output};
 ghost use Rattle.ckpt_once.specs.Sinks.{up_to};
 ghost use Rattle.ckpt_task.specs.Saving.{state_under, waiting_under};
-ghost use Rattle.ckpt_task.specs.SinkTurns.{IsRefusedAs, after_outcome, after_turn};
+ghost use Rattle.ckpt_task.specs.SinkTurns.{IsRefusedAs, SaysRefusal, after_outcome, after_turn};
 ghost use Rattle.ckpt_task.specs.Turns.{IsSaved, abandoned_as, abandoned_in, answer_in, as_turn, cut_in, cut_of, is_held, is_left, put_on, puts, refusal_as, refusals_of, turned};
 ghost use Rattle.ckpt_task.specs.declared.sink_task.SinkFault.TheVariants as sink_fault;
 
@@ -157,7 +157,7 @@ impl<P: Program> SinkTask<P> {
         ensures failed { IfErr result (λ why. why ≡ sink_fault.Failed → self.new.has_failed ≡ true) }
         ensures unchanged { IfErr result (λ why. why ≢ sink_fault.Failed → self.new ≡ self.old) }
         ensures stays { self.old.has_failed ≡ true → result ≡ Err sink_fault.Failed }
-        ensures told { (why : Refusal) → self.old.has_failed ≡ false → refusal_as (answer_in self.old.task.alignment (as_turn next)) ≡ Some why → result ≡ Err (sink_fault.Refused why) }
+        ensures told { SaysRefusal self.old (as_turn next) result }
     {
         if self.has_failed {
             return Err(SinkFault::Failed);
