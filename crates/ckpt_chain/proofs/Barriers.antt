@@ -4,6 +4,7 @@ use Rattle.std.specs.Prelude.{◌&&◌, ◌==◌, nat_lt, slice_get, Option, Som
 use Rattle.std.specs.List.{list_any}
 use Rattle.std.proofs.lemmas.Bool.{cond_both}
 use Rattle.std.proofs.lemmas.Grind.{common_steps}
+use Rattle.std.proofs.lemmas.Option.{none-some, same_Some}
 use Rattle.ckpt_ids.specs.Ordered.{IsIn}
 use Rattle.ckpt_ids.proofs.OrderedLemmas.{IsIn-append_cases, IsIn-append_left, IsIn-append_right}
 use Rattle.ckpt_align.specs.Alignment.{Alignment, all_released, held_for, is_aligning, is_late, is_open, with_input}
@@ -25,12 +26,6 @@ Latest a n s = (s.0.latest ≡ a.latest) ⊎ ((s.0.latest ≡ n) × (is_taken s.
 abbrev Cuts : Stepped → Type 0
 Cuts s = (n : ℕ) → cut_as s.1 ≡ Some n → s.0.latest ≡ n
 
-none_cut : (n : ℕ) (X : Type 0) → None ≡ Some n → X
-none_cut n X e = absurd cc
-
-same_number : (m n : ℕ) → Some m ≡ Some n → m ≡ n
-same_number m n e = cc
-
 settled_latest : (a b : Alignment) (n : ℕ) → b.latest ≡ n → Latest a n (settled b)
 unfolding settled
 settled_latest a b n e =
@@ -42,8 +37,8 @@ settled_cuts : (b : Alignment) → Cuts (settled b)
 unfolding settled
 settled_cuts b =
     cond_both (is_aligning b) (cond (list_any is_open b.inputs) (b, Ok answer.Wait) (all_released b, Ok (answer.Cut b.latest))) (b, Ok answer.Nothing) Cuts
-    (λ _. cond_both (list_any is_open b.inputs) (b, Ok answer.Wait) (all_released b, Ok (answer.Cut b.latest)) Cuts (λ _ n e. none_cut n (b.latest ≡ n) e) (λ _ n e. same_number b.latest n e))
-    (λ _ n e. none_cut n (b.latest ≡ n) e)
+    (λ _. cond_both (list_any is_open b.inputs) (b, Ok answer.Wait) (all_released b, Ok (answer.Cut b.latest)) Cuts (λ _ n e. absurd (none-some n e)) (λ _ n e. same_Some b.latest n e))
+    (λ _ n e. absurd (none-some n e))
 
 -- an end leaves the latest record
 settled_stays : (b : Alignment) → (settled b).0.latest ≡ b.latest
@@ -65,9 +60,9 @@ barrier_cuts : (a : Alignment) (i n : ℕ) → Cuts (barrier a i n)
 unfolding barrier
 barrier_cuts a i n =
     cond_both (is_late a n) (a, Ok answer.Late) (cond (is_aligning a && nat_lt a.latest n) (held_for (all_released a) i n, Ok (answer.Abandon a.latest)) (settled (held_for a i n))) Cuts
-    (λ _ m e. none_cut m (a.latest ≡ m) e)
+    (λ _ m e. absurd (none-some m e))
     (λ _. cond_both (is_aligning a && nat_lt a.latest n) (held_for (all_released a) i n, Ok (answer.Abandon a.latest)) (settled (held_for a i n)) Cuts
-    (λ _ m e. none_cut m (n ≡ m) e) (λ _. settled_cuts (held_for a i n)))
+    (λ _ m e. absurd (none-some m e)) (λ _. settled_cuts (held_for a i n)))
 
 open_latest : (a : Alignment) (n : ℕ) (o : Option Input) (s : Stepped) → Latest a n s → Latest a n (if_open a o s)
 open_latest a n None s k = inl refl
@@ -76,10 +71,10 @@ open_latest a n (Some Held) s k = inl refl
 open_latest a n (Some Ended) s k = inl refl
 
 open_cuts : (a : Alignment) (o : Option Input) (s : Stepped) → Cuts s → Cuts (if_open a o s)
-open_cuts a None s k n e = none_cut n (a.latest ≡ n) e
+open_cuts a None s k n e = absurd (none-some n e)
 open_cuts a (Some Open) s k n e = k n e
-open_cuts a (Some Held) s k n e = none_cut n (a.latest ≡ n) e
-open_cuts a (Some Ended) s k n e = none_cut n (a.latest ≡ n) e
+open_cuts a (Some Held) s k n e = absurd (none-some n e)
+open_cuts a (Some Ended) s k n e = absurd (none-some n e)
 
 open_stays : (a : Alignment) (o : Option Input) (s : Stepped) → s.0.latest ≡ a.latest → (if_open a o s).0.latest ≡ a.latest
 open_stays a None s k = refl
@@ -95,13 +90,13 @@ give_up_stays a n =
 give_up_cuts : (a : Alignment) (n : ℕ) → Cuts (give_up a n)
 unfolding give_up
 give_up_cuts a n =
-    cond_both (is_aligning a && (n == a.latest)) (all_released a, Ok (answer.Abandon n)) (a, Ok answer.Nothing) Cuts (λ _ m e. none_cut m (a.latest ≡ m) e) (λ _ m e. none_cut m (a.latest ≡ m) e)
+    cond_both (is_aligning a && (n == a.latest)) (all_released a, Ok (answer.Abandon n)) (a, Ok answer.Nothing) Cuts (λ _ m e. absurd (none-some m e)) (λ _ m e. absurd (none-some m e))
 
 element_of : (a : Alignment) (o : Option Input) → ((element a o).0.latest ≡ a.latest) × Cuts (element a o)
-element_of a None = (refl, λ n e. none_cut n (a.latest ≡ n) e)
-element_of a (Some Open) = (refl, λ n e. none_cut n (a.latest ≡ n) e)
-element_of a (Some Held) = (refl, λ n e. none_cut n (a.latest ≡ n) e)
-element_of a (Some Ended) = (refl, λ n e. none_cut n (a.latest ≡ n) e)
+element_of a None = (refl, λ n e. absurd (none-some n e))
+element_of a (Some Open) = (refl, λ n e. absurd (none-some n e))
+element_of a (Some Held) = (refl, λ n e. absurd (none-some n e))
+element_of a (Some Ended) = (refl, λ n e. absurd (none-some n e))
 
 -- AN ACTION
 
@@ -137,8 +132,8 @@ cut_is_latest a (Reads i (Element x)) n e = (element_of a (slice_get a.inputs i)
 cut_is_latest a (Reads i (Barrier m)) n e = open_cuts a (slice_get a.inputs i) (barrier a i m) (barrier_cuts a i m) n e
 cut_is_latest a (Reads i End) n e = open_cuts a (slice_get a.inputs i) (settled (with_input a i Ended)) (settled_cuts (with_input a i Ended)) n e
 cut_is_latest a (GivesUp id) n e = give_up_cuts a id n e
-cut_is_latest a (Sends output x) n e = none_cut n (a.latest ≡ n) e
-cut_is_latest a Ends n e = none_cut n (a.latest ≡ n) e
+cut_is_latest a (Sends output x) n e = absurd (none-some n e)
+cut_is_latest a Ends n e = absurd (none-some n e)
 
 -- LISTS OF ACTIONS
 

@@ -1,6 +1,7 @@
 -- The calls that reach the coordinator below the names, one list of events behind the other.
 use Rattle.std.proofs.Common.{◌≡◌, List, [], ◌∷◌, ◌++◌, refl, sym, ap, ◌∙◌, subst, append_assoc, append-nil, ⊎_elim}
-use Rattle.std.specs.Prelude.{Some, None, unwrap_or}
+use Rattle.std.specs.Prelude.{Some}
+use Rattle.std.proofs.lemmas.Option.{none-some, same_Some}
 use Rattle.ckpt_ids.specs.declared.call.Call.{Call}
 use Rattle.ckpt_ids.specs.declared.reply.Answer.{Answer}
 use Rattle.ckpt_model.specs.State.{State}
@@ -52,36 +53,30 @@ never-split m before after are never =
 
 -- a call that was answered reached the coordinator, and this is its answer
 
-some_is : {X : Type 0} (x y : X) → Some x ≡ Some y → x ≡ y
-some_is x y e = ap (λ o. unwrap_or o x) e
-
-none_is_some : {X : Type 0} (x : X) → None ≡ Some x → ⊥
-none_is_some x e = cc
-
 layer_reached : (m : Fenced) (call : FencedCall) (its : Call) (told : Answer) → call_of (Named call) ≡ Some its → its_answer (fenced_step m call).1 ≡ Some told
     → (passed call (fenced_step m call).1 ≡ its ∷ []) × ((step m.core its).1 ≡ told)
-layer_reached m (Reserve term count) its told asked answers = absurd (none_is_some its asked)
-layer_reached m (Forfeit term names) its told asked answers = absurd (none_is_some its asked)
+layer_reached m (Reserve term count) its told asked answers = absurd (none-some its asked)
+layer_reached m (Forfeit term names) its told asked answers = absurd (none-some its asked)
 layer_reached m (Make term call) its told asked answers =
-    let same : call ≡ its = some_is call its asked in
+    let same : call ≡ its = same_Some call its asked in
     let P : FencedStepped → Type 0 = λ x. its_answer x.1 ≡ Some told → (passed (Make term call) x.1 ≡ its ∷ []) × ((step m.core its).1 ≡ told) in
-    fenced_step_by m (Make term call) P (λ why e. absurd (none_is_some told e))
-    (λ _ e. (ap (λ (c : Call). c ∷ []) same, ap (λ (c : Call). (step m.core c).1) (sym same) ∙ some_is (step m.core call).1 told e)) answers
+    fenced_step_by m (Make term call) P (λ why e. absurd (none-some told e))
+    (λ _ e. (ap (λ (c : Call). c ∷ []) same, ap (λ (c : Call). (step m.core c).1) (sym same) ∙ same_Some (step m.core call).1 told e)) answers
 layer_reached m (Advance now term first) its told asked answers =
-    let same : restart now ≡ its = some_is (restart now) its asked in
+    let same : restart now ≡ its = same_Some (restart now) its asked in
     let P : FencedStepped → Type 0 = λ x. its_answer x.1 ≡ Some told → (passed (Advance now term first) x.1 ≡ its ∷ []) × ((step m.core its).1 ≡ told) in
-    fenced_step_by m (Advance now term first) P (λ why e. absurd (none_is_some told e))
-    (λ _ e. (ap (λ (c : Call). c ∷ []) same, ap (λ (c : Call). (step m.core c).1) (sym same) ∙ some_is (step m.core (restart now)).1 told e)) answers
+    fenced_step_by m (Advance now term first) P (λ why e. absurd (none-some told e))
+    (λ _ e. (ap (λ (c : Call). c ∷ []) same, ap (λ (c : Call). (step m.core c).1) (sym same) ∙ same_Some (step m.core (restart now)).1 told e)) answers
 
 pub answered_call : (m : Machine) (event : Event) (its : Call) (told : Answer) → call_of event ≡ Some its → answered m event ≡ Some told
     → (reached m event ≡ its ∷ []) × ((step (core_in m) its).1 ≡ told)
 answered_call (machine.Plain m) (Plain call) its told asked answers =
-    let same : call ≡ its = some_is call its asked in
-    (ap (λ (c : Call). c ∷ []) same, ap (λ (c : Call). (step m c).1) (sym same) ∙ some_is (step m call).1 told answers)
+    let same : call ≡ its = same_Some call its asked in
+    (ap (λ (c : Call). c ∷ []) same, ap (λ (c : Call). (step m c).1) (sym same) ∙ same_Some (step m call).1 told answers)
 answered_call (machine.Fenced m) (Plain call) its told asked answers = layer_reached m (Make 0 call) its told asked answers
-answered_call (machine.Plain m) (Named call) its told asked answers = absurd (none_is_some told answers)
+answered_call (machine.Plain m) (Named call) its told asked answers = absurd (none-some told answers)
 answered_call (machine.Fenced m) (Named call) its told asked answers = layer_reached m call its told asked answers
-answered_call m (Fence first) its told asked answers = absurd (none_is_some its asked)
+answered_call m (Fence first) its told asked answers = absurd (none-some its asked)
 
 -- and made its step there
 pub answered_step : (m : Machine) (event : Event) (its : Call) (told : Answer) → IsEvent event → call_of event ≡ Some its → answered m event ≡ Some told
@@ -92,16 +87,13 @@ answered_step m event its told is asked answers =
 
 -- what is on the device was asked, so it is of a valid shape
 
-made_on : (w : World) (turns : List Turn) → AreTurns turns → AreEvents w.made → AreEvents (goes_on w turns).made
-made_on w [] are made = made
-made_on w (Made event ∷ turns) are made = made_on (happens w (Made event)) turns are.1 (events-push w.made event made are.0)
-made_on w (Looked ∷ turns) are made = made_on (happens w Looked) turns are made
-made_on w (Committed ∷ turns) are made = made_on (happens w Committed) turns are made
-made_on w (Imaged n ∷ turns) are made = made_on (happens w (Imaged n)) turns are made
-made_on w (Crashed n ∷ turns) are made = made_on (happens w (Crashed n)) turns are made
-
 pub are_made : (w : World) (turns : List Turn) → AreTurns turns → AreEvents w.made → AreEvents (goes_on w turns).made
-are_made = made_on
+are_made w [] are made = made
+are_made w (Made event ∷ turns) are made = are_made (happens w (Made event)) turns are.1 (events-push w.made event made are.0)
+are_made w (Looked ∷ turns) are made = are_made (happens w Looked) turns are made
+are_made w (Committed ∷ turns) are made = are_made (happens w Committed) turns are made
+are_made w (Imaged n ∷ turns) are made = are_made (happens w (Imaged n)) turns are made
+are_made w (Crashed n ∷ turns) are made = are_made (happens w (Crashed n)) turns are made
 
 pub within_are : (events made : List Event) → IsWithin events made → AreEvents made → AreEvents events
 within_are [] made h are = tt

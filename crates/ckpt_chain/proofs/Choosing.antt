@@ -1,6 +1,7 @@
 -- Restarts to the coordinator's choice, of tasks in loops.
 use Rattle.std.proofs.Common.{◌≡◌, ℕ, List, [], ◌∷◌, sym, ap, subst}
 use Rattle.std.specs.Prelude.{◌==◌}
+use Rattle.std.proofs.lemmas.Bool.{eqb-true}
 use Rattle.ckpt_ids.specs.Records.{Record}
 use Rattle.ckpt_model.specs.State.{Opening, State, opened}
 use Rattle.ckpt_model.specs.Histories.{replay}
@@ -20,7 +21,6 @@ use Rattle.ckpt_task.specs.SinkLoops.{AreGiven, SinkAttempt, loops_of}
 use Rattle.ckpt_task.proofs.LoopLaws.{loops_make_history}
 use Rattle.ckpt_task.proofs.SinkGiving as sinks
 use Rattle.ckpt_chain.specs.Chosen.{AreChosenLoops, ChosenLoopsAreLast, ChosenSinkGivesOnce, LoopsChosen}
-use Rattle.ckpt_chain.proofs.Telling.{same_id}
 
 pub are_chosen : (o : Opening) (job : Job) (ones : List LoopsAttempt) → IsJob job → AreChosenLoops o job ones → AreChosen o job (attempts_of ones)
 are_chosen o job [] is k = tt
@@ -45,7 +45,7 @@ was_completed : (o : Opening) (job : Job) (one : LoopsAttempt) → CanOpen o →
 was_completed o job one opens was =
     let m : State = replay (opened o) was.calls in
     let at = chosen_is_done m one.record_id (replay_is_sound o was.calls opens was.are_calls) (ap id_of_choice was.is_choice) in
-    let same : at.0.id ≡ one.record_id = same_id at.0.id one.record_id (found_in (λ (r : Record). r.id == one.record_id) m.records at.0 at.2).1 in
+    let same : at.0.id ≡ one.record_id = eqb-true at.0.id one.record_id (found_in (λ (r : Record). r.id == one.record_id) m.records at.0 at.2).1 in
     record {
       calls = was.calls;
       are_calls = was.are_calls;

@@ -1,24 +1,23 @@
 -- What restarts read from files are the snapshots, so failures are invisible.
 use Rattle.std.proofs.Common.{◌≡◌, ℕ, Bool, true, false, List, [], ◌∷◌, ◌++◌, if◌then◌else◌, refl, sym, ap, ◌∙◌, subst, inl, inr, ⊎_elim}
-use Rattle.std.specs.Prelude.{◌==◌, map, Some, unwrap_or}
+use Rattle.std.specs.Prelude.{◌==◌, map, Some}
+use Rattle.std.proofs.lemmas.Bool.{eqb-true}
+use Rattle.std.proofs.lemmas.Option.{same_Some}
 use Rattle.ckpt_ids.specs.declared.ack.Acked.{Acked}
 use Rattle.ckpt_ids.specs.declared.subtask.SubtaskId.{SubtaskId}
 use Rattle.ckpt_ids.specs.Ordered.{IsIn}
 use Rattle.ckpt_ids.specs.Records.{IsFull, Record}
 use Rattle.ckpt_ids.specs.Shapes.{same_subtask}
 use Rattle.ckpt_ids.proofs.OrderLemmas.{same_subtask-Decides}
-use Rattle.ckpt_ids.proofs.OrderedLemmas.{IsIn-append_cases, IsIn-append_left, IsIn-append_right}
 use Rattle.ckpt_align.specs.Laws.{HasCut, Task}
 use Rattle.ckpt_model.specs.State.{record_of}
-use Rattle.ckpt_model.specs.Histories.{replay}
-use Rattle.ckpt_model.specs.Laws.{accepted_by, along}
 use Rattle.ckpt_model.specs.Soundness.{IsSound}
 use Rattle.ckpt_model.proofs.Histories.Choice.{chosen_is_done}
+use Rattle.ckpt_model.proofs.Records.Counts.{map_same}
 use Rattle.ckpt_terms.specs.declared.machine.Machine.{Machine}
 use Rattle.ckpt_terms.specs.Machines.{core_in}
 use Rattle.ckpt_terms.specs.TermsImages.{machine_settled}
-use Rattle.ckpt_logged.specs.Events.{AreEvents, Event, IsWell, calls_in, events_replay}
-use Rattle.ckpt_logged.specs.Promises.{acks_in}
+use Rattle.ckpt_logged.specs.Events.{AreEvents, Event, IsWell, events_replay}
 use Rattle.ckpt_logged.proofs.Asked.{events-split, replay_well}
 use Rattle.ckpt_durable.specs.Groups.{Receipt, synced}
 use Rattle.ckpt_durable.proofs.Standing.{Stand, stand_at}
@@ -28,20 +27,12 @@ use Rattle.ckpt_chain.specs.Since.{AcknowledgesCuts, acknowledgements_of}
 use Rattle.ckpt_chain.specs.Storages.{AreAllowed, AreStored, IsThere, Site, begun, site}
 use Rattle.ckpt_chain.specs.Stored.{AreReadBack, NothingIsLost, Place, SavesSnapshots, StoredAttempt, WasReadBack, attempts_in, files_of, now_at, read_from}
 use Rattle.ckpt_chain.specs.Told.{AreToldRestarts}
-use Rattle.ckpt_chain.proofs.Calls.{along_two}
 use Rattle.ckpt_chain.proofs.Cutting.{ack_of_record, core_sound}
 use Rattle.ckpt_chain.proofs.Like.{moved, restores_like, same_record}
 use Rattle.ckpt_chain.proofs.SameStates.{AreSame, same_history, same_snapshot, same_task}
 use Rattle.ckpt_chain.proofs.Seamless.{are_attempts, seamless}
 use Rattle.ckpt_chain.proofs.Storing.{Lasts, allowed-split, durable_at, ever_stays, events_at, files_stay_at, lasts, through-append}
-use Rattle.ckpt_chain.proofs.Telling.{are_last, are_restarts, restored_to, restored_with, same_id}
-
--- LISTS
-
-map_same : {X Y : Type 0} (f g : X → Y) (xs : List X) → ((x : X) → IsIn x xs → f x ≡ g x) → map f xs ≡ map g xs
-map_same f g [] same = refl
-map_same {X} {Y} f g (x ∷ xs) same =
-    ap (λ (y : Y). y ∷ map f xs) (same x (inl refl)) ∙ ap (λ (ys : List Y). g x ∷ ys) (map_same f g xs (λ y has. same y (inr has)))
+use Rattle.ckpt_chain.proofs.Telling.{are_last, are_restarts, restored_to, restored_with, stay_accepted}
 
 -- a subtask that acknowledged has an acknowledgement with these files
 record Acknowledged (t : SubtaskId) (acks : List Acked) : Type 0 where
@@ -70,27 +61,12 @@ acknowledged t (a ∷ acks) has =
     other : same_subtask a.subtask t ≡ false → a.subtask ≡ t → ⊥
     other e k = let yes : same_subtask a.subtask t ≡ true = (same_subtask-Decides a.subtask t).1 k in cc
 
-some_same : {X : Type 0} (x y : X) → Some x ≡ Some y → x ≡ y
-some_same x y e = ap (λ o. unwrap_or o x) e
-
 -- THE RECORD OF A RESTART
 
 -- it is done, and each task of the job acknowledged it
 record IsWhole (p : Place) (job : Job) (k : StoredAttempt) : Type 0 where
   full : (t : SubtaskId) → IsIn t job.tasks → IsIn t (map (λ a. a.subtask) k.found.acks)
   accepted : (a : Acked) → IsIn a k.found.acks → IsIn a (acknowledgements_of k.attempt.record_id p.begin (synced (now_at p).world))
-
--- acknowledgements stay
-stay_accepted : (n : ℕ) (m : Machine) (before after : List Event) (a : Acked) → IsIn a (acknowledgements_of n m before) → IsIn a (acknowledgements_of n m (before ++ after))
-stay_accepted n m before after a has =
-    let had : List Acked = acks_in (record_of (core_in m) n) in
-    let first : List Acked = along (accepted_by n) (core_in m) (calls_in m before) in
-    let more : List Acked = along (accepted_by n) (replay (core_in m) (calls_in m before)) (calls_in (events_replay m before) after) in
-    subst (λ (xs : List Acked). IsIn a (had ++ xs)) (sym (along_two (accepted_by n) m before after))
-    (⊎_elim
-    (λ (k : IsIn a had). IsIn-append_left a had (first ++ more) k)
-    (λ (k : IsIn a first). IsIn-append_right a had (first ++ more) (IsIn-append_left a first more k))
-    (IsIn-append_cases a had first has))
 
 is_whole : (p : Place) (job : Job) (from : States) (k : StoredAttempt) → IsWell p.begin → AreEvents (synced (now_at p).world) → Stand p.begin (synced (now_at p).world) (now_at p).world.told
     → WasReadBack p job from k → IsWhole p job k
@@ -106,10 +82,10 @@ is_whole p job from k i are stand was =
     let sound : IsSound (core_in here) = core_sound here (replay_well m at.0 split.0 i) in
     let its = chosen_is_done (core_in here) n sound (restored_to (moved r here) n (restores_like r here n at.3 restart.restores)) in
     let found : record_of (core_in here) n ≡ Some k.found = sym (same_record r.state here n at.3) ∙ was.is_found in
-    let same : its.0 ≡ k.found = some_same its.0 k.found (sym its.2 ∙ found) in
+    let same : its.0 ≡ k.found = same_Some its.0 k.found (sym its.2 ∙ found) in
     let live : IsIn k.found (core_in here).records = subst (λ (x : Record). IsIn x (core_in here).records) same its.1 in
     let done : k.found.done ≡ true = subst (λ (x : Record). x.done ≡ true) same its.3 in
-    let number : k.found.id ≡ n = same_id k.found.id n (found_in (λ (one : Record). one.id == n) (core_in here).records k.found found).1 in
+    let number : k.found.id ≡ n = eqb-true k.found.id n (found_in (λ (one : Record). one.id == n) (core_in here).records k.found found).1 in
     let full : IsFull k.found = (sound.records.each k.found live).full done in
     let all : map (λ (a : Acked). a.subtask) k.found.acks ≡ job.tasks = full ∙ restart.is_of_job k.found was.is_found in
     record {

@@ -1,6 +1,6 @@
 -- What a program was told stands in the synced log: so a restart is to a done record, and to none older than one that it was told of.
-use Rattle.std.proofs.Common.{◌≡◌, ℕ, ◌≤◌, true, List, [], ◌∷◌, ◌++◌, sym, ap, ◌∙◌, subst, append_assoc, arith, ⊎_elim}
-use Rattle.std.proofs.lemmas.Grind.{common_steps}
+use Rattle.std.proofs.Common.{◌≡◌, ℕ, ◌≤◌, true, List, [], ◌∷◌, ◌++◌, sym, ap, ◌∙◌, subst, append_assoc, ⊎_elim}
+use Rattle.std.proofs.lemmas.Bool.{eqb-true}
 use Rattle.std.specs.Prelude.{◌==◌, Option, Some, unwrap_or}
 use Rattle.ckpt_ids.specs.declared.ack.Acked.{Acked}
 use Rattle.ckpt_ids.specs.declared.call.Call.{Call}
@@ -41,7 +41,7 @@ use Rattle.ckpt_once.specs.Sinks.{AreLast}
 use Rattle.ckpt_once.proofs.Newer.{choice_is_no_older, found_in}
 use Rattle.ckpt_chain.specs.Since.{AcknowledgesCuts, AreRestarts, WasDone, acknowledgements_of}
 use Rattle.ckpt_chain.specs.Told.{AreToldRestarts, Completes, NeverGoesBack, Restores, WasRestored, WasToldOf}
-use Rattle.ckpt_chain.proofs.Calls.{along-append, answered_call, answered_step, are_made, calls-append, never-split, within_are}
+use Rattle.ckpt_chain.proofs.Calls.{along_two, answered_call, answered_step, are_made, never-split, within_are}
 use Rattle.ckpt_chain.proofs.Cutting.{core_sound, each-from_done}
 use Rattle.ckpt_chain.proofs.Like.{completes_like, moved, restores_like, same_record}
 
@@ -56,22 +56,21 @@ its_events m turns are =
 abbrev Acknowledged : (SubtaskId → Type 0) → ℕ → Machine → List Event → Type 0
 Acknowledged P id m events = (a : Acked) → IsIn a (acknowledgements_of id m events) → P a.subtask
 
+-- acknowledgements stay
+pub stay_accepted : (n : ℕ) (m : Machine) (before after : List Event) (a : Acked) → IsIn a (acknowledgements_of n m before) → IsIn a (acknowledgements_of n m (before ++ after))
+stay_accepted n m before after a has =
+    let had : List Acked = acks_in (record_of (core_in m) n) in
+    let first : List Acked = along (accepted_by n) (core_in m) (calls_in m before) in
+    let more : List Acked = along (accepted_by n) (replay (core_in m) (calls_in m before)) (calls_in (events_replay m before) after) in
+    subst (λ (xs : List Acked). IsIn a (had ++ xs)) (sym (along_two (accepted_by n) m before after))
+    (⊎_elim
+    (λ (k : IsIn a had). IsIn-append_left a had (first ++ more) k)
+    (λ (k : IsIn a first). IsIn-append_right a had (first ++ more) (IsIn-append_left a first more k))
+    (IsIn-append_cases a had first has))
+
 -- a beginning of the log has no others
 fewer : (P : SubtaskId → Type 0) (id : ℕ) (m : Machine) (before after : List Event) → Acknowledged P id m (before ++ after) → Acknowledged P id m before
-fewer P id m before after acks a has =
-    let had : List Acked = acks_in (record_of (core_in m) id) in
-    let n : State = core_in m in
-    let later : List Call = calls_in (events_replay m before) after in
-    let all : along (accepted_by id) n (calls_in m (before ++ after)) ≡ along (accepted_by id) n (calls_in m before) ++ along (accepted_by id) (replay n (calls_in m before)) later =
-    ap (along (accepted_by id) n) (calls-append m before after) ∙ along-append (accepted_by id) n (calls_in m before) later in
-    acks a
-    (subst (λ (xs : List Acked). IsIn a (had ++ xs)) (sym all)
-    (⊎_elim
-    (λ (k : IsIn a had). IsIn-append_left a had (along (accepted_by id) n (calls_in m before) ++ along (accepted_by id) (replay n (calls_in m before)) later) k)
-    (λ (k : IsIn a (along (accepted_by id) n (calls_in m before))).
-    IsIn-append_right a had (along (accepted_by id) n (calls_in m before) ++ along (accepted_by id) (replay n (calls_in m before)) later)
-    (IsIn-append_left a (along (accepted_by id) n (calls_in m before)) (along (accepted_by id) (replay n (calls_in m before)) later) k))
-    (IsIn-append_cases a had (along (accepted_by id) n (calls_in m before)) has)))
+fewer P id m before after acks a has = acks a (stay_accepted id m before after a has)
 
 -- A RESTART THAT WAS TOLD
 
@@ -87,9 +86,6 @@ restored_to r n was =
     let gives = (restores m was.now was.shape).latest (ap is_accepted told) in
     let same : choice_of m ≡ was.chosen = sym (ap choice_told gives.1.1) ∙ ap choice_told told in
     ap id_of_choice same ∙ was.is_this
-
-pub same_id : (m n : ℕ) → (m == n) ≡ true → m ≡ n
-same_id m n e = grind (arith, common_steps)
 
 -- the done record to which it was
 record Found (P : SubtaskId → Type 0) (n : ℕ) (m : Machine) (job : Job) : Type 0 where
@@ -110,7 +106,7 @@ found P m events w n earlier job i are stand was =
     let here : Machine = events_replay m at.0 in
     let split : AreEvents at.0 × AreEvents (r.entry ++ at.1) = events-split at.0 (r.entry ++ at.1) (subst AreEvents at.2 are) in
     let its = chosen_is_done (core_in here) n (core_sound here (replay_well m at.0 split.0 i)) (restored_to (moved r here) n (restores_like r here n at.3 was.restores)) in
-    let number : its.0.id ≡ n = same_id its.0.id n (found_in (λ (one : Record). one.id == n) (core_in here).records its.0 its.2).1 in
+    let number : its.0.id ≡ n = eqb-true its.0.id n (found_in (λ (one : Record). one.id == n) (core_in here).records its.0 its.2).1 in
     let acks : Acknowledged P n m at.0 = fewer P n m at.0 (r.entry ++ at.1) (subst (λ (xs : List Event). Acknowledged P n m xs) at.2 was.acknowledged) in
     record {
       events = at.0;

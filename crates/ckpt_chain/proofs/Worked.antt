@@ -20,16 +20,14 @@ use Rattle.ckpt_logged.specs.Events.{Event, Fence, IsWell, named_as}
 use Rattle.ckpt_align.specs.Laws.{Channel}
 use Rattle.ckpt_align.specs.Steps.{barrier, settled, step}
 use Rattle.ckpt_ledger.specs.Restarts.{AreTold, attempts}
-use Rattle.ckpt_durable.specs.Groups.{AreTurns, synced}
+use Rattle.ckpt_durable.specs.Groups.{AreTurns, Receipt, World, synced}
 use Rattle.ckpt_durable.proofs.GroupWorlds.{groups_durable}
-use Rattle.ckpt_once.specs.Jobs.{IsJob, restored}
 use Rattle.ckpt_once.specs.Choices.{HasNoChoice, IsPlanned}
 use Rattle.ckpt_once.specs.Programs.{Draws, Takes}
 use Rattle.ckpt_once.specs.Sinks.{AreLast}
 use Rattle.ckpt_once.specs.WorkedExamples.{adder, is_job, job, plan, source}
 use Rattle.ckpt_task.specs.Deeds.{Acknowledges, told_in}
-use Rattle.ckpt_task.specs.Loops.{AreLooping, attempts_of}
-use Rattle.ckpt_task.specs.WorkedLoops.{again, failed, opening}
+use Rattle.ckpt_task.specs.WorkedLoops.{failed, opening}
 use Rattle.ckpt_task.proofs.WorkedLooping as loops
 use Rattle.ckpt_chain.specs.Looped.{AcceptsTold, AreToldLoops}
 use Rattle.ckpt_chain.specs.Since.{AreRestarts, acknowledgements_of}
@@ -70,7 +68,7 @@ nobody_asks event has = among event has
 
 -- what was told
 
-abbrev checkpoint_in : Option Record → Bool
+abbrev pub checkpoint_in : Option Record → Bool
 checkpoint_in None = true
 checkpoint_in (Some one) = is_checkpoint one
 
@@ -102,15 +100,8 @@ restores_to_one = record {
   is_this = refl;
 }
 
-told_of_one : WasToldOf 1 (at 0 ∷ at 1 ∷ at 2 ∷ at 3 ∷ at 4 ∷ [])
-told_of_one = record { before = at 0 ∷ at 1 ∷ at 2 ∷ at 3 ∷ []; receipt = at 4; later = []; place = refl; completes = completes }
-
-told_of : (k : ℕ) → IsIn k (1 ∷ []) → WasToldOf k (at 0 ∷ at 1 ∷ at 2 ∷ at 3 ∷ at 4 ∷ [])
-told_of k (inl e) = subst (λ (j : ℕ). WasToldOf j (at 0 ∷ at 1 ∷ at 2 ∷ at 3 ∷ at 4 ∷ [])) (sym e) told_of_one
-told_of k (inr none) = absurd none
-
 -- the record is one of the job
-abbrev subtasks_in : Option Record → List SubtaskId
+abbrev pub subtasks_in : Option Record → List SubtaskId
 subtasks_in None = job.tasks
 subtasks_in (Some one) = subtasks one.shape
 
@@ -139,17 +130,27 @@ accepts_told : AcceptsTold 1 begin (synced now) job failed
 accepts_told a has =
     have_told a (subst (λ (ones : List Acked). IsIn a ones) (ap (acknowledgements_of 1 begin) is_synced ∙ accepted_are) has)
 
-pub was_restored : (Premise : Type 0) → Premise → WasRestored Premise 1 (1 ∷ []) now job
-was_restored Premise acknowledged = record {
-  before = at 0 ∷ at 1 ∷ at 2 ∷ at 3 ∷ at 4 ∷ [];
-  receipt = at 5;
-  later = at 6 ∷ [];
-  place = is_told;
-  restores = restores_to_one;
-  earlier_too = told_of;
-  is_of_job = of_job;
+-- of these receipts the fifth says that record 1 was completed, and the sixth that the job was restored to it
+pub told_of : (r : ℕ → Receipt) → Completes (r 4) 1 → (k : ℕ) → IsIn k (1 ∷ []) → WasToldOf k (r 0 ∷ r 1 ∷ r 2 ∷ r 3 ∷ r 4 ∷ [])
+told_of r completed k (inl e) = subst (λ (j : ℕ). WasToldOf j (r 0 ∷ r 1 ∷ r 2 ∷ r 3 ∷ r 4 ∷ [])) (sym e)
+    (record { before = r 0 ∷ r 1 ∷ r 2 ∷ r 3 ∷ []; receipt = r 4; later = []; place = refl; completes = completed })
+told_of r completed k (inr none) = absurd none
+
+unfoldable pub restored_to_one : (r : ℕ → Receipt) (w : World) (Premise : Type 0) → w.told ≡ r 0 ∷ r 1 ∷ r 2 ∷ r 3 ∷ r 4 ∷ r 5 ∷ r 6 ∷ [] → Completes (r 4) 1 → Restores (r 5) 1
+    → ((one : Record) → record_of (core_in (r 5).state) 1 ≡ Some one → subtasks one.shape ≡ job.tasks) → Premise → WasRestored Premise 1 (1 ∷ []) w job
+restored_to_one r w Premise these completed chosen its acknowledged = record {
+  before = r 0 ∷ r 1 ∷ r 2 ∷ r 3 ∷ r 4 ∷ [];
+  receipt = r 5;
+  later = r 6 ∷ [];
+  place = these;
+  restores = chosen;
+  earlier_too = told_of r completed;
+  is_of_job = its;
   acknowledged = acknowledged;
 }
+
+pub was_restored : (Premise : Type 0) → Premise → WasRestored Premise 1 (1 ∷ []) now job
+was_restored Premise = restored_to_one at now Premise is_told completes restores_to_one of_job
 
 pub are_told : AreToldLoops begin now job (attempt ∷ [])
 are_told = (tt, loops.failed_looping, was_restored (AcceptsTold 1 begin (synced now) job failed) accepts_told)
@@ -198,12 +199,6 @@ tells_in_term = record {
 
 pub in_terms : AreTermLoops begin now job (attempt ∷ [])
 in_terms = (tt, loops.failed_looping, was_restored (TellsInTerm 1 begin (synced now) job failed) tells_in_term)
-
-pub is_looping : AreLooping job (restored job (attempts_of (attempt ∷ []))) again
-is_looping = loops.again_looping
-
-pub its_job : IsJob job
-its_job = is_job
 
 -- without loops, with a ledger
 

@@ -15,8 +15,8 @@ use Rattle.ckpt_model.specs.State as model
 use Rattle.ckpt_model.specs.Steps.{step_computes}
 use Rattle.ckpt_model.specs.Histories.{replay}
 use Rattle.ckpt_model.specs.Laws.{accepted_by, along}
-use Rattle.ckpt_once.specs.Jobs.{By, History, network, of, restored, starts}
-use Rattle.ckpt_once.specs.Programs.{Drawn, Offered, Turn}
+use Rattle.ckpt_once.specs.Jobs.{History, network, of, restored, starts}
+use Rattle.ckpt_once.specs.Programs.{Drawn, Offered}
 use Rattle.ckpt_once.specs.WorkedExamples.{adder, is_job, job, line, source}
 use Rattle.ckpt_task.specs.declared.turn.Outcome.TheVariants as outcome
 use Rattle.ckpt_task.specs.Engines.{IsAtFront, IsWorking, Snapped, engine, snapped}
@@ -25,6 +25,7 @@ use Rattle.ckpt_task.specs.Loops.{IsHistoryOfLoops, attempts_of, history_of}
 use Rattle.ckpt_task.specs.Restores.{AreSaved, IsRestored}
 use Rattle.ckpt_task.specs.WorkedLoops.{again, at, attempt, calls, cut_at, failed, opening}
 use Rattle.ckpt_task.proofs.LoopLaws.{loops_make_history}
+use Rattle.ckpt_task.proofs.Looping.{by}
 use Rattle.ckpt_terms.specs.declared.call.FencedCall.{FencedCall}
 use Rattle.ckpt_terms.specs.declared.call.FencedCall.TheVariants.{Make}
 use Rattle.ckpt_terms.specs.Fencing.{core_calls, fenced, fenced_replay, fenced_step}
@@ -33,16 +34,7 @@ use Rattle.ckpt_chain.specs.Named.{AreNamedRestarts}
 use Rattle.ckpt_chain.specs.WorkedEngine.{acked, completed, history}
 use Rattle.ckpt_chain.proofs.WorkedProgressing.{are_two}
 
--- the one channel
-
-at_line : (P : Channel → Type 0) → P line → (c : Channel) → IsIn c job.channels → P c
-at_line P it c (inl e) = subst P (sym e) it
-at_line P it c (inr none) = absurd none
-
 -- TURNS
-
-abbrev by : SubtaskId → Turn → By Turn
-by t turn = record { task = t; what = turn }
 
 -- oldest first: what had been done before each turn
 abbrev drawn : History
@@ -55,15 +47,15 @@ abbrev taken : History
 taken = by adder (Offered 0 (Element 100)) ∷ source_cut
 
 not_fed : (c : Channel) → IsIn c job.channels → source ≡ c.receiver → IsAtFront (Offered 0 (Barrier 1)) c.input ((engine job (starts job) drawn).on c)
-not_fed = at_line (λ c. source ≡ c.receiver → IsAtFront (Offered 0 (Barrier 1)) c.input ((engine job (starts job) drawn).on c)) (λ e. absurd (are_two (sym e)))
+not_fed = loops.at_line (λ c. source ≡ c.receiver → IsAtFront (Offered 0 (Barrier 1)) c.input ((engine job (starts job) drawn).on c)) (λ e. absurd (are_two (sym e)))
 
 element_first : (c : Channel) → IsIn c job.channels → adder ≡ c.receiver → IsAtFront (Offered 0 (Element 100)) c.input ((engine job (starts job) source_cut).on c)
 unfolding step barrier settled
-element_first = at_line (λ c. adder ≡ c.receiver → IsAtFront (Offered 0 (Element 100)) c.input ((engine job (starts job) source_cut).on c)) (λ e same. (Barrier 1 ∷ [], refl))
+element_first = loops.at_line (λ c. adder ≡ c.receiver → IsAtFront (Offered 0 (Element 100)) c.input ((engine job (starts job) source_cut).on c)) (λ e same. (Barrier 1 ∷ [], refl))
 
 barrier_first : (c : Channel) → IsIn c job.channels → adder ≡ c.receiver → IsAtFront (Offered 0 (Barrier 1)) c.input ((engine job (starts job) taken).on c)
 unfolding step barrier settled
-barrier_first = at_line (λ c. adder ≡ c.receiver → IsAtFront (Offered 0 (Barrier 1)) c.input ((engine job (starts job) taken).on c)) (λ e same. ([], refl))
+barrier_first = loops.at_line (λ c. adder ≡ c.receiver → IsAtFront (Offered 0 (Barrier 1)) c.input ((engine job (starts job) taken).on c)) (λ e same. ([], refl))
 
 was_working : IsWorking job (starts job) history
 was_working = (
@@ -83,13 +75,9 @@ is_working = (tt, (inl refl, inl refl), refl, λ c has e. tt)
 
 -- THE RECORD
 
-accepted_are : along (accepted_by 1) (model.opened opening) calls ≡ acked source ∷ acked adder ∷ []
-unfolding step_computes
-accepted_are = refl
-
 -- what holds of both acknowledgements
 of_both : (P : Acked → Type 0) → P (acked source) → P (acked adder) → (a : Acked) → IsIn a (along (accepted_by 1) (model.opened opening) calls) → P a
-of_both P first second a has = among a (subst (λ (ones : List Acked). IsIn a ones) accepted_are has)
+of_both P first second a has = among a (subst (λ (ones : List Acked). IsIn a ones) loops.accepted_are has)
   where
     among : (k : Acked) → IsIn k (acked source ∷ acked adder ∷ []) → P k
     among k (inl e) = subst P (sym e) first
@@ -134,7 +122,7 @@ are_engines = (
 
 pub are_channels : AreChannelsOf completed.shape (network job (starts job) history)
 unfolding step barrier settled
-are_channels = at_line (λ c. IsIn c.receiver (subtasks completed.shape) × IsConnected (network job (starts job) history) c × IsInOrder (network job (starts job) history) c)
+are_channels = loops.at_line (λ c. IsIn c.receiver (subtasks completed.shape) × IsConnected (network job (starts job) history) c × IsInOrder (network job (starts job) history) c)
     (inr (inl refl), omega arith, ([], refl))
 
 abbrev Cut : SubtaskId → Type 0

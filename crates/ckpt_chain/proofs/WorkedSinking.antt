@@ -1,6 +1,6 @@
 -- The worked example of a sink in a loop meets the premises of the laws.
-use Rattle.std.proofs.Common.{◌≡◌, ℕ, ◌+◌, Bool, true, false, List, [], ◌∷◌, ◌++◌, if◌then◌else◌, refl, sym, ap, ◌∙◌, subst, inl, inr}
-use Rattle.std.specs.Prelude.{◌==◌, Option, Some, None}
+use Rattle.std.proofs.Common.{◌≡◌, ℕ, ◌+◌, false, List, [], ◌∷◌, ◌++◌, if◌then◌else◌, refl, sym, ap, ◌∙◌, subst, inl, inr}
+use Rattle.std.specs.Prelude.{◌==◌, Some}
 use Rattle.std.proofs.lemmas.List.{append-nil}
 use Rattle.ckpt_ids.specs.declared.ack.Acked.{Acked}
 use Rattle.ckpt_ids.specs.declared.call.Call.TheVariants.{Ack, Tick}
@@ -9,10 +9,9 @@ use Rattle.ckpt_ids.specs.Ordered.{IsIn}
 use Rattle.ckpt_ids.specs.Records.{Record}
 use Rattle.ckpt_ids.specs.Shapes.{subtasks}
 use Rattle.ckpt_align.specs.Histories.{Barrier, Element}
-use Rattle.ckpt_align.specs.Laws.{Channel}
 use Rattle.ckpt_align.specs.Steps.{barrier, settled, step}
 use Rattle.ckpt_model.specs.State as model
-use Rattle.ckpt_model.specs.State.{is_checkpoint, record_of}
+use Rattle.ckpt_model.specs.State.{record_of}
 use Rattle.ckpt_model.specs.Steps.{step_computes}
 use Rattle.ckpt_model.specs.Histories.{replay}
 use Rattle.ckpt_model.specs.Laws.{accepted_by, along}
@@ -43,6 +42,7 @@ use Rattle.ckpt_chain.specs.WorkedExamples.{is_synced, now, sink}
 use Rattle.ckpt_chain.specs.WorkedSink.{attempt, cutting, did, ending, failing, starting}
 use Rattle.ckpt_chain.specs.WorkedSink as worked
 use Rattle.ckpt_chain.proofs.Worked as shown
+use Rattle.ckpt_chain.proofs.Worked.{acked, checkpoint_in, subtasks_in}
 
 -- its run
 
@@ -118,11 +118,6 @@ over = record {
 
 -- the job
 
-at_tasks : (P : SubtaskId → Type 0) → P source → P adder → (t : SubtaskId) → IsIn t job.tasks → P t
-at_tasks P first second t (inl e) = subst P (sym e) first
-at_tasks P first second t (inr (inl e)) = subst P (sym e) second
-at_tasks P first second t (inr (inr none)) = absurd none
-
 is_source : IsIn source job.tasks
 is_source = inl refl
 
@@ -132,21 +127,17 @@ is_adder = inr (inl refl)
 adder_looped : HasLooped (job.program adder) (at 0) (did.looped adder)
 adder_looped = record { task = refl; unused = refl; begins = begin ∷ []; runs = (refl, (waits, 2, ran.run)) }
 
-at_line : (c : Channel) → IsIn c job.channels → KeepsOrder failed c → KeepsOrder did c
-at_line c (inl e) was = subst (λ (d : Channel). KeepsOrder did d) (sym e) (subst (λ (d : Channel). KeepsOrder failed d) e was)
-at_line c (inr none) was = absurd none
-
 -- The other task did what it does in `failed`, and the adder the same deeds.
 pub is_looping : AreLooping job (starts job) did
 is_looping =
     let was : AreLooping job (starts job) failed = loops.failed_looping in
     record {
       looped = let Did : SubtaskId → Type 0 = λ t. HasLooped (job.program t) ((begun job (starts job)).task t) (did.looped t) in
-          at_tasks Did (was.looped source is_source) adder_looped;
+          loops.at_tasks Did (was.looped source is_source) adder_looped;
       are_turns = λ t turn has.
           let Are : SubtaskId → Type 0 = λ s. (u : Turn) → IsIn u (turns_of (did.looped s)) → IsTurnOf job s u in
-          at_tasks Are (λ u came. was.are_turns source u is_source came) (λ u came. was.are_turns adder u is_adder came) t has turn;
-      keep_order = λ c has. at_line c has (was.keep_order c has);
+          loops.at_tasks Are (λ u came. was.are_turns source u is_source came) (λ u came. was.are_turns adder u is_adder came) t has turn;
+      keep_order = λ c has. loops.at_line (λ d. KeepsOrder failed d → KeepsOrder did d) (λ k. k) c has (was.keep_order c has);
       has_no_cycle = was.has_no_cycle;
       are_tasks = was.are_tasks;
     }
@@ -156,9 +147,6 @@ unfolding over
 have_given = (tt, record { looping = is_looping; over = over; told = refl; unsaved = refl; given = refl })
 
 -- its record
-
-abbrev acked : SubtaskId → List ℕ → Acked
-acked t files = record { subtask = t; files = files }
 
 abbrev Tells : Acked → Type 0
 Tells a = IsIn a.subtask job.tasks × IsIn (Acknowledges 1) (told_in (did.looped a.subtask).last.deeds)
@@ -182,14 +170,6 @@ accepted_are = refl
 
 accepts : loop.AcceptsTold opening job did 1 calls
 accepts a has = have_told [] a (subst (λ (ones : List Acked). IsIn a ones) accepted_are has)
-
-abbrev checkpoint_in : Option Record → Bool
-checkpoint_in None = true
-checkpoint_in (Some one) = is_checkpoint one
-
-abbrev subtasks_in : Option Record → List SubtaskId
-subtasks_in None = job.tasks
-subtasks_in (Some one) = subtasks one.shape
 
 completed_one : WasCompleted 1 opening calls
 unfolding step_computes
@@ -262,20 +242,16 @@ until = record {
 adder_failed : HasFailed (job.program adder) (at 0) (failing.looped adder)
 adder_failed = record { task = refl; unused = refl; begins = []; last_begin = begin; runs = refl; waits = waits; stopped = stopped_run; ended_not = refl }
 
-stays_in_order : (c : Channel) → IsIn c job.channels → KeepsOrder failed c → KeepsOrder failing c
-stays_in_order c (inl e) was = subst (λ (d : Channel). KeepsOrder failing d) (sym e) (subst (λ (d : Channel). KeepsOrder failed d) e was)
-stays_in_order c (inr none) was = absurd none
-
 pub are_failing : AreFailing job (starts job) failing
 are_failing =
     let was : AreLooping job (starts job) failed = loops.failed_looping in
     record {
       looped = let Did : SubtaskId → Type 0 = λ t. HasLoopedOrFailed (job.program t) ((begun job (starts job)).task t) (failing.looped t) in
-          at_tasks Did (inl (was.looped source is_source)) (inr adder_failed);
+          loops.at_tasks Did (inl (was.looped source is_source)) (inr adder_failed);
       are_turns = λ t turn has.
           let Are : SubtaskId → Type 0 = λ s. (u : Turn) → IsIn u (turns_of (failing.looped s)) → IsTurnOf job s u in
-          at_tasks Are (λ u came. was.are_turns source u is_source came) (λ u came. was.are_turns adder u is_adder came) t has turn;
-      keep_order = λ c has. stays_in_order c has (was.keep_order c has);
+          loops.at_tasks Are (λ u came. was.are_turns source u is_source came) (λ u came. was.are_turns adder u is_adder came) t has turn;
+      keep_order = λ c has. loops.at_line (λ d. KeepsOrder failed d → KeepsOrder failing d) (λ k. k) c has (was.keep_order c has);
       has_no_cycle = was.has_no_cycle;
       are_tasks = was.are_tasks;
     }

@@ -1,15 +1,14 @@
 -- The worked example with files meets the premises of `nothing_is_lost`.
-use Rattle.std.proofs.Common.{◌≡◌, ℕ, Bool, true, List, [], ◌∷◌, refl, sym, ap, ◌∙◌, subst, inl, inr}
-use Rattle.std.specs.Prelude.{map, Option, Some, None}
+use Rattle.std.proofs.Common.{◌≡◌, ℕ, List, [], ◌∷◌, refl, sym, ap, ◌∙◌, subst, inl, inr}
+use Rattle.std.specs.Prelude.{map, Some, None}
 use Rattle.ckpt_ids.specs.declared.ack.Acked.{Acked}
 use Rattle.ckpt_ids.specs.declared.reply.Choice.TheVariants as choice
-use Rattle.ckpt_ids.specs.declared.subtask.SubtaskId.{SubtaskId}
 use Rattle.ckpt_ids.specs.Ordered.{IsIn}
 use Rattle.ckpt_ids.specs.Records.{Record}
 use Rattle.ckpt_ids.specs.Shapes.{subtasks}
 use Rattle.ckpt_align.specs.Laws.{HasCut}
 use Rattle.ckpt_align.specs.Steps.{barrier, settled, step}
-use Rattle.ckpt_model.specs.State.{is_checkpoint, record_of}
+use Rattle.ckpt_model.specs.State.{record_of}
 use Rattle.ckpt_model.specs.Steps.{step_computes}
 use Rattle.ckpt_terms.specs.declared.machine.Machine.{Machine}
 use Rattle.ckpt_terms.specs.declared.machine.Machine.TheVariants as machine
@@ -25,9 +24,10 @@ use Rattle.ckpt_task.proofs.WorkedLooping as loops
 use Rattle.ckpt_chain.specs.Since.{acknowledgements_of}
 use Rattle.ckpt_chain.specs.Storages.{AreAllowed, AreStored, IsWritten, MayBeRemoved, Storage, begun, put}
 use Rattle.ckpt_chain.specs.Stored.{AreReadBack, SavesSnapshots, attempts_in, now_at, read_from}
-use Rattle.ckpt_chain.specs.Told.{Completes, NeverGoesBack, Restores, WasToldOf}
+use Rattle.ckpt_chain.specs.Told.{Completes, NeverGoesBack, Restores}
 use Rattle.ckpt_chain.specs.WorkedExamples.{begin, restores}
 use Rattle.ckpt_chain.specs.WorkedStorage.{acked, adder_saves, after, at, attempt, before, found, is_found, is_synced, is_told, log, nothing, place, reads}
+use Rattle.ckpt_chain.proofs.Worked.{checkpoint_in, restored_to_one, subtasks_in}
 use Rattle.ckpt_chain.proofs.SameStates.{AreSame, same_history}
 
 pub are_stored : AreStored begin nothing
@@ -115,10 +115,6 @@ never_goes_back = subst (NeverGoesBack begin) (sym is_synced) never_in_log
 
 -- what was told
 
-abbrev checkpoint_in : Option Record → Bool
-checkpoint_in None = true
-checkpoint_in (Some one) = is_checkpoint one
-
 completes : Completes (at 4) 1
 unfolding fenced_step step_computes
 completes = record {
@@ -136,17 +132,6 @@ completes = record {
 restores_to_one : Restores (at 5) 1
 unfolding fenced_step step_computes
 restores_to_one = record { event = restores; entry = refl; now = 2000; shape = None; asked = refl; chosen = choice.Checkpoint 1; released = 0; told = refl; is_this = refl }
-
-told_of_one : WasToldOf 1 (at 0 ∷ at 1 ∷ at 2 ∷ at 3 ∷ at 4 ∷ [])
-told_of_one = record { before = at 0 ∷ at 1 ∷ at 2 ∷ at 3 ∷ []; receipt = at 4; later = []; place = refl; completes = completes }
-
-told_of : (k : ℕ) → IsIn k (1 ∷ []) → WasToldOf k (at 0 ∷ at 1 ∷ at 2 ∷ at 3 ∷ at 4 ∷ [])
-told_of k (inl e) = subst (λ (j : ℕ). WasToldOf j (at 0 ∷ at 1 ∷ at 2 ∷ at 3 ∷ at 4 ∷ [])) (sym e) told_of_one
-told_of k (inr none) = absurd none
-
-abbrev subtasks_in : Option Record → List SubtaskId
-subtasks_in None = job.tasks
-subtasks_in (Some one) = subtasks one.shape
 
 of_job : (one : Record) → record_of (core_in (at 5).state) 1 ≡ Some one → subtasks one.shape ≡ job.tasks
 of_job one is = sym (ap subtasks_in (sym is_found ∙ is))
@@ -187,22 +172,14 @@ unfolding fenced_step step_computes
 is_live = inl refl
 
 pub are_read_back : AreReadBack place job (attempt ∷ [])
+unfolding restored_to_one
 are_read_back = (
   tt,
   failed_history.is_history,
   record {
     later = after;
     is_then = refl;
-    restart = record {
-      before = at 0 ∷ at 1 ∷ at 2 ∷ at 3 ∷ at 4 ∷ [];
-      receipt = at 5;
-      later = at 6 ∷ [];
-      place = is_told;
-      restores = restores_to_one;
-      earlier_too = told_of;
-      is_of_job = of_job;
-      acknowledged = saves;
-    };
+    restart = restored_to_one at (now_at place).world (SavesSnapshots place job (starts job) (history_of failed) 1) is_told completes restores_to_one of_job saves;
     is_found = is_found;
     is_live = is_live;
   },
@@ -212,9 +189,7 @@ are_read_back = (
 
 read_is : AreSame job (restored job (attempts_in (attempt ∷ []))) (read_from place job (attempt ∷ []))
 unfolding step barrier settled
-read_is t (inl e) = subst (λ (s : SubtaskId). restored job (attempts_in (attempt ∷ [])) s ≡ read_from place job (attempt ∷ []) s) (sym e) refl
-read_is t (inr (inl e)) = subst (λ (s : SubtaskId). restored job (attempts_in (attempt ∷ [])) s ≡ read_from place job (attempt ∷ []) s) (sym e) refl
-read_is t (inr (inr none)) = absurd none
+read_is = loops.at_tasks (λ s. restored job (attempts_in (attempt ∷ [])) s ≡ read_from place job (attempt ∷ []) s) refl refl
 
 pub goes_on : IsHistory job (read_from place job (attempt ∷ [])) (history_of again)
 goes_on =

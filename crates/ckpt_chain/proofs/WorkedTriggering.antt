@@ -11,6 +11,7 @@ use Rattle.ckpt_once.specs.WorkedExamples.{adder, job, line, source}
 use Rattle.ckpt_task.specs.Loops.{history_of}
 use Rattle.ckpt_task.specs.Saving.{under}
 use Rattle.ckpt_task.specs.WorkedLoops.{again, failed}
+use Rattle.ckpt_task.proofs.Looping.{by}
 use Rattle.ckpt_task.proofs.WorkedLooping as loops
 use Rattle.ckpt_chain.specs.Triggered.{AreTriggered, OrdersAreOf, asked, numbers_in}
 use Rattle.ckpt_chain.specs.WorkedExamples.{begin}
@@ -19,9 +20,6 @@ use Rattle.ckpt_chain.specs.WorkedTriggers.{first, numbers, second}
 -- an order of these, if it is one
 abbrev IsOrder : List ℕ → By Turn → Type 0
 IsOrder given event = (i n : ℕ) → event.what ≡ Offered i (Barrier n) → IsFed job event.task i ⊎ IsIn n given
-
-abbrev by : SubtaskId → Turn → By Turn
-by t turn = record { task = t; what = turn }
 
 fed : (given : List ℕ) → IsOrder given (by adder (Offered 0 (Barrier 1)))
 fed given i n e = let same : 0 ≡ i = cc in inl (line, inl refl, refl, same)
@@ -41,38 +39,30 @@ drawn given i n e = absurd (differ e)
     differ : Drawn ≡ Offered i (Barrier n) → ⊥
     differ k = cc
 
-abbrev Goes : List ℕ → By Turn → Type 0
-Goes given event = IsOrder given event
-
-in_failed : (event : By Turn) → IsIn event (history_of failed) → Goes (1 ∷ []) event
-in_failed event (inl e) = subst (λ (x : By Turn). Goes (1 ∷ []) x) (sym e) (fed (1 ∷ []))
-in_failed event (inr (inl e)) = subst (λ (x : By Turn). Goes (1 ∷ []) x) (sym e) (no_barrier (1 ∷ []))
-in_failed event (inr (inr (inl e))) = subst (λ (x : By Turn). Goes (1 ∷ []) x) (sym e) ordered
-in_failed event (inr (inr (inr (inl e)))) = subst (λ (x : By Turn). Goes (1 ∷ []) x) (sym e) (drawn (1 ∷ []))
+in_failed : (event : By Turn) → IsIn event (history_of failed) → IsOrder (1 ∷ []) event
+in_failed event (inl e) = subst (λ (x : By Turn). IsOrder (1 ∷ []) x) (sym e) (fed (1 ∷ []))
+in_failed event (inr (inl e)) = subst (λ (x : By Turn). IsOrder (1 ∷ []) x) (sym e) (no_barrier (1 ∷ []))
+in_failed event (inr (inr (inl e))) = subst (λ (x : By Turn). IsOrder (1 ∷ []) x) (sym e) ordered
+in_failed event (inr (inr (inr (inl e)))) = subst (λ (x : By Turn). IsOrder (1 ∷ []) x) (sym e) (drawn (1 ∷ []))
 in_failed event (inr (inr (inr (inr none)))) = absurd none
 
 orders : OrdersAreOf (numbers_in begin first.meanwhile) job (history_of failed)
 orders = subst (λ (given : List ℕ). OrdersAreOf given job (history_of failed)) (sym numbers) (λ event i n has e. in_failed event has i n e)
 
 no_orders : (given : List ℕ) → OrdersAreOf given job (history_of again)
-no_orders given event i n (inl e) is = subst (λ (x : By Turn). Goes given x) (sym e) (drawn given) i n is
+no_orders given event i n (inl e) is = subst (λ (x : By Turn). IsOrder given x) (sym e) (drawn given) i n is
 no_orders given event i n (inr none) is = absurd none
 
 -- what was saved before
 
-at_tasks : (P : SubtaskId → Type 0) → P source → P adder → (t : SubtaskId) → IsIn t job.tasks → P t
-at_tasks P one two t (inl e) = subst P (sym e) one
-at_tasks P one two t (inr (inl e)) = subst P (sym e) two
-at_tasks P one two t (inr (inr none)) = absurd none
-
 none_first : (t : SubtaskId) (n : ℕ) → IsIn t job.tasks → under n (failed.looped t).first.saved ≡ None
-none_first t n has = at_tasks (λ s. under n (failed.looped s).first.saved ≡ None) refl refl t has
+none_first t n has = loops.at_tasks (λ s. under n (failed.looped s).first.saved ≡ None) refl refl t has
 
 abbrev Keeps : ℕ → SubtaskId → Type 0
 Keeps n t = under n (failed.looped t).last.saved ≡ None → under n (again.looped t).first.saved ≡ None
 
 same_saved : (t : SubtaskId) (n : ℕ) → IsIn t job.tasks → Keeps n t
-same_saved t n has = at_tasks (λ s. Keeps n s) (λ none. none) (λ none. none) t has
+same_saved t n has = loops.at_tasks (λ s. Keeps n s) (λ none. none) (λ none. none) t has
 
 pub are_triggered : AreTriggered begin job (second ∷ first ∷ [])
 are_triggered = (

@@ -8,7 +8,7 @@ use Rattle.ckpt_cuts.specs.Laws.{AcknowledgesCuts, AreChannelsOf}
 use Rattle.ckpt_model.specs.State.{Opening}
 use Rattle.ckpt_terms.specs.declared.call.FencedCall.{FencedCall}
 use Rattle.ckpt_terms.specs.Fencing.{core_calls, fenced, fenced_replay}
-use Rattle.ckpt_terms.specs.FencedLaws.{AreFencedCalls}
+use Rattle.ckpt_terms.specs.FencedLaws.{AreFencedCalls, CanFence}
 use Rattle.ckpt_once.specs.Choices.{Agree, HasNoChoice, Plan}
 use Rattle.ckpt_once.specs.Jobs.{Attempt, History, IsHistory, IsJob, IsRun, Job, Run, States, network, restored, starts}
 use Rattle.ckpt_once.specs.Restarts.{IsSeamless}
@@ -23,6 +23,10 @@ NamedIsConsistent o first calls w =
     → AreChannelsOf r.shape w
     → AcknowledgesCuts r.id o (core_calls (fenced o first) calls) w
     → IsConsistent r.id w
+
+-- so it is after each opening
+abbrev pub ConsistentWithNames : Opening → ℕ → List FencedCall → Network → Type 0
+ConsistentWithNames o first calls w = CanFence o first → AreFencedCalls calls → NamedIsConsistent o first calls w
 
 -- After some calls this record was live and done. Left to the engine: its tasks are those of the job, and each had cut the
 -- record when it acknowledged it.

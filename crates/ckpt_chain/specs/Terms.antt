@@ -10,10 +10,11 @@ use Rattle.ckpt_terms.specs.declared.machine.Machine.{Machine}
 use Rattle.ckpt_terms.specs.declared.machine.Machine.TheVariants as machine
 use Rattle.ckpt_terms.specs.Fencing.{Fenced, fenced_step}
 use Rattle.ckpt_terms.specs.FencedLaws.{given_in}
-use Rattle.ckpt_logged.specs.Events.{Event, events_replay, named_as}
+use Rattle.ckpt_logged.specs.Events.{AreEvents, Event, IsWell, events_replay, named_as}
 use Rattle.ckpt_durable.specs.Groups.{Turn, World, synced, world}
 use Rattle.ckpt_once.specs.Jobs.{Attempt, History, IsHistory, IsJob, Job, network, restored}
 use Rattle.ckpt_once.specs.Restarts.{IsSeamless}
+use Rattle.ckpt_chain.specs.Since.{AcknowledgesCuts}
 use Rattle.ckpt_chain.specs.Told.{NeverGoesBack, WasRestored}
 
 -- In the log record n was triggered in some term. Each acknowledgement of it that was asked for in this term, accepted or not, is of a
@@ -33,6 +34,10 @@ pub record IsAskedInTerm (Premise : SubtaskId → Type 0) (n : ℕ) (m : Machine
 -- such a subtask has cut the record
 abbrev pub AcknowledgesInTerm : ℕ → Machine → List Event → Network → Type 0
 AcknowledgesInTerm n m log w = IsAskedInTerm (λ s. HasCut n (w.task s)) n m log
+
+-- so of acknowledgements in other terms nothing has to be assumed
+abbrev pub OnlyItsTerm : ℕ → Machine → List Event → Network → Type 0
+OnlyItsTerm n m log w = IsWell m → AreEvents log → AcknowledgesInTerm n m log w → AcknowledgesCuts n m log w
 
 -- attempts one after the other, each in the terms of its own
 abbrev pub AreTermRestarts : Machine → World → Job → List Attempt → Type 0

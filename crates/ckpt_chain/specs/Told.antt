@@ -20,8 +20,8 @@ use Rattle.ckpt_terms.specs.declared.machine.Machine.{Machine}
 use Rattle.ckpt_terms.specs.declared.machine.Machine.TheVariants as machine
 use Rattle.ckpt_terms.specs.Fencing.{fenced_step, restart}
 use Rattle.ckpt_terms.specs.Machines.{core_in, machine_step}
-use Rattle.ckpt_logged.specs.Events.{Event, Fence, Named, Plain, calls_in, event_step}
-use Rattle.ckpt_durable.specs.Groups.{Receipt, Turn, World, synced, world}
+use Rattle.ckpt_logged.specs.Events.{Event, Fence, IsWell, Named, Plain, calls_in, event_step}
+use Rattle.ckpt_durable.specs.Groups.{AreTurns, Receipt, Turn, World, synced, world}
 use Rattle.ckpt_ledger.specs.Restarts.{AreTold, AttemptTold, attempts, over_restarts}
 use Rattle.ckpt_once.specs.Choices.{Agree, HasNoChoice, Plan}
 use Rattle.ckpt_once.specs.Jobs.{Attempt, History, IsHistory, IsJob, IsRun, Job, Run, network, restored, run_of_attempts, starts}
@@ -128,6 +128,10 @@ abbrev pub NobodyGoesBack : Machine → List Turn → Type 0
 NobodyGoesBack m turns =
     let w : World = world m turns in
     ((event : Event) → IsIn event w.made → asks_way_back (call_of event) ≡ false) → NeverGoesBack m (synced w)
+
+-- what is said of a job holds of turns from a sound state on
+abbrev pub Soundly : {X Y : Type 0} → (Machine → List Turn → Job → X → Y → Type 0) → Machine → List Turn → Job → X → Y → Type 0
+Soundly law m turns job x y = IsWell m → AreTurns turns → law m turns job x y
 
 -- Then failures are invisible, crashes of the coordinator included: the states are those of one run without a failure, and each sink
 -- has published a beginning of what it writes in that run, each element once.

@@ -20,11 +20,11 @@ use Rattle.ckpt_logged.specs.Events.{Event, Fence, Named, events_replay}
 use Rattle.ckpt_durable.specs.Groups.{Committed, Crashed, Imaged, Made, Receipt, Turn, World, synced, world}
 use Rattle.ckpt_ledger.specs.Ledgers.{Acts, Told}
 use Rattle.ckpt_ledger.specs.Restarts.{AttemptTold, over_restarts}
-use Rattle.ckpt_once.specs.Jobs.{restored, run_of_attempts, starts, states_in}
+use Rattle.ckpt_once.specs.Jobs.{run_of_attempts, starts}
 use Rattle.ckpt_once.specs.Sinks.{Sink, published_before, written}
 use Rattle.ckpt_once.specs.WorkedExamples.{adder, job, source}
 use Rattle.ckpt_task.specs.Loops.{LoopsAttempt, attempts_of, history_of}
-use Rattle.ckpt_task.specs.WorkedLoops.{again, failed, opening}
+use Rattle.ckpt_task.specs.WorkedLoops.{failed, opening}
 use Rattle.ckpt_chain.specs.Told.{answered}
 
 abbrev pub begin : Machine
@@ -112,11 +112,6 @@ ledger_published = refl
 pub written_once : written job (starts job) (run_of_attempts job (attempts_of (attempt ∷ []))) sink ≡ 100 ∷ []
 unfolding step barrier settled
 written_once = refl
-
--- the source goes on behind the offset of its snapshot
-pub goes_on : states_in job (restored job (attempts_of (attempt ∷ []))) (history_of again) source ≡ 2
-unfolding step barrier settled
-goes_on = refl
 
 -- AN ANSWER THAT NOBODY WAS TOLD
 

@@ -4,11 +4,11 @@ ghost use Rattle.std.specs.Prelude.{◌≡◌, ℕ, false, List, [], ◌∷◌};
 ghost use Rattle.ckpt_align.specs.Laws.{Network};
 ghost use Rattle.ckpt_chain.specs.Durably.{DurableIsGroup};
 ghost use Rattle.ckpt_chain.specs.Looped.{AreToldLoops, ToldLoopsAreSeamless, ToldSinkGivesOnce};
-ghost use Rattle.ckpt_chain.specs.Named.{NamedExactlyOnce, NamedIsConsistent, NamedRestartsInvisible};
-ghost use Rattle.ckpt_chain.specs.Since.{AcknowledgesCuts, AreRestarts, DoneIsConsistent, ExactlyOnce, RestartsInvisible};
+ghost use Rattle.ckpt_chain.specs.Named.{ConsistentWithNames, NamedExactlyOnce, NamedRestartsInvisible};
+ghost use Rattle.ckpt_chain.specs.Since.{AreRestarts, DoneIsConsistent, ExactlyOnce, RestartsInvisible};
 ghost use Rattle.ckpt_chain.specs.TermLoops.{AreTermLoops, TermLoopsAreSeamless};
-ghost use Rattle.ckpt_chain.specs.Terms.{AcknowledgesInTerm, TermsAreSeamless};
-ghost use Rattle.ckpt_chain.specs.Told.{AreToldRestarts, LedgerPublishesOnce, NeverGoesBack, NobodyGoesBack, ToldExactlyOnce, ToldIsSeamless, asks_way_back, call_of};
+ghost use Rattle.ckpt_chain.specs.Terms.{OnlyItsTerm, TermsAreSeamless};
+ghost use Rattle.ckpt_chain.specs.Told.{AreToldRestarts, LedgerPublishesOnce, NeverGoesBack, NobodyGoesBack, Soundly, ToldExactlyOnce, ToldIsSeamless, asks_way_back, call_of};
 ghost use Rattle.ckpt_chain.specs.WorkedExamples.{attempt, begin, now, sink, told, turns};
 ghost use Rattle.ckpt_durable.specs.Crashes.{Event as CrashEvent};
 ghost use Rattle.ckpt_durable.specs.Groups.{AreTurns, Turn, synced};
@@ -26,13 +26,13 @@ ghost use Rattle.ckpt_task.specs.WorkedLoops.{again};
 ghost use Rattle.ckpt_terms.specs.declared.call.FencedCall.{FencedCall};
 ghost use Rattle.ckpt_terms.specs.declared.machine.Machine.{Machine};
 ghost use Rattle.ckpt_terms.specs.Fencing.{Fenced};
-ghost use Rattle.ckpt_terms.specs.FencedLaws.{AreFencedCalls, CanFence};
+ghost use Rattle.ckpt_terms.specs.FencedLaws.{CanFence};
 
 /// A completed record is a consistent cut, if each of its acknowledgements comes from a subtask that has
 /// cut it, and channels keep their order: of calls with names from an opening on, and since any sound
 /// state, with names or without.
 pub fn consistent()
-    ensures named { (o : Opening) (first : ℕ) (calls : List FencedCall) (w : Network) → CanFence o first → AreFencedCalls calls → NamedIsConsistent o first calls w }
+    ensures named { (o : Opening) (first : ℕ) (calls : List FencedCall) (w : Network) → ConsistentWithNames o first calls w }
     ensures since { (m : Machine) (events : List Event) (w : Network) → IsWell m → AreEvents events → DoneIsConsistent m events w }
 {}
 
@@ -59,51 +59,51 @@ pub fn nobody_goes_back()
 /// those of the coordinator are invisible.
 #[tactic(auto, using(crate::proofs::Chain::told_is_seamless))]
 pub fn told_is_seamless()
-    ensures { (m : Machine) (turns : List Turn) (job : Job) (attempts : List Attempt) (h : History) → IsWell m → AreTurns turns → ToldIsSeamless m turns job attempts h }
+    ensures { (m : Machine) (turns : List Turn) (job : Job) (attempts : List Attempt) (h : History) → Soundly ToldIsSeamless m turns job attempts h }
 {}
 
 /// If no task chooses between inputs, what its sinks have published agrees with any run without a failure.
 pub fn told_exactly_once()
-    ensures { (m : Machine) (turns : List Turn) (job : Job) (plan : Plan) (attempts : List Attempt) → IsWell m → AreTurns turns → ToldExactlyOnce m turns job plan attempts }
+    ensures { (m : Machine) (turns : List Turn) (job : Job) (plan : Plan) (attempts : List Attempt) → Soundly ToldExactlyOnce m turns job plan attempts }
 {}
 
 /// What a sink's ledger publishes is what it writes in a run without a failure up to the last restored
 /// record, each element once, whatever crashes.
 #[tactic(auto, using(crate::proofs::Chain::ledger_publishes_once))]
 pub fn ledger_publishes_once()
-    ensures { (m : Machine) (turns : List Turn) (job : Job) (sink : Sink) (ones : List AttemptTold) → IsWell m → AreTurns turns → LedgerPublishesOnce m turns job sink ones }
+    ensures { (m : Machine) (turns : List Turn) (job : Job) (sink : Sink) (ones : List AttemptTold) → Soundly LedgerPublishesOnce m turns job sink ones }
 {}
 
 /// What is accepted for a record was asked for in the term of its trigger. So of acknowledgements in
 /// other terms nothing has to be assumed: a task that should be dead takes no part.
 #[tactic(auto, using(crate::proofs::InTerms::acknowledges_cuts))]
 pub fn only_its_term()
-    ensures { (n : ℕ) (m : Machine) (log : List Event) (w : Network) → IsWell m → AreEvents log → AcknowledgesInTerm n m log w → AcknowledgesCuts n m log w }
+    ensures { (n : ℕ) (m : Machine) (log : List Event) (w : Network) → OnlyItsTerm n m log w }
 {}
 
 /// So failures are invisible, whatever the tasks of earlier attempts still call.
 #[tactic(auto, using(crate::proofs::InTerms::terms_are_seamless))]
 pub fn terms_are_seamless()
-    ensures { (m : Machine) (turns : List Turn) (job : Job) (attempts : List Attempt) (h : History) → IsWell m → AreTurns turns → TermsAreSeamless m turns job attempts h }
+    ensures { (m : Machine) (turns : List Turn) (job : Job) (attempts : List Attempt) (h : History) → Soundly TermsAreSeamless m turns job attempts h }
 {}
 
 /// And so they are of tasks in loops, each of which acknowledges what it has cut and saved.
 #[tactic(auto, using(crate::proofs::Looped::told_loops_are_seamless))]
 pub fn told_loops_are_seamless()
-    ensures { (m : Machine) (turns : List Turn) (job : Job) (ones : List LoopsAttempt) (e : Loops) → IsWell m → AreTurns turns → ToldLoopsAreSeamless m turns job ones e }
+    ensures { (m : Machine) (turns : List Turn) (job : Job) (ones : List LoopsAttempt) (e : Loops) → Soundly ToldLoopsAreSeamless m turns job ones e }
 {}
 
 /// What the calls of a sink in a loop returned is what it writes in a run without a failure up to the
 /// last restored record, each element once, whatever crashes.
 #[tactic(auto, using(crate::proofs::Looped::told_sink_gives_once))]
 pub fn told_sink_gives_once()
-    ensures { (m : Machine) (turns : List Turn) (job : Job) (sink : Sink) (ks : List SinkAttempt) → IsWell m → AreTurns turns → ToldSinkGivesOnce m turns job sink ks }
+    ensures { (m : Machine) (turns : List Turn) (job : Job) (sink : Sink) (ks : List SinkAttempt) → Soundly ToldSinkGivesOnce m turns job sink ks }
 {}
 
 /// All in one: tasks in loops, each in the term that it was started with.
 #[tactic(auto, using(crate::proofs::TermLoops::term_loops_are_seamless))]
 pub fn term_loops_are_seamless()
-    ensures { (m : Machine) (turns : List Turn) (job : Job) (ones : List LoopsAttempt) (e : Loops) → IsWell m → AreTurns turns → TermLoopsAreSeamless m turns job ones e }
+    ensures { (m : Machine) (turns : List Turn) (job : Job) (ones : List LoopsAttempt) (e : Loops) → Soundly TermLoopsAreSeamless m turns job ones e }
 {}
 
 /// What a program does with a durable coordinator in Rattle is what one does that commits in groups. So

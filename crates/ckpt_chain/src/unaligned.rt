@@ -1,7 +1,7 @@
 //! The law of the chain for jobs whose checkpoints may overtake, on functions that do nothing.
 
 ghost use Rattle.std.specs.Prelude.{List, [], ◌∷◌};
-ghost use Rattle.ckpt_chain.specs.Told.{NeverGoesBack};
+ghost use Rattle.ckpt_chain.specs.Told.{NeverGoesBack, Soundly};
 ghost use Rattle.ckpt_chain.specs.Unaligned.{AreToldResumes, ToldResumesAreSeamless};
 ghost use Rattle.ckpt_chain.specs.WorkedExamples.{begin, now, turns};
 ghost use Rattle.ckpt_durable.specs.Groups.{AreTurns, Turn, synced};
@@ -18,7 +18,7 @@ ghost use Rattle.ckpt_terms.specs.declared.machine.Machine.{Machine};
 /// failures and those of the coordinator are invisible.
 #[tactic(auto, using(crate::proofs::ToldResumes::told_resumes_are_seamless))]
 pub fn told_resumes_are_seamless()
-    ensures { (m : Machine) (turns : List Turn) (job : Job) (its : List Attempt) (doings : Doings) → IsWell m → AreTurns turns → ToldResumesAreSeamless m turns job its doings }
+    ensures { (m : Machine) (turns : List Turn) (job : Job) (its : List Attempt) (doings : Doings) → Soundly ToldResumesAreSeamless m turns job its doings }
 {}
 
 /// The coordinator of `worked_chain`, and a job one of whose tasks took its snapshot before what was on
