@@ -92,7 +92,7 @@ def test_an_event_wakes_all_polls():
         most, started = threads, time.monotonic()
         for place, it in enumerate(held):
             status, told = answer(it)
-            assert status == 200 and told["upto"] == 1, told
+            assert status == 200 and told["upto"] == 2, told
             most = max(most, memory(server, "Threads")) if place % 20 == 0 else most
             it.close()
         assert most <= threads + 4, f"{most} threads"

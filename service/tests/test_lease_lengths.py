@@ -99,7 +99,7 @@ def test_an_answer_waits_for_a_lease_that_is_sure():
         statuses, line.delay = [], 0.75 * SECONDS
         asks = [("Idempotency-Key", "k")]
         call = beside(lambda: statuses.append(server.request("POST", "/v1/jobs/j0/calls", {"calls": [{"call": "savepoint"}]}, headers=asks)[0]))
-        until(lambda: database.sql("select count(*) from call") == "1", 10 * SECONDS)
+        until(lambda: database.sql("select count(*) from call") == "2", 10 * SECONDS)
         database.sql(f"update leader set {ANOTHER}")  # as the next leader does
         call.join()
         assert statuses == [0] and server.ended() == 75, statuses

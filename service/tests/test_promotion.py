@@ -57,7 +57,7 @@ def test_a_cancelled_wait_for_the_replica():
             asked.join(COMMAND)
             assert [status for status, _, _ in answers] == [0], answers
             # it was committed here, and is answered to nobody before the replica is back
-            assert database.sql("select count(*) from call") == "1"
+            assert database.sql("select count(*) from call") == "2"
             database.sql("set synchronous_commit = off; update leader set name = ''")  # its lease is long, so that calls alone are committed
             server.start(ready=False)
             with kept(server):
@@ -65,8 +65,8 @@ def test_a_cancelled_wait_for_the_replica():
                 assert server.get("/v1/jobs/orders")[0] != 200
                 replica.start()
                 server.wait_ready(kept=True)
-            assert Service(server.url).job("orders").state()["seq"] == 1
-            assert replica.sql("select count(*) from call") == "1"
+            assert Service(server.url).job("orders").state()["seq"] == 2
+            assert replica.sql("select count(*) from call") == "2"
         finally:
             server.stop()
             replica.stop()
