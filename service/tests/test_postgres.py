@@ -51,7 +51,7 @@ def test_a_dump_of_a_service_that_runs():
             until(lambda: made_by(writers) > 50)
             before = {job["name"]: job["seq"] for job in Service(server.url).jobs()}
             database.run("pg_dump", "--format=custom", f"--file={database.data}/dump", f"--dbname={database.url}")
-        logs = {name: list(Service(server.url).job(name).log()) for name in kills.JOBS}
+        logs = {name: list(Service(server.url).job(name).log(terms=True)) for name in kills.JOBS}
         server.stop()
         copy = database.url.rsplit("/", 1)[0] + "/copy"
         database.run("createdb", f"--maintenance-db={database.url}", "copy")
@@ -60,7 +60,7 @@ def test_a_dump_of_a_service_that_runs():
         counts = []
         for name, log in logs.items():
             job = Service(restored.url).job(name)
-            found = [entry for entry in job.log() if entry["at"] <= log[-1]["at"]]
+            found = [entry for entry in job.log(terms=True) if entry["at"] <= log[-1]["at"]]
             assert before[name] <= len(found) <= len(log) and found == log[: len(found)], (name, before, len(found), len(log))
             check_log(job.state(), kills.SHAPE, found)
             counts.append(len(found))
