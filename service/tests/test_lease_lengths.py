@@ -111,7 +111,7 @@ def test_a_refused_deletion_waits_for_the_commit():
     with postgres() as database, folder() as at:
         server, statuses = Server(at, database.url, configured(at, "lease_seconds = 60\n")).start(), {}
         Service(server.url).open("a", SETTINGS, [1])
-        # each of the first two calls is written once its lock is free
+        # each of the next two calls, those behind the fence, is written once its lock is free
         database.sql("""create function held() returns trigger language plpgsql as $$ begin
             perform pg_advisory_xact_lock(new.seq); return new; end $$;
             create trigger held before insert on call for each row execute function held()""")
@@ -132,18 +132,18 @@ def test_a_refused_deletion_waits_for_the_commit():
             statuses[what] = server.request(*words, headers=[("Idempotency-Key", what)])[0]
 
         savepoint = ("POST", "/v1/jobs/a/calls", {"calls": [{"call": "savepoint"}]})
-        threads = [holding(1), holding(2), beside(ask, "first", *savepoint)]
+        threads = [holding(2), holding(3), beside(ask, "first", *savepoint)]
         until(lambda: waiting() == "1")
         threads.append(beside(ask, "second", *savepoint))
         until(lambda: server.metric("relkvanu_http_body_bytes") >= 2 * len(json.dumps(savepoint[2])))
         # it comes in the round of the second call, or on a busy machine after it
         threads.append(beside(ask, "deletion", "DELETE", "/v1/jobs/a"))
         time.sleep(1)
-        let_go(1)
+        let_go(2)
         until(lambda: "first" in statuses and waiting() == "1")
         time.sleep(0.5)
         assert set(statuses) == {"first"}, statuses
-        let_go(2)
+        let_go(3)
         for it in threads:
             it.join()
         assert statuses == {"first": 200, "second": 200, "deletion": 409}, statuses
