@@ -24,14 +24,10 @@ const WHOLE: [Told<Option<u64>>; 9] = [
     ("relkvanu_calls_since_image", "Calls after the job's last image, which a start makes again.", |job| {
         Some(job.seq.saturating_sub(job.image.map_or(0, |image| image.seq)))
     }),
-    (
-        "relkvanu_term",
-        "The term of the job's tasks, which each restore and cancel ends.",
-        |job| job.term.map(|now| now.term),
-    ),
-    ("relkvanu_next_name", "The next name that the job gives out.", |job| {
-        job.term.map(|now| now.next_name)
+    ("relkvanu_term", "The term of the job's tasks, which each restore and cancel ends.", |job| {
+        job.term.map(|now| now.term)
     }),
+    ("relkvanu_next_name", "The next name that the job gives out.", |job| job.term.map(|now| now.next_name)),
 ];
 
 /// Those of moments and times, in milliseconds.
