@@ -253,7 +253,7 @@ class _List:
 
     def __init__(self, calls: Sequence[Call]) -> None:
         self.length = len(calls)
-        self.calls = (store_header.relkvanu_store_call * len(calls))()
+        self.calls: Any = (store_header.relkvanu_store_call * len(calls))()
         self._more = (store_header.relkvanu_store_more * len(calls))()
         texts = [it for call in calls for it in (bytes(call.payload), call.reason.encode())]
         self._texts = ctypes.c_char_p(b"".join(texts))
@@ -261,6 +261,7 @@ class _List:
         rooms = [ENDED.get(it.kind, store_header.MOST_ENDED) for it in calls]
         taken = [_within(it.number, 20) if it.kind == header.CALL_TAKE else 0 for it in calls]
         self._rooms = (U64 * (sum(rooms) + sum(taken)))()
+        self.calls.kept = self._more, self._texts, self._numbers, self._rooms  # a call goes on with them after an interrupt, when nobody has this list any more
         try:
             self._write(calls, [len(it) for it in texts], rooms, taken)
         except struct.error as why:

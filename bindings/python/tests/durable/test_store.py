@@ -23,7 +23,7 @@ from relkvanu import (
 from relkvanu.manifest import members, sums_in
 from relkvanu.store import (
     Call, FileFault, JobPhase, Made, NextBarrier, NextBegun, NextCancelled, NextEnded, NextFailed, NextIdle, NextNotStopped, NextStopped, Phase, Step,
-    StopFailed, Store, StoreError,
+    StopFailed, Store, StoreError, _List,
 )
 from relkvanu.whole import Ending, Part, Whole
 
@@ -417,6 +417,17 @@ class Payloads(Folder):
             outcomes = job.calls([Call.ack(2, 0, index, term=1, payload=b"%d" % index) for index in range(2)])
             self.assertEqual(outcomes[1].ended, (1,))
             self.assertEqual([it.payload for it in job.load().parts], [b"0", b"1"])
+
+    def test_an_interrupted_list_stays(self):
+        """A call goes on to its end with the array of its calls alone."""
+        made = _List([Call.ack(1, 0, 0, [3], term=1, payload=b"a", figures=(8, 9))])
+        parts = [weakref.ref(it) for it in (made._more, made._texts, made._numbers, made._rooms)]
+        calls, made = made.calls, None
+        gc.collect()
+        self.assertNotIn(None, [it() for it in parts])
+        del calls
+        gc.collect()
+        self.assertEqual([it() for it in parts], [None] * 4)
 
     def test_what_the_calls_of_a_list_point_to(self):
         """It is in arrays that they share: each call has its own part of them."""
