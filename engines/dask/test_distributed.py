@@ -561,7 +561,7 @@ from relkvanu.daskstream import Checkpoints
 from relkvanu.outputs import Files
 def read(position):
     for it in range(position or 0, {ELEMENTS}):
-        time.sleep(0.002)
+        time.sleep(0.004)
         yield it, it + 1
 folder, source = sys.argv[1], streamz.Stream()
 rows = Files(folder, "rows")
