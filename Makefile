@@ -5,9 +5,8 @@
 #                               headers, libraries, pkg-config and CMake files, man pages, examples, and the programs that are built
 #   make uninstall              takes them away again, with the same PREFIX, LIBDIR and DESTDIR
 #   make dist                   build/relkvanu-VERSION.tar.gz with the built library and the programs that are built, and its checksum
-#   make first                  a first look, unproved: a script of calls, and a job with threads and files
+#   make first                  a first look, unproved: a script of calls
 #   make job                    the script's program, proved, on that script
-#   make demo                   a job that runs for a minute with threads, a clock and files, unproved over the proved crates
 #   make programs               ckpt_job and ckpt_log, proved and built
 #   make check                  all proofs, wrong bodies, tests and programs (.ci/run); in a release, the tests of its library (packaging/check)
 #   make test ARCHIVE=..        tests of a built library, its packages and the pages, in some minutes and without the toolchain (tests/test_library)
@@ -37,7 +36,7 @@ BUILT += $(if $(wildcard crates/ckpt_job/out/ckpt_job),packaging/ckpt_chart)
 # The sources of the package of Rust are installed, and so the samples that name its folder find it there.
 OF_CRATES = rust/first/Cargo.toml rust/count/Cargo.toml engine/mini-rust/Cargo.toml
 
-.PHONY: library install uninstall dist first job demo programs bench check test note clean
+.PHONY: library install uninstall dist first job programs bench check test note clean
 
 library: $(LIBRARY) $(STORE)
 ifeq ($(STORE),)
@@ -144,15 +143,9 @@ bench: $(LIBRARY) $(STORE) programs
 
 first:
 	cd crates/ckpt_job && rt try < ../../examples/two-checkpoints.script
-	tests/build_unproved ckpt_demo
-	build/ckpt_demo < /dev/null
 
 job:
 	cd crates/ckpt_job && rt run < ../../examples/two-checkpoints.script
-
-demo:
-	tests/build_unproved ckpt_demo
-	build/ckpt_demo < demo/SETTINGS
 
 programs:
 	cd crates/ckpt_job && rt run < ../../examples/two-checkpoints.script
