@@ -295,7 +295,8 @@ static int runs(const char *within, const struct test *test) {
     fflush(NULL);
     pid_t child = fork();
     if (child == 0) {
-        alarm(900); /* on a busy machine, or under valgrind */
+        const char *most = getenv("CASE_SECONDS");
+        alarm(most != NULL ? (unsigned)atoi(most) : 900); /* on a busy machine, or under valgrind */
         test->run();
         exit(0);
     }
