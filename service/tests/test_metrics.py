@@ -1,10 +1,11 @@
 """Metrics by Prometheus' conventions, the alerts over them, and the unit of systemd."""
-import pathlib
+import json
 import re
 import shutil
 import subprocess
 import time
 
+import alert_cases
 from harness import SERVICE, TOP, Service, content, folder, save, served, served_job, until
 from relkvanu_service import ack, cancel, savepoint
 from run import Skipped
@@ -87,18 +88,33 @@ def test_metrics_say_what_was_done():
         return f"{len(values)} values, and {len(named)} that alerts use"
 
 
-def test_each_alert_fires_and_rests():
+def tried(name, cases):
+    """Tries the rules of a file. Each fires in one of the cases at least, and rests in one."""
     needed("promtool")
-    files = ["alerts_test.yml", "alerts_minutes_test.yml"]
-    told = subprocess.run(["promtool", "test", "rules", *files], cwd=DEPLOY, text=True, stdout=subprocess.PIPE, stderr=subprocess.STDOUT, check=False)
-    assert told.returncode == 0, told.stdout
-    alerts = set(re.findall(r"alert: (\w+)", content(f"{DEPLOY}/alerts.yml")))
-    cases = "".join(pathlib.Path(DEPLOY, name).read_text(encoding="utf-8") for name in files)
-    # each is tried where it has to fire, and where it must not
-    against = set(re.findall(r"alertname: (\w+), exp_alerts: \[\]", cases))
-    fires = set(re.findall(r"alertname: (\w+)\n    exp_alerts:(?! \[\])", cases))
-    assert alerts == fires == against, (alerts ^ fires, alerts ^ against)
+    path = f"{DEPLOY}/{name}"
+    rules = content(path)
+    files = alert_cases.tests_of(rules, path, cases)
+    with folder() as at:
+        for each, tests in files.items():
+            save(f"{at}/{each}.yml", json.dumps(tests))
+        words = [["check", "rules", path], ["test", "rules", *(f"{at}/{each}.yml" for each in files)]]
+        told = [subprocess.run(["promtool", *some], text=True, stdout=subprocess.PIPE, stderr=subprocess.STDOUT, check=False) for some in words]
+    alerts = re.findall(r"alert: (\w+)", rules)
+    assert [one.returncode for one in told] == [0, 0], [one.stdout for one in told]
+    counts = map(int, re.findall(r"(\d+) rules found", told[0].stdout))
+    looks = [one for tests in files.values() for test in tests["tests"] for one in test["alert_rule_test"]]
+    fires, rests = ({one["alertname"] for one in looks if bool(one["exp_alerts"]) is has} for has in (True, False))
+    assert sum(counts) == len(alerts) and set(alerts) == fires == rests, (told[0].stdout, set(alerts) ^ fires, set(alerts) ^ rests)
     return f"{len(alerts)} alerts"
+
+
+def test_each_alert_fires_and_rests():
+    return tried("alerts.yml", alert_cases.CASES)
+
+
+def test_the_rules_of_what_was_not_set_up():
+    """Each fires where something was not set up, and nowhere else."""
+    return tried("alerts_set_up.yml", alert_cases.SET_UP)
 
 
 def test_each_alert_has_its_section():
@@ -110,42 +126,6 @@ def test_each_alert_has_its_section():
     headings = {f"{page}#{re.sub('[^a-z0-9 -]', '', title.lower()).replace(' ', '-')}" for page, text in pages.items() for title in re.findall(r"^#+ (.*)$", text, re.MULTILINE)}
     assert len(alerts) == rules.count("- alert: ") and set(alerts) <= headings, (len(alerts), set(alerts) - headings)
     return f"{len(alerts)} alerts"
-
-
-# The job `orders` has a cleaner that is a target, `lone` has none.
-OWN_RULES = """
-rule_files: [own.yml]
-tests:
-- interval: 1m
-  input_series:
-  - {series: 'relkvanu_mode{job="relkvanu",installation="a",instance="x",job_name="orders"}', values: '1x90'}
-  - {series: 'relkvanu_mode{job="relkvanu",installation="a",instance="x",job_name="lone"}', values: '1x90'}
-  - {series: 'relkvanu_clean_works{job="relkvanu-clean",instance="y",job_name="orders"}', values: '0x90'}
-  alert_rule_test:
-  - {eval_time: 29m, alertname: RelkvanuNoBackup, exp_alerts: []}
-  - {eval_time: 29m, alertname: RelkvanuNoCleaner, exp_alerts: []}
-  - eval_time: 31m
-    alertname: RelkvanuNoBackup
-    exp_alerts: [{exp_labels: {severity: ticket}, exp_annotations: {summary: 'No backup of the service is known.'}}]
-  - eval_time: 31m
-    alertname: RelkvanuNoCleaner
-    exp_alerts: [{exp_labels: {severity: ticket, job_name: lone}, exp_annotations: {summary: 'No cleaner of job lone is a target.'}}]
-"""
-
-
-def test_the_rules_of_what_was_not_set_up():
-    """Each fires where something was not set up, and nowhere else."""
-    needed("promtool")
-    rules = content(f"{DEPLOY}/alerts_set_up.yml")
-    with folder() as at:
-        save(f"{at}/own.yml", rules)
-        save(f"{at}/test.yml", OWN_RULES)
-        checked, tried = (subprocess.run(["promtool", *words], text=True, stdout=subprocess.PIPE, stderr=subprocess.STDOUT, check=False)
-                          for words in (["check", "rules", f"{at}/own.yml"], ["test", "rules", f"{at}/test.yml"]))
-    assert checked.returncode == 0 and f"{rules.count('alert: ')} rules found" in checked.stdout, checked.stdout
-    assert tried.returncode == 0, tried.stdout
-    assert set(re.findall(r"alert: (\w+)", rules)) == set(re.findall(r"alertname: (\w+)", OWN_RULES)), rules
-    return f"{rules.count('alert: ')} rules"
 
 
 def test_the_unit_is_hardened():
