@@ -11,7 +11,7 @@ use std::path::PathBuf;
 pub enum Ask {
     /// List the jobs of a service
     #[command(after_help = "Example:\n  relkvanu jobs --json")]
-    Jobs(Jobs),
+    Jobs(At),
     /// Show the state of a job, or one of its records
     #[command(after_help = "Example:\n  relkvanu show orders 12")]
     Show(Show),
@@ -95,40 +95,36 @@ impl At {
     }
 }
 
+// (no comment of the documentation: it would be the help of the commands that have no other words, as that of `Awaited` would be of both)
 #[derive(Args)]
-pub struct Jobs {
+pub struct OfJob {
+    /// The job
+    #[arg(index = 1, value_parser = job_name)]
+    pub job: String,
     #[command(flatten)]
     pub at: At,
 }
 
 #[derive(Args)]
 pub struct Show {
-    /// The job
-    #[arg(value_parser = job_name)]
-    pub job: String,
     /// The number of a record
+    #[arg(index = 2)]
     pub id: Option<u64>,
     #[command(flatten)]
-    pub at: At,
+    pub of: OfJob,
 }
 
 #[derive(Args)]
 pub struct History {
-    /// The job
-    #[arg(value_parser = job_name)]
-    pub job: String,
     /// So many records
     #[arg(long, value_name = "RECORDS", default_value_t = 20, value_parser = clap::value_parser!(u64).range(1..=1000))]
     pub last: u64,
     #[command(flatten)]
-    pub at: At,
+    pub of: OfJob,
 }
 
 #[derive(Args)]
 pub struct Log {
-    /// The job
-    #[arg(value_parser = job_name)]
-    pub job: String,
     /// Only calls after this one
     #[arg(long, value_name = "SEQ", default_value_t = 0)]
     pub after: u64,
@@ -139,47 +135,38 @@ pub struct Log {
     #[arg(long)]
     pub terms: bool,
     #[command(flatten)]
-    pub at: At,
+    pub of: OfJob,
 }
 
 #[derive(Args)]
 pub struct Files {
-    /// The job
-    #[arg(value_parser = job_name)]
-    pub job: String,
     /// The number of a file
+    #[arg(index = 2)]
     pub file: Option<u64>,
     /// At most so many files of each list
     #[arg(long, value_name = "FILES", default_value_t = 100, value_parser = clap::value_parser!(u64).range(1..=1000))]
     pub most: u64,
     #[command(flatten)]
-    pub at: At,
+    pub of: OfJob,
 }
 
 #[derive(Args)]
 pub struct Savepoints {
-    /// The job
-    #[arg(value_parser = job_name)]
-    pub job: String,
     #[command(flatten)]
     pub place: Where,
     #[command(flatten)]
     pub names: FileNames,
     #[command(flatten)]
-    pub at: At,
+    pub of: OfJob,
 }
 
-// (no comment of the documentation: it would be the help of both commands)
 #[derive(Args)]
 pub struct Awaited {
-    /// The job
-    #[arg(value_parser = job_name)]
-    pub job: String,
     /// Wait so long until it is complete
     #[arg(long, value_name = "SECONDS", num_args = 0..=1, default_value_t = 0, default_missing_value = "600")]
     pub wait: u64,
     #[command(flatten)]
-    pub at: At,
+    pub of: OfJob,
 }
 
 #[derive(Args)]
@@ -194,18 +181,15 @@ pub struct Checkpoint {
 #[derive(Args)]
 #[command(group(ArgGroup::new("where").args(["folder", "bucket"])))]
 pub struct Set {
-    /// The job
-    #[arg(value_parser = job_name)]
-    pub job: String,
     /// A setting and its new value, as interval=30000
-    #[arg(value_name = "SETTING=VALUE", required_unless_present = "where", conflicts_with = "where", value_parser = setting)]
+    #[arg(index = 2, value_name = "SETTING=VALUE", required_unless_present = "where", conflicts_with = "where", value_parser = setting)]
     pub settings: Vec<(String, Value)>,
     #[command(flatten)]
     pub place: Where,
     #[command(flatten)]
     pub names: FileNames,
     #[command(flatten)]
-    pub at: At,
+    pub of: OfJob,
 }
 
 /// A setting and its value. Which there are, and their limits, says the service.
@@ -218,43 +202,25 @@ fn setting(text: &str) -> Result<(String, Value), String> {
 
 #[derive(Args)]
 pub struct Stop {
-    /// The job
-    #[arg(value_parser = job_name)]
-    pub job: String,
     /// Wait so long until it has stopped
     #[arg(long, value_name = "SECONDS", num_args = 0..=1, default_value_t = 0, default_missing_value = "600")]
     pub wait: u64,
     #[command(flatten)]
-    pub at: At,
-}
-
-// (the same)
-#[derive(Args)]
-pub struct OfJob {
-    /// The job
-    #[arg(value_parser = job_name)]
-    pub job: String,
-    #[command(flatten)]
-    pub at: At,
+    pub of: OfJob,
 }
 
 #[derive(Args)]
 pub struct Dispose {
-    /// The job
-    #[arg(value_parser = job_name)]
-    pub job: String,
     /// The savepoint
+    #[arg(index = 2)]
     pub id: u64,
     #[command(flatten)]
-    pub at: At,
+    pub of: OfJob,
 }
 
 #[derive(Args)]
 #[command(group(ArgGroup::new("where").args(["folder", "bucket"])))]
 pub struct Restore {
-    /// The job
-    #[arg(value_parser = job_name)]
-    pub job: String,
     /// A savepoint [default: the latest record]
     #[arg(long, value_name = "ID")]
     pub savepoint: Option<u64>,
@@ -278,14 +244,11 @@ pub struct Restore {
     #[command(flatten)]
     pub names: FileNames,
     #[command(flatten)]
-    pub at: At,
+    pub of: OfJob,
 }
 
 #[derive(Args)]
 pub struct Advance {
-    /// The job
-    #[arg(value_parser = job_name)]
-    pub job: String,
     /// The greatest term that was told [default: 2^32 above that of the job]
     #[arg(long, value_name = "TERM")]
     pub term: Option<u64>,
@@ -293,19 +256,16 @@ pub struct Advance {
     #[arg(long, value_name = "NAME")]
     pub name: Option<u64>,
     #[command(flatten)]
-    pub at: At,
+    pub of: OfJob,
 }
 
 #[derive(Args)]
 pub struct Delete {
-    /// The job
-    #[arg(value_parser = job_name)]
-    pub job: String,
     /// Delete the job even if files of it are left; nothing deletes these afterwards
     #[arg(long)]
     pub abandon: bool,
     #[command(flatten)]
-    pub at: At,
+    pub of: OfJob,
 }
 
 #[derive(Args)]
@@ -339,25 +299,25 @@ impl Ask {
 
     /// Where is asked, and the job, in whose place comes that of a socket.
     pub fn parts(&mut self) -> (&mut At, Option<&mut String>) {
-        let (at, job) = match self {
-            Ask::Jobs(given) => return (&mut given.at, None),
-            Ask::Show(given) => (&mut given.at, &mut given.job),
-            Ask::History(given) => (&mut given.at, &mut given.job),
-            Ask::Log(given) => (&mut given.at, &mut given.job),
-            Ask::Files(given) => (&mut given.at, &mut given.job),
-            Ask::Savepoints(given) => (&mut given.at, &mut given.job),
-            Ask::Savepoint(given) => (&mut given.at, &mut given.job),
-            Ask::Checkpoint(given) => (&mut given.awaited.at, &mut given.awaited.job),
-            Ask::Set(given) => (&mut given.at, &mut given.job),
-            Ask::Stop(given) => (&mut given.at, &mut given.job),
-            Ask::Begin(given) | Ask::Term(given) | Ask::Cancel(given) => (&mut given.at, &mut given.job),
-            Ask::Dispose(given) => (&mut given.at, &mut given.job),
-            Ask::Restore(given) => (&mut given.at, &mut given.job),
-            Ask::Advance(given) => (&mut given.at, &mut given.job),
-            Ask::Delete(given) => (&mut given.at, &mut given.job),
-            Ask::End(given) => (&mut given.at, &mut given.job),
+        let of = match self {
+            Ask::Jobs(at) => return (at, None),
+            Ask::End(given) => return (&mut given.at, Some(&mut given.job)),
+            Ask::Show(given) => &mut given.of,
+            Ask::History(given) => &mut given.of,
+            Ask::Log(given) => &mut given.of,
+            Ask::Files(given) => &mut given.of,
+            Ask::Savepoints(given) => &mut given.of,
+            Ask::Savepoint(given) => &mut given.of,
+            Ask::Checkpoint(given) => &mut given.awaited.of,
+            Ask::Set(given) => &mut given.of,
+            Ask::Stop(given) => &mut given.of,
+            Ask::Begin(of) | Ask::Term(of) | Ask::Cancel(of) => of,
+            Ask::Dispose(given) => &mut given.of,
+            Ask::Restore(given) => &mut given.of,
+            Ask::Advance(given) => &mut given.of,
+            Ask::Delete(given) => &mut given.of,
         };
-        (at, Some(job))
+        (&mut of.at, Some(&mut of.job))
     }
 }
 

@@ -1,5 +1,5 @@
 //! What a job knows of the files in a folder or a bucket: which records have all theirs there, and which files no record needs.
-use super::commands::{At, Restore, Savepoints};
+use super::commands::{OfJob, Restore, Savepoints};
 use super::ended::Ended;
 use super::run::print_answer;
 use super::tables;
@@ -22,11 +22,11 @@ struct Looked {
 pub async fn savepoints(job: &Job, given: &Savepoints) -> Result<(), Ended> {
     let said_place = Some(&given.place).filter(|place| place.is_said());
     let looked = match said_place {
-        Some(place) => Some(looked(job, &given.job, place, &given.names, &given.at).await?),
+        Some(place) => Some(looked(job, &given.of, place, &given.names).await?),
         None => None,
     };
     let rows = rows(job, looked.as_ref()).await?;
-    print_answer(given.at.json, &json!(rows), tables::savepoints)?;
+    print_answer(given.of.at.json, &json!(rows), tables::savepoints)?;
     looked.map_or(Ok(()), |looked| looked.verdict(&rows))
 }
 
@@ -43,7 +43,7 @@ pub async fn look(job: &Job, given: &Restore, id: u64) -> Result<(), Ended> {
     if !given.place.is_said() {
         return Err(Ended::NotLooked(id));
     }
-    let looked = looked(job, &given.job, &given.place, &given.names, &given.at).await?;
+    let looked = looked(job, &given.of, &given.place, &given.names).await?;
     match &looked.lost(&job.load(id).await?)[..] {
         [] => Ok(()),
         lost => Err(Ended::Lost { id, files: lost.join(" "), place: looked.place.title() }),
@@ -52,7 +52,7 @@ pub async fn look(job: &Job, given: &Restore, id: u64) -> Result<(), Ended> {
 
 /// The last of these records that has all its files.
 pub async fn last_whole(job: &Job, given: &Restore) -> Result<u64, Ended> {
-    let looked = looked(job, &given.job, &given.place, &given.names, &given.at).await?;
+    let looked = looked(job, &given.of, &given.place, &given.names).await?;
     let rows = rows(job, Some(&looked)).await?;
     looked.verdict(&rows)?;
     let whole = rows.iter().filter(|row| is_whole(row)).filter_map(|row| row["id"].as_u64());
@@ -90,16 +90,16 @@ fn is_whole(row: &Value) -> bool {
 }
 
 /// Opens the place and lists it. A folder that has lost its marker is looked at all the same. That of a job which is asked over its socket has another one.
-async fn looked(job: &Job, name: &str, place: &Where, given: &FileNames, at: &At) -> Result<Looked, Ended> {
+async fn looked(job: &Job, of: &OfJob, place: &Where, given: &FileNames) -> Result<Looked, Ended> {
     let storage = place.storage(given).map_err(Ended::Word)?.unwrap_or_default();
     let (names, is_bucket) = (storage.names(), storage.bucket.is_some());
     let ended = |stop: Stop| match stop {
         Stop::Again(why) if is_bucket => Ended::Away(why),
         stop => Ended::Place(stop.to_string()),
     };
-    let owner = owner(name, &job.state().await?);
+    let owner = owner(&of.job, &job.state().await?);
     let mut place = storage.open(&owner).map_err(ended)?;
-    if !at.is_socket() && place.hold(&owner.marker()).map_err(ended)? != Some(owner.text()) {
+    if !of.at.is_socket() && place.hold(&owner.marker()).map_err(ended)? != Some(owner.text()) {
         if is_bucket {
             return Err(Ended::Place(no_marker(&*place, &owner.marker())));
         }

@@ -50,30 +50,24 @@ async fn run_command(mut given: Ask) -> Result<(), Ended> {
             *job = name;
         }
     }
+    let job = service.job(given.parts().1.map_or("", |job| job));
     match &given {
         Ask::Jobs(_) => print_answer(at.json, &jobs(&service).await?, tables::jobs),
-        Ask::Show(given) => show(&service.job(&given.job), given).await,
-        Ask::History(given) => {
-            let mut told = service.job(&given.job).history(given.last).await?;
-            print_answer(at.json, &told["records"].take(), tables::history)
-        }
-        Ask::Log(given) => print_log(&service.job(&given.job), given).await,
-        Ask::Files(given) => files(&service.job(&given.job), given).await,
-        Ask::Savepoints(given) => folder::savepoints(&service.job(&given.job), given).await,
-        Ask::Savepoint(given) => savepoint(&service.job(&given.job), given).await,
-        Ask::Checkpoint(given) => checkpoint(&service.job(&given.awaited.job), given).await,
-        Ask::Set(given) => set(&service.job(&given.job), given).await,
-        Ask::Stop(given) => stop(&service.job(&given.job), given).await,
-        Ask::Begin(given) => print_answer(at.json, &service.job(&given.job).begin_job().await?, tables::action),
-        Ask::Dispose(given) => {
-            call(&service.job(&given.job), at.json, Call::Dispose { id: given.id }).await.map(|_| ())
-        }
-        Ask::Restore(given) => restore(&service.job(&given.job), given).await,
-        Ask::Term(given) => print_answer(at.json, &service.job(&given.job).term().await?, tables::term),
-        Ask::Advance(given) => {
-            print_answer(at.json, &above(&service.job(&given.job), given.term, given.name).await?, tables::action)
-        }
-        Ask::Cancel(given) => call(&service.job(&given.job), at.json, Call::Cancel).await.map(|_| ()),
+        Ask::Show(given) => show(&job, given).await,
+        Ask::History(given) => print_answer(at.json, &job.history(given.last).await?["records"], tables::history),
+        Ask::Log(given) => print_log(&job, given).await,
+        Ask::Files(given) => files(&job, given).await,
+        Ask::Savepoints(given) => folder::savepoints(&job, given).await,
+        Ask::Savepoint(given) => savepoint(&job, given).await,
+        Ask::Checkpoint(given) => checkpoint(&job, given).await,
+        Ask::Set(given) => set(&job, given).await,
+        Ask::Stop(given) => stop(&job, given).await,
+        Ask::Begin(_) => print_answer(at.json, &job.begin_job().await?, tables::action),
+        Ask::Dispose(given) => call(&job, at.json, Call::Dispose { id: given.id }).await.map(|_| ()),
+        Ask::Restore(given) => restore(&job, given).await,
+        Ask::Term(_) => print_answer(at.json, &job.term().await?, tables::term),
+        Ask::Advance(given) => print_answer(at.json, &above(&job, given.term, given.name).await?, tables::action),
+        Ask::Cancel(_) => call(&job, at.json, Call::Cancel).await.map(|_| ()),
         Ask::Delete(given) => delete(&service, given).await,
         Ask::End(given) => end::end(&service, given).await,
     }
@@ -106,15 +100,15 @@ async fn jobs(service: &Service) -> Result<Value, Ended> {
 
 async fn show(job: &Job, given: &commands::Show) -> Result<(), Ended> {
     match given.id {
-        None => print_answer(given.at.json, &job.state().await?, tables::job),
-        Some(id) => print_answer(given.at.json, &job.record(id).await?, tables::record),
+        None => print_answer(given.of.at.json, &job.state().await?, tables::job),
+        Some(id) => print_answer(given.of.at.json, &job.record(id).await?, tables::record),
     }
 }
 
 async fn files(job: &Job, given: &commands::Files) -> Result<(), Ended> {
     match given.file {
-        None => print_answer(given.at.json, &job.files(given.most).await?, tables::files),
-        Some(file) => print_answer(given.at.json, &job.file(file).await?, tables::file),
+        None => print_answer(given.of.at.json, &job.files(given.most).await?, tables::files),
+        Some(file) => print_answer(given.of.at.json, &job.file(file).await?, tables::file),
     }
 }
 
@@ -130,7 +124,7 @@ async fn print_log(job: &Job, given: &commands::Log) -> Result<(), Ended> {
         };
         after = last["seq"].as_u64().unwrap_or(u64::MAX);
         left -= (calls.len() as u64).min(left);
-        calls.iter().try_for_each(|one| print_answer(given.at.json, one, tables::call))?;
+        calls.iter().try_for_each(|one| print_answer(given.of.at.json, one, tables::call))?;
     }
     Ok(())
 }
@@ -158,7 +152,7 @@ async fn restore(job: &Job, given: &commands::Restore) -> Result<(), Ended> {
             Call::Restore { savepoint, shape }
         }
     };
-    call(job, given.at.json, restore).await.map(|_| ())
+    call(job, given.of.at.json, restore).await.map(|_| ())
 }
 
 /// Lets a job go on that a backup has brought back. Returns the savepoint to restore it to; `None` is the latest record. Each call may be made again.
@@ -179,23 +173,23 @@ async fn above(job: &Job, term: Option<u64>, name: Option<u64>) -> Result<Value,
 }
 
 async fn delete(service: &Service, given: &commands::Delete) -> Result<(), Ended> {
-    let job = given.job.as_str();
+    let job = given.of.job.as_str();
     if !service.delete(job, given.abandon).await? {
         return Err(Ended::NoJob(job.to_string()));
     }
-    print_answer(given.at.json, &json!({"deleted": job}), |_| format!("job {job} is deleted\n"))
+    print_answer(given.of.at.json, &json!({"deleted": job}), |_| format!("job {job} is deleted\n"))
 }
 
 async fn savepoint(job: &Job, given: &Awaited) -> Result<(), Ended> {
     let began = Instant::now();
-    let reply = call(job, given.at.json, Call::Savepoint).await?;
+    let reply = call(job, given.of.at.json, Call::Savepoint).await?;
     awaited(job, given, "savepoint", &reply, began).await
 }
 
 async fn checkpoint(job: &Job, given: &commands::Checkpoint) -> Result<(), Ended> {
     let began = Instant::now();
     let reply = if given.full { job.full_checkpoint().await } else { job.checkpoint().await }?;
-    print_answer(given.awaited.at.json, &reply, |_| format!("checkpoint {} is triggered\n", reply["id"]))?;
+    print_answer(given.awaited.of.at.json, &reply, |_| format!("checkpoint {} is triggered\n", reply["id"]))?;
     awaited(job, &given.awaited, "checkpoint", &reply, began).await
 }
 
@@ -205,23 +199,23 @@ async fn awaited(job: &Job, given: &Awaited, kind: &'static str, told: &Value, b
         return Ok(());
     }
     let (id, seq) = (told["id"].as_u64().unwrap_or(0), told["seq"].as_u64().unwrap_or(0));
-    complete(job, &given.at, kind, id, seq, began + Duration::from_secs(given.wait)).await?;
-    print_answer(given.at.json, &json!({"completed": id}), |_| format!("{kind} {id} is complete\n"))
+    complete(job, &given.of.at, kind, id, seq, began + Duration::from_secs(given.wait)).await?;
+    print_answer(given.of.at.json, &json!({"completed": id}), |_| format!("{kind} {id} is complete\n"))
 }
 
 /// Stops a job. One that stops already, or has stopped, is not stopped again.
 async fn stop(job: &Job, given: &commands::Stop) -> Result<(), Ended> {
     let until = Instant::now() + Duration::from_secs(given.wait);
     match job.stop_job().await {
-        Ok(reply) => print_answer(given.at.json, &reply, tables::stopping)?,
+        Ok(reply) => print_answer(given.of.at.json, &reply, tables::stopping)?,
         Err(Error::Refused(name)) if STANDS.contains(&name.as_str()) => {}
         Err(error) => return Err(error.into()),
     }
     if given.wait == 0 {
         return Ok(());
     }
-    let id = stopped(job, &given.at, until).await?;
-    print_answer(given.at.json, &json!({"stopped": id}), |_| format!("the job has stopped at savepoint {id}\n"))
+    let id = stopped(job, &given.of.at, until).await?;
+    print_answer(given.of.at.json, &json!({"stopped": id}), |_| format!("the job has stopped at savepoint {id}\n"))
 }
 
 /// Waits until a job has stopped, and returns the savepoint.
@@ -250,10 +244,10 @@ async fn stopped(job: &Job, at: &At, until: Instant) -> Result<u64, Ended> {
 async fn set(job: &Job, given: &commands::Set) -> Result<(), Ended> {
     if let Some(storage) = given.place.storage(&given.names).map_err(Ended::Word)? {
         let told = job.set_storage(&json!(storage)).await?;
-        return print_answer(given.at.json, &told, |told| format!("storage  {}\n", told["storage"]));
+        return print_answer(given.of.at.json, &told, |told| format!("storage  {}\n", told["storage"]));
     }
     let settings = Value::Object(given.settings.iter().cloned().collect());
-    print_answer(given.at.json, &job.set(&settings).await?, tables::set)
+    print_answer(given.of.at.json, &job.set(&settings).await?, tables::set)
 }
 
 /// Waits until a record is complete, by the events after its trigger.
