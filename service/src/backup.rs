@@ -2,7 +2,7 @@
 use crate::cli::{self, Ended};
 use crate::config::{database_of, BadConfig};
 use crate::database::{Database, NoDatabase};
-use crate::log;
+use crate::exit;
 use crate::nightly;
 use rusqlite::{Connection, OpenFlags};
 use std::ffi::OsString;
@@ -51,18 +51,13 @@ pub enum NoBackup {
 
 pub fn run(given: &cli::Backup) -> ExitCode {
     let started = Instant::now();
-    match made(given) {
+    exit::told(match made(given) {
         Ok(bytes) => {
-            let took = started.elapsed().as_millis();
-            log::info(&format!("backup {} bytes={bytes} took_ms={took}", given.to.display()));
-            ExitCode::SUCCESS
+            Ok(format!("backup {} bytes={bytes} took_ms={}", given.to.display(), started.elapsed().as_millis()))
         }
-        Err(why) => {
-            let is_made = matches!(why, NoBackup::NotAll(..));
-            log::error(&if is_made { why.to_string() } else { format!("there is no backup: {why}") });
-            ExitCode::FAILURE
-        }
-    }
+        Err(why @ NoBackup::NotAll(..)) => Err(why.to_string()),
+        Err(why) => Err(format!("there is no backup: {why}")),
+    })
 }
 
 fn made(given: &cli::Backup) -> Result<u64, NoBackup> {

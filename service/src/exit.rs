@@ -1,4 +1,7 @@
 //! How the program ends.
+use crate::log;
+use std::fmt::Display;
+use std::process::ExitCode;
 
 /// The exit status after which a start may succeed: systemd starts the service again.
 pub const START_AGAIN: u8 = 75;
@@ -12,4 +15,18 @@ pub const NOT_TO_START: u8 = 78;
 pub fn now(status: u8) -> ! {
     // SAFETY: the call takes any status, reads no memory of ours and does not return.
     unsafe { libc::_exit(i32::from(status)) }
+}
+
+/// Tells what a command did, or why it did not, and how it ends.
+pub fn told(done: Result<String, impl Display>) -> ExitCode {
+    match done {
+        Ok(text) => {
+            log::info(&text);
+            ExitCode::SUCCESS
+        }
+        Err(why) => {
+            log::error(&why.to_string());
+            ExitCode::FAILURE
+        }
+    }
 }

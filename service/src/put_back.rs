@@ -3,7 +3,7 @@
 use crate::check;
 use crate::cli;
 use crate::database::{Database, NoDatabase};
-use crate::log;
+use crate::exit;
 use crate::put_back_pg;
 use crate::store::{beside, locked, sync_folder, DbError};
 use std::ffi::{OsStr, OsString};
@@ -52,23 +52,13 @@ pub fn of(path: &Path) -> impl Fn(io::Error) -> NotPut + '_ {
 }
 
 pub fn run(given: &cli::PutBack) -> ExitCode {
-    let done = match (Database::of(&given.database), given.copy.as_deref()) {
+    exit::told(match (Database::of(&given.database), given.copy.as_deref()) {
         (Err(why), _) => Err(why.into()),
         (Ok(Database::Postgres(url)), _) => put_back_pg::run(given, &url),
         (Ok(Database::Sqlite(path)), Some(copy)) => put(given, &path, copy),
         (Ok(Database::Sqlite(path)), None) if given.none => put_none(given, &path),
         (Ok(Database::Sqlite(path)), None) => put_aside_back(given, &path),
-    };
-    match done {
-        Ok(text) => {
-            log::info(&text);
-            ExitCode::SUCCESS
-        }
-        Err(why) => {
-            log::error(&why.to_string());
-            ExitCode::FAILURE
-        }
-    }
+    })
 }
 
 /// Where the database is, and where its files are set aside.

@@ -1,8 +1,8 @@
 //! `relkvanu setup-tls`: makes the tokens, the certificate and the settings with which a service speaks TLS. All is made in a folder of its own, and gets in its
 //! place once it is whole. So after an end at any moment the same command goes on, and nothing is replaced but the settings that were installed.
 use crate::cli;
+use crate::exit;
 use crate::http::{NoTls, Tls, TlsFiles};
-use crate::log;
 use crate::renew_tls;
 use crate::store::sync_folder;
 use openssl::pkey::PKey;
@@ -82,16 +82,7 @@ pub fn of(path: &Path) -> impl Fn(io::Error) -> NotSet + '_ {
 }
 
 pub fn run(given: &cli::SetupTls) -> ExitCode {
-    match if given.renew { renew_tls::renew(given) } else { set_up(given) } {
-        Ok(told) => {
-            log::info(&told);
-            ExitCode::SUCCESS
-        }
-        Err(why) => {
-            log::error(&why.to_string());
-            ExitCode::FAILURE
-        }
-    }
+    exit::told(if given.renew { renew_tls::renew(given) } else { set_up(given) })
 }
 
 fn set_up(given: &cli::SetupTls) -> Result<String, NotSet> {

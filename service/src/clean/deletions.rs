@@ -124,120 +124,64 @@ impl Deletions {
 #[cfg(test)]
 mod tests {
     use super::*;
-    use crate::files::Pages;
-    use std::collections::BTreeMap;
-    use std::sync::{Arc, Mutex, MutexGuard, PoisonError};
+    use crate::files::Folder;
+    use std::fs;
+    use std::path::PathBuf;
 
-    type Files = Arc<Mutex<BTreeMap<String, String>>>;
+    /// A folder of the test's own with these files, which goes with it.
+    struct Own(PathBuf);
 
-    /// A place in memory whose marker goes with a file of this name.
-    struct Memory {
-        files: Files,
-        goes_with: &'static str,
-    }
-
-    impl Memory {
-        fn files(&self) -> MutexGuard<'_, BTreeMap<String, String>> {
-            self.files.lock().unwrap_or_else(PoisonError::into_inner)
-        }
-    }
-
-    impl Storage for Memory {
-        fn title(&self) -> String {
-            "memory".to_string()
-        }
-        fn title_of(&self, name: &str) -> String {
-            name.to_string()
-        }
-        fn is_bucket(&self) -> bool {
-            false
-        }
-        fn beginning(&self, with: &str) -> Result<Vec<String>, Stop> {
-            Ok(self.files().keys().filter(|name| name.starts_with(with)).cloned().collect())
-        }
-        fn read(&self, name: &str) -> Result<Option<String>, Stop> {
-            Ok(self.files().get(name).cloned())
-        }
-        fn write(&self, name: &str, text: &str) -> Result<(), Stop> {
-            self.files().insert(name.to_string(), text.to_string());
-            Ok(())
-        }
-        fn note(&self, name: &str, text: &str) -> Result<(), Stop> {
-            self.write(name, text)
-        }
-        fn remove(&self, name: &str) -> Result<(), Stop> {
-            self.files().remove(name);
-            Ok(())
-        }
-        fn hold(&mut self, marker: &str) -> Result<Option<String>, Stop> {
-            self.read(marker)
-        }
-        fn lock(&self) -> Result<bool, Stop> {
-            Ok(true)
-        }
-        fn is_marked(&self) -> Result<bool, Stop> {
-            Ok(self.files().contains_key(".relkvanu-a"))
-        }
-        fn has_any(&self, names: &[String]) -> Result<bool, Stop> {
-            Ok(names.iter().any(|name| self.files().contains_key(name)))
-        }
-        fn bytes(&self, _: &str) -> Option<u64> {
-            None
-        }
-        fn delete(&self, names: &[String]) -> Result<Vec<Gone>, Stop> {
-            let gone = |name: &String| match self.files().remove(name) {
-                Some(_) => Gone::Deleted,
-                None => Gone::Absent,
-            };
-            let told = names.iter().map(gone).collect();
-            if names.iter().any(|name| name == self.goes_with) {
-                self.remove(".relkvanu-a")?;
+    impl Own {
+        fn new(test: &str, files: &[&str]) -> Own {
+            let own = Own(std::env::temp_dir().join(format!("relkvanu-deletions-{test}-{}", std::process::id())));
+            fs::create_dir(&own.0).expect("a folder");
+            for name in files {
+                fs::write(own.0.join(name), "state").expect("a file");
             }
-            Ok(told)
+            own
         }
-        fn pages<'a>(&'a self, _: &'a str) -> Result<Box<dyn Pages + 'a>, Stop> {
-            Err(Stop::Again("it is not listed".to_string()))
+
+        /// The deletions of a job there, which has its marker.
+        fn of(&self, job: &str, prefix: &str) -> Result<Deletions, Stop> {
+            let owner = Owner { job: job.to_string(), opened: 7 };
+            let (place, names) =
+                (Folder::open(&self.0)?, FileNames { prefix: prefix.to_string(), suffix: String::new() });
+            place.write(&owner.marker(), &owner.text())?;
+            let marked = Marked::open(Box::new(place), &owner)?;
+            Ok(Deletions { marked, owner, names, allow_absent: false, says_first: false })
         }
     }
 
+    impl Drop for Own {
+        fn drop(&mut self) {
+            let _ = fs::remove_dir_all(&self.0);
+        }
+    }
+
+    /// The marker has the name of a file that is deleted.
     #[test]
     fn a_marker_that_goes_during_deletions_is_noticed() -> Result<(), Stop> {
-        let owner = Owner { job: "a".to_string(), opened: 7 };
-        let names = FileNames { prefix: "s-".to_string(), suffix: String::new() };
-        let files = Files::default();
-        let place = Memory { files: Arc::clone(&files), goes_with: "s-3" };
-        for name in ["s-1", "s-2", "s-3"] {
-            place.write(name, "state")?;
-        }
-        place.write(&owner.marker(), &owner.text())?;
-        let marked = Marked::open(Box::new(place), &owner)?;
-        let deletions = Deletions { marked, owner, names, allow_absent: false, says_first: false };
+        let own = Own::new("marker", &[".relkvanu-1", ".relkvanu-2", ".relkvanu-4"]);
+        let deletions = own.of("3", ".relkvanu-")?;
         assert_eq!(deletions.delete(&[1, 9])?, [Gone::Deleted, Gone::Absent]);
-        assert!(
-            matches!(deletions.delete(&[2, 3]), Err(Stop::Never(Refusal::NoMarker, why)) if why.contains("has no file .relkvanu-a"))
-        );
+        let is_noticed =
+            |told| matches!(told, Err(Stop::Never(Refusal::NoMarker, why)) if why.contains("has no file .relkvanu-3"));
+        assert!(is_noticed(deletions.delete(&[2, 3])));
         // none goes any more
-        let has = |name: &str| files.lock().is_ok_and(|files| files.contains_key(name));
-        assert!(files.lock().is_ok_and(|mut files| files.insert("s-4".to_string(), String::new()).is_none()));
-        assert!(matches!(deletions.delete(&[4]), Err(Stop::Never(..))) && has("s-4"));
+        assert!(is_noticed(deletions.delete(&[4])) && own.0.join(".relkvanu-4").exists());
         Ok(())
     }
 
     #[test]
     fn files_that_are_all_absent_were_begun_with_or_are_refused() -> Result<(), Stop> {
-        let owner = Owner { job: "a".to_string(), opened: 7 };
-        let names = FileNames { prefix: "s-".to_string(), suffix: String::new() };
-        let place = Memory { files: Files::default(), goes_with: "" };
-        place.write("s-1", "state")?;
-        place.write(&owner.marker(), &owner.text())?;
-        let marked = Marked::open(Box::new(place), &owner)?;
-        let deletions = Deletions { marked, owner, names, allow_absent: false, says_first: false };
+        let own = Own::new("absent", &["s-1"]);
+        let deletions = own.of("a", "s-")?;
         assert_eq!(deletions.delete(&[1, 2])?, [Gone::Deleted, Gone::Absent]);
         // as by a process that was killed before it reported
         assert_eq!(deletions.delete(&[2, 1])?, [Gone::Absent, Gone::Absent]);
-        assert!(
-            matches!(deletions.delete(&[1, 3]), Err(Stop::Never(Refusal::AllAbsent, why)) if why.starts_with("none of 2 files is in memory, as s-1"))
-        );
+        let wanted = format!("none of 2 files is in {}, as s-1", own.0.display());
+        let told = deletions.delete(&[1, 3]);
+        assert!(matches!(told, Err(Stop::Never(Refusal::AllAbsent, why)) if why.starts_with(&wanted)));
         Ok(())
     }
 }

@@ -62,7 +62,7 @@ impl Discard<'_> {
     /// Opens the place, unless another cleaner works there. Each try reads anew whose files it has: the job may be another one by then.
     async fn open(&self) -> Result<Deletions, Stop> {
         let state = self.job.state().await.map_err(away)?;
-        let owner = owner(self.name, &state);
+        let owner = Owner::of(self.name, &state);
         let mut place = self.storage.open(&owner)?;
         let found = place.hold(&owner.marker())?;
         let is_first = found.is_none() && !self.shared.accepted.init && self.is_first(&state).await?;
@@ -149,7 +149,7 @@ impl Discard<'_> {
     /// The files were taken of the job whose place this is: nobody has deleted it meanwhile, and opened another one of its name.
     async fn is_job_of(&self, deletions: &Deletions) -> Result<(), Stop> {
         let state = self.job.state().await.map_err(away)?;
-        if owner(self.name, &state).text() == deletions.owner().text() {
+        if Owner::of(self.name, &state).text() == deletions.owner().text() {
             return Ok(());
         }
         Err(Stop::Never(Refusal::OtherMarker, format!("the job {} was deleted, and opened anew", self.name)))
@@ -187,11 +187,6 @@ fn report(file: u64, gone: &Gone) -> Call {
         Gone::Deleted | Gone::Absent => Call::Deleted { file },
         Gone::Failed(_) => Call::Undeleted { file },
     }
-}
-
-/// Whose files a job's are, by its state.
-pub fn owner(job: &str, state: &Value) -> Owner {
-    Owner { job: job.to_string(), opened: state["opened"].as_u64().unwrap_or_default() }
 }
 
 /// The service gave no answer to go on with.

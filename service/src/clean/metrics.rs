@@ -3,11 +3,11 @@ use super::sweep::Swept;
 use super::Kind;
 use crate::files::Gone;
 use crate::log;
-use prometheus::{Gauge, GaugeVec, IntCounter, IntCounterVec, IntGauge, IntGaugeVec, Opts, Registry};
+use crate::metrics::{Families, Parted};
+use prometheus::{Gauge, GaugeVec, IntCounter, IntCounterVec, IntGauge, IntGaugeVec};
 use relkvanu_client::Error;
 use std::time::{Duration, SystemTime, UNIX_EPOCH};
 
-const JOB: &str = "job_name";
 const RELEASED: &str = "released";
 const GARBAGE: &str = "garbage";
 /// What becomes of files.
@@ -15,15 +15,15 @@ const OUTCOMES: [(&str, &str); 5] =
     [(RELEASED, "deleted"), (RELEASED, "absent"), (RELEASED, "failed"), (GARBAGE, "deleted"), (GARBAGE, "failed")];
 
 pub struct Metrics {
-    pub registry: Registry,
-    files: IntCounterVec,
-    bytes: IntCounterVec,
-    reported: GaugeVec,
-    swept: GaugeVec,
-    unissued: IntGaugeVec,
-    garbage: IntGaugeVec,
-    stopped: IntGaugeVec,
-    works: IntGaugeVec,
+    pub families: Families,
+    files: Parted<IntCounterVec>,
+    bytes: Parted<IntCounterVec>,
+    reported: Parted<GaugeVec>,
+    swept: Parted<GaugeVec>,
+    unissued: Parted<IntGaugeVec>,
+    garbage: Parted<IntGaugeVec>,
+    stopped: Parted<IntGaugeVec>,
+    works: Parted<IntGaugeVec>,
     listed: Gauge,
     lost: IntCounter,
     threads: IntGauge,
@@ -32,53 +32,47 @@ pub struct Metrics {
 impl Metrics {
     /// `every`: how long after the begin of a look for garbage the next one begins.
     pub fn new(every: Duration) -> Result<Metrics, prometheus::Error> {
-        let of = |name: &str, help: &str| Opts::new(format!("relkvanu_clean_{name}"), help);
-        let interval = Gauge::with_opts(of(
-            "interval_seconds",
-            "How long after the begin of a look for a job's garbage the next one begins.",
-        ))?;
-        interval.set(every.as_secs_f64());
-        let metrics = Metrics {
-            registry: Registry::new(),
-            files: IntCounterVec::new(
-                of("files_total", "Files that jobs handed out, and garbage, by what became of them."),
-                &[JOB, "kind", "outcome"],
+        let mut all = Families::default();
+        let interval = "How long after the begin of a look for a job's garbage the next one begins.";
+        all.gauge("relkvanu_clean_interval_seconds", interval)?.set(every.as_secs_f64());
+        Ok(Metrics {
+            files: all.counters(
+                "relkvanu_clean_files_total",
+                "Files that jobs handed out, and garbage, by what became of them.",
+                &[("kind", &[RELEASED, GARBAGE]), ("outcome", &["deleted", "absent", "failed"])],
             )?,
-            bytes: IntCounterVec::new(of("garbage_bytes_total", "Bytes of the garbage that was deleted."), &[JOB])?,
-            reported: GaugeVec::new(of("report_timestamp_seconds", "When files were reported last."), &[JOB])?,
-            swept: GaugeVec::new(
-                of(
-                    "sweep_timestamp_seconds",
-                    "When a look for garbage last came to its end; before the first, when the job was found.",
-                ),
-                &[JOB],
+            bytes: all.counters("relkvanu_clean_garbage_bytes_total", "Bytes of the garbage that was deleted.", &[])?,
+            reported: all.seconds("relkvanu_clean_report_timestamp_seconds", "When files were reported last.", &[])?,
+            swept: all.seconds(
+                "relkvanu_clean_sweep_timestamp_seconds",
+                "When a look for garbage last came to its end; before the first, when the job was found.",
+                &[],
             )?,
-            unissued: IntGaugeVec::new(
-                of("unissued_files", "Files found last whose names were never given out. Nobody deletes them."),
-                &[JOB],
+            unissued: all.of_jobs(
+                "relkvanu_clean_unissued_files",
+                "Files found last whose names were never given out. Nobody deletes them.",
+                &[],
             )?,
-            garbage: IntGaugeVec::new(of("garbage_files", "Garbage that was found last."), &[JOB])?,
-            stopped: IntGaugeVec::new(
-                of("stopped", "1 if the job is not cleaned, by the reason: docs/SERVICE-OPERATION.md."),
-                &[JOB, "reason"],
+            garbage: all.of_jobs("relkvanu_clean_garbage_files", "Garbage that was found last.", &[])?,
+            // a job that goes says which reason it has
+            stopped: all.of_jobs(
+                "relkvanu_clean_stopped",
+                "1 if the job is not cleaned, by the reason: docs/SERVICE-OPERATION.md.",
+                &[("reason", &[])],
             )?,
-            works: IntGaugeVec::new(of("works", "1 if the job is cleaned; 0 if something is in the way."), &[JOB])?,
-            listed: Gauge::with_opts(of("list_timestamp_seconds", "When the service last listed its jobs."))?,
-            lost: IntCounter::with_opts(of(
-                "lost_requests_total",
+            works: all.of_jobs(
+                "relkvanu_clean_works",
+                "1 if the job is cleaned; 0 if something is in the way.",
+                &[],
+            )?,
+            listed: all.gauge("relkvanu_clean_list_timestamp_seconds", "When the service last listed its jobs.")?,
+            lost: all.add(IntCounter::new(
+                "relkvanu_clean_lost_requests_total",
                 "Tries to reach the service that were not answered, or with an error that passes.",
             ))?,
-            threads: IntGauge::with_opts(of("threads", "Threads that work now."))?,
-        };
-        let Metrics { registry, files, bytes, reported, swept, unissued, garbage, .. } = &metrics;
-        let Metrics { stopped, works, listed, lost, threads, .. } = &metrics;
-        [files, bytes].into_iter().try_for_each(|it| registry.register(Box::new(it.clone())))?;
-        [reported, swept].into_iter().try_for_each(|it| registry.register(Box::new(it.clone())))?;
-        [unissued, garbage, stopped, works].into_iter().try_for_each(|it| registry.register(Box::new(it.clone())))?;
-        [listed, &interval].into_iter().try_for_each(|it| registry.register(Box::new(it.clone())))?;
-        registry.register(Box::new(lost.clone()))?;
-        registry.register(Box::new(threads.clone()))?;
-        Ok(metrics)
+            threads: all.whole("relkvanu_clean_threads", "Threads that work now.")?,
+            families: all,
+        })
     }
 
     /// A job was found, whose garbage is looked for or not.
@@ -94,26 +88,16 @@ impl Metrics {
 
     /// A job is there no more.
     pub fn forget(&self, job: &str, stopped: Option<&str>) {
-        // what was never counted is not there to be removed
-        for (kind, outcome) in OUTCOMES {
-            let _ = self.files.remove_label_values(&[job, kind, outcome]);
-        }
-        let _ = self.bytes.remove_label_values(&[job]);
-        for gauges in [&self.reported, &self.swept] {
-            let _ = gauges.remove_label_values(&[job]);
-        }
-        for gauges in [&self.unissued, &self.garbage, &self.works] {
-            let _ = gauges.remove_label_values(&[job]);
-        }
+        self.families.forget(job);
         if let Some(reason) = stopped {
-            let _ = self.stopped.remove_label_values(&[job, reason]);
+            self.stopped.remove(&[job, reason]);
         }
     }
 
     /// Whether a job is cleaned; why not, if that is known; and why it was not before.
     pub fn show(&self, job: &str, works: bool, before: Option<&str>, now: Option<&str>) {
         if let Some(reason) = before.filter(|_| before != now) {
-            let _ = self.stopped.remove_label_values(&[job, reason]);
+            self.stopped.remove(&[job, reason]);
         }
         if let Some(reason) = now {
             self.stopped.with_label_values(&[job, reason]).set(1);
@@ -191,9 +175,9 @@ mod tests {
     fn a_job_has_one_reason_and_leaves_nothing() -> Result<(), prometheus::Error> {
         let metrics = Metrics::new(Duration::from_secs(1))?;
         let of_job = || {
-            let families = metrics.registry.gather();
+            let families = metrics.families.registry.gather();
             let all = families.iter().flat_map(MetricFamily::get_metric);
-            all.filter(|metric| metric.get_label().iter().any(|label| label.get_name() == JOB)).count()
+            all.filter(|metric| metric.get_label().iter().any(|label| label.get_name() == "job_name")).count()
         };
         metrics.found("a", true);
         let found = of_job();

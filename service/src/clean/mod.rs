@@ -153,7 +153,7 @@ async fn clean(given: &Clean) -> Result<u8, Stop> {
     };
     let service = service.map_err(|error| Stop::Again(error.to_string()))?;
     if let Some(address) = given.metrics {
-        metrics_server::serve(&metrics.registry, address).map_err(Stop::Again)?;
+        metrics_server::serve(&metrics.families.registry, address).map_err(Stop::Again)?;
     }
     let noticed = Arc::clone(&metrics);
     let patience = Duration::from_secs(given.within);

@@ -1,8 +1,8 @@
 //! A turn that finds the garbage of a folder or a bucket, and deletes it. Garbage has a name that the job gave out, and nobody will ever use it. So
 //! it may run at any time, beside the job's tasks, beside another one, and late.
-use super::discard::{away, owner};
+use super::discard::away;
 use super::Shared;
-use crate::files::{self, FileNames, Found, Gone, JobStorage, Marked, Need, Stop};
+use crate::files::{self, FileNames, Found, Gone, JobStorage, Marked, Need, Owner, Stop};
 use crate::log;
 use relkvanu_client::Job;
 use std::collections::BTreeMap;
@@ -40,7 +40,7 @@ impl fmt::Display for Swept {
 /// Looks through the place of a job's files, which is opened anew, so a disk that is mounted again is found.
 pub async fn sweep(shared: &Shared, name: &str, job: &Job, storage: &JobStorage) -> Result<Swept, Stop> {
     let began = Instant::now();
-    let owner = owner(name, &job.state().await.map_err(away)?);
+    let owner = Owner::of(name, &job.state().await.map_err(away)?);
     let place = Marked::open(storage.open(&owner)?, &owner)?;
     let names = storage.names();
     files::check(&*place, place.marker(), &names, Need::Prefix)?;

@@ -2,7 +2,7 @@
 use super::commands::{OfJob, Restore, Savepoints};
 use super::ended::Ended;
 use super::run::print_answer;
-use super::tables;
+use super::tables::{self, items};
 use crate::files::{no_marker, FileNames, Owner, Stop, Storage, Where};
 use crate::log;
 use relkvanu_client::{Error, Job, Whole};
@@ -37,7 +37,8 @@ pub async fn look(job: &Job, given: &Restore, id: u64) -> Result<(), Ended> {
         Err(Error::Status { status: 404, .. }) => return Ok(()),
         told => told?,
     };
-    if given.without_look || files_of(&record).is_empty() {
+    // a record that no acknowledgement has given a file needs none
+    if given.without_look || items(&record["live"]["acks"]).iter().all(|ack| items(&ack["files"]).is_empty()) {
         return Ok(());
     }
     if !given.place.is_said() {
@@ -97,7 +98,7 @@ async fn looked(job: &Job, of: &OfJob, place: &Where, given: &FileNames) -> Resu
         Stop::Again(why) if is_bucket => Ended::Away(why),
         stop => Ended::Place(stop.to_string()),
     };
-    let owner = owner(&of.job, &job.state().await?);
+    let owner = Owner::of(&of.job, &job.state().await?);
     let mut place = storage.open(&owner).map_err(ended)?;
     if !of.at.is_socket() && place.hold(&owner.marker()).map_err(ended)? != Some(owner.text()) {
         if is_bucket {
@@ -159,28 +160,8 @@ fn listed(place: &dyn Storage, names: &FileNames) -> Result<BTreeSet<u64>, Stop>
     Ok(found.iter().filter_map(|name| names.number(name)).collect())
 }
 
-/// Whose marker the place has to have.
-fn owner(job: &str, state: &Value) -> Owner {
-    Owner { job: job.to_string(), opened: state["opened"].as_u64().unwrap_or_default() }
-}
-
 fn done(state: &Value) -> impl Iterator<Item = &Value> {
     items(&state["live"]).iter().filter(|record| record["done"] == true)
-}
-
-/// The files that a record's acknowledgements name.
-fn files_of(record: &Value) -> BTreeSet<u64> {
-    named(record).collect()
-}
-
-/// The same of each acknowledgement, so a file may come again.
-fn named(record: &Value) -> impl Iterator<Item = u64> + '_ {
-    let files = items(&record["live"]["acks"]).iter().flat_map(|ack| items(&ack["files"]));
-    files.filter_map(|file| file.as_str()?.parse().ok())
-}
-
-fn items(value: &Value) -> &[Value] {
-    value.as_array().map(Vec::as_slice).unwrap_or_default()
 }
 
 #[cfg(test)]

@@ -250,7 +250,8 @@ pub fn stays_stopped(reply: &Value) -> String {
     action(reply).replacen("the job begins again,", "the job stays stopped, and begins", 1)
 }
 
-fn items(value: &Value) -> &[Value] {
+/// What a list has.
+pub fn items(value: &Value) -> &[Value] {
     value.as_array().map(Vec::as_slice).unwrap_or_default()
 }
 

@@ -1,5 +1,6 @@
 //! The marker of a job: the file that says whose files a place has.
 use super::{Refusal, Stop, Storage};
+use serde_json::Value;
 use std::ops::Deref;
 
 /// Whose files a place has.
@@ -11,6 +12,11 @@ pub struct Owner {
 }
 
 impl Owner {
+    /// Of a job, by its state.
+    pub fn of(job: &str, state: &Value) -> Owner {
+        Owner { job: job.to_string(), opened: state["opened"].as_u64().unwrap_or_default() }
+    }
+
     /// The marker's name.
     pub fn marker(&self) -> String {
         format!(".relkvanu-{}", self.job)

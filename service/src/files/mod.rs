@@ -14,7 +14,7 @@ pub use names::FileNames;
 pub use others::{check, check_own, forget, say, Need, BEGUN, MARK};
 
 use bucket::Bucket;
-use clap::Args;
+use clap::{Args, ValueEnum};
 use std::path::{Path, PathBuf};
 
 /// Why the work ends.
@@ -47,7 +47,7 @@ impl Stop {
 }
 
 /// Why no file of a place is deleted before somebody looks.
-#[derive(Clone, Copy, Debug, PartialEq, Eq)]
+#[derive(Clone, Copy, Debug, PartialEq, Eq, ValueEnum)]
 pub enum Refusal {
     /// The place has no marker, or that of another job or opening.
     NoMarker,
@@ -63,15 +63,6 @@ pub enum Refusal {
 }
 
 impl Refusal {
-    const ALL: [Refusal; 6] = [
-        Refusal::NoMarker,
-        Refusal::OtherMarker,
-        Refusal::Names,
-        Refusal::AllAbsent,
-        Refusal::KeepsVersions,
-        Refusal::NoPlace,
-    ];
-
     pub fn word(self) -> &'static str {
         match self {
             Refusal::NoMarker => "no_marker",
@@ -85,7 +76,7 @@ impl Refusal {
 
     /// The one that has this word.
     pub fn of(word: &str) -> Option<Refusal> {
-        Refusal::ALL.into_iter().find(|refusal| refusal.word() == word)
+        Refusal::value_variants().iter().copied().find(|refusal| refusal.word() == word)
     }
 }
 

@@ -1,6 +1,6 @@
 //! When each subtask acknowledged a record, as the log has it: who is slow.
 use super::query::{numbers, Parameter};
-use super::reply::{error, json_reply, HttpReply};
+use super::reply::{error, json_reply, Answered};
 use super::App;
 use crate::history::rank;
 use crate::model::{parse_line, AckBytes, Answer, Call, Entry, Reply, Subtask};
@@ -47,7 +47,7 @@ impl Ack {
     }
 }
 
-pub async fn answer(app: &App, job: &str, id: u64, query: &str) -> Result<HttpReply, Box<HttpReply>> {
+pub async fn answer(app: &App, job: &str, id: u64, query: &str) -> Answered {
     let [most] = numbers(query, [LIMIT])?;
     let number = app.number(job)?;
     let Some(record) = app.read_history(move |history| history.record(number, id)).await? else {

@@ -1,9 +1,12 @@
 //! The checks that every request passes: its route, its token, its origin, and whether this process leads.
 use super::audit::RequestLine;
 use super::json_members::PATH;
-use super::reply::{as_problem, damaged, error, text, wants_problems, with_header, HttpReply};
+use super::reply::{
+    as_problem, bad_field, damaged, error, text, wants_problems, with_header, Answered, HttpReply, Refusable,
+};
 use super::route::{NoRoute, Route, To};
 use super::slots::{Kind, Slot};
+use super::writes::Given;
 use super::{names, operate, page, reads, room, stream, trace, view, wire, writes, App};
 use crate::auth::Caller;
 use crate::log;
@@ -70,7 +73,7 @@ fn shortened(path: &str) -> String {
 type Admitted = (Route, Option<Caller>);
 
 /// The route of a request that may be made, and the kind of slot that it needs.
-fn checked(app: &App, route: Result<Route, NoRoute>, headers: &HeaderMap) -> (Kind, Result<Admitted, Box<HttpReply>>) {
+fn checked(app: &App, route: Result<Route, NoRoute>, headers: &HeaderMap) -> (Kind, Refusable<Admitted>) {
     match route {
         Err(none) => (Kind::Stranger, Err(no_route(&none).into())),
         Ok(route) => match admitted(app, &route, headers) {
@@ -87,15 +90,10 @@ fn crowded() -> HttpReply {
 
 async fn dispatched(app: &Arc<App>, route: Route, caller: Option<Caller>, request: Request<Body>) -> HttpReply {
     let caller = caller.unwrap_or_else(Caller::local);
-    dispatch(app, route, &caller, request).await.unwrap_or_else(|refused| *refused)
+    dispatch(app, route, caller, request).await.unwrap_or_else(|refused| *refused)
 }
 
-async fn dispatch(
-    app: &Arc<App>,
-    route: Route,
-    caller: &Caller,
-    request: Request<Body>,
-) -> Result<HttpReply, Box<HttpReply>> {
+async fn dispatch(app: &Arc<App>, route: Route, caller: Caller, request: Request<Body>) -> Answered {
     if route.needs_leader() && !app.board.is_ready() {
         return Err(standby(app).await.into());
     }
@@ -106,27 +104,26 @@ async fn dispatch(
             return Err(damaged(job, &why).into());
         }
     }
-    let query = request.uri().query().unwrap_or("");
-    let job = || route.job.clone().unwrap_or_default();
+    let given = Given { app, caller, job: route.job.clone().unwrap_or_default(), request };
     match route.to {
-        To::Jobs => reads::jobs(app, caller, query).await,
-        To::View => view::answer(app, route.job.as_ref(), caller, query).await,
+        To::Jobs => reads::jobs(app, &given.caller, given.query()).await,
+        To::View => view::answer(app, route.job.as_ref(), &given.caller, given.query()).await,
         To::Asset(asset) => Ok(page::answer(asset)),
         To::Health => Ok(health(app)),
         To::Ready => Ok(ready(app).await),
-        To::NewJob => writes::new_job(app, caller, request).await,
-        To::DeleteJob => writes::delete_job(app, job(), query).await,
-        To::Calls => writes::calls(app, caller, job(), request).await,
-        To::Fence => names::fence(app, caller, job(), request).await,
-        To::Garbage => names::garbage(app, caller, job(), request).await,
-        To::Checkpoint => operate::one(app, caller, job(), wire::checkpoint, request).await,
-        To::Stop => operate::one(app, caller, job(), |it| wire::nothing(it).map(|()| Call::Stop), request).await,
-        To::Begin => operate::one(app, caller, job(), |it| wire::nothing(it).map(|()| Call::Begin), request).await,
-        To::Advance => operate::one(app, caller, job(), wire::advance, request).await,
-        To::Settings => operate::settings(app, caller, job(), request).await,
-        To::Storage => operate::storage(app, caller, job(), request).await,
-        To::Stream => stream::answer(app, job(), caller, &request).await,
-        _ => reads::answer(app, &route, caller, query).await,
+        To::NewJob => writes::new_job(given).await,
+        To::DeleteJob => writes::delete_job(given).await,
+        To::Calls => writes::calls(given).await,
+        To::Fence => names::fence(given).await,
+        To::Garbage => names::garbage(given).await,
+        To::Checkpoint => operate::one(given, wire::checkpoint).await,
+        To::Stop => operate::one(given, |it| wire::nothing(it).map(|()| Call::Stop)).await,
+        To::Begin => operate::one(given, |it| wire::nothing(it).map(|()| Call::Begin)).await,
+        To::Advance => operate::one(given, wire::advance).await,
+        To::Settings => operate::settings(given).await,
+        To::Storage => operate::storage(given).await,
+        To::Stream => stream::answer(app, given.job, &given.caller, &given.request).await,
+        _ => reads::answer(app, &route, &given.caller, given.query()).await,
     }
 }
 
@@ -134,14 +131,14 @@ fn no_route(none: &NoRoute) -> HttpReply {
     match none {
         NoRoute::Path => error(404, "there is no such path"),
         NoRoute::Method(has) => with_header(error(405, &format!("this path takes {has} alone")), ALLOW, has),
-        NoRoute::Part("job") => super::reply::bad_field("job", super::wire::NO_NAME),
-        NoRoute::Part(part) => super::reply::bad_field(part, "is no whole number from 0 to 2^64 - 1"),
+        NoRoute::Part("job") => bad_field("job", wire::NO_NAME),
+        NoRoute::Part(part) => bad_field(part, "is no whole number from 0 to 2^64 - 1"),
     }
 }
 
 /// Whether a request may be made. It has a token, or, if there are no tokens, comes from a program of this machine and names
 /// this machine. A page of another site can do neither, because it can't set this type of content.
-fn admitted(app: &App, route: &Route, headers: &HeaderMap) -> Result<Option<Caller>, Box<HttpReply>> {
+fn admitted(app: &App, route: &Route, headers: &HeaderMap) -> Refusable<Option<Caller>> {
     let Some(access) = route.access else {
         return Ok(None);
     };

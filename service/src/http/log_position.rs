@@ -1,6 +1,6 @@
 //! Whether the log has the events after a place that an engine knows. If it does not, the answer is 410.
 use super::query::Parameter;
-use super::reply::{refusal, HttpReply};
+use super::reply::{refusal, HttpReply, Refusable};
 use super::{gate, no_job, App};
 use crate::model::length_in;
 use serde_json::json;
@@ -26,12 +26,12 @@ pub struct LogPosition<'a> {
 }
 
 impl<'a> LogPosition<'a> {
-    pub fn of(app: &App, job: &'a str, after: Option<u64>) -> Result<LogPosition<'a>, Box<HttpReply>> {
+    pub fn of(app: &App, job: &'a str, after: Option<u64>) -> Refusable<LogPosition<'a>> {
         Ok(LogPosition { job, number: app.number(job)?, after })
     }
 
     /// Refuses what was read while another process may have led, with another identity of the log.
-    pub async fn check_leads(&self, app: &App) -> Result<(), Box<HttpReply>> {
+    pub async fn check_leads(&self, app: &App) -> Refusable<()> {
         if app.board.is_ready() {
             return Ok(());
         }
@@ -39,7 +39,7 @@ impl<'a> LogPosition<'a> {
     }
 
     /// Whether this log has the place, or had it when the identity `known` of the log ended.
-    pub async fn check_log(&self, app: &App, known: Option<&str>) -> Result<(), Box<HttpReply>> {
+    pub async fn check_log(&self, app: &App, known: Option<&str>) -> Refusable<()> {
         let after = self.after.unwrap_or(0);
         let length = match known.filter(|known| *known != app.board.log()) {
             None => app.board.length(self.job),
@@ -57,7 +57,7 @@ impl<'a> LogPosition<'a> {
     }
 
     /// Whether all events after the place are in the log. Returns the first call that it has.
-    pub fn check_cut(&self, app: &App) -> Result<u64, Box<HttpReply>> {
+    pub fn check_cut(&self, app: &App) -> Refusable<u64> {
         let first = app.board.first(self.job);
         let last = *app.board.events(self.job).ok_or_else(|| no_job(self.job))?.borrow();
         match self.after {

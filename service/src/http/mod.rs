@@ -39,7 +39,7 @@ use crate::log;
 use crate::metrics::Metrics;
 use crate::store::{DbError, Reader};
 use crate::writer::{Board, Inbox, JobState, Message, NotSent, Read, ReadDone, MOST_JOBS};
-use reply::{error, HttpReply};
+use reply::{error, HttpReply, Refusable};
 use std::error::Error;
 use std::sync::Arc;
 use std::time::Duration;
@@ -84,7 +84,7 @@ fn units(bytes: usize) -> u32 {
 
 impl App {
     /// Puts a message into the writer's queue, and waits for its answer.
-    async fn ask<T>(&self, message: impl FnOnce(oneshot::Sender<T>) -> Message) -> Result<T, Box<HttpReply>> {
+    async fn ask<T>(&self, message: impl FnOnce(oneshot::Sender<T>) -> Message) -> Refusable<T> {
         let (reply, answer) = oneshot::channel();
         match self.inbox.try_send(message(reply)) {
             Ok(()) => answer.await.map_err(|_| gate::busy("the service is stopping").into()),
@@ -93,12 +93,12 @@ impl App {
         }
     }
 
-    async fn read(&self, read: Read) -> Result<ReadDone, Box<HttpReply>> {
+    async fn read(&self, read: Read) -> Refusable<ReadDone> {
         self.ask(|reply| Message::Read(read, reply)).await
     }
 
     /// The jobs in the order of their numbers. The writer makes calls between two pieces.
-    async fn jobs(&self) -> Result<Vec<JobState>, Box<HttpReply>> {
+    async fn jobs(&self) -> Refusable<Vec<JobState>> {
         let mut all = Vec::<JobState>::new();
         loop {
             let after = all.last().map_or(i64::MIN, |job| job.opening.number);
@@ -114,17 +114,17 @@ impl App {
     }
 
     /// Waits until a job is replayed, which then goes before others. Nothing is answered of it before.
-    async fn replayed(&self, job: &str) -> Result<(), Box<HttpReply>> {
+    async fn replayed(&self, job: &str) -> Refusable<()> {
         self.until(self.board.replay.of(job), &format!("job {job} is not replayed yet")).await
     }
 
     /// Waits until all jobs are replayed.
-    async fn all_replayed(&self) -> Result<(), Box<HttpReply>> {
+    async fn all_replayed(&self) -> Refusable<()> {
         self.until(self.board.replay.of_all(), "not all jobs are replayed yet").await
     }
 
     /// Waits until something is replayed, but for so long that a client learns how far it is.
-    async fn until(&self, done: Option<watch::Receiver<()>>, why: &str) -> Result<(), Box<HttpReply>> {
+    async fn until(&self, done: Option<watch::Receiver<()>>, why: &str) -> Refusable<()> {
         let Some(mut done) = done else {
             return Ok(());
         };
@@ -137,7 +137,7 @@ impl App {
     }
 
     /// The number of a job in the database.
-    fn number(&self, job: &str) -> Result<i64, Box<HttpReply>> {
+    fn number(&self, job: &str) -> Refusable<i64> {
         self.board.number(job).ok_or_else(|| no_job(job).into())
     }
 
@@ -145,7 +145,7 @@ impl App {
     async fn read_log<T: Send + 'static>(
         &self,
         read: impl FnOnce(&mut dyn Reader) -> Result<T, DbError> + Send + 'static,
-    ) -> Result<T, Box<HttpReply>> {
+    ) -> Refusable<T> {
         waited(&self.reader, move |reader| read(reader.as_mut())).await
     }
 
@@ -153,7 +153,7 @@ impl App {
     async fn read_events<T: Send + 'static>(
         &self,
         read: impl FnOnce(&mut dyn Reader) -> Result<T, DbError> + Send + 'static,
-    ) -> Result<T, Box<HttpReply>> {
+    ) -> Refusable<T> {
         waited(&self.events, move |reader| read(reader.as_mut())).await
     }
 
@@ -161,7 +161,7 @@ impl App {
     async fn read_history<T: Send + 'static>(
         &self,
         read: impl FnOnce(&HistoryReader) -> Result<T, history::Error> + Send + 'static,
-    ) -> Result<T, Box<HttpReply>> {
+    ) -> Refusable<T> {
         waited(&self.history, move |door| read(door.reader()?)).await
     }
 }
@@ -170,7 +170,7 @@ impl App {
 async fn waited<R: Send + 'static, T: Send + 'static, E: Error + Send + 'static>(
     from: &Arc<Mutex<R>>,
     read: impl FnOnce(&mut R) -> Result<T, E> + Send + 'static,
-) -> Result<T, Box<HttpReply>> {
+) -> Refusable<T> {
     let turn = tokio::time::timeout(READ_WITHIN, Arc::clone(from).lock_owned());
     let mut reader = turn.await.map_err(|_| gate::busy("other reads take too long"))?;
     match tokio::task::spawn_blocking(move || read(&mut reader)).await {

@@ -1,29 +1,22 @@
 //! Terms and names: a job that gets names, the term for whoever starts tasks, and which files may be deleted.
 use super::operate::only;
 use super::query::numbers;
-use super::reply::{bad_field, error, invalid, json_reply, refusal, HttpReply};
-use super::writes::{read_body, Asked};
+use super::reply::{bad_field, error, json_reply, refusal, Answered, HttpReply};
+use super::writes::Given;
 use super::{gate, no_job, wire, App};
-use crate::auth::Caller;
 use crate::model::{Call, Fault, Garbage};
 use crate::writer::{Read, ReadDone};
-use hyper::{Body, Request};
 use serde_json::json;
 
 /// Of a job that a recovery has not made whole.
 const NO_NAMES: &str = "NoNames";
 
 /// Gives a job names, from a first one on. The call is in its log, and is made once under a key.
-pub async fn fence(
-    app: &App,
-    caller: &Caller,
-    job: String,
-    request: Request<Body>,
-) -> Result<HttpReply, Box<HttpReply>> {
-    let asked = Asked::read(app, caller, &job, request).await?;
-    let first_name = wire::first_name(&asked.bytes).map_err(|why| invalid(&why))?;
+pub async fn fence(given: Given<'_>) -> Answered {
+    let asked = given.asked().await?;
+    let first_name = wire::first_name(&asked.bytes)?;
     let told = move |answers: String| turned(&answers, first_name);
-    asked.make(app, job, vec![Call::Fence { first_name }], false, "", told).await
+    asked.make(vec![Call::Fence { first_name }], false, "", told).await
 }
 
 /// What the answer of the one call says.
@@ -50,7 +43,7 @@ fn fenced(name: &str) -> HttpReply {
 }
 
 /// The term that runs, for whoever starts the tasks.
-pub async fn term(app: &App, job: &str, query: &str) -> Result<HttpReply, Box<HttpReply>> {
+pub async fn term(app: &App, job: &str, query: &str) -> Answered {
     numbers(query, [])?;
     match app.read(Read::Term(job.to_string())).await? {
         ReadDone::Term(Some(now)) => {
@@ -64,14 +57,9 @@ pub async fn term(app: &App, job: &str, query: &str) -> Result<HttpReply, Box<Ht
 
 /// Which of some files may be deleted, by what is committed. The writer answers only while it surely leads, and this looks again:
 /// a process that was suspended meanwhile sends no answer.
-pub async fn garbage(
-    app: &App,
-    caller: &Caller,
-    job: String,
-    request: Request<Body>,
-) -> Result<HttpReply, Box<HttpReply>> {
-    let (bytes, _room) = read_body(app, caller, request.into_body()).await?;
-    let files = wire::garbage(&bytes).map_err(|why| invalid(&why))?;
+pub async fn garbage(mut given: Given<'_>) -> Answered {
+    let (files, _room) = given.said(wire::garbage).await?;
+    let (app, job) = (given.app, given.job);
     let told = app.read(Read::Garbage { job: job.clone(), files }).await?;
     if !app.board.is_ready() {
         return Err(gate::standby(app).await.into());

@@ -1,62 +1,40 @@
 //! What an operator does to a job that is open: a checkpoint now, a stop and the beginning after it, and other settings.
 use super::audit::Did;
 use super::json_members::Checked;
-use super::reply::{error, invalid, json_reply, refusal, HttpReply};
-use super::writes::{answered, read_body, Asked};
-use super::{no_job, render, wire, App};
-use crate::auth::Caller;
+use super::reply::{error, json_reply, refusal, Answered, HttpReply, Refusable};
+use super::writes::{answered, Given};
+use super::{no_job, render, wire};
 use crate::model::Call;
 use crate::writer::{Message, ReadDone};
-use hyper::{Body, Request};
 use serde_json::{json, Value};
 
 /// Makes the one call that the body of a path's request says. Under a key it is made once.
-pub async fn one(
-    app: &App,
-    caller: &Caller,
-    job: String,
-    read: impl Fn(&[u8]) -> Checked<Call>,
-    request: Request<Body>,
-) -> Result<HttpReply, Box<HttpReply>> {
-    let asked = Asked::read(app, caller, &job, request).await?;
-    let call = read(&asked.bytes).map_err(|why| invalid(&why))?;
+pub async fn one(given: Given<'_>, read: impl Fn(&[u8]) -> Checked<Call>) -> Answered {
+    let asked = given.asked().await?;
+    let call = read(&asked.bytes)?;
     let word = match call {
         Call::Stop => "stop",
         Call::Begin => "begin",
         Call::Advance { .. } => "advance",
         _ => "checkpoint",
     };
-    asked.make(app, job, vec![call], false, word, turned).await
+    asked.make(vec![call], false, word, turned).await
 }
 
 /// Changes the settings that the body names. A repeat changes nothing more, so it needs no key.
-pub async fn settings(
-    app: &App,
-    caller: &Caller,
-    job: String,
-    request: Request<Body>,
-) -> Result<HttpReply, Box<HttpReply>> {
-    app.number(&job)?;
-    let (bytes, _room) = read_body(app, caller, request.into_body()).await?;
-    let change = wire::change(&bytes).map_err(|why| invalid(&why))?;
-    let at = job.clone();
-    let done = app.ask(|reply| Message::Configure { job, change, reply }).await?;
-    Ok(answered(app, &at, done, Some(Did::settings(&change)), turned))
+pub async fn settings(mut given: Given<'_>) -> Answered {
+    let (change, _room) = given.said(wire::change).await?;
+    let (app, job) = (given.app, given.job);
+    let done = app.ask(|reply| Message::Configure { job: job.clone(), change, reply }).await?;
+    Ok(answered(app, &job, done, Some(Did::settings(&change)), turned))
 }
 
 /// Says where the job's files are. A repeat says the same, so it needs no key.
-pub async fn storage(
-    app: &App,
-    caller: &Caller,
-    job: String,
-    request: Request<Body>,
-) -> Result<HttpReply, Box<HttpReply>> {
-    app.number(&job)?;
-    let (bytes, _room) = read_body(app, caller, request.into_body()).await?;
-    let storage = wire::storage(&bytes).map_err(|why| invalid(&why))?;
-    let (at, did) = (job.clone(), Did::storage(&storage));
-    let ReadDone::Job(state) = app.ask(|reply| Message::Locate { job, storage, reply }).await? else {
-        return Err(no_job(&at).into());
+pub async fn storage(mut given: Given<'_>) -> Answered {
+    let (storage, _room) = given.said(wire::storage).await?;
+    let (app, job, did) = (given.app, given.job, Did::storage(&storage));
+    let ReadDone::Job(state) = app.ask(|reply| Message::Locate { job: job.clone(), storage, reply }).await? else {
+        return Err(no_job(&job).into());
     };
     let mut reply = json_reply(200, &render::job(&state, app.board.log()));
     reply.extensions_mut().insert(did);
@@ -76,7 +54,7 @@ pub(super) fn only(
     answers: &str,
     fenced: impl Fn(&str) -> HttpReply,
     refused: impl Fn(&str) -> HttpReply,
-) -> Result<Value, Box<HttpReply>> {
+) -> Refusable<Value> {
     let mut told: Value = serde_json::from_str(answers).unwrap_or_default();
     let mut answer = told["answers"][0].take();
     if let Some(why) = answer["fenced"].as_str() {

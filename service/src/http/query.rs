@@ -1,9 +1,9 @@
 //! The numbers of a query, as `after=4000&limit=100`.
 use super::json_members::shown;
-use super::reply::{bad_field, HttpReply};
+use super::reply::{bad_field, Refusable};
 
 /// Reads the wanted parameters, each a number within its limits, or its default. Others are refused.
-pub fn numbers<const N: usize>(query: &str, wanted: [Parameter; N]) -> Result<[u64; N], Box<HttpReply>> {
+pub fn numbers<const N: usize>(query: &str, wanted: [Parameter; N]) -> Refusable<[u64; N]> {
     let mut found = wanted.map(|parameter| parameter.default);
     for pair in query.split('&').filter(|pair| !pair.is_empty()) {
         let (name, value) = pair.split_once('=').unwrap_or((pair, ""));

@@ -2,7 +2,7 @@
 use super::log_position::{self, LogPosition};
 use super::query::{self, numbers, Parameter};
 use super::render::{self, Metadata};
-use super::reply::{bad_field, body, error, json_reply, with_type, HttpReply};
+use super::reply::{bad_field, body, error, json_reply, with_type, Answered, Refusable};
 use super::route::{Route, To};
 use super::{acks, names, no_job, states, App};
 use crate::auth::Caller;
@@ -25,7 +25,7 @@ const fn limit(most: u64, default: u64) -> Parameter {
     Parameter { name: "limit", most, default }
 }
 
-pub async fn answer(app: &App, route: &Route, caller: &Caller, query: &str) -> Result<HttpReply, Box<HttpReply>> {
+pub async fn answer(app: &App, route: &Route, caller: &Caller, query: &str) -> Answered {
     let (job, number) = (route.job.as_deref().unwrap_or_default(), route.number);
     match route.to {
         To::Metrics => metrics(app, query).await,
@@ -50,7 +50,7 @@ fn rows(most: u64) -> u32 {
 }
 
 /// If the writer does not answer, the jobs' metrics are those of the last time.
-async fn metrics(app: &App, query: &str) -> Result<HttpReply, Box<HttpReply>> {
+async fn metrics(app: &App, query: &str) -> Answered {
     numbers(query, [])?;
     let asked = async {
         if !app.board.is_ready() {
@@ -78,7 +78,7 @@ async fn metrics(app: &App, query: &str) -> Result<HttpReply, Box<HttpReply>> {
 }
 
 /// The jobs in the order of their numbers, in parts if that is asked for: `next` is the `after` of the next part.
-pub async fn jobs(app: &App, caller: &Caller, query: &str) -> Result<HttpReply, Box<HttpReply>> {
+pub async fn jobs(app: &App, caller: &Caller, query: &str) -> Answered {
     let [after, most, at_once] = numbers(query, [AFTER, limit(u64::MAX, u64::MAX), AT_ONCE])?;
     // before the jobs are read, so one that is replayed meanwhile is in both lists and not in none
     let replaying = (at_once == 1).then(|| app.board.replay.names(|name| caller.may_see(name)));
@@ -111,7 +111,7 @@ pub(super) fn damaged(app: &App, caller: &Caller) -> Vec<Value> {
     kept_out.into_iter().map(|(name, why)| json!({"name": name, "why": why})).collect()
 }
 
-async fn one_job(app: &App, job: &str, query: &str) -> Result<HttpReply, Box<HttpReply>> {
+async fn one_job(app: &App, job: &str, query: &str) -> Answered {
     numbers(query, [])?;
     match app.read(Read::Job(job.to_string())).await? {
         ReadDone::Job(state) => Ok(json_reply(200, &render::job(&state, app.board.log()))),
@@ -119,7 +119,7 @@ async fn one_job(app: &App, job: &str, query: &str) -> Result<HttpReply, Box<Htt
     }
 }
 
-async fn records(app: &App, job: &str, query: &str) -> Result<HttpReply, Box<HttpReply>> {
+async fn records(app: &App, job: &str, query: &str) -> Answered {
     let before = Parameter { name: "before", most: u64::MAX, default: u64::MAX };
     let (how, query) = query::text(query, "how");
     let (kind, query) = query::text(&query, "kind");
@@ -133,7 +133,7 @@ async fn records(app: &App, job: &str, query: &str) -> Result<HttpReply, Box<Htt
 }
 
 /// The last records that are complete or have failed, the greatest number first.
-async fn history(app: &App, job: &str, query: &str) -> Result<HttpReply, Box<HttpReply>> {
+async fn history(app: &App, job: &str, query: &str) -> Answered {
     let [last] = numbers(query, [Parameter { name: "last", most: MOST_ROWS, default: 100 }])?;
     let number = app.number(job)?;
     let read = move |history: &HistoryReader| Ok((history.ended_records(number, last)?, history.upto(number)?));
@@ -143,7 +143,7 @@ async fn history(app: &App, job: &str, query: &str) -> Result<HttpReply, Box<Htt
 }
 
 /// One of these words, in which a '+' or '%20' stands for a space.
-fn word(name: &str, given: Option<&str>, words: &[&'static str]) -> Result<Option<&'static str>, Box<HttpReply>> {
+fn word(name: &str, given: Option<&str>, words: &[&'static str]) -> Refusable<Option<&'static str>> {
     let Some(given) = given else {
         return Ok(None);
     };
@@ -152,7 +152,7 @@ fn word(name: &str, given: Option<&str>, words: &[&'static str]) -> Result<Optio
     found.map(|word| Some(*word)).ok_or_else(|| bad_field(name, &format!("is none of {}", words.join(", "))).into())
 }
 
-async fn record(app: &App, job: &str, id: u64, query: &str) -> Result<HttpReply, Box<HttpReply>> {
+async fn record(app: &App, job: &str, id: u64, query: &str) -> Answered {
     numbers(query, [])?;
     let number = app.number(job)?;
     let ReadDone::Record(live) = app.read(Read::Record { job: job.to_string(), id }).await? else {
@@ -166,13 +166,13 @@ async fn record(app: &App, job: &str, id: u64, query: &str) -> Result<HttpReply,
 }
 
 /// The metadata of a live record, or nothing of one that is not live.
-pub(super) fn metadata(live: Option<RecordState>) -> Result<Option<Metadata>, Box<HttpReply>> {
+pub(super) fn metadata(live: Option<RecordState>) -> Refusable<Option<Metadata>> {
     let read = |state: RecordState| state.metadata.and_then(|text| Metadata::of(&text));
     live.map(|state| read(state).ok_or_else(|| error(507, "memory ran out").into())).transpose()
 }
 
 /// The files that were taken and not reported, those taken first before the others, and the files that were deleted last.
-async fn files(app: &App, job: &str, query: &str) -> Result<HttpReply, Box<HttpReply>> {
+async fn files(app: &App, job: &str, query: &str) -> Answered {
     let before = Parameter { name: "before", most: u64::MAX, default: u64::MAX };
     let [before, most] = numbers(query, [before, limit(MOST_ROWS, 100)])?;
     let ReadDone::Job(state) = app.read(Read::Job(job.to_string())).await? else {
@@ -189,7 +189,7 @@ pub(super) struct FilesRead {
 }
 
 /// How far the history is, and at most this many taken files, and files that were deleted before a call.
-pub(super) async fn files_of(app: &App, job: &JobState, before: u64, most: u64) -> Result<FilesRead, Box<HttpReply>> {
+pub(super) async fn files_of(app: &App, job: &JobState, before: u64, most: u64) -> Refusable<FilesRead> {
     let number = job.opening.number;
     let (taken, deleted, upto) = app
         .read_history(move |history| {
@@ -202,7 +202,7 @@ pub(super) async fn files_of(app: &App, job: &JobState, before: u64, most: u64) 
 }
 
 /// Taken files by the coordinator's whole list, for a history that does not know all of them.
-async fn taken_by_all(app: &App, job: &str, number: i64, most: u64) -> Result<Vec<FileRow>, Box<HttpReply>> {
+async fn taken_by_all(app: &App, job: &str, number: i64, most: u64) -> Refusable<Vec<FileRow>> {
     let all = match app.read(Read::Taken(job.to_string())).await? {
         ReadDone::Taken(all) => all.ok_or_else(|| error(507, "memory ran out"))?,
         _ => return Err(no_job(job).into()),
@@ -211,7 +211,7 @@ async fn taken_by_all(app: &App, job: &str, number: i64, most: u64) -> Result<Ve
 }
 
 /// How often a file is used, by which records, and its history.
-async fn one_file(app: &App, job: &str, file: u64, query: &str) -> Result<HttpReply, Box<HttpReply>> {
+async fn one_file(app: &App, job: &str, file: u64, query: &str) -> Answered {
     numbers(query, [])?;
     let number = app.number(job)?;
     let ReadDone::File { uses, bytes, live } = app.read(Read::File { job: job.to_string(), file }).await? else {
@@ -238,7 +238,7 @@ async fn one_file(app: &App, job: &str, file: u64, query: &str) -> Result<HttpRe
 
 /// The acknowledgements of these live records that name a file. Reads one record at a time, so none keeps the writer
 /// for long. A record that has ended meanwhile has none.
-async fn used_by(app: &App, job: &str, file: u64, live: Vec<u64>) -> Result<Vec<Value>, Box<HttpReply>> {
+async fn used_by(app: &App, job: &str, file: u64, live: Vec<u64>) -> Refusable<Vec<Value>> {
     let mut by = Vec::new();
     for id in live {
         if let ReadDone::Record(record) = app.read(Read::Record { job: job.to_string(), id }).await? {
@@ -248,7 +248,7 @@ async fn used_by(app: &App, job: &str, file: u64, live: Vec<u64>) -> Result<Vec<
     Ok(by)
 }
 
-async fn log(app: &App, job: &str, caller: &Caller, query: &str) -> Result<HttpReply, Box<HttpReply>> {
+async fn log(app: &App, job: &str, caller: &Caller, query: &str) -> Answered {
     let terms = Parameter { name: "terms", most: 1, default: 0 };
     let [after, most, terms] = numbers(query, [AFTER, limit(MOST_ROWS, 100), terms])?;
     if terms == 1 && !caller.may_write {
@@ -267,7 +267,7 @@ async fn log(app: &App, job: &str, caller: &Caller, query: &str) -> Result<HttpR
 }
 
 /// The events after a place, once there is one, or after a time. Without a place: from the first that the log has.
-async fn events(app: &App, job: &str, query: &str) -> Result<HttpReply, Box<HttpReply>> {
+async fn events(app: &App, job: &str, query: &str) -> Answered {
     let wait = Parameter { name: "wait", most: MOST_WAIT, default: 0 };
     let (known, query) = query::text(query, "log");
     let [after, wait, most] = numbers(&query, [log_position::AFTER, wait, limit(MOST_ROWS, MOST_ROWS)])?;
@@ -302,7 +302,7 @@ async fn events(app: &App, job: &str, query: &str) -> Result<HttpReply, Box<Http
     Ok(json_reply(200, &json!({"first": first, "log": app.board.log(), "upto": upto, "events": events})))
 }
 
-async fn samples(app: &App, job: &str, query: &str) -> Result<HttpReply, Box<HttpReply>> {
+async fn samples(app: &App, job: &str, query: &str) -> Answered {
     let [after, most] = numbers(query, [AFTER, limit(MOST_SAMPLES, 1000)])?;
     let number = app.number(job)?;
     let samples = app.read_history(move |history| history.samples(number, after, most)).await?;

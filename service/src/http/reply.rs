@@ -10,6 +10,12 @@ use serde_json::{json, Value};
 
 pub type HttpReply = Response<Body>;
 
+/// What a request needs, or the answer that refuses it.
+pub type Refusable<T> = Result<T, Box<HttpReply>>;
+
+/// The answer to a request.
+pub type Answered = Refusable<HttpReply>;
+
 /// How many headers most answers have at most.
 const HEADERS: usize = 6;
 
@@ -102,13 +108,14 @@ pub fn bad_key(why: &str) -> HttpReply {
 }
 
 /// A bad request: the field, and what is wrong with it.
-pub fn invalid(invalid: &Invalid) -> HttpReply {
-    let Invalid { field, why } = invalid;
+pub fn bad_field(field: &str, why: &str) -> HttpReply {
     refusal(400, json!({"error": format!("{field} {why}"), "field": field}))
 }
 
-pub fn bad_field(field: &str, why: &str) -> HttpReply {
-    invalid(&Invalid { field: field.to_string(), why: why.to_string() })
+impl From<Invalid> for Box<HttpReply> {
+    fn from(Invalid { field, why }: Invalid) -> Box<HttpReply> {
+        bad_field(&field, &why).into()
+    }
 }
 
 pub fn with_header(mut reply: HttpReply, name: HeaderName, value: &str) -> HttpReply {

@@ -2,7 +2,7 @@
 use super::query::numbers;
 use super::reads::metadata;
 use super::render::Metadata;
-use super::reply::{body, error, HttpReply};
+use super::reply::{body, error, Answered, Refusable};
 use super::{no_job, App};
 use crate::model::{Given, SubtaskState};
 use crate::writer::{Read, ReadDone};
@@ -31,7 +31,7 @@ struct Whole<'a> {
 }
 
 /// The record, as long as it is live. It has no term: a task of an ended term could learn the new one here.
-pub async fn answer(app: &App, job: &str, id: u64, query: &str) -> Result<HttpReply, Box<HttpReply>> {
+pub async fn answer(app: &App, job: &str, id: u64, query: &str) -> Answered {
     numbers(query, [])?;
     let number = app.number(job)?;
     let record = complete(app, job, id).await?;
@@ -44,7 +44,7 @@ pub async fn answer(app: &App, job: &str, id: u64, query: &str) -> Result<HttpRe
     Ok(body(200, text))
 }
 
-async fn complete(app: &App, job: &str, id: u64) -> Result<Metadata, Box<HttpReply>> {
+async fn complete(app: &App, job: &str, id: u64) -> Refusable<Metadata> {
     let ReadDone::Record(live) = app.read(Read::Record { job: job.to_string(), id }).await? else {
         return Err(no_job(job).into());
     };

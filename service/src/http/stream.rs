@@ -2,7 +2,7 @@
 use super::log_position::{self, LogPosition};
 use super::query::{self, numbers};
 use super::render;
-use super::reply::{bad_field, with_type, HttpReply};
+use super::reply::{bad_field, with_type, Answered, Refusable};
 use super::{no_job, App};
 use crate::auth::Caller;
 use hyper::body::Sender;
@@ -25,12 +25,7 @@ const ALIVE_EACH: Duration = Duration::from_secs(10);
 const LAST_ID: &str = "last-event-id";
 
 /// Answers with the events after a place, and then with each that comes.
-pub async fn answer(
-    app: &Arc<App>,
-    job: String,
-    caller: &Caller,
-    request: &Request<Body>,
-) -> Result<HttpReply, Box<HttpReply>> {
+pub async fn answer(app: &Arc<App>, job: String, caller: &Caller, request: &Request<Body>) -> Answered {
     let (known, query) = query::text(request.uri().query().unwrap_or(""), "log");
     let [after] = numbers(&query, [log_position::AFTER])?;
     let (after, known) = match last_id(request.headers())? {
@@ -55,7 +50,7 @@ pub async fn answer(
 }
 
 /// The place and the log's identity of a client that comes back.
-fn last_id(headers: &HeaderMap) -> Result<Option<(u64, String)>, Box<HttpReply>> {
+fn last_id(headers: &HeaderMap) -> Refusable<Option<(u64, String)>> {
     let Some(value) = headers.get(LAST_ID) else {
         return Ok(None);
     };
@@ -107,7 +102,7 @@ impl Stream {
     }
 
     /// The text of what has come, and whether it is the last. Nothing comes of a log that another process may write by now.
-    async fn next(&mut self) -> Result<(String, bool), Box<HttpReply>> {
+    async fn next(&mut self) -> Refusable<(String, bool)> {
         let place = LogPosition { job: &self.job, number: self.number, after: Some(self.after) };
         let is_cut = place.check_cut(&self.app).is_err();
         if !self.app.board.is_ready() {

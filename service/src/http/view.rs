@@ -3,7 +3,7 @@
 use super::query::{numbers, Parameter};
 use super::reads::{files_of, metadata, FilesRead};
 use super::render;
-use super::reply::{self, json_reply, HttpReply};
+use super::reply::{self, json_reply, Answered, Refusable};
 use super::{reads, App};
 use crate::auth::Caller;
 use crate::history::{self, HistoryReader, Search};
@@ -28,12 +28,7 @@ struct Wanted {
 }
 
 /// The job of this name is shown, or the first one if there is none.
-pub async fn answer(
-    app: &App,
-    name: Option<&String>,
-    caller: &Caller,
-    query: &str,
-) -> Result<HttpReply, Box<HttpReply>> {
+pub async fn answer(app: &App, name: Option<&String>, caller: &Caller, query: &str) -> Answered {
     let [records, samples, files] = numbers(query, [RECORDS, SAMPLES, FILES])?;
     let jobs = app.jobs().await?;
     // the names of many jobs take long, and the other requests go on by another thread
@@ -71,7 +66,7 @@ fn names_of(jobs: Vec<JobState>, name: Option<&String>, caller: &Caller) -> (Val
 }
 
 /// The pending records of a job, each with the subtasks that are missing. One that has ended meanwhile is left out.
-async fn pending(app: &App, job: &JobState) -> Result<Vec<Value>, Box<HttpReply>> {
+async fn pending(app: &App, job: &JobState) -> Refusable<Vec<Value>> {
     let mut found = Vec::new();
     for (record, _) in job.live.iter().filter(|(record, _)| !record.done).take(MOST_PENDING) {
         let read = Read::Record { job: job.opening.name.clone(), id: record.id };
@@ -92,7 +87,7 @@ async fn pending(app: &App, job: &JobState) -> Result<Vec<Value>, Box<HttpReply>
 }
 
 /// What the history has of a job, how far it is, and the files that were taken and deleted.
-async fn history(app: &App, job: &JobState, wanted: Wanted) -> Result<serde_json::Map<String, Value>, Box<HttpReply>> {
+async fn history(app: &App, job: &JobState, wanted: Wanted) -> Refusable<serde_json::Map<String, Value>> {
     let number = job.opening.number;
     let FilesRead { upto, taken, deleted } = files_of(app, job, u64::MAX, wanted.files).await?;
     let savepoints: Vec<u64> = savepoints(job).collect();

@@ -1,8 +1,11 @@
 //! Requests that change something: a new job, and calls.
 use super::audit::Did;
 use super::bodies::BodyRoom;
+use super::json_members::Checked;
 use super::query::{numbers, Parameter};
-use super::reply::{bad_field, bad_key, body, damaged, error, invalid, json_reply, refusal, with_header, HttpReply};
+use super::reply::{
+    bad_field, bad_key, body, damaged, error, json_reply, refusal, with_header, Answered, HttpReply, Refusable,
+};
 use super::{gate, no_job, wire, App};
 use crate::auth::Caller;
 use crate::model::{settings_json, Call};
@@ -21,10 +24,39 @@ const ABANDON: Parameter = Parameter { name: "abandon", most: 1, default: 0 };
 /// How long a body may still take when the service stops.
 const STOP_BODIES: Duration = Duration::from_secs(5);
 
-pub async fn new_job(app: &App, caller: &Caller, request: Request<Body>) -> Result<HttpReply, Box<HttpReply>> {
-    let (bytes, _room) = read_body(app, caller, request.into_body()).await?;
-    let wire::NewJob { name, settings, shape, first, storage } = wire::new_job(&bytes).map_err(|why| invalid(&why))?;
-    if !caller.may_see(&name) {
+/// A request that may be made, who makes it, and the job that its path names.
+pub struct Given<'a> {
+    pub app: &'a App,
+    pub caller: Caller,
+    pub job: String,
+    pub request: Request<Body>,
+}
+
+impl<'a> Given<'a> {
+    pub fn query(&self) -> &str {
+        self.request.uri().query().unwrap_or("")
+    }
+
+    /// What its body says of the job, and the room of the body, which is kept until the request is answered.
+    pub async fn said<T>(&mut self, read: impl Fn(&[u8]) -> Checked<T>) -> Refusable<(T, BodyRoom)> {
+        self.app.number(&self.job)?;
+        let (bytes, room) = self.read_body().await?;
+        Ok((read(&bytes)?, room))
+    }
+
+    /// A request that makes calls of the job.
+    pub async fn asked(mut self) -> Refusable<Asked<'a>> {
+        self.app.number(&self.job)?;
+        let key = key_name(self.request.headers())?;
+        let (bytes, room) = self.read_body().await?;
+        Ok(Asked { app: self.app, job: self.job, key, bytes, _room: room })
+    }
+}
+
+pub async fn new_job(mut given: Given<'_>) -> Answered {
+    let (bytes, _room) = given.read_body().await?;
+    let (app, wire::NewJob { name, settings, shape, first, storage }) = (given.app, wire::new_job(&bytes)?);
+    if !given.caller.may_see(&name) {
         return Err(gate::not_for(&name).into());
     }
     app.replayed(&name).await?;
@@ -57,10 +89,10 @@ fn making(job: &str) -> HttpReply {
 }
 
 /// Deletes a job with its log and its history.
-pub async fn delete_job(app: &App, job: String, query: &str) -> Result<HttpReply, Box<HttpReply>> {
-    let [abandon] = numbers(query, [ABANDON])?;
-    let name = job.clone();
-    let told = app.ask(|reply| Message::Delete(Delete { job, abandon: abandon == 1, reply })).await?;
+pub async fn delete_job(given: Given<'_>) -> Answered {
+    let [abandon] = numbers(given.query(), [ABANDON])?;
+    let name = given.job.clone();
+    let told = given.app.ask(|reply| Message::Delete(Delete { job: given.job, abandon: abandon == 1, reply })).await?;
     Ok(match told {
         Deletion::Done => json_reply(200, &json!({"deleted": name})),
         Deletion::NoJob => no_job(&name),
@@ -69,52 +101,40 @@ pub async fn delete_job(app: &App, job: String, query: &str) -> Result<HttpReply
     })
 }
 
-pub async fn calls(
-    app: &App,
-    caller: &Caller,
-    job: String,
-    request: Request<Body>,
-) -> Result<HttpReply, Box<HttpReply>> {
-    let asked = Asked::read(app, caller, &job, request).await?;
-    let (calls, tells) = wire::calls(&asked.bytes, app.limits.calls).map_err(|why| invalid(&why))?;
+pub async fn calls(given: Given<'_>) -> Answered {
+    let asked = given.asked().await?;
+    let (calls, tells) = wire::calls(&asked.bytes, asked.app.limits.calls)?;
     if let Some(call) = calls.iter().find(|call| call.wants_key()).filter(|_| asked.key.is_none()) {
         return Err(key_is_missing(call).into());
     }
-    asked.make(app, job, calls, tells, "", |answers| body(200, answers)).await
+    asked.make(calls, tells, "", |answers| body(200, answers)).await
 }
 
 /// A request that makes calls of a job: its key, if it has one, and its body, which keeps its room.
-pub(super) struct Asked {
+pub struct Asked<'a> {
+    app: &'a App,
+    job: String,
     key: Option<String>,
     pub bytes: Vec<u8>,
     _room: BodyRoom,
 }
 
-impl Asked {
-    pub async fn read(app: &App, caller: &Caller, job: &str, asked: Request<Body>) -> Result<Asked, Box<HttpReply>> {
-        app.number(job)?;
-        let key = key_name(asked.headers())?;
-        let (bytes, room) = read_body(app, caller, asked.into_body()).await?;
-        Ok(Asked { key, bytes, _room: room })
-    }
-
+impl Asked<'_> {
     /// Makes the calls, once under the key, and `told` makes the reply of their answers. Paths may have the same body, so each has its `word`: a
     /// key of one makes nothing for another.
     pub async fn make(
         self,
-        app: &App,
-        job: String,
         calls: Vec<Call>,
         tells: bool,
         word: &str,
         told: impl FnOnce(String) -> HttpReply,
-    ) -> Result<HttpReply, Box<HttpReply>> {
-        let bytes = self.bytes;
-        let digest = || format!("{:x}", Sha256::new().chain_update(word).chain_update(&bytes).finalize());
-        let key = self.key.map(|name| Key { name, digest: digest() });
-        let (at, did) = (job.clone(), Did::of(&calls));
-        let done = app.ask(|reply| Message::Calls { job, calls, tells, key, reply }).await?;
-        Ok(answered(app, &at, done, did, told))
+    ) -> Answered {
+        let Asked { app, job, bytes, .. } = &self;
+        let digest = || format!("{:x}", Sha256::new().chain_update(word).chain_update(bytes).finalize());
+        let key = self.key.as_ref().map(|name| Key { name: name.clone(), digest: digest() });
+        let did = Did::of(&calls);
+        let done = app.ask(|reply| Message::Calls { job: job.clone(), calls, tells, key, reply }).await?;
+        Ok(answered(app, job, done, did, told))
     }
 }
 
@@ -151,7 +171,7 @@ fn key_is_missing(call: &Call) -> HttpReply {
 }
 
 /// The request's key: 1 to 255 visible characters of ASCII.
-fn key_name(headers: &HeaderMap) -> Result<Option<String>, Box<HttpReply>> {
+fn key_name(headers: &HeaderMap) -> Refusable<Option<String>> {
     let Some(value) = headers.get(KEY) else {
         return Ok(None);
     };
@@ -161,25 +181,29 @@ fn key_name(headers: &HeaderMap) -> Result<Option<String>, Box<HttpReply>> {
     }
 }
 
-/// The whole body, within its limits of bytes and time, and its room, which is kept until the request is answered.
-pub(super) async fn read_body(app: &App, caller: &Caller, body: Body) -> Result<(Vec<u8>, BodyRoom), Box<HttpReply>> {
-    let most = app.limits.body_bytes;
-    let length = body.size_hint().upper().and_then(|length| usize::try_from(length).ok());
-    let time = Duration::from_secs(app.limits.body_seconds);
-    if length.is_some_and(|length| length > most) {
-        return Err(too_long(most).into());
+impl Given<'_> {
+    /// The whole body, within its limits of bytes and time, and its room, which is kept until the request is answered.
+    async fn read_body(&mut self) -> Refusable<(Vec<u8>, BodyRoom)> {
+        let (app, body) = (self.app, std::mem::take(self.request.body_mut()));
+        let most = app.limits.body_bytes;
+        let length = body.size_hint().upper().and_then(|length| usize::try_from(length).ok());
+        let time = Duration::from_secs(app.limits.body_seconds);
+        if length.is_some_and(|length| length > most) {
+            return Err(too_long(most).into());
+        }
+        let room = BodyRoom::new(&app.bodies, app.keys.token_of(&self.caller));
+        let mut reading = Reading { most, bytes: Vec::new(), room };
+        tokio::select! {
+            // most bodies are there at once, and need no timer
+            biased;
+            read = tokio::time::timeout(time, reading.read(body)) => match read {
+                Ok(read) => read?,
+                Err(_) => return Err(error(408, &format!("the body did not come within {} s", time.as_secs())).into()),
+            },
+            () = stops(app) => return Err(gate::busy("the service is stopping").into()),
+        }
+        Ok((reading.bytes, reading.room))
     }
-    let mut reading = Reading { most, bytes: Vec::new(), room: BodyRoom::new(&app.bodies, app.keys.token_of(caller)) };
-    tokio::select! {
-        // most bodies are there at once, and need no timer
-        biased;
-        read = tokio::time::timeout(time, reading.read(body)) => match read {
-            Ok(read) => read?,
-            Err(_) => return Err(error(408, &format!("the body did not come within {} s", time.as_secs())).into()),
-        },
-        () = stops(app) => return Err(gate::busy("the service is stopping").into()),
-    }
-    Ok((reading.bytes, reading.room))
 }
 
 /// A body that is being read, and its room.
@@ -190,7 +214,7 @@ struct Reading {
 }
 
 impl Reading {
-    async fn read(&mut self, mut body: Body) -> Result<(), Box<HttpReply>> {
+    async fn read(&mut self, mut body: Body) -> Refusable<()> {
         while let Some(part) = body.data().await {
             let part = part.map_err(|_| error(400, "the body ended early"))?;
             let length = self.bytes.len() + part.len();

@@ -6,11 +6,13 @@ mod queue;
 mod sizes;
 mod upkeep;
 
+pub use parted::Parted;
+
 use crate::history::Search;
 use crate::model::Outcome;
 use crate::writer::{JobState, Served};
 use jobs::Gauges;
-use parted::{part_of, Labels, OfJobs, Parted, PARTS};
+use parted::{part_of, Labels, OfJobs, PARTS};
 use process::Process;
 use prometheus::core::{Collector, MetricVec, MetricVecBuilder};
 use prometheus::{
@@ -197,7 +199,7 @@ impl Metrics {
     /// A job was deleted, or is another process's: its values go.
     pub fn forget(&self, job: &str) {
         let _held = self.values(job);
-        self.families.of_jobs.iter().for_each(|metric| metric.forget(job));
+        self.families.forget(job);
     }
 
     pub fn lead(&self, leads: bool) {
@@ -246,14 +248,14 @@ impl Metrics {
 #[derive(Default)]
 pub struct Families {
     /// Refuses two metrics of one name.
-    registry: Registry,
+    pub registry: Registry,
     all: Vec<Box<dyn Collector>>,
     /// Those of them that have values of jobs.
     of_jobs: Vec<Box<dyn OfJobs>>,
 }
 
 impl Families {
-    fn add<C: Collector + Clone + 'static>(
+    pub fn add<C: Collector + Clone + 'static>(
         &mut self,
         made: Result<C, prometheus::Error>,
     ) -> Result<C, prometheus::Error> {
@@ -274,16 +276,26 @@ impl Families {
         Ok(metric)
     }
 
-    fn counters(&mut self, name: &str, help: &str, labels: Labels) -> Result<Parted<IntCounterVec>, prometheus::Error> {
+    pub fn counters(
+        &mut self,
+        name: &str,
+        help: &str,
+        labels: Labels,
+    ) -> Result<Parted<IntCounterVec>, prometheus::Error> {
         self.parted(labels, |labels| IntCounterVec::new(Opts::new(name, help), labels))
     }
 
     /// A gauge of jobs, with whole numbers.
-    fn of_jobs(&mut self, name: &str, help: &str, labels: Labels) -> Result<Parted<IntGaugeVec>, prometheus::Error> {
+    pub fn of_jobs(
+        &mut self,
+        name: &str,
+        help: &str,
+        labels: Labels,
+    ) -> Result<Parted<IntGaugeVec>, prometheus::Error> {
         self.parted(labels, |labels| IntGaugeVec::new(Opts::new(name, help), labels))
     }
 
-    fn seconds(&mut self, name: &str, help: &str, labels: Labels) -> Result<Parted<GaugeVec>, prometheus::Error> {
+    pub fn seconds(&mut self, name: &str, help: &str, labels: Labels) -> Result<Parted<GaugeVec>, prometheus::Error> {
         self.parted(labels, |labels| GaugeVec::new(Opts::new(name, help), labels))
     }
 
@@ -296,13 +308,18 @@ impl Families {
         self.add(Histogram::with_opts(HistogramOpts::new(name, help).buckets(buckets.to_vec())))
     }
 
-    fn gauge(&mut self, name: &str, help: &str) -> Result<Gauge, prometheus::Error> {
+    pub fn gauge(&mut self, name: &str, help: &str) -> Result<Gauge, prometheus::Error> {
         self.add(Gauge::new(name, help))
     }
 
     /// A gauge of whole numbers.
-    fn whole(&mut self, name: &str, help: &str) -> Result<IntGauge, prometheus::Error> {
+    pub fn whole(&mut self, name: &str, help: &str) -> Result<IntGauge, prometheus::Error> {
         self.add(IntGauge::new(name, help))
+    }
+
+    /// Removes the values of a job.
+    pub fn forget(&self, job: &str) {
+        self.of_jobs.iter().for_each(|metric| metric.forget(job));
     }
 
     fn text(&self) -> Result<Vec<u8>, prometheus::Error> {

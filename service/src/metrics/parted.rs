@@ -43,6 +43,11 @@ impl<T: MetricVecBuilder> Parted<MetricVec<T>> {
     pub fn with_label_values(&self, labels: &[&str]) -> T::M {
         self.part(labels).with_label_values(labels)
     }
+
+    /// Removes a value. Most of those that a deletion looks for are not there.
+    pub fn remove(&self, labels: &[&str]) {
+        let _ = self.part(labels).remove_label_values(labels);
+    }
 }
 
 /// What forgets a job that was deleted, or is another process's.
@@ -58,8 +63,7 @@ impl<T: MetricVecBuilder> OfJobs for Parted<MetricVec<T>> {
             labels = labels.iter().flat_map(|some| words.iter().map(|word| [&some[..], &[*word]].concat())).collect();
         }
         for some in labels {
-            // most have no value
-            let _ = self.part(&some).remove_label_values(&some);
+            self.remove(&some);
         }
     }
 }
