@@ -45,6 +45,7 @@ func TestAnswersThatNobodyKnows(t *testing.T) {
 			t.Errorf("call %d: %v", place, err)
 		}
 	}
+	equal(t, errorOf(job.Save()), relkvanu.ErrNoMemory)
 	equal(t, errorOf(job.Ack(0, 1, first, nil, nil)).Error(), "relkvanu: the call is refused: refusal 999")
 	equal(t, errorOf(job.Restore(0, nil)).Error(), "relkvanu: an argument is outside its limits: number 999")
 	equal(t, errorOf(job.Term()).Error(), "relkvanu: fenced: number 999")

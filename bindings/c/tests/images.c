@@ -1,5 +1,5 @@
 /* images: what the library reads and writes as an image: images that are cut and changed at each byte, and damaged in each way; and texts that are written, and
- * written again. That a coordinator goes on from its image as it would have is proved, and the tests of memory in the other languages open one at each call. */
+ * written again. That a coordinator goes on from its image as it would have is proved. */
 #include "../../../include/relkvanu.h"
 #include "image_rows.h"
 

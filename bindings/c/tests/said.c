@@ -1,9 +1,7 @@
-/* said SCRIPT..: tries relkvanu_line_call, which returns the call that a line says, relkvanu_call_line, which writes the line of a call, and relkvanu_make. Expected
- * values come from docs/SCRIPT.md and docs/LOGS.md. For each line of the scripts and logs that says a call, the line that is written of it says the
- * same call. Each line is also read with each request for memory refused. The buffers are blocks of their own with the length that the call gets. */
-#define _GNU_SOURCE
+/* said: tries relkvanu_line_call, which returns the call that a line says, relkvanu_call_line, which writes the line of a call, and relkvanu_make. Expected
+ * values come from docs/SCRIPT.md and docs/LOGS.md. The packages write the lines of rows and logs again. The buffers are blocks of their own with the length
+ * that the call gets. */
 #include "logs.h"
-#include "refusing_heap.h"
 
 enum { LONGEST = 131072 };
 
@@ -171,106 +169,6 @@ static void lengths(void) {
     expect(relkvanu_line_says(text, LONGEST + 1, NULL, 0), RELKVANU_BAD_LINE, RELKVANU_FAULT_TOO_LONG, 0, 0, __LINE__);
 }
 
-/* The place after the spaces and these characters from here on. */
-static size_t past(const char *text, size_t len, size_t from, const char *these) {
-    while (from < len && (text[from] == ' ' || strchr(these, text[from]) != NULL)) {
-        from++;
-    }
-    return from;
-}
-
-static bool begins(const char *text, size_t len, size_t from, const char *word) {
-    return len - from >= strlen(word) && memcmp(text + from, word, strlen(word)) == 0;
-}
-
-/* Whether the line has lists, whose reading takes memory. They may come after `in` and a term. */
-static bool has_lists(const char *text, size_t len) {
-    size_t word = past(text, len, 0, "");
-    if (begins(text, len, word, "in ")) {
-        word = past(text, len, word + 3, "0123456789");
-    }
-    const char *const kinds[] = {"ack", "job", "restore", "forfeit"};
-    bool found = false;
-    for (size_t at = 0; at < 4; at++) {
-        found = found || begins(text, len, word, kinds[at]);
-    }
-    return found;
-}
-
-/* Reads the line with each request for memory refused: it changes nothing, and reads the same the next time. */
-static void try_without_memory(const char *text, size_t len, const struct said *wanted) {
-    heap_refuse(0);
-    struct said it = say(text, len, wanted->first_len, wanted->second_len);
-    uint64_t requests = heap_requests();
-    forget_said(&it);
-    CHECK(requests == 0 || has_lists(text, len));
-    for (uint64_t nth = 1; nth <= requests; nth++) {
-        heap_refuse(nth);
-        it = say(text, len, wanted->first_len, wanted->second_len);
-        CHECK(is_answer(it.answer, RELKVANU_NO_MEMORY, 0, 0, 0) && is_unchanged(&it));
-        forget_said(&it);
-    }
-    heap_refuse(0);
-}
-
-/* The line that is written for the call that this line says, and what that says. */
-static bool is_written_again(const struct said *it) {
-    char line[LONGEST];
-    relkvanu_answer written =
-        relkvanu_call_line(&it->call, it->first, it->first_len, it->second, it->second_len, (uint8_t *)line, sizeof line);
-    CHECK(written.code == RELKVANU_DONE && written.what == RELKVANU_WRITTEN);
-    struct said again = say(line, written.code == RELKVANU_DONE ? written.a : 0, it->first_len, it->second_len);
-    CHECK(is_answer(again.answer, RELKVANU_DONE, RELKVANU_LINE_CALL, it->first_len, it->second_len));
-    bool same =
-        same_call(&again.call, &it->call) && are(again.first, it->first, it->first_len) && are(again.second, it->second, it->second_len);
-    forget_said(&again);
-    return same;
-}
-
-/* A line of a script or a log. What it says is what relkvanu_line_says tells, and the call is written again as a line that says it. */
-static bool try_line(const char *text, size_t len) {
-    uint64_t numbers[4096];
-    relkvanu_answer told = relkvanu_line_says((const uint8_t *)text, len, numbers, 4096);
-    struct said it = say(text, len, 0, 0);
-    if (it.answer.code == RELKVANU_TOO_SHORT) {
-        size_t m = it.answer.a, n = it.answer.b;
-        forget_said(&it);
-        it = say(text, len, m, n);
-    }
-    bool is_call = is_answer(it.answer, RELKVANU_DONE, RELKVANU_LINE_CALL, it.first_len, it.second_len);
-    if (told.code == RELKVANU_BAD_LINE) {
-        CHECK(is_answer(it.answer, RELKVANU_BAD_LINE, told.what, 0, 0));
-    } else if (told.what == RELKVANU_LINE_CALL) {
-        bool is_no_call =
-            begins(text, len, past(text, len, 0, ""), "in ") && is_answer(it.answer, RELKVANU_BAD_LINE, RELKVANU_FAULT_NO_CALL, 0, 0);
-        CHECK(is_call || is_no_call || is_answer(it.answer, RELKVANU_BAD_ARGUMENT, RELKVANU_BAD_SHAPE, 0, 0) ||
-              is_answer(it.answer, RELKVANU_BAD_ARGUMENT, RELKVANU_BAD_CONFIG, 0, 0) ||
-              is_answer(it.answer, RELKVANU_REFUSED, RELKVANU_NO_SUCH_SAVEPOINT, 0, 0));
-    } else if (told.what == RELKVANU_LINE_SKIP) {
-        CHECK(is_answer(it.answer, RELKVANU_DONE, RELKVANU_SKIPPED, 0, 0));
-    } else {
-        CHECK(is_answer(it.answer, RELKVANU_BAD_LINE, RELKVANU_FAULT_NO_CALL, 0, 0));
-    }
-    CHECK(is_call ? is_written_again(&it) : is_unchanged(&it));
-    try_without_memory(text, len, &it);
-    forget_said(&it);
-    return is_call;
-}
-
-/* Returns how many lines of the script say a call. */
-static size_t try_script(const char *path) {
-    FILE *from = fopen(path, "r");
-    CHECK(from != NULL);
-    char *line = NULL;
-    size_t room = 0, calls = 0;
-    for (ssize_t len = getline(&line, &room, from); len > 0; len = getline(&line, &room, from)) {
-        calls += try_line(line, (size_t)len - (line[len - 1] == '\n'));
-    }
-    free(line);
-    fclose(from);
-    return calls;
-}
-
 static const relkvanu_made MADE = {91, 92, 93, 94, 95}; /* of no call */
 
 /* A call that relkvanu_make does not make has this answer, and no buffer has changed. */
@@ -316,16 +214,10 @@ static void made(void) {
     relkvanu_close(&job);
 }
 
-int main(int argc, char **argv) {
+int main(void) {
     made();
     kinds();
     other_calls();
     lengths();
-    size_t calls = 0;
-    for (int at = 1; at < argc; at++) {
-        calls += try_script(argv[at]);
-    }
-    CHECK(argc == 1 || calls > 0);
-    printf("%zu lines say a call\n", calls);
     return 0;
 }

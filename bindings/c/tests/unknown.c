@@ -1,5 +1,5 @@
-/* unknown.c: a part of a library that gives answers which no header has, as a later version may (bindings/build_odd_libraries). A package has to say so,
- * and neither end the program nor take the answer for another. */
+/* unknown.c: a part of a library that gives answers which no header has, as a later version may (bindings/build_odd_libraries), and one that says that
+ * memory ran out. A package has to say so, and neither end the program nor take the answer for another. */
 #include "../../../include/relkvanu.h"
 
 enum { NUMBER = 999 };
@@ -31,6 +31,7 @@ GIVES(live, RELKVANU_DONE, NUMBER, relkvanu *handle, size_t place)
 GIVES(standing, RELKVANU_DONE, NUMBER, relkvanu *handle, uint64_t id)
 GIVES(term, RELKVANU_FENCED, NUMBER, relkvanu *handle)
 GIVES(reserve, RELKVANU_DONE, NUMBER, relkvanu *handle, uint64_t term, uint64_t count)
+GIVES(save, RELKVANU_NO_MEMORY, 0, relkvanu *handle, uint8_t *image, size_t image_len)
 /* clang-format on */
 
 relkvanu_answer relkvanu_line(relkvanu *handle, const uint8_t *line, size_t line_len, uint64_t *files, size_t files_len) {

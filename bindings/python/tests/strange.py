@@ -17,7 +17,7 @@ with Coordinator(Settings(interval=1000), [1], 0) as job:
         lambda: job.tick(0), lambda: job.ack(0, 1, 0, 0, []), lambda: job.decline(0, 1, 0, 0), lambda: job.restore(0), lambda: job.line(b""),
         lambda: job.line(b"x"), lambda: lines.line_says(b""), job.mode, job.choice, lambda: job.standing(1), lambda: job.live(0),
         job.term, lambda: job.reserve(1, 1), lambda: job.savepoint(0), lambda: job.dispose(1), lambda: job.cancel(0), lambda: job.take(0),
-        lambda: job.deleted(1), lambda: job.undeleted(1), lambda: job.count(1), lambda: Aligner(1).element(0),
+        lambda: job.deleted(1), lambda: job.undeleted(1), lambda: job.count(1), job.save, lambda: Aligner(1).element(0),
     ):
         try:
             print(call())
@@ -44,6 +44,7 @@ Unknown 0 999
 Unknown 0 999
 Unknown 0 999
 Unknown 0 999
+OutOfMemory
 Unknown 0 999
 """
 

@@ -17,6 +17,7 @@ class UnknownTest {
                 () -> job.live(0), () -> job.standing(1), () -> job.line(Jobs.line("")), () -> job.line(Jobs.line("x")), () -> Lines.says(Jobs.line("")), job::term, () -> job.reserve(1, 1),
                 () -> job.savepoint(0), () -> job.dispose(1), () -> job.cancel(0), () -> job.take(1), () -> job.deleted(1), () -> job.undeleted(1), () -> job.count(1));
             all.forEach(it -> assertThrows(CoordinatorException.Unknown.class, it));
+            assertThrows(CoordinatorException.NoMemory.class, job::save);
         }
     }
 }

@@ -43,6 +43,7 @@ fn an_answer_that_nobody_knows_is_an_error_and_no_panic() {
     assert_eq!(job.live(0).map(|it| it.kind), Some(Kind::Unknown(999)));
     assert_eq!(job.term(), Err(Fault::Fenced(Fenced::Unknown(999))));
     assert_eq!(job.reserve(1, 1), Err(done));
+    assert_eq!(job.save(), Err(Fault::Memory));
     let task = Aligner::new(1).unwrap();
     assert_eq!(task.element(0), Err(AlignFault::Unknown(999)));
     assert_eq!(job.take(&mut []), Err(done));

@@ -10,7 +10,7 @@ use settings::SETTINGS;
 fn logs_are_replayed_by_their_lines_by_calls_and_by_methods() {
     for log in logs() {
         for make in WAYS {
-            replay(&log, make, |_, _, _| ());
+            replay(&log, make);
         }
     }
 }

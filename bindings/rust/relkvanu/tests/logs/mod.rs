@@ -2,8 +2,6 @@
 use crate::settings::SETTINGS;
 use relkvanu::{Answer, Call, Coordinator, Fault, Fenced, Line, Live, Said};
 
-pub const NO_MEMORY: &str = "no memory";
-
 /// The lines of a log, and after each arrow what a line prints.
 fn lines_of(log: &str) -> Vec<(String, Vec<String>)> {
     let mut lines: Vec<(String, Vec<String>)> = Vec::new();
@@ -135,7 +133,7 @@ fn or_fenced(told: Result<String, Fault>) -> String {
 pub const WAYS: [Make; 3] = [by_line, by_call, by_method];
 
 /// What a line prints: a second line has the term that began.
-pub fn told(job: &mut Coordinator, line: &str, make: Make) -> Vec<String> {
+fn told(job: &mut Coordinator, line: &str, make: Make) -> Vec<String> {
     let mut files = vec![0; 64];
     match make(job, line, &mut files) {
         Ok(Said::Called(answer @ (Answer::Restored { .. } | Answer::Cancelled { .. }))) => {
@@ -155,13 +153,12 @@ pub fn told(job: &mut Coordinator, line: &str, make: Make) -> Vec<String> {
         Err(Fault::Fenced(why)) => vec![format!("fenced {why}")],
         Err(Fault::Refused(why)) => vec![format!("refused {why}")],
         Err(Fault::BadName) => vec!["refused BadName".to_string()],
-        Err(Fault::Memory) => vec![NO_MEMORY.to_string()],
         Err(fault) => panic!("{line}: {fault}"),
     }
 }
 
-/// Makes the calls of a log so, each after what is to come before it.
-pub fn replay(log: &str, make: Make, before: impl Fn(&Coordinator, &str, Make)) {
+/// Makes the calls of a log so.
+pub fn replay(log: &str, make: Make) {
     let (mut settings, mut shape, mut job) = (SETTINGS, vec![], None);
     for (line, wanted) in lines_of(log) {
         if let Some(words) = line.strip_prefix("? ") {
@@ -172,10 +169,7 @@ pub fn replay(log: &str, make: Make, before: impl Fn(&Coordinator, &str, Make)) 
             Line::Config(given) => settings = given,
             Line::Job(given) => shape = given,
             Line::Start(now) => job = Coordinator::open(&settings, &shape, now, 1).ok(),
-            Line::Call => {
-                before(job.as_ref().unwrap(), &line, make);
-                assert_eq!(told(job.as_mut().unwrap(), &line, make), wanted, "{line}");
-            }
+            Line::Call => assert_eq!(told(job.as_mut().unwrap(), &line, make), wanted, "{line}"),
             other => assert_eq!(other, Line::Skip),
         }
     }
