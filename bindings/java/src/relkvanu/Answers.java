@@ -1,6 +1,7 @@
 package relkvanu;
 
 import java.util.Arrays;
+import java.util.function.IntFunction;
 
 /** What the four numbers of an answer mean: its code, what it is, and two numbers of that. */
 final class Answers {
@@ -28,26 +29,26 @@ final class Answers {
 
     /** What a function writes into a buffer that is long enough. */
     static byte[] bytes(long handle, long[] out, Write<byte[]> write) {
-        byte[] buffer = new byte[512];
-        write.on(handle, buffer, out);
-        while (out[0] == Header.TOO_SHORT) {
-            buffer = new byte[Checks.length(out[2])];
-            write.on(handle, buffer, out);
-        }
-        check(out);
+        byte[] buffer = written(handle, out, write, new byte[512], byte[]::new);
         return Arrays.copyOf(buffer, (int) out[2]);
     }
 
     /** The same with numbers. */
     static long[] numbers(long handle, long[] out, Write<long[]> write) {
-        long[] buffer = new long[64];
+        long[] buffer = written(handle, out, write, new long[64], long[]::new);
+        return Arrays.copyOf(buffer, (int) out[2]);
+    }
+
+    /** Writes into this buffer, or into a longer one. Returns which. */
+    private static <B> B written(long handle, long[] out, Write<B> write, B first, IntFunction<B> longer) {
+        B buffer = first;
         write.on(handle, buffer, out);
         while (out[0] == Header.TOO_SHORT) {
-            buffer = new long[Checks.length(out[2])];
+            buffer = longer.apply(Checks.length(out[2]));
             write.on(handle, buffer, out);
         }
         check(out);
-        return Arrays.copyOf(buffer, (int) out[2]);
+        return buffer;
     }
 
     /** The reply of a call that writes to no buffer. */

@@ -12,6 +12,11 @@ final class Checks {
         return value;
     }
 
+    static void subtask(int vertex, int index) {
+        u16(vertex, "vertex");
+        u16(index, "index");
+    }
+
     /** A number that is not negative. */
     static long natural(long value, String name) {
         if (value < 0) {

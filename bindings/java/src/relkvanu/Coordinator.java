@@ -1,7 +1,6 @@
 package relkvanu;
 
 import java.lang.ref.Cleaner;
-import java.lang.ref.Reference;
 import java.security.SecureRandom;
 import java.util.Objects;
 import java.util.Optional;
@@ -105,16 +104,12 @@ public final class Coordinator extends Reads implements AutoCloseable {
 
     /** A call at a moment. */
     private Reply timed(long now, Handle.Call call) {
-        handle.lock();
-        try {
+        return locked(() -> {
             if (now >= 0 && now <= LAST_MOMENT && isAhead(now)) {
                 throw new CoordinatorException.Refused(Refusal.MOMENT_TOO_LARGE, 0);
             }
             return handle.moved(call);
-        } finally {
-            handle.unlock();
-            Reference.reachabilityFence(this);
-        }
+        });
     }
 
     private boolean isAhead(long now) {
@@ -211,8 +206,7 @@ public final class Coordinator extends Reads implements AutoCloseable {
      * repeat. After {@code NAME_TAKEN} it deletes no file that it named before.
      */
     public Reply.Ack ack(long now, long id, int vertex, int index, long[] fresh, long... reused) {
-        Checks.u16(vertex, "vertex");
-        Checks.u16(index, "index");
+        Checks.subtask(vertex, index);
         Objects.requireNonNull(fresh, "fresh");
         Objects.requireNonNull(reused, "reused");
         return (Reply.Ack) timed(now, (at, out) -> Native.ack(at, now, id, vertex, index, fresh, reused, out));
@@ -220,8 +214,7 @@ public final class Coordinator extends Reads implements AutoCloseable {
 
     /** A subtask could not take its part of a record. */
     public Reply.Decline decline(long now, long id, int vertex, int index) {
-        Checks.u16(vertex, "vertex");
-        Checks.u16(index, "index");
+        Checks.subtask(vertex, index);
         return (Reply.Decline) timed(now, (at, out) -> Native.decline(at, now, id, vertex, index, out));
     }
 
@@ -285,8 +278,7 @@ public final class Coordinator extends Reads implements AutoCloseable {
      * {@code Fenced} with {@code SPENT}, if it has fresh files: a task deletes no file for that answer.
      */
     public Reply.Ack ackIn(long term, long now, long id, int vertex, int index, long[] fresh, long... reused) {
-        Checks.u16(vertex, "vertex");
-        Checks.u16(index, "index");
+        Checks.subtask(vertex, index);
         Objects.requireNonNull(fresh, "fresh");
         Objects.requireNonNull(reused, "reused");
         return (Reply.Ack) timed(now, (at, out) -> Native.ackIn(at, term, now, id, vertex, index, fresh, reused, out));
@@ -294,8 +286,7 @@ public final class Coordinator extends Reads implements AutoCloseable {
 
     /** {@link #decline} of a task of a term. */
     public Reply.Decline declineIn(long term, long now, long id, int vertex, int index) {
-        Checks.u16(vertex, "vertex");
-        Checks.u16(index, "index");
+        Checks.subtask(vertex, index);
         return (Reply.Decline) timed(now, (at, out) -> Native.declineIn(at, term, now, id, vertex, index, out));
     }
 
@@ -305,11 +296,7 @@ public final class Coordinator extends Reads implements AutoCloseable {
      */
     public Reply.Taken take(int most) {
         Checks.natural(most, "a number of files");
-        try {
-            return handle.take(most);
-        } finally {
-            Reference.reachabilityFence(this);
-        }
+        return fenced(() -> handle.take(most));
     }
 
     /** Shows the metadata of a live record. */
@@ -339,10 +326,6 @@ public final class Coordinator extends Reads implements AutoCloseable {
     public Optional<Reply> line(byte[] line, int most) {
         byte[] own = line.clone();
         Checks.natural(most, "a number of files");
-        try {
-            return handle.line(own, most);
-        } finally {
-            Reference.reachabilityFence(this);
-        }
+        return fenced(() -> handle.line(own, most));
     }
 }

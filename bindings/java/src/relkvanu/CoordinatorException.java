@@ -6,8 +6,8 @@ package relkvanu;
  * <p>{@link Refused}, {@link Fenced} and {@link NoMemory} are answers that a job gets every day, so they have no stack trace. With {@code
  * -Drelkvanu.traces=true} they have one.
  */
+@SuppressWarnings("serial") // nobody keeps one in a file
 public abstract sealed class CoordinatorException extends RuntimeException {
-    private static final long serialVersionUID = 1;
     private static final boolean HAS_TRACES = Boolean.getBoolean("relkvanu.traces");
 
     private CoordinatorException(String text, boolean hasTrace) {
@@ -20,7 +20,6 @@ public abstract sealed class CoordinatorException extends RuntimeException {
 
     /** The coordinator refused the call. */
     public static final class Refused extends CoordinatorException {
-        private static final long serialVersionUID = 1;
         private final Refusal refusal;
         private final long file;
 
@@ -46,7 +45,6 @@ public abstract sealed class CoordinatorException extends RuntimeException {
      * acknowledgement may have named it, such as this one if it was sent before.
      */
     public static final class Fenced extends CoordinatorException {
-        private static final long serialVersionUID = 1;
         private final relkvanu.Fenced reason;
         private final long file;
 
@@ -69,8 +67,6 @@ public abstract sealed class CoordinatorException extends RuntimeException {
 
     /** Memory of the library ran out: make the same call again. */
     public static final class NoMemory extends CoordinatorException {
-        private static final long serialVersionUID = 1;
-
         NoMemory() {
             super("the library has no memory", HAS_TRACES);
         }
@@ -78,8 +74,6 @@ public abstract sealed class CoordinatorException extends RuntimeException {
 
     /** The coordinator was closed. */
     public static final class Closed extends CoordinatorException {
-        private static final long serialVersionUID = 1;
-
         Closed() {
             super("the coordinator was closed", true);
         }
@@ -87,7 +81,6 @@ public abstract sealed class CoordinatorException extends RuntimeException {
 
     /** A value is outside its limits. */
     public static final class BadArgument extends CoordinatorException {
-        private static final long serialVersionUID = 1;
         private final Argument argument;
 
         BadArgument(Argument argument) {
@@ -103,7 +96,6 @@ public abstract sealed class CoordinatorException extends RuntimeException {
 
     /** A line of a script can't be read or makes no call, or the line of a call would be too long. */
     public static final class BadLine extends CoordinatorException {
-        private static final long serialVersionUID = 1;
         private final LineFault fault;
 
         BadLine(LineFault fault) {
@@ -119,7 +111,6 @@ public abstract sealed class CoordinatorException extends RuntimeException {
 
     /** A take line would fetch more files than it may. */
     public static final class TooShort extends CoordinatorException {
-        private static final long serialVersionUID = 1;
         private final long places;
 
         TooShort(long places) {
@@ -135,8 +126,6 @@ public abstract sealed class CoordinatorException extends RuntimeException {
 
     /** A number is negative, or has more bits than the call has for it, or an array can't have so many elements. */
     public static final class OutOfRange extends CoordinatorException {
-        private static final long serialVersionUID = 1;
-
         OutOfRange(String text) {
             super(text, true);
         }
@@ -147,8 +136,6 @@ public abstract sealed class CoordinatorException extends RuntimeException {
      * something may have changed.
      */
     public static final class Unknown extends CoordinatorException {
-        private static final long serialVersionUID = 1;
-
         Unknown(String kind, long what) {
             super("this package has no " + kind + " " + what, true);
         }
@@ -156,8 +143,6 @@ public abstract sealed class CoordinatorException extends RuntimeException {
 
     /** The native library is missing, can't be loaded, or is of another version. */
     public static final class NoLibrary extends CoordinatorException {
-        private static final long serialVersionUID = 1;
-
         NoLibrary(String text) {
             super(text, true);
         }

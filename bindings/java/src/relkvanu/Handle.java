@@ -5,6 +5,7 @@ import java.util.Optional;
 import java.util.OptionalLong;
 import java.util.concurrent.locks.Condition;
 import java.util.concurrent.locks.ReentrantLock;
+import java.util.function.Supplier;
 
 /**
  * A handle of the library with its lock. It outlives its {@link Coordinator} until it is closed, and does not refer to it.
@@ -43,25 +44,25 @@ final class Handle implements Runnable {
     /** Closes it, after the call that another thread is in. */
     @Override
     public void run() {
-        lock.lock();
-        try {
+        locked(() -> {
             if (address != 0) {
                 Native.close(address);
                 Native.destroy(address);
                 address = 0;
                 called.signalAll();
             }
+            return null;
+        });
+    }
+
+    /** Admits one thread at a time. */
+    <T> T locked(Supplier<T> work) {
+        lock.lock();
+        try {
+            return work.get();
         } finally {
             lock.unlock();
         }
-    }
-
-    void lock() {
-        lock.lock();
-    }
-
-    void unlock() {
-        lock.unlock();
     }
 
     private long open() {
@@ -72,85 +73,60 @@ final class Handle implements Runnable {
     }
 
     <T> T call(Call call, Read<T> read) {
-        lock.lock();
-        try {
+        return locked(() -> {
             call.on(open(), out);
             Answers.check(out);
             return read.of((int) out[1], out[2], out[3]);
-        } finally {
-            lock.unlock();
-        }
+        });
     }
 
     /** A call that may change what a timer waits for. */
     Reply moved(Call call) {
-        lock.lock();
-        try {
+        return locked(() -> {
             calls++;
             called.signalAll();
             return call(call, Answers::reply);
-        } finally {
-            lock.unlock();
-        }
+        });
     }
 
     byte[] bytes(Answers.Write<byte[]> write) {
-        lock.lock();
-        try {
-            return Answers.bytes(open(), out, write);
-        } finally {
-            lock.unlock();
-        }
+        return locked(() -> Answers.bytes(open(), out, write));
     }
 
     /** Files that a read writes. Empty: its answer is another one. */
     Optional<long[]> files(Answers.Write<long[]> write) {
-        lock.lock();
-        try {
+        return locked(() -> {
             long[] files = Answers.numbers(open(), out, write);
             return out[1] == Header.FILES ? Optional.of(files) : Optional.empty();
-        } finally {
-            lock.unlock();
-        }
+        });
     }
 
     FileCounts counts() {
-        lock.lock();
-        try {
+        return locked(() -> {
             Native.fileCounts(open(), out);
             return new FileCounts(out[1], out[2], out[3]);
-        } finally {
-            lock.unlock();
-        }
+        });
     }
 
     /** Fetches files. The array is not longer than what waits. */
     Reply.Taken take(int most) {
-        lock.lock();
-        try {
+        return locked(() -> {
             long[] files = new long[(int) Math.min(most, counts().waiting())];
             Native.take(open(), files, out);
             Answers.check(out);
-            if (out[1] != Header.TAKEN) {
-                throw new CoordinatorException.Unknown("reply", (int) out[1]);
-            }
+            Answers.is((int) out[1], Header.TAKEN);
             return new Reply.Taken(Arrays.copyOf(files, (int) out[2]));
-        } finally {
-            lock.unlock();
-        }
+        });
     }
 
     /** Makes the call of a line. The first attempt has no room for files: it changes nothing if it needs some. */
     Optional<Reply> line(byte[] line, int most) {
-        lock.lock();
-        try {
+        return locked(() -> {
             calls++;
             called.signalAll();
             Native.line(open(), line, NONE, out);
             return out[0] == Header.TOO_SHORT ? Optional.of(withRoom(line, most, out[2])) : replyOf(NONE);
-        } finally {
-            lock.unlock();
-        }
+        });
     }
 
     private Reply withRoom(byte[] line, int most, long places) {
@@ -176,12 +152,7 @@ final class Handle implements Runnable {
     }
 
     long calls() {
-        lock.lock();
-        try {
-            return calls;
-        } finally {
-            lock.unlock();
-        }
+        return locked(() -> calls);
     }
 
     /** Waits for another call, for so many nanoseconds at most. */

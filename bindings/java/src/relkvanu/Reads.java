@@ -14,41 +14,30 @@ abstract sealed class Reads permits Coordinator {
         this.handle = handle;
     }
 
-    // The fence: no thread closes a lost coordinator while a call of it goes on.
-
-    final <T> T call(Handle.Call call, Handle.Read<T> read) {
+    /** No thread closes a lost coordinator while this goes on. */
+    final <T> T fenced(Supplier<T> work) {
         try {
-            return handle.call(call, read);
+            return work.get();
         } finally {
             Reference.reachabilityFence(this);
         }
+    }
+
+    final <T> T call(Handle.Call call, Handle.Read<T> read) {
+        return fenced(() -> handle.call(call, read));
     }
 
     final byte[] bytes(Answers.Write<byte[]> write) {
-        try {
-            return handle.bytes(write);
-        } finally {
-            Reference.reachabilityFence(this);
-        }
+        return fenced(() -> handle.bytes(write));
     }
 
     final Optional<long[]> files(Answers.Write<long[]> write) {
-        try {
-            return handle.files(write);
-        } finally {
-            Reference.reachabilityFence(this);
-        }
+        return fenced(() -> handle.files(write));
     }
 
     /** Makes calls with no other thread's call between them. Delete, send and wait outside of it. */
     public <T> T locked(Supplier<T> calls) {
-        handle.lock();
-        try {
-            return calls.get();
-        } finally {
-            handle.unlock();
-            Reference.reachabilityFence(this);
-        }
+        return fenced(() -> handle.locked(calls));
     }
 
     /** {@return the number of calls so far that may have changed what a timer waits for} */
@@ -133,8 +122,7 @@ abstract sealed class Reads permits Coordinator {
 
     /** {@return the files that a subtask acknowledged in a live record, ascending; empty if it has not acknowledged in one} */
     public Optional<long[]> filesOf(long id, int vertex, int index) {
-        Checks.u16(vertex, "vertex");
-        Checks.u16(index, "index");
+        Checks.subtask(vertex, index);
         return files((at, files, out) -> Native.filesOf(at, id, vertex, index, files, out));
     }
 
@@ -178,10 +166,6 @@ abstract sealed class Reads permits Coordinator {
 
     /** {@return how many files are in use, wait for deletion, and were fetched} */
     public FileCounts fileCounts() {
-        try {
-            return handle.counts();
-        } finally {
-            Reference.reachabilityFence(this);
-        }
+        return fenced(handle::counts);
     }
 }

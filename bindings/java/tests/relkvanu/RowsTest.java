@@ -51,22 +51,9 @@ class RowsTest {
         }
     }
 
-    private static Stream<DynamicTest> each(String words, BiFunction<Coordinator, byte[], Optional<Reply>> make) throws IOException {
-        return rows().stream().filter(RowsTest::isListOfCalls).map(row -> DynamicTest.dynamicTest(name(row) + " " + words, () -> compare(row, make)));
-    }
-
     @TestFactory
-    Stream<DynamicTest> byLines() throws IOException {
-        return each("by lines", Coordinator::line);
-    }
-
-    @TestFactory
-    Stream<DynamicTest> byMethods() throws IOException {
-        return each("by methods", Words::byMethod);
-    }
-
-    @TestFactory
-    Stream<DynamicTest> writtenAgain() throws IOException {
-        return each("by lines that are written again", Words::writtenAgain);
+    Stream<DynamicTest> eachRow() throws IOException {
+        return rows().stream().filter(RowsTest::isListOfCalls).flatMap(row -> LogsTest.WAYS.entrySet().stream()
+            .map(way -> DynamicTest.dynamicTest(name(row) + " by " + way.getKey(), () -> compare(row, way.getValue()))));
     }
 }
