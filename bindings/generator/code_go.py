@@ -78,9 +78,12 @@ SAID = {
     "dispose": "Dispose disposes of a completed savepoint for a user.",
     "cancel": "Cancel ends the job for good.",
 }
-# The same of a store, if it differs.
 # What Go says of replies in its own words.
 SAID_OF_REPLIES = {
+    "DELETED": "FileDeleted is the reply to the report of a deleted file.",
+    "UNDELETED": "FileUndeleted is the reply to the report of a file that could not be deleted.",
+    "COUNTED": "Counted is the number of uses of a file.",
+    "CONFIGURED": "Configured is the reply to other settings: so many checkpoints were dropped, and so many files released.",
     "SAVEPOINT_TRIGGERED": "SavepointTriggered is the reply to a savepoint.",
     "DISPOSED": "Disposed is the reply to a dispose: so many files were released.",
     "CANCELLED": "Cancelled is the reply to a cancel: so many records were dropped, and so many files released.",
@@ -102,9 +105,14 @@ def exported(field: str) -> str:
     return "ID" if field == "id" else camel(field)
 
 
-def own(found: List[Call]) -> List[Call]:
-    """The calls with a reply of their own."""
-    return [it for it in calls.of_their_own(found) if it.name not in calls.REPORTS]
+# Replies whose names in Go are other ones, since a method or an error has theirs.
+OF_FILES = {"DELETED": "FileDeleted", "UNDELETED": "FileUndeleted"}
+
+
+def plain_replies() -> List[Number]:
+    """The replies that are all that their call is answered, and print as their numbers."""
+    found = [it.reply() for it in calls.of_their_own(calls.plain()) if it.name not in calls.REPORTS]
+    return [it for it in found if it] + [header.numbers()[name] for name in (*OF_FILES, "COUNTED", "CONFIGURED")]
 
 
 def reply_of(call: Call) -> str:
@@ -145,11 +153,9 @@ def line(call: Call) -> str:
     return f"// {name}Line is the line of {article} {name}.\nfunc {name}Line({given}) ([]byte, error) {{ return {made} }}\n"
 
 
-def reply_type(call: Call) -> str:
+def reply_type(it: Number) -> str:
     """The type of a reply, which prints as a script does."""
-    it = call.reply()
-    assert it is not None
-    name, fields = camel(it.name), [exported(field) for field, _, _ in it.fields()]
+    name, fields = OF_FILES.get(it.name, camel(it.name)), [exported(field) for field, _, _ in it.fields()]
     told = "; ".join(f"{exported(field)}: {what}" for field, _, what in it.fields())
     document = SAID_OF_REPLIES.get(it.name, " ".join([f"{name}:"] + [part for part in (it.sentence(), f"{told}." if told else "") if part]))
     body = f" {', '.join(fields)} uint64 " if fields else ""
@@ -161,10 +167,9 @@ def reply_type(call: Call) -> str:
     return text + f"func (r {name}) String() string {{ return {printed} }}\n"
 
 
-def case(call: Call) -> str:
-    it = call.reply()
-    assert it is not None
-    return f"\tcase C.RELKVANU_{it.name}:\n\t\treturn {camel(it.name)}{{{', '.join(letter for _, letter, _ in it.fields())}}}, nil\n"
+def case(it: Number) -> str:
+    name = OF_FILES.get(it.name, camel(it.name))
+    return f"\tcase C.RELKVANU_{it.name}:\n\t\treturn {name}{{{', '.join(letter for _, letter, _ in it.fields())}}}, nil\n"
 
 
 def listed(declarations: Iterable[str]) -> str:
@@ -188,14 +193,14 @@ def generated() -> Dict[str, Dict[str, str]]:
         "coordinator.go": {"the calls of one number": listed(method(it) for it in calls.stored())},
         "lines.go": {
             "the lines of calls of one number": listed(line(it) for it in calls.calls()),
-            "the replies to calls of one number": "".join(case(it) for it in own(calls.plain())),
+            "the replies to calls of one number": "".join(case(it) for it in plain_replies()),
         },
         "calls.go": {"the kinds": constants("CallKind", of("call_kind", "Call"))},
         "replies.go": {
             "the ends of ticks": constants("TickEnd", ticks), "the names of ends": named(ticks, ends("TICK_")),
             "the ends of acknowledgements": constants("AckEnd", replies("ACK_", "")),
             "the ends of declines": constants("DeclineEnd", replies("DECLINE_", "")),
-            "the replies to calls of one number": listed(reply_type(it) for it in own(calls.plain())),
+            "the replies to calls of one number": listed(reply_type(it) for it in plain_replies()),
         },
         "reads.go": {
             "the modes": constants("Mode", modes), "the names of modes": named(modes, [header.words(it.name.removeprefix("MODE_")) for _, it in modes]),

@@ -287,20 +287,14 @@ func (c *Coordinator) RestoreSavepoint(now, id uint64, shape []uint64) (Restored
 }
 
 func (c *Coordinator) restore(now, savepoint uint64, shape []uint64) (Restored, error) {
-	o, err := c.enter()
-	if err != nil {
-		return Restored{}, err
-	}
-	defer c.leave()
-	if shape != nil && len(shape) == 0 && !o.isClosed {
+	if shape != nil && len(shape) == 0 {
+		if _, err := c.Moment(); err != nil {
+			return Restored{}, err // a closed one
+		}
 		return Restored{}, BadShape
 	}
-	answer, err := o.timed(now, func(handle *C.relkvanu) C.relkvanu_answer {
+	return replied(c, now, restored, func(handle *C.relkvanu) C.relkvanu_answer {
 		at, length := list(shape)
 		return C.relkvanu_restore(handle, C.uint64_t(now), C.uint64_t(savepoint), at, length)
 	})
-	if err != nil {
-		return Restored{}, err
-	}
-	return restored(answer)
 }

@@ -36,17 +36,11 @@ func LineSays(line []byte) (Line, error) {
 		return nil, wrongLibrary
 	}
 	at, length := text(line)
-	var says C.relkvanu_answer
-	numbers := make([]uint64, 8)
-	for {
+	numbers, says, err := filled(8, func(numbers []uint64) C.relkvanu_answer {
 		to, room := list(numbers)
-		says = C.relkvanu_line_says(at, length, to, room)
-		if says.code != C.RELKVANU_TOO_SHORT {
-			break
-		}
-		numbers = make([]uint64, says.a)
-	}
-	if err := fault(says); err != nil {
+		return C.relkvanu_line_says(at, length, to, room)
+	})
+	if err != nil {
 		return nil, err
 	}
 	return lineOf(says, numbers)
@@ -231,23 +225,23 @@ func replyOf(answer C.relkvanu_answer, taken []uint64) (Reply, error) {
 		return Disposed{a}, nil
 	case C.RELKVANU_CANCELLED:
 		return Cancelled{a, b}, nil
-	// bindings/generate: end
-	case C.RELKVANU_TAKEN:
-		return Taken{taken[:a]}, nil
 	case C.RELKVANU_DELETED:
 		return FileDeleted{a}, nil
 	case C.RELKVANU_UNDELETED:
 		return FileUndeleted{a}, nil
 	case C.RELKVANU_COUNTED:
 		return Counted{a, b}, nil
+	case C.RELKVANU_CONFIGURED:
+		return Configured{a, b}, nil
+	// bindings/generate: end
+	case C.RELKVANU_TAKEN:
+		return Taken{taken[:a]}, nil
 	case C.RELKVANU_RESERVED:
 		return Reserved{a, b}, nil
 	case C.RELKVANU_FORFEITED:
 		return Forfeited{}, nil
 	case C.RELKVANU_NAMED:
 		return Named{}, nil
-	case C.RELKVANU_CONFIGURED:
-		return Configured{a, b}, nil
 	case C.RELKVANU_ACK_PENDING, C.RELKVANU_ACK_COMPLETED, C.RELKVANU_ACK_LATE:
 		return acked(answer)
 	case C.RELKVANU_DECLINE_ABORTED, C.RELKVANU_DECLINE_FAILED, C.RELKVANU_DECLINE_LATE:

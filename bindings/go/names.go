@@ -54,14 +54,8 @@ type RunningTerm struct{ Term, NextName uint64 }
 // Term is the term that runs, and the next name. Whoever restarts the tasks reads it after the restore, and tells each of them once the restore
 // is durable. A task never asks for it: one that should be dead would learn the new term.
 func (c *Coordinator) Term() (RunningTerm, error) {
-	return runningTerm(c.only(C.RELKVANU_TERM, func(handle *C.relkvanu) C.relkvanu_answer { return C.relkvanu_term(handle) }))
-}
-
-func runningTerm(answer C.relkvanu_answer, err error) (RunningTerm, error) {
-	if err != nil {
-		return RunningTerm{}, err
-	}
-	return RunningTerm{Term: uint64(answer.a), NextName: uint64(answer.b)}, nil
+	answer, err := c.only(C.RELKVANU_TERM, func(handle *C.relkvanu) C.relkvanu_answer { return C.relkvanu_term(handle) })
+	return RunningTerm{Term: uint64(answer.a), NextName: uint64(answer.b)}, err
 }
 
 // Reserve reserves names for files that a task of this term will write, 1 to 65536. The reservation is in the durable log before the task uses
@@ -70,10 +64,7 @@ func (c *Coordinator) Reserve(term, count uint64) (Reserved, error) {
 	answer, err := c.only(C.RELKVANU_RESERVED, func(handle *C.relkvanu) C.relkvanu_answer {
 		return C.relkvanu_reserve(handle, C.uint64_t(term), C.uint64_t(count))
 	})
-	if err != nil {
-		return Reserved{}, err
-	}
-	return Reserved{First: uint64(answer.a), Count: uint64(answer.b)}, nil
+	return Reserved{First: uint64(answer.a), Count: uint64(answer.b)}, err
 }
 
 // Forfeit gives up names that a task of this term will not acknowledge, such as those of a failed upload: their files are garbage then. Names
@@ -88,18 +79,9 @@ func (c *Coordinator) Forfeit(term uint64, names []uint64) error {
 // Advance restores a job that goes on from an older image, from its latest record, in a term above term, the greatest that any task was told, and
 // with names from firstName on, above each that was given out. It is the first call of such a job.
 func (c *Coordinator) Advance(now, term, firstName uint64) (Restored, error) {
-	o, err := c.enter()
-	if err != nil {
-		return Restored{}, err
-	}
-	defer c.leave()
-	answer, err := o.timed(now, func(handle *C.relkvanu) C.relkvanu_answer {
+	return replied(c, now, restored, func(handle *C.relkvanu) C.relkvanu_answer {
 		return C.relkvanu_advance(handle, C.uint64_t(now), C.uint64_t(term), C.uint64_t(firstName))
 	})
-	if err != nil {
-		return Restored{}, err
-	}
-	return restored(answer)
 }
 
 // AckIn is the Ack of a task of this term. If it is accepted, it spends the names of the fresh files. The same acknowledgement once more returns
@@ -129,25 +111,15 @@ type Garbage struct {
 // Garbage sorts files of a storage, at any time, also while tasks run: those that may be deleted, and those that nobody deletes. It changes
 // nothing. Ask a coordinator whose calls are durable: one that forgot a call also forgets which files are in use.
 func (c *Coordinator) Garbage(files []uint64) (Garbage, error) {
-	rooms := newSorting(files)
-	return rooms.sorted(c.only(C.RELKVANU_GARBAGE, func(handle *C.relkvanu) C.relkvanu_answer {
+	garbage, unissued := make([]uint64, len(files)), make([]uint64, len(files))
+	answer, err := c.only(C.RELKVANU_GARBAGE, func(handle *C.relkvanu) C.relkvanu_answer {
 		at, length := list(files)
-		garbage, _ := list(rooms.garbage)
-		unissued, _ := list(rooms.unissued)
-		return C.relkvanu_garbage(handle, at, length, garbage, length, unissued, length)
-	}))
-}
-
-// sorting has room for those of some files that are garbage, and for those that were not given out.
-type sorting struct{ garbage, unissued []uint64 }
-
-func newSorting(files []uint64) sorting {
-	return sorting{make([]uint64, len(files)), make([]uint64, len(files))}
-}
-
-func (s sorting) sorted(answer C.relkvanu_answer, err error) (Garbage, error) {
+		garbageAt, _ := list(garbage)
+		unissuedAt, _ := list(unissued)
+		return C.relkvanu_garbage(handle, at, length, garbageAt, length, unissuedAt, length)
+	})
 	if err != nil {
 		return Garbage{}, err
 	}
-	return Garbage{Garbage: s.garbage[:answer.a], Unissued: s.unissued[:answer.b]}, nil
+	return Garbage{Garbage: garbage[:answer.a], Unissued: unissued[:answer.b]}, nil
 }

@@ -227,7 +227,14 @@ func (c *Coordinator) files(fetch func(o *owner, at *C.uint64_t, length C.size_t
 		return nil, false, err
 	}
 	defer c.leave()
-	return fetched(C.RELKVANU_FILES, func(at *C.uint64_t, length C.size_t) C.relkvanu_answer { return fetch(o, at, length) })
+	buffer, answer, err := filled(64, func(buffer []uint64) C.relkvanu_answer {
+		at, length := list(buffer)
+		return fetch(o, at, length)
+	})
+	if err != nil || answer.what != C.RELKVANU_FILES {
+		return nil, false, err
+	}
+	return buffer[:answer.a], true, nil
 }
 
 // WaitingFile is the file at this place among those that wait for deletion, the next to be fetched first. The second value is false past

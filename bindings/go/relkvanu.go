@@ -116,32 +116,23 @@ func text(bytes []byte) (*C.uint8_t, C.size_t) {
 	return (*C.uint8_t)(unsafe.Pointer(&bytes[0])), C.size_t(len(bytes))
 }
 
-// written is the text that is written into a buffer with room for so many bytes, or else into one that is long enough.
-func written(room int, write func(at *C.uint8_t, length C.size_t) C.relkvanu_answer) ([]byte, error) {
+// filled is a buffer with room for so many items, or else one that is long enough, with the answer of what has written into it.
+func filled[Item any](room int, write func(buffer []Item) C.relkvanu_answer) ([]Item, C.relkvanu_answer, error) {
 	for {
-		buffer := make([]byte, room)
-		answer := write(text(buffer))
+		buffer := make([]Item, room)
+		answer := write(buffer)
 		if answer.code != C.RELKVANU_TOO_SHORT {
-			if err := fault(answer); err != nil {
-				return nil, err
-			}
-			return buffer[:answer.a], nil
+			return buffer, answer, fault(answer)
 		}
 		room = int(answer.a)
 	}
 }
 
-// fetched are the files that are written into a buffer which is long enough; nil and false if the answer has another kind.
-func fetched(kind C.uint32_t, fetch func(at *C.uint64_t, length C.size_t) C.relkvanu_answer) ([]uint64, bool, error) {
-	for room := 64; ; {
-		buffer := make([]uint64, room)
-		answer := fetch(list(buffer))
-		if answer.code != C.RELKVANU_TOO_SHORT {
-			if err := fault(answer); err != nil || answer.what != kind {
-				return nil, false, err
-			}
-			return buffer[:answer.a], true, nil
-		}
-		room = int(answer.a)
+// written is the text that is written into a buffer with room for so many bytes, or else into one that is long enough.
+func written(room int, write func(at *C.uint8_t, length C.size_t) C.relkvanu_answer) ([]byte, error) {
+	buffer, answer, err := filled(room, func(buffer []byte) C.relkvanu_answer { return write(text(buffer)) })
+	if err != nil {
+		return nil, err
 	}
+	return buffer[:answer.a], nil
 }

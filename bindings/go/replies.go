@@ -60,6 +60,36 @@ func (Cancelled) isReply() {}
 
 func (r Cancelled) String() string { return fmt.Sprintf("cancelled %d %d", r.Dropped, r.Released) }
 
+// FileDeleted is the reply to the report of a deleted file.
+type FileDeleted struct{ File uint64 }
+
+func (FileDeleted) isReply() {}
+
+func (r FileDeleted) String() string { return fmt.Sprintf("deleted %d", r.File) }
+
+// FileUndeleted is the reply to the report of a file that could not be deleted.
+type FileUndeleted struct{ File uint64 }
+
+func (FileUndeleted) isReply() {}
+
+func (r FileUndeleted) String() string { return fmt.Sprintf("undeleted %d", r.File) }
+
+// Counted is the number of uses of a file.
+type Counted struct{ File, Uses uint64 }
+
+func (Counted) isReply() {}
+
+func (r Counted) String() string { return fmt.Sprintf("count %d %d", r.File, r.Uses) }
+
+// Configured is the reply to other settings: so many checkpoints were dropped, and so many files released.
+type Configured struct{ Checkpoints, Released uint64 }
+
+func (Configured) isReply() {}
+
+func (r Configured) String() string {
+	return fmt.Sprintf("configured %d %d", r.Checkpoints, r.Released)
+}
+
 // bindings/generate: end
 
 // AckEnd is what an accepted acknowledgement did.
@@ -110,15 +140,6 @@ type Restored struct {
 // Taken has the files that were fetched, in their order.
 type Taken struct{ Files []uint64 }
 
-// FileDeleted is the reply to the report of a deleted file.
-type FileDeleted struct{ File uint64 }
-
-// FileUndeleted is the reply to the report of a file that could not be deleted.
-type FileUndeleted struct{ File uint64 }
-
-// Counted is the number of uses of a file.
-type Counted struct{ File, Uses uint64 }
-
 // Reserved has names that are reserved for files: Count of them, from First on.
 type Reserved struct{ First, Count uint64 }
 
@@ -133,9 +154,6 @@ func (r Reserved) Names() []uint64 {
 
 // Forfeited is the reply to a line that gives names up.
 type Forfeited struct{}
-
-// Configured is the reply to other settings: so many checkpoints were dropped, and so many files released.
-type Configured struct{ Checkpoints, Released uint64 }
 
 // Named is the reply to the line of a fence: the coordinator has names now, and is in term 1.
 type Named struct{}
@@ -178,19 +196,15 @@ func (s Shown) Files() (map[Subtask][]uint64, error) {
 	return files, err
 }
 
-func (Ticked) isReply()        {}
-func (Acked) isReply()         {}
-func (Declined) isReply()      {}
-func (Restored) isReply()      {}
-func (Taken) isReply()         {}
-func (FileDeleted) isReply()   {}
-func (FileUndeleted) isReply() {}
-func (Shown) isReply()         {}
-func (Counted) isReply()       {}
-func (Reserved) isReply()      {}
-func (Forfeited) isReply()     {}
-func (Named) isReply()         {}
-func (Configured) isReply()    {}
+func (Ticked) isReply()    {}
+func (Acked) isReply()     {}
+func (Declined) isReply()  {}
+func (Restored) isReply()  {}
+func (Taken) isReply()     {}
+func (Shown) isReply()     {}
+func (Reserved) isReply()  {}
+func (Forfeited) isReply() {}
+func (Named) isReply()     {}
 
 var ticks = map[TickEnd]string{
 	// bindings/generate makes the names of ends
@@ -241,20 +255,10 @@ func (r Taken) String() string {
 	return "take " + strings.Trim(fmt.Sprint(r.Files), "[]")
 }
 
-func (r FileDeleted) String() string { return fmt.Sprintf("deleted %d", r.File) }
-
-func (r FileUndeleted) String() string { return fmt.Sprintf("undeleted %d", r.File) }
-
 func (r Shown) String() string { return string(r.JSON) }
-
-func (r Configured) String() string {
-	return fmt.Sprintf("configured %d %d", r.Checkpoints, r.Released)
-}
 
 func (r Reserved) String() string { return fmt.Sprintf("reserved %d", r.First) }
 
 func (r Forfeited) String() string { return "forfeited" }
 
 func (r Named) String() string { return "term 1" }
-
-func (r Counted) String() string { return fmt.Sprintf("count %d %d", r.File, r.Uses) }
