@@ -15,6 +15,8 @@
 
 namespace ckpt {
 
+/* clang-format off */
+/* bindings/generate makes the errors of a store */
 enum class store_error : int {
     bad_argument = RELKVANU_STORE_BAD_ARGUMENT,
     no_memory = RELKVANU_STORE_NO_MEMORY,
@@ -31,54 +33,58 @@ enum class store_error : int {
     not_now = RELKVANU_STORE_NOT_NOW,
     stopped = RELKVANU_STORE_STOPPED,
     not_put = RELKVANU_STORE_NOT_PUT,
-    failed = RELKVANU_STORE_FAILED,
-    full = RELKVANU_STORE_FULL,
-    read_only = RELKVANU_STORE_READ_ONLY,
-    busy = RELKVANU_STORE_BUSY,
-    out_of_memory = RELKVANU_STORE_OUT_OF_MEMORY,
     not_running = RELKVANU_STORE_NOT_RUNNING,
     not_done = RELKVANU_STORE_NOT_DONE,
     job_stopped = RELKVANU_STORE_JOB_STOPPED,
     not_stopped = RELKVANU_STORE_NOT_STOPPED,
     file_lost = RELKVANU_STORE_FILE_LOST,
-    not_made = RELKVANU_STORE_NOT_MADE, /* a call before it in the same list ran out of memory */
+    failed = RELKVANU_STORE_FAILED,
+    full = RELKVANU_STORE_FULL,
+    read_only = RELKVANU_STORE_READ_ONLY,
+    busy = RELKVANU_STORE_BUSY,
+    out_of_memory = RELKVANU_STORE_OUT_OF_MEMORY,
+    not_made = RELKVANU_STORE_NOT_MADE,
 };
+
+inline const char *message_of(store_error it) noexcept {
+    switch (it) {
+    case store_error::bad_argument: return "BadArgument";
+    case store_error::no_memory: return "NoMemory";
+    case store_error::in_use: return "InUse";
+    case store_error::absent: return "Absent";
+    case store_error::present: return "Present";
+    case store_error::not_a_store: return "NotAStore";
+    case store_error::differs: return "Differs";
+    case store_error::damaged: return "Damaged";
+    case store_error::storage: return "Storage";
+    case store_error::closed: return "Closed";
+    case store_error::forked: return "Forked";
+    case store_error::timed_out: return "TimedOut";
+    case store_error::not_now: return "NotNow";
+    case store_error::stopped: return "Stopped";
+    case store_error::not_put: return "NotPut";
+    case store_error::not_running: return "NotRunning";
+    case store_error::not_done: return "NotDone";
+    case store_error::job_stopped: return "JobStopped";
+    case store_error::not_stopped: return "NotStopped";
+    case store_error::file_lost: return "FileLost";
+    case store_error::failed: return "Failed";
+    case store_error::full: return "Full";
+    case store_error::read_only: return "ReadOnly";
+    case store_error::busy: return "Busy";
+    case store_error::out_of_memory: return "OutOfMemory";
+    case store_error::not_made: return "NotMade";
+    default: return "unknown";
+    }
+}
+/* bindings/generate: end */
+/* clang-format on */
 
 class store_category_type final : public std::error_category {
 public:
     const char *name() const noexcept override { return "relkvanu store"; }
 
-    std::string message(int value) const override {
-        switch (static_cast<store_error>(value)) {
-        case store_error::bad_argument: return "BadArgument";
-        case store_error::no_memory: return "NoMemory";
-        case store_error::in_use: return "InUse";
-        case store_error::absent: return "Absent";
-        case store_error::present: return "Present";
-        case store_error::not_a_store: return "NotAStore";
-        case store_error::differs: return "Differs";
-        case store_error::damaged: return "Damaged";
-        case store_error::storage: return "Storage";
-        case store_error::closed: return "Closed";
-        case store_error::forked: return "Forked";
-        case store_error::timed_out: return "TimedOut";
-        case store_error::not_now: return "NotNow";
-        case store_error::stopped: return "Stopped";
-        case store_error::not_put: return "NotPut";
-        case store_error::failed: return "Failed";
-        case store_error::full: return "Full";
-        case store_error::read_only: return "ReadOnly";
-        case store_error::busy: return "Busy";
-        case store_error::out_of_memory: return "OutOfMemory";
-        case store_error::not_running: return "NotRunning";
-        case store_error::not_done: return "NotDone";
-        case store_error::job_stopped: return "JobStopped";
-        case store_error::not_stopped: return "NotStopped";
-        case store_error::file_lost: return "FileLost";
-        case store_error::not_made: return "NotMade";
-        default: return "unknown";
-        }
-    }
+    std::string message(int value) const override { return message_of(static_cast<store_error>(value)); }
 };
 
 inline const std::error_category &store_category() noexcept {
@@ -102,10 +108,7 @@ struct not_opened {
 };
 
 /* Why no backup was made, and what the system says. */
-struct no_backup {
-    std::error_code why;
-    std::string message;
-};
+using no_backup = not_opened;
 
 /* Why nothing was made of manifests, and where. */
 using not_made = not_opened;
@@ -209,7 +212,7 @@ inline not_made not_listed(int status, const char *message) {
 }
 
 namespace detail {
-inline std::variant<relkvanu_store_recovered, not_made> told(int status, const relkvanu_store_recovered &made) {
+template <class Made> std::variant<Made, not_made> told(int status, const Made &made) {
     if (status != RELKVANU_STORE_OK) {
         return not_made{store_code(status), made.message};
     }
@@ -230,10 +233,7 @@ inline std::variant<relkvanu_store_recovered, not_made> told(int status, const r
     const std::string &folder, const std::string &to, std::uint64_t record = 0) {
     relkvanu_store_carried made;
     int status = relkvanu_store_export(folder.c_str(), record, to.c_str(), &made);
-    if (status != RELKVANU_STORE_OK) {
-        return not_made{store_code(status), made.message};
-    }
-    return made;
+    return detail::told(status, made);
 }
 
 /* Makes another job, at the path over the folder that it makes, of a record in `from`: relkvanu_store_import. */
@@ -462,12 +462,10 @@ public:
         relkvanu_store_call it = call(RELKVANU_CALL_RESTORE, now, savepoint);
         it.first = of.data();
         it.first_len = of.size();
-        std::uint64_t term = 0;
-        restore_answer told = one<restore_answer>(it, restore_of, &term);
-        if (restored *begins = std::get_if<restored>(&told)) {
-            begins->term = term;
-        }
-        return told;
+        return restored_by([this, &it](relkvanu_store_call &made) noexcept {
+            made = it;
+            return relkvanu_store_calls(store_, &made, 1);
+        });
     }
 
     /* A list of calls, with no other in between. Without an error each has its answer. */
@@ -706,11 +704,8 @@ private:
         return it;
     }
 
-    template <class Answer, class Of> Answer one(relkvanu_store_call it, Of of, std::uint64_t *term = nullptr) noexcept {
+    template <class Answer, class Of> Answer one(relkvanu_store_call it, Of of) noexcept {
         int status = relkvanu_store_calls(store_, &it, 1);
-        if (term != nullptr) {
-            *term = it.term;
-        }
         return status == RELKVANU_STORE_OK ? of(it.answer) : Answer(refused{store_code(status)});
     }
 

@@ -2,7 +2,7 @@
 import textwrap
 from typing import Dict, List, Optional, Tuple
 
-from generator import calls, header
+from generator import calls, header, store
 from generator.calls import Call
 from generator.header import Enum, Number, camel
 
@@ -39,6 +39,14 @@ def messages() -> str:
     text = "inline const char *message_of(error it) noexcept {\n    switch (it) {\n"
     text += "".join(f'    case error::{name}: return "{message}";\n' for name, _, _, message in errors() if name not in refused)
     return text + '    default: return "unknown";\n    }\n}\n'
+
+
+def store_errors() -> str:
+    """Those of a store: its statuses, and the code of a call that was not made."""
+    found = [it.removeprefix("RELKVANU_STORE_") for it in store.statuses(store.STORE)[1:]] + ["NOT_MADE"]
+    text = "enum class store_error : int {\n" + "".join(f"    {it.lower()} = RELKVANU_STORE_{it},\n" for it in found) + "};\n\n"
+    text += "inline const char *message_of(store_error it) noexcept {\n    switch (it) {\n"
+    return text + "".join(f'    case store_error::{it.lower()}: return "{camel(it)}";\n' for it in found) + '    default: return "unknown";\n    }\n}\n'
 
 
 def name(number: Number) -> str:
@@ -129,7 +137,7 @@ def generated() -> Dict[str, Dict[str, str]]:
     """What is made, by file and place."""
     return {
         "relkvanu.hpp": {**kinds(), "the calls of one number": "\n".join(method(it) for it in calls.plain())},
-        "relkvanu_store.hpp": {"the calls of one number": "\n".join(store_method(it) for it in calls.stored())},
+        "relkvanu_store.hpp": {"the errors of a store": store_errors(), "the calls of one number": "\n".join(store_method(it) for it in calls.stored())},
     }
 
 

@@ -185,6 +185,19 @@ def rust(path: Any, it: Declarations, uses: str) -> str:
     return formatted(f"{text}extern \"C\" {{\n{declared}}}\n")
 
 
+# What Rust says of some of the statuses.
+SAID = {
+    "JOB_STOPPED": "Of `await_tick`: the job is stopped, so no tick is due until it begins again.",
+    "NOT_STOPPED": "Of `await_tick`: a stop of the job has failed, and its phase says why.",
+    "FILE_LOST": "Of `load`, and of a restore to a record by its number: a file of the record is not in the storage. Nothing has changed.",
+}
+
+
+def rust_kinds() -> str:
+    names = [it.removeprefix("RELKVANU_STORE_") for it in statuses(STORE)[1:]]
+    return "".join((f"    /// {SAID[it]}\n" if it in SAID else "") + f"    {camel(it)} = RELKVANU_STORE_{it},\n" for it in names)
+
+
 def in_rust() -> Dict[str, str]:
     uses = "use crate::storage::{relkvanu_storage};\nuse crate::{relkvanu, relkvanu_answer, relkvanu_call, relkvanu_settings};\nuse std::ffi::{c_char, c_int, c_void};\n"
     return {"store.rs": rust(STORE, of_store(), uses), "storage.rs": rust(STORAGE, of_storage(), "use std::ffi::{c_char, c_int, c_void};\n")}

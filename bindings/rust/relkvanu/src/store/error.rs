@@ -28,6 +28,7 @@ macro_rules! kinds {
 }
 
 kinds! {
+    // bindings/generate makes the kinds of errors
     BadArgument = RELKVANU_STORE_BAD_ARGUMENT,
     NoMemory = RELKVANU_STORE_NO_MEMORY,
     InUse = RELKVANU_STORE_IN_USE,
@@ -43,11 +44,6 @@ kinds! {
     NotNow = RELKVANU_STORE_NOT_NOW,
     Stopped = RELKVANU_STORE_STOPPED,
     NotPut = RELKVANU_STORE_NOT_PUT,
-    Failed = RELKVANU_STORE_FAILED,
-    Full = RELKVANU_STORE_FULL,
-    ReadOnly = RELKVANU_STORE_READ_ONLY,
-    Busy = RELKVANU_STORE_BUSY,
-    OutOfMemory = RELKVANU_STORE_OUT_OF_MEMORY,
     NotRunning = RELKVANU_STORE_NOT_RUNNING,
     NotDone = RELKVANU_STORE_NOT_DONE,
     /// Of `await_tick`: the job is stopped, so no tick is due until it begins again.
@@ -56,6 +52,12 @@ kinds! {
     NotStopped = RELKVANU_STORE_NOT_STOPPED,
     /// Of `load`, and of a restore to a record by its number: a file of the record is not in the storage. Nothing has changed.
     FileLost = RELKVANU_STORE_FILE_LOST,
+    Failed = RELKVANU_STORE_FAILED,
+    Full = RELKVANU_STORE_FULL,
+    ReadOnly = RELKVANU_STORE_READ_ONLY,
+    Busy = RELKVANU_STORE_BUSY,
+    OutOfMemory = RELKVANU_STORE_OUT_OF_MEMORY,
+    // bindings/generate: end
 }
 
 impl StoreErrorKind {
