@@ -94,6 +94,9 @@ class Calls(unittest.TestCase):
                 lambda: job.ack(1000, 1, 0, 0, [1 << 64]),
                 lambda: job.restore(1000, 1 << 64),
                 lambda: Coordinator(Settings(interval=1 << 64), [1], 0),
+                lambda: Coordinator.open_fenced(SETTINGS, [1], 0, 1, 1 << 64), lambda: job.reserve(1 << 64, 1), lambda: job.reserve(1, -1),
+                lambda: job.forfeit(1, [1 << 64]), lambda: job.garbage([-1]), lambda: job.ack_in((1 << 64) + 1, 2000, 2, 0, 0, [7]),
+                lambda: job.decline_in(1, 2000, 2, 1 << 16, 0),
             ):
                 self.assertRaises(OverflowError, call)
             self.assertEqual(job.ack(1000, 1, 0, 0, [(1 << 64) - 1]), AckPending(missing=1))
@@ -143,6 +146,10 @@ class Calls(unittest.TestCase):
             lambda: job.count(1),
             lambda: job.save(),
             lambda: job.line(b"tick 1000"),
+            lambda: job.reserve(1, 1), lambda: job.forfeit(1, [7]), lambda: job.ack_in(1, 2000, 2, 0, 0, [7]), lambda: job.decline_in(1, 2000, 2, 0, 0),
+            lambda: job.garbage([7]), job.mode, job.moment, job.due, job.oldest_expiry, job.choice, lambda: job.live(0), lambda: job.missing(1), job.file_counts,
+            lambda: job.live_from(0), lambda: job.standing(1), lambda: job.files_of(1, 0, 0), lambda: job.pins_of(1), lambda: job.waiting_file(0),
+            job.taken_files, lambda: job.next_tick(None), job.term, lambda: job.fence(1),
         ):
             self.assertRaises(Closed, call)
         for kind, make in {**calls.OF_A_MOMENT, **calls.OF_A_NUMBER}.items():

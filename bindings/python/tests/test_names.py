@@ -7,25 +7,14 @@ import unittest
 import test_rows
 
 from relkvanu import (
-    AckCompleted, BadArgument, Closed, Coordinator, Fenced, FileCounts, Garbage, Live, Mode, Refused, RunningTerm, Settings, Standing, Triggered, lines,
+    AckCompleted, Coordinator, Fenced, FileCounts, Garbage, Live, Mode, Refused, RunningTerm, Settings, Standing, Triggered, lines,
 )
 
 TOP = pathlib.Path(__file__).resolve().parents[3]
 SETTINGS = Settings(interval=1000)
-NAMES_END = 1 << 62
 
 
 class Names(unittest.TestCase):
-    def fenced(self, name, call, file=None):
-        with self.assertRaises(Fenced) as raised:
-            call()
-        self.assertEqual((raised.exception.name, raised.exception.file), (name, file))
-
-    def bad(self, name, call):
-        with self.assertRaises(BadArgument) as raised:
-            call()
-        self.assertEqual(raised.exception.name, name)
-
     def with_checkpoint_1(self):
         """A task has reserved the names 5 to 7, and acknowledged checkpoint 1 with 5 and 6. Checkpoint 2 is pending."""
         job = Coordinator.open_fenced(SETTINGS, [1], 0, 1, 5)
@@ -35,17 +24,6 @@ class Names(unittest.TestCase):
         self.assertEqual(job.ack_in(1, 1000, 1, 0, 0, [6, 5]), AckCompleted(dropped=0, released=0))
         self.assertEqual(job.tick(2000), Triggered(expired=0, id=2))
         return job
-
-    def test_openings(self):
-        self.bad("BadConfig", lambda: Coordinator.open_fenced(Settings(interval=9), [], NAMES_END, 0, 0))
-        self.bad("BadShape", lambda: Coordinator.open_fenced(SETTINGS, [], NAMES_END, 0, 0))
-        self.bad("BadName", lambda: Coordinator.open_fenced(SETTINGS, [1], NAMES_END, 0, 0))
-        self.bad("BadName", lambda: Coordinator.open_fenced(SETTINGS, [1], 0, 1, NAMES_END + 1))
-        self.bad("BadMoment", lambda: Coordinator.open_fenced(SETTINGS, [1], NAMES_END, 0, NAMES_END))
-        self.bad("BadFirst", lambda: Coordinator.open_fenced(SETTINGS, [1], 0, 0, 1))
-        self.assertRaises(OverflowError, Coordinator.open_fenced, SETTINGS, [1], 0, 1, 1 << 64)
-        with Coordinator.open_fenced(SETTINGS, [1], 0, 7, 5) as job:
-            self.assertEqual((job.term().term, job.term().next_name, job.tick(1000).id), (1, 5, 7))
 
     def test_a_moment_that_is_far_ahead_is_refused(self):
         with self.with_checkpoint_1() as job:
@@ -61,23 +39,6 @@ class Names(unittest.TestCase):
             self.assertEqual(job.calls(), seen)
             job.ack_in(1, 2000, 2, 0, 0, [7])
             self.assertEqual(job.calls(), seen + 1)
-
-    def test_a_closed_one_stays_closed(self):
-        job = self.with_checkpoint_1()
-        job.close()
-        for call in (
-            job.term, lambda: job.fence(1), lambda: job.reserve(1, 1), lambda: job.forfeit(1, [7]), lambda: job.ack_in(1, 2000, 2, 0, 0, [7]),
-            lambda: job.decline_in(1, 2000, 2, 0, 0), lambda: job.garbage([7]),
-        ):
-            self.assertRaises(Closed, call)
-
-    def test_a_number_that_does_not_fit_is_not_cut_off(self):
-        with self.with_checkpoint_1() as job:
-            for call in (
-                lambda: job.reserve(1 << 64, 1), lambda: job.reserve(1, -1), lambda: job.forfeit(1, [1 << 64]), lambda: job.garbage([-1]),
-                lambda: job.ack_in((1 << 64) + 1, 2000, 2, 0, 0, [7]), lambda: job.decline_in(1, 2000, 2, 1 << 16, 0),
-            ):
-                self.assertRaises(OverflowError, call)
 
 
 def listed(numbers):

@@ -1,7 +1,7 @@
-"""Images, and reads of a closed coordinator. What reads return is in examples/reads (test_names.py)."""
+"""Images. What reads return is in examples/reads (test_names.py)."""
 import unittest
 
-from relkvanu import BadArgument, Closed, Coordinator, Settings
+from relkvanu import BadArgument, Coordinator, Settings
 
 SETTINGS = Settings(interval=1000, at_once=2, timeout=5000)
 
@@ -40,13 +40,3 @@ class Reads(unittest.TestCase):
             with self.assertRaises(BadArgument) as raised:
                 Coordinator.open_saved(text)
             self.assertEqual(raised.exception.name, "BadImage")
-
-    def test_a_closed_one_tells_nothing(self):
-        job = Coordinator(SETTINGS, [1], 0)
-        job.close()
-        for read in (
-            job.mode, job.moment, job.due, job.oldest_expiry, job.choice, lambda: job.live(0), lambda: job.missing(1), job.file_counts,
-            lambda: job.live_from(0), lambda: job.standing(1), lambda: job.files_of(1, 0, 0), lambda: job.pins_of(1),
-            lambda: job.waiting_file(0), job.taken_files, lambda: job.next_tick(None),
-        ):
-            self.assertRaises(Closed, read)

@@ -247,40 +247,12 @@ class Running(unittest.TestCase):
         self.assertEqual(engine.said[:2], [("end",), ("start", 2, last, TASKS)])
         self.assertGreater(next(it[1] for it in engine.said if it[0] == "complete"), last)
 
-    def test_a_task_that_died(self):
-        store, engine, await_end = self.running()
-        engine.runner.restart()
-        engine.await_count("start", 2)
-        engine.await_more("complete", 2)
-        with self.assertRaises(Fenced):
-            engine.runner.ack(1, 1, 0, 0, [])
-        self.close(engine, await_end)
-        starts = [it for it in engine.said if it[0] == "start"]
-        self.assertEqual([it[1] for it in starts], [1, 2])
-
     def test_a_job_that_fails_is_restarted(self):
         store, engine, await_end = self.running(tolerable=0)
         engine.declined = Kind.CHECKPOINT
         engine.await_count("start", 2)
         engine.await_more("complete", 2)
         self.close(engine, await_end)
-
-    def test_a_stop_and_a_begin(self):
-        store, engine, await_end = self.running()
-        savepoint = store.stop_job().reply.id
-        self.assertEqual(await_end(), Ended.STOPPED)
-        stop = [("barrier", savepoint, Kind.SAVEPOINT, True), ("complete", savepoint), ("end",), ("stopped", savepoint, TASKS)]
-        self.assertEqual(engine.said[-4:], stop)
-        left = self.files()
-        store, engine, await_end = self.begin()
-        self.assertEqual(await_end(), Ended.STOPPED)
-        self.assertEqual((engine.said, self.files()), ([("end",), ("stopped", savepoint, TASKS)], left))
-        store = Store(self.folder / "job.db", Settings(interval=20), [TASKS], storage=self.folder / "state")
-        self.assertGreater(store.begin_job().term, 2)
-        store.close()
-        store, engine, await_end = self.running(count=2)
-        self.close(engine, await_end)
-        self.assertIn(savepoint, [it[2] for it in engine.said if it[0] == "start"])
 
     def test_a_stop_that_fails(self):
         store, engine, await_end = self.running(tolerable=10)
@@ -360,16 +332,6 @@ class Running(unittest.TestCase):
         _, engine, await_end = self.begin(Untold())
         self.assertEqual(await_end(), Ended.STOPPED)
         self.assertEqual(engine.said, [("end",)])
-
-    def test_a_stopped_job_whose_file_is_lost(self):
-        store, engine, await_end = self.running()
-        store.stop_job()
-        self.assertEqual(await_end(), Ended.STOPPED)
-        lost, *left = self.files()
-        os.unlink(self.folder / "state" / lost)
-        _, engine, await_end = self.begin()
-        self.assertIsInstance(await_end(), FileLost)
-        self.assertEqual((engine.said, self.files()), ([("end",)], left))
 
     def forfeited(self, store):
         """Puts a file that no record will have."""
@@ -540,21 +502,6 @@ class Running(unittest.TestCase):
                 engine.runner.close()
                 self.assertEqual(await_end(), Ended.CLOSED, name)
             self.assertGreater(next(times), 1)
-
-    def test_commands_of_an_operator(self):
-        store, engine, await_end = self.idle()
-        first = store.trigger().reply.id
-        engine.await_word("complete", first)
-        second = store.trigger().reply.id
-        engine.await_word("complete", second)
-        store.go_back(first, accept_published=True)
-        engine.await_count("start", 2)
-        third = store.trigger().reply.id
-        engine.await_word("complete", third)
-        self.close(engine, await_end)
-        starts = [it for it in engine.said if it[0] == "start"]
-        self.assertEqual((len(starts), starts[1][3]), (2, TASKS))
-        self.assertTrue(second < starts[1][2] < third)  # the savepoint that has the files of the first
 
     def test_a_file_that_is_lost(self):
         store, engine, await_end = self.running(count=2)
@@ -1004,13 +951,6 @@ class Running(unittest.TestCase):
         _, _, await_end = self.begin(engine)
         self.assertEqual((await_end(), engine.said[1:]), (Ended.CANCELLED, [("barrier",), ("end",)]))
 
-    def test_a_payload_of_a_barrier(self):
-        engine = Words()
-        engine.take_part = lambda it: [engine.runner.ack_payload(it, 0, index, b"state %d" % index) for index in range(TASKS)]
-        store, engine, await_end = self.begin(engine)
-        engine.await_word("complete", 1)
-        self.assertEqual([it.payload for it in store.load().parts], [b"state 0", b"state 1"])
-
     def test_two_completions_in_another_order(self):
         store, engine, await_end = self.running()
         engine.runner._tell(engine.runner.term, 1)
@@ -1072,18 +1012,6 @@ class Taking(unittest.TestCase):
         thread.join(LONGEST)
         self.assertFalse(thread.is_alive())
         self.assertEqual(inputs.take(), (0, "a"))
-
-    def test_a_task_that_waits(self):
-        inputs, taken = Inputs(2), []
-        thread = threading.Thread(target=lambda: taken.extend(inputs.take() for _ in range(2)))
-        thread.start()
-        inputs.put(0, barrier(1))
-        inputs.put(0, "behind")
-        time.sleep(0.05)
-        self.assertEqual(taken, [])
-        inputs.put(1, barrier(1))
-        thread.join(LONGEST)
-        self.assertEqual(taken, [(1, barrier(1)), (0, "behind")])
 
     def test_inputs_that_are_closed(self):
         """Who waits, and whoever comes later, is told: for an element, for room, to end an input, and behind the end of an input."""

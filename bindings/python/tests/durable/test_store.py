@@ -13,11 +13,10 @@ import threading
 import time
 import unittest
 import weakref
-from concurrent.futures import ThreadPoolExecutor
 from unittest import mock
 
 from relkvanu import (
-    AckCompleted, AckLate, AckPending, BadArgument, Chosen, Closed, Configured, DeclineAborted, Fenced, Forfeited, Kind, Mode, OutOfRange, Refused, Reserved,
+    AckCompleted, AckPending, BadArgument, Chosen, Closed, Configured, DeclineAborted, Fenced, Forfeited, Kind, Mode, OutOfRange, Refused, Reserved,
     RestoredCheckpoint, RestoredSavepoint, SavepointTriggered, Settings, Taken, Triggered, store_header,
 )
 from relkvanu.manifest import members, sums_in
@@ -147,8 +146,8 @@ class Calls(Folder):
             self.assertEqual((outcomes[1].reply, outcomes[2].reply, outcomes[4].place), (Taken((1,)), Taken((2,)), 12))
             self.raises("BadArgument", job.calls, [])
             self.raises("BadArgument", job.sweep)  # no folder
-            with self.assertRaises(OutOfRange):
-                job.ack_in(1, 1 << 64, 0, 0, [])
+            for wrong in (lambda: job.ack_in(1, 1 << 64, 0, 0, []), lambda: job.ack_in(1, 1, 0, 0, millis=-1)):
+                self.assertRaises(OutOfRange, wrong)
             with self.assertRaises(Refused):
                 job.dispose(9)
             with self.assertRaises(BadArgument):
@@ -162,11 +161,6 @@ class Calls(Folder):
         self.assertIn("name none", self.raises("Storage", self.open))
         (self.storage / ".relkvanu-job").unlink()
         self.raises("Storage", lambda: self.open(storage=self.storage))
-        for settings, shape, words in ((dataclasses.replace(SETTINGS, at_once=65), [2], "settings.at_once is 65, and has to be 1 to 64"),
-                                       (SETTINGS, [1, 0], "the shape has 0 subtasks in vertex 1, and has to have at least 1 in each")):
-            other = self.folder / "other.db"
-            told = self.raises("BadArgument", lambda: Store(other, settings, shape, create=True))
-            self.assertEqual(told, f"BadArgument: {other}: {words}")
 
     def test_close(self):
         job = self.open()
@@ -240,17 +234,6 @@ class Names(Folder):
         with self.open(create=False) as job:
             self.assertEqual((job.report.term, job.report.next_name, job.cancel().term), (2, 8, 3))
             self.fenced("Ended", job.reserve, 3, 1)
-
-    def test_a_sweep_at_any_time(self):
-        with self.open(storage=self.storage) as job:
-            names = job.reserve(1, 4)
-            for file in (*names, 99):
-                (self.storage / str(file)).touch()
-            job.forfeit(1, names[2:3])
-            self.assertEqual((job.sweep(), sorted(os.listdir(self.storage))), (0, [".relkvanu-job", "1", "2", "4", "99"]))
-            self.assertEqual((job.counts()["swept"], job.counts()["unissued"]), (1, 1))
-            job.restore()
-            self.assertEqual((job.sweep(), sorted(os.listdir(self.storage))), (0, [".relkvanu-job", "99"]))
 
 
 class Files(Folder):
@@ -376,34 +359,6 @@ class Payloads(Folder):
             made = job.ack_in(term, id, 0, index, [name], payload=b"of %d" % index)
         self.assertEqual((made.reply, made.ended), (AckCompleted(1, 4), (id - 1,)))
 
-    def test_a_decline_with_a_reason(self):
-        with self.open() as job:
-            job.trigger()
-            job.ack_in(1, 1, 0, 0, payload=b"x")
-            made = job.decline_in(1, 1, 0, 1, reason="kein Platz für den Zustand")
-            self.assertEqual((made.kind, made.ended), (Kind.CHECKPOINT, (1,)))
-            late = job.ack_in(1, 1, 0, 1, payload=b"late")
-            self.assertEqual((late.reply, late.kind, late.ended), (AckLate(0), None, ()))
-            (past,) = job.history()
-            self.assertEqual((past.ending, past.reason, past.acks), (Ending.DECLINED, "kein Platz für den Zustand", 1))
-
-    def test_misuse(self):
-        with self.open() as job:
-            job.trigger()
-            for words, call in (
-                ("more than 4096 bytes", lambda: job.ack_in(1, 1, 0, 0, payload=bytes(4097))),
-                ("more than 200 bytes", lambda: job.decline_in(1, 1, 0, 0, reason="ü" * 101)),
-                ("a zero", lambda: job.decline_in(1, 1, 0, 0, reason="a\0b")),
-                ("2^63", lambda: job.ack_in(1, 1, 0, 0, bytes=1 << 63)),
-            ):
-                with self.subTest(words), self.assertRaises(StoreError) as caught:
-                    call()
-                self.assertEqual((caught.exception.name, caught.exception.closes), ("BadArgument", False))
-                self.assertIn(words, caught.exception.message)
-            with self.assertRaises(OutOfRange):
-                job.ack_in(1, 1, 0, 0, millis=-1)
-            self.assertEqual(job.ack_in(1, 1, 0, 0, payload=bytearray(4096)).reply, AckPending(1))
-
     def test_lists_and_submits(self):
         with self.open() as job:
             job.trigger()
@@ -465,19 +420,6 @@ class Backups(Folder):
 
 
 class Threads(Folder):
-    def test_callers(self):
-        job = self.open()
-
-        def call(_):
-            for _ in range(20):
-                job.savepoint()
-        with ThreadPoolExecutor(16) as threads:
-            list(threads.map(call, range(16)))
-        self.assertEqual(job.counts()["calls"], 320)
-        job.close()
-        with self.open() as job, job.read() as reads:
-            self.assertIsNotNone(reads.live(319))
-
     def test_a_timer_that_close_ends(self):
         job = self.open()
         ends = []
@@ -890,21 +832,6 @@ class Commands(Folder):
             job.decline_in(3, id, 0, 0)
             self.assertEqual(job.phase(), JobPhase(Phase.RUNNING, id, 0, StopFailed.DECLINED))
             self.assertIsNone(job.await_tick(60_000))
-
-    def test_settings(self):
-        with self.open() as job:
-            for _ in range(3):
-                self.acks(job, job.trigger().reply.id, 1)
-            timer = []
-            thread = threading.Thread(target=lambda: timer.append(job.await_tick(600_000)))
-            thread.start()
-            other = Settings(interval=100, timeout=1 << 30)
-            self.assertEqual(job.configure(other).reply, Configured(2, 4))
-            thread.join()
-            self.assertEqual((timer[0].reply, job.job()), (Triggered(0, 4), (other, (2,))))
-            self.assertIn("settings.interval is 5", self.raises("BadArgument", job.configure, Settings(interval=5)))
-        with self.open() as job:
-            self.assertEqual((job.report.settings_differ, job.job()), (True, (other, (2,))))
 
     def test_an_older_checkpoint(self):
         with self.open() as job:

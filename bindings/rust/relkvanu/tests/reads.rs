@@ -36,11 +36,13 @@ fn a_moment_that_is_far_ahead_is_refused() {
     job.tick(1000).unwrap();
     let late = 1000 + SETTINGS.timeout + DAY + 1; // a timer may wait until checkpoint 1 expires
     let image = job.save();
-    let calls: [Timed; 6] = [
+    let calls: [Timed; 8] = [
         |job, now| job.tick(now),
         |job, now| job.savepoint(now),
         |job, now| job.ack(now, 1, (0, 0), &[1], &[]),
         |job, now| job.decline(now, 1, (0, 0)),
+        |job, now| job.ack_in(1, now, 1, (0, 0), &[1], &[]),
+        |job, now| job.decline_in(1, now, 1, (0, 0)),
         |job, now| job.restore(now, None, None),
         |job, now| job.cancel(now),
     ];

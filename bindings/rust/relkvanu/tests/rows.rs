@@ -172,15 +172,3 @@ fn a_log_is_made_again() {
     let longer = [b"tick".as_slice(), &[b' '; 1 << 17]].concat();
     assert_eq!(job.line(&longer, &mut []), Err(Fault::BadLine(LineFault::TooLong)));
 }
-
-#[test]
-fn what_a_coordinator_is_not_opened_with() {
-    let open = |settings: &Settings, shape: &[u64], now, first| Coordinator::open(settings, shape, now, first).err();
-    let idle = Settings { interval: 9, ..SETTINGS };
-    assert_eq!(open(&idle, &[1], 0, 1), Some(Fault::BadConfig));
-    assert_eq!(open(&SETTINGS, &[], 0, 1), Some(Fault::BadShape));
-    assert_eq!(open(&SETTINGS, &[4097], 0, 1), Some(Fault::BadShape));
-    assert_eq!(open(&SETTINGS, &[1], 1 << 62, 1), Some(Fault::BadMoment));
-    assert_eq!(open(&SETTINGS, &[1], 0, 0), Some(Fault::BadFirst));
-    assert_eq!(open(&SETTINGS, &[1], (1 << 62) - 1, (1 << 62) - 1), None);
-}

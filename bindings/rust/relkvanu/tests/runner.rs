@@ -2,9 +2,9 @@
 #![cfg(feature = "store")]
 mod common;
 
-use common::{new_job, triggered, Place, SETTINGS};
+use common::{new_job, Place, SETTINGS};
 use relkvanu::runner::{Barrier, Ended, Engine, Inputs, Record, RunFault, Runner, SavepointFault, Taken, Told};
-use relkvanu::store::{Awaited, CallError, Ending, More, Next, Options, Phase, Store, StoreError, StoreErrorKind, NOW};
+use relkvanu::store::{CallError, Ending, More, Options, Phase, Store, StoreError, StoreErrorKind, NOW};
 use relkvanu::{AlignFault, Answer, Call, Choice, Fault, Fenced, Kind, Refusal, Settings};
 use std::fs;
 use std::io::{self, BufRead, BufReader, Read};
@@ -241,17 +241,6 @@ fn checkpoints_and_a_next_process() {
     assert_eq!(fs::read_dir(place.state()).unwrap().count(), 1); // its marker
 }
 
-#[test]
-fn a_task_that_died() {
-    let (_place, job, run) = running("runner-died", QUICK);
-    job.restart();
-    job.engine().await_words(2, is_start);
-    job.engine().await_more(1);
-    let old = job.ack(1, 1, (0, 0), &[], &[], More::default());
-    assert_eq!(old.unwrap_err(), CallError::Fault(Fault::Fenced(Fenced::OldTerm)));
-    close(job, run);
-}
-
 /// The contents of a file that come once somebody says so.
 struct Slow(mpsc::Sender<()>, mpsc::Receiver<()>);
 
@@ -394,26 +383,6 @@ fn a_job_that_fails_is_restarted() {
     let said = close(job, run);
     assert!(said.contains(&Aborted(vec![id])), "{said:?}");
     assert!(!said.contains(&Complete(id)), "{said:?}");
-}
-
-#[test]
-fn a_stop_and_a_begin() {
-    let (place, job, run) = running("runner-stops", QUICK);
-    let made = job.store().stop_job().unwrap();
-    let Some(Answer::SavepointTriggered(id)) = made.called() else { unreachable!() };
-    let said = ended_as(Ended::Stopped, job, run);
-    let stopped = Stopped(id, TASKS.into());
-    let last = [Barrier(id, Kind::Savepoint, true), Complete(id), End, stopped.clone()];
-    assert_eq!(said[said.len() - 4..], last);
-    let (job, run) = begin(&place, QUICK);
-    assert_eq!(ended_as(Ended::Stopped, job, run), [End, stopped]);
-    let options = Options { storage: Some(place.state()), ..Options::new(QUICK, &[TASKS.into()]) };
-    Store::open(&place.job(), &options).unwrap().begin_job().unwrap();
-    let (job, run) = begin(&place, QUICK);
-    job.engine().await_words(2, is_complete);
-    let said = close(job, run);
-    let is_begun = |it: &Word| matches!(it, Start(_, from, 2) if *from == Some(id));
-    assert!(said.iter().any(is_begun), "{said:?}");
 }
 
 fn stops(job: &Arc<Runner<Words>>) -> u64 {
@@ -709,27 +678,6 @@ fn a_record_that_expires() {
     job.engine().await_word(second.clone());
     assert_eq!(job.engine().said()[1..4], [first, Aborted(vec![1]), second]);
     close(job, run);
-}
-
-#[test]
-fn commands_of_an_operator() {
-    let (_place, job, run) = idle("runner-commands", IDLE);
-    let triggers = || {
-        let made = job.store().trigger().unwrap();
-        let Some(Answer::Triggered { id, .. }) = made.called() else { unreachable!() };
-        job.engine().await_word(Complete(id));
-        id
-    };
-    let first = triggers();
-    let second = triggers();
-    job.store().go_back(first, true).unwrap();
-    job.engine().await_words(2, is_start);
-    let third = triggers();
-    let said = close(job, run);
-    let starts: Vec<&Word> = said.iter().filter(|it| is_start(it)).collect();
-    let &Start(_, Some(from), payloads) = starts[1] else { unreachable!() };
-    // the savepoint that has the payloads of the first
-    assert!(starts.len() == 2 && second < from && from < third && payloads == 2);
 }
 
 /// A job that triggers nothing by itself.
@@ -1082,21 +1030,6 @@ fn tasks_that_fail_and_tasks_of_an_old_term() {
     }
 }
 
-#[test]
-fn a_payload_of_a_barrier() {
-    let (_place, job, run) = idle("runner-payload", IDLE);
-    *job.engine().takes_no_part.lock().unwrap() = true;
-    job.store().trigger().unwrap();
-    job.engine().await_word(Barrier(1, Kind::Checkpoint, false));
-    let barrier = barrier(1);
-    for index in 0..TASKS {
-        job.ack_payload(&barrier, (0, index), &[index as u8]).unwrap();
-    }
-    let whole = job.store().load(None).unwrap().unwrap();
-    assert_eq!([whole.payload_of(0, 0), whole.payload_of(0, 1), whole.payload_of(7, 0)], [&[0][..], &[1], &[]]);
-    close(job, run);
-}
-
 fn barrier(id: u64) -> Barrier {
     Barrier { id, kind: Kind::Checkpoint, base: Choice::Fresh, term: 1, holds: false, drains: false }
 }
@@ -1304,62 +1237,4 @@ fn a_record_as_a_whole_and_a_lost_file() {
     assert_eq!((counts.waiting, counts.taken), (0, 0)); // nothing was swept
     assert_eq!(ended(job), [End]);
     assert!([first + 1, unused].iter().all(|it| place.state().join(it.to_string()).exists()));
-}
-
-#[test]
-fn what_a_call_has_wrong() {
-    let place = Place::new("runner-misuse");
-    let store = Store::open(&place.job(), &new_job(&[TASKS.into()])).unwrap();
-    assert_eq!(triggered(&store), 1);
-    let ack = |index| Call::AckIn { term: 1, now: NOW, id: 1, subtask: (0, index), fresh: &[], reused: &[] };
-    let decline = Call::DeclineIn { term: 1, now: NOW, id: 1, subtask: (0, 0) };
-    let long = vec![0; 4097];
-    let payload = More { payload: &long, ..More::default() };
-    let reason = |reason| More { reason, ..More::default() };
-    for (call, more, words) in [(ack(0), payload, "more than 4096 bytes"), (decline, reason("a\0b"), "a zero")] {
-        let Err(CallError::Store(why)) = store.call_with(call, more) else {
-            panic!("{words}");
-        };
-        assert!(why.kind == StoreErrorKind::BadArgument && why.message.contains(words), "{why}");
-    }
-    let made = store.call_with(decline, reason("no disk")).unwrap();
-    assert_eq!((made.kind, made.ended), (Some(Kind::Checkpoint), vec![1]));
-    let late = store.call_with(ack(1), More { payload: b"x", ..More::default() }).unwrap();
-    assert_eq!(late.called(), Some(Answer::AckLate { handed_out: 0 }));
-    assert_eq!((late.kind, late.ended), (None, vec![]));
-    assert_eq!(store.history(5).unwrap()[0].reason, "no disk");
-}
-
-#[test]
-fn what_a_timer_has_for_an_engine() {
-    let place = Place::new("runner-next");
-    let settings = Settings { interval: 1 << 39, timeout: 5000, ..QUICK };
-    let options = Options { settings, ..new_job(&[TASKS.into()]) };
-    let store = Store::open(&place.job(), &options).unwrap();
-    assert_eq!(store.await_next(1).unwrap(), Awaited::from(Next::Idle));
-    store.trigger().unwrap();
-    let Awaited { next, ended } = store.await_next(1).unwrap();
-    let barrier = Next::Barrier { id: 1, kind: Kind::Checkpoint, base: Choice::Fresh };
-    assert_eq!((next, ended), (barrier, vec![]));
-    let tick = Call::Tick { now: store.now() + 6000 };
-    assert_eq!(store.call(tick).unwrap().ended, [1]); // it has expired, and the job has failed
-    assert_eq!(store.await_next(1).unwrap().next, Next::Failed);
-    store.restore_whole(None, None).unwrap();
-    let Some(Answer::SavepointTriggered(id)) = store.stop_job().unwrap().called() else { panic!("a stop") };
-    let barrier = |id| Next::Barrier { id, kind: Kind::Savepoint, base: Choice::Fresh };
-    assert_eq!(store.await_next(1).unwrap().next, barrier(id));
-    store.call(Call::DeclineIn { term: 2, now: NOW, id, subtask: (0, 0) }).unwrap();
-    assert_eq!(store.await_next(1).unwrap().next, Next::NotStopped);
-    let Some(Answer::SavepointTriggered(id)) = store.stop_job().unwrap().called() else { panic!("a stop") };
-    assert_eq!(store.await_next(1).unwrap().next, barrier(id));
-    for index in 0..TASKS {
-        store.call(Call::AckIn { term: 2, now: NOW, id, subtask: (0, index), fresh: &[], reused: &[] }).unwrap();
-    }
-    assert_eq!([1, 1].map(|it| store.await_next(it).unwrap().next), [Next::Stopped; 2]);
-    let term = store.begin_job().unwrap().term.unwrap();
-    assert_eq!(store.await_next(1).unwrap().next, Next::Begun { from: Choice::Savepoint(id), term });
-    store.call(Call::Cancel { now: NOW }).unwrap();
-    assert_eq!([1, 1].map(|it| store.await_next(it).unwrap().next), [Next::Cancelled; 2]);
-    store.stop();
-    assert_eq!(store.await_next(1).unwrap().next, Next::Ended);
 }

@@ -1,4 +1,4 @@
-//! The durable coordinator: calls and refusals, a recovery, threads, submits, a read that panics, and the discarder.
+//! The durable coordinator: calls and refusals, a recovery, submits, a read that panics, the discarder, and state files that come from a reader or are there.
 #![cfg(feature = "store")]
 mod common;
 
@@ -9,7 +9,9 @@ use relkvanu::store::{
 use relkvanu::{Answer, Call, Choice, Fault, Fenced, Mode, Refusal, Settings};
 use std::collections::BTreeSet;
 use std::fs;
-use std::path::Path;
+use std::io::{self, Read};
+use std::os::unix::fs::MetadataExt;
+use std::panic::{catch_unwind, AssertUnwindSafe};
 use std::sync::atomic::{AtomicU64, Ordering};
 use std::thread;
 use std::time::Duration;
@@ -71,42 +73,11 @@ fn calls_and_a_recovery() {
 }
 
 #[test]
-fn openings_that_are_refused() {
-    let folder = Place::new("refused");
-    let path = folder.job();
-    let mut options = Options::new(SETTINGS, &[2]);
-    assert_eq!(Store::open(&path, &options).unwrap_err().kind, StoreErrorKind::Absent);
-    assert_eq!(Store::open(Path::new("a\0b"), &options).unwrap_err().kind, StoreErrorKind::BadArgument);
-    options.create = true;
-    options.storage = Some(folder.state());
-    fs::write(folder.state().join("5"), "").unwrap();
-    let why = Store::open(&path, &options).unwrap_err();
-    assert!(why.kind == StoreErrorKind::Storage && !why.closes(), "{why}");
-}
-
-#[test]
-fn threads_share_it() {
-    let folder = Place::new("threads");
-    let store = job(&folder);
-    thread::scope(|scope| {
-        for _ in 0..16 {
-            scope.spawn(|| {
-                for _ in 0..20 {
-                    store.call(Call::Savepoint { now: NOW }).unwrap();
-                }
-            });
-        }
-    });
-    assert_eq!(store.counts().calls, 320);
-    assert_eq!(store.read(|job| job.live(319).map(|it| it.id)).unwrap(), Some(320));
-}
-
-#[test]
 fn a_read_that_panics() {
     let folder = Place::new("panics");
     let store = job(&folder);
     complete(&store, 1);
-    let read = std::panic::catch_unwind(std::panic::AssertUnwindSafe(|| store.read(|job| panic!("{}", job.due()))));
+    let read = catch_unwind(AssertUnwindSafe(|| store.read(|job| panic!("{}", job.due()))));
     assert!(read.is_err());
     complete(&store, 11);
     assert_eq!(store.read(|job| job.file_counts().waiting).unwrap(), 2);
@@ -229,13 +200,13 @@ fn a_discarder() {
         let discarder = scope.spawn(|| {
             let (mut gone, mut panics) = (BTreeSet::new(), 0);
             loop {
-                let discards = std::panic::AssertUnwindSafe(|| {
+                let discards = AssertUnwindSafe(|| {
                     store.discard(4, |file| {
                         assert!(file != 2 || tries.fetch_add(1, Ordering::Relaxed) >= 2, "not yet");
                         gone.insert(file)
                     })
                 });
-                match std::panic::catch_unwind(discards) {
+                match catch_unwind(discards) {
                     Ok(ended) => return (ended, gone, panics),
                     Err(_) => panics += 1,
                 }
@@ -253,42 +224,6 @@ fn a_discarder() {
         assert_eq!(tries.load(Ordering::Relaxed), 3);
     });
     assert!(store.await_tick(1000).is_err());
-}
-
-fn refused(path: &Path, options: &Options, kind: StoreErrorKind) -> String {
-    let why = Store::open(path, options).unwrap_err();
-    assert_eq!(why.kind, kind, "{why}");
-    why.message
-}
-
-/// The message names what is wrong and what is allowed.
-#[test]
-fn limits() {
-    let folder = Place::new("limits");
-    let path = folder.job();
-    let told = refused(&path, &new_job(&[1, 0]), StoreErrorKind::BadArgument);
-    assert!(told.ends_with("the shape has 0 subtasks in vertex 1, and has to have at least 1 in each"), "{told}");
-    let mut options = new_job(&[2]);
-    options.settings.at_once = 65;
-    let told = refused(&path, &options, StoreErrorKind::BadArgument);
-    assert_eq!(told, format!("{}: settings.at_once is 65, and has to be 1 to 64", path.display()));
-}
-
-#[test]
-fn backups() {
-    let folder = Place::new("backups");
-    let copy = folder.0.join("copy.db");
-    let store = job(&folder);
-    complete(&store, 1);
-    store.backup(&copy).unwrap();
-    let again = store.backup(&copy).unwrap_err();
-    assert!(again.kind == StoreErrorKind::Present && again.message.contains("copy.db"), "{again}");
-    let mut options = Options::new(SETTINGS, &[2]);
-    let told = refused(&copy, &options, StoreErrorKind::Storage);
-    assert!(told.contains("it is a backup"), "{told}");
-    options.backup = true;
-    let back = Store::open(&copy, &options).unwrap();
-    assert!(back.report().is_recovered && back.report().epoch == 2);
 }
 
 fn kind<T>(it: Result<T, CallError>) -> StoreErrorKind {
@@ -331,4 +266,89 @@ fn commands_of_an_operator() {
     let phase = store.phase().unwrap();
     assert_eq!((phase.phase, phase.stop_failed), (Phase::Running, Some(StopFailed::Cancelled)));
     assert_eq!(kind(store.await_tick(1000)), StoreErrorKind::NotStopped);
+}
+
+fn with_files(place: &Place) -> Store {
+    let store = Store::open(&place.job(), &Options { storage: Some(place.state()), ..new_job(&[2, 1]) }).unwrap();
+    store.reserve(store.report().names.term, 9).unwrap();
+    store
+}
+
+/// Gives some bytes, is interrupted, gives more, and then does what it is asked to.
+struct Source<F: FnMut() -> io::Result<usize>>(Vec<&'static [u8]>, F);
+
+impl<F: FnMut() -> io::Result<usize>> Read for Source<F> {
+    fn read(&mut self, to: &mut [u8]) -> io::Result<usize> {
+        match self.0.pop() {
+            Some([]) => Err(io::ErrorKind::Interrupted.into()),
+            Some(some) => {
+                to[..some.len()].copy_from_slice(some);
+                Ok(some.len())
+            }
+            None => (self.1)(),
+        }
+    }
+}
+
+#[test]
+fn a_file_of_a_reader() {
+    let place = Place::new("reader");
+    let store = with_files(&place);
+    let long = vec![7; 600_000];
+    store.put_from(1, &long[..]).unwrap();
+    assert_eq!(fs::read(place.state().join("1")).unwrap(), long);
+    let parts = || vec![&b"te"[..], b"", b"sta"];
+    store.put_from(2, Source(parts(), || Ok(0))).unwrap();
+    assert_eq!(fs::read(place.state().join("2")).unwrap(), b"state");
+    let present = store.put_from(2, &long[..]).unwrap_err();
+    assert_eq!(present.kind, StoreErrorKind::Present);
+    let failed = Source(parts(), || Err(io::Error::other("no source")));
+    let told = store.put_from(3, failed).unwrap_err();
+    assert_eq!((told.kind, &*told.message), (StoreErrorKind::NotPut, "no source"));
+    let panics = Source(parts(), || panic!("a source"));
+    assert!(catch_unwind(AssertUnwindSafe(|| store.put_from(4, panics))).is_err());
+    for name in ["3", "3.part", "4", "4.part"] {
+        assert!(!place.state().join(name).exists(), "{name}");
+    }
+}
+
+#[test]
+fn a_file_that_is_there() {
+    let place = Place::new("links");
+    let store = with_files(&place);
+    let made = place.0.join("made");
+    fs::write(&made, b"state").unwrap();
+    store.put_link(1, &made).unwrap();
+    assert_eq!(fs::metadata(place.state().join("1")).unwrap().nlink(), 2);
+    let present = store.put_link(1, &made).unwrap_err();
+    assert_eq!(present.kind, StoreErrorKind::Present);
+    let none = store.put_link(2, &place.0.join("none")).unwrap_err();
+    assert_eq!(none.kind, StoreErrorKind::NotPut);
+    assert!(none.message.contains("No such file"), "{}", none.message);
+}
+
+#[test]
+fn why_a_call_was_refused() {
+    let place = Place::new("why");
+    let store = with_files(&place);
+    let ack = |term| {
+        let refused = store.call(Call::AckIn { now: NOW, term, id: 6, subtask: (1, 0), fresh: &[], reused: &[] });
+        assert!(refused.is_err());
+        relkvanu::store::why()
+    };
+    assert_eq!(ack(1), "record 6, subtask 1.0, term 1: refused UnknownCheckpoint");
+    assert_eq!(ack(7), "record 6, subtask 1.0, term 7: fenced OldTerm; term 1 runs");
+}
+
+#[test]
+fn the_job_of_an_opening() {
+    let place = Place::new("opening");
+    drop(with_files(&place));
+    let other = Settings { interval: 99, keep_on_cancel: true, ..SETTINGS };
+    let mut options = Options::new(other, &[3]);
+    options.storage = Some(place.state());
+    let again = Store::open(&place.job(), &options).unwrap();
+    assert!(again.report().settings_differ);
+    assert_eq!(again.job().unwrap(), (SETTINGS, vec![2, 1]));
+    assert_eq!(triggered(&again), 1);
 }

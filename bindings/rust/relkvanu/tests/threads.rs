@@ -1,7 +1,7 @@
-//! A coordinator that threads share.
+//! A coordinator that threads share, and what it says of a refusal.
 mod settings;
 
-use relkvanu::{Answer, Fault, Refusal, SharedCoordinator};
+use relkvanu::{Answer, Fault, Fenced, Garbage, Refusal, RunningTerm, SharedCoordinator};
 use settings::SETTINGS;
 use std::error::Error;
 use std::thread;
@@ -71,6 +71,24 @@ fn the_next_tick_is_when_something_can_happen() {
 }
 
 #[test]
+fn it_makes_the_calls_of_terms_and_names() {
+    let job = SharedCoordinator::open_fenced(&SETTINGS, &[1], 0, 1, 5).unwrap();
+    assert_eq!((job.reserve(1, 3), job.term()), (Ok(5..8), Ok(RunningTerm { term: 1, next_name: 8 })));
+    assert_eq!(job.calls(), 0);
+    job.tick(1000).unwrap();
+    let completed = Answer::AckCompleted { dropped: 0, released: 0 };
+    assert_eq!(job.ack_in(1, 1000, 1, (0, 0), &[5], &[]), Ok(completed));
+    assert_eq!(job.calls(), 2);
+    assert_eq!(job.forfeit(1, &[6]), Ok(()));
+    assert_eq!(job.garbage(&[5, 6, 7, 8]), Ok(Garbage { garbage: vec![6], unissued: vec![8] }));
+    assert_eq!(job.fence(9), Err(Fenced::HasNames.into()));
+    job.tick(2000).unwrap();
+    let failed = Answer::DeclineFailed { released: 0 };
+    assert_eq!(job.decline_in(1, 2000, 2, (0, 0)), Ok(failed));
+    assert_eq!(job.calls(), 4);
+}
+
+#[test]
 fn a_refusal_says_what_it_is() {
     let job = SharedCoordinator::open(&SETTINGS, &[1], 0, 1).unwrap();
     job.tick(1000).unwrap();
@@ -79,5 +97,9 @@ fn a_refusal_says_what_it_is() {
     assert_eq!(fault.to_string(), "the call is refused: FileGone 7");
     assert_eq!(fault.source().unwrap().to_string(), "FileGone 7");
     assert_eq!(job.deleted(7), Err(Refusal::NotTaken.into()));
+    let told: Fault = Fenced::Spent(7).into();
+    assert_eq!(told.to_string(), "the term or the names refuse the call: Spent 7");
+    assert_eq!(told.source().unwrap().to_string(), "Spent 7");
+    assert_eq!(Fault::BadName.to_string(), "the first name is not within 1 to 2^62");
     assert_eq!(relkvanu::version(), env!("CARGO_PKG_VERSION"));
 }
