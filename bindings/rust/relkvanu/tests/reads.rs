@@ -1,4 +1,4 @@
-//! Moments that are far ahead, and images. What reads return is in `term_lines.rs`.
+//! Moments that are far ahead, and images. What reads return is in `rows.rs`.
 mod settings;
 
 use relkvanu::{Answer, Coordinator, Fault, Live, Settings};
@@ -36,13 +36,11 @@ fn a_moment_that_is_far_ahead_is_refused() {
     job.tick(1000).unwrap();
     let late = 1000 + SETTINGS.timeout + DAY + 1; // a timer may wait until checkpoint 1 expires
     let image = job.save();
-    let calls: [Timed; 8] = [
+    let calls: [Timed; 6] = [
         |job, now| job.tick(now),
         |job, now| job.savepoint(now),
         |job, now| job.ack(now, 1, (0, 0), &[1], &[]),
         |job, now| job.decline(now, 1, (0, 0)),
-        |job, now| job.ack_in(1, now, 1, (0, 0), &[1], &[]),
-        |job, now| job.decline_in(1, now, 1, (0, 0)),
         |job, now| job.restore(now, None, None),
         |job, now| job.cancel(now),
     ];
@@ -51,6 +49,9 @@ fn a_moment_that_is_far_ahead_is_refused() {
             assert_eq!(call(&mut job, now), Err(relkvanu::Refusal::MomentTooLarge.into()));
         }
     }
+    let too_large = Err(relkvanu::Refusal::MomentTooLarge.into());
+    assert_eq!(job.ack_in(1, late, 1, (0, 0), &[1], &[]), too_large);
+    assert_eq!(job.decline_in(1, late, 1, (0, 0)), too_large);
     assert_eq!(job.save(), image);
     job.ack(late - 1, 1, (0, 0), &[1], &[]).unwrap();
     job.set_most_ahead(2 * DAY);

@@ -1,7 +1,10 @@
-//! The rows of `examples/rows` that are lists of calls, through the crate: the library reads the lines.
+//! The rows of `examples/rows` that are lists of calls, and the logs, through the crate: by lines, by calls that are written again, and by methods. And calls that
+//! none of them has.
+mod logs;
 mod settings;
 
-use relkvanu::{opening_lines, Call, Coordinator, Fault, Line, LineFault, Refusal, Said, Settings};
+use logs::WAYS;
+use relkvanu::{opening_lines, Answer, Call, Coordinator, Fault, Line, LineFault, Refusal, Said, Settings};
 use settings::SETTINGS;
 use std::path::Path;
 
@@ -37,100 +40,28 @@ fn opened(lines: &[Vec<u8>]) -> Option<Coordinator> {
     }
 }
 
-fn refused(fault: Fault, number: usize) -> String {
-    match fault {
-        Fault::Refused(why) => format!("refused {why}"),
-        Fault::BadShape => "refused BadShape".into(),
-        Fault::BadLine(why) => format!("line {number} fault {why}"),
-        other => format!("{other:?}"),
-    }
-}
-
-fn taken(files: &[u64]) -> String {
-    match files {
-        [] => "take none".into(),
-        _ => files.iter().fold(String::from("take"), |text, file| format!("{text} {file}")),
-    }
-}
-
-/// What a line prints: nothing, or a line.
-fn told(job: &mut Coordinator, line: &[u8], number: usize) -> Option<String> {
-    let mut files = vec![0; 4096];
-    match job.line(line, &mut files) {
-        Ok(Said::Skipped) | Err(Fault::BadLine(LineFault::NoCall)) => None,
-        Ok(Said::Called(answer)) => Some(answer.to_string()),
-        Ok(Said::Taken(files)) => Some(taken(files)),
-        Ok(Said::Shown(json)) => Some(json),
-        Err(fault) => Some(refused(fault, number)),
-    }
-}
-
-/// Checks that the line of the call that a line says says the same call. Returns whether the line says a call.
-fn is_written_again(line: &[u8]) -> bool {
-    let (mut first, mut second) = (Vec::new(), Vec::new());
-    let Ok(Some(call)) = Call::of(line, &mut first, &mut second) else {
-        return false;
-    };
-    let written = call.line().unwrap();
-    let (mut first, mut second) = (Vec::new(), Vec::new());
-    assert_eq!(Call::of(written.as_bytes(), &mut first, &mut second), Ok(Some(call)));
-    assert_eq!(Line::of(line), Ok(Line::Call));
-    true
-}
-
-/// Makes the call of a line with its line, on a job that is as the other was before it. The other has made the line. Returns whether the
-/// line says a call.
-fn is_made_alike(job: &mut Coordinator, other: &Coordinator, line: &[u8]) -> bool {
-    let (mut first, mut second) = (Vec::new(), Vec::new());
-    let Ok(Some(call)) = Call::of(line, &mut first, &mut second) else {
-        // a restore to savepoint 0 is refused, and others make no call
-        assert!(job.line(line, &mut [0; 4096]).is_err() || Line::of(line) != Ok(Line::Call));
-        return false;
-    };
-    let (mut files, mut others) = (vec![0; 4096], vec![0; 4096]);
-    let (waited, mut copy) =
-        (job.file_counts().waiting, Coordinator::open_saved(job.save().unwrap().as_bytes()).unwrap());
-    let wanted = copy.line(line, &mut others);
-    let made = job.make(&call, &mut files);
-    assert_eq!(made.as_ref().map(|made| &made.said), wanted.as_ref());
-    if let Ok(made) = made {
-        assert_eq!(Ok(&made.line), call.line().as_ref());
-        assert_eq!((made.waited, made.counts), (waited, other.file_counts()));
-    }
-    assert_eq!(job.save(), other.save());
-    true
-}
-
 #[test]
 fn rows() {
     let folder = Path::new(env!("CARGO_MANIFEST_DIR")).join("../../../examples/rows");
     let others = std::fs::read_to_string(folder.join("OTHERS")).unwrap();
-    let (mut run, mut calls, mut made) = (0, 0, 0);
+    let mut run = 0;
     for entry in std::fs::read_dir(folder).unwrap() {
         let path = entry.unwrap().path();
         if path.extension().is_none_or(|extension| extension != "in") {
             continue;
         }
         let row = row(&path);
-        let job = opened(&row.lines);
         let name = path.file_stem().unwrap().to_str().unwrap();
-        assert_eq!(job.is_none(), others.lines().any(|it| it == name), "{name}");
-        let Some(mut job) = job else { continue };
-        let mut other = opened(&row.lines).unwrap();
-        other.set_most_ahead(u64::MAX); // a line is not checked either
-        let mut output = String::new();
-        for (place, line) in row.lines.iter().enumerate() {
-            if let Some(text) = told(&mut job, line, place + 1) {
-                output += &(text + "\n");
-            }
-            made += usize::from(is_made_alike(&mut other, &job, line));
+        assert_eq!(opened(&row.lines).is_none(), others.lines().any(|it| it == name), "{name}");
+        for make in WAYS {
+            let Some(mut job) = opened(&row.lines) else { continue };
+            job.set_most_ahead(u64::MAX); // a line is not checked
+            let told = row.lines.iter().zip(1..).filter_map(|(line, number)| logs::told(&mut job, line, number, make));
+            assert_eq!(told.map(|it| it + "\n").collect::<String>(), row.wanted, "{}", path.display());
+            run += 1;
         }
-        assert_eq!(output, row.wanted, "{}", path.display());
-        calls += row.lines.iter().filter(|line| is_written_again(line)).count();
-        run += 1;
     }
-    assert!(run > 0 && calls > 0, "no row is a list of calls");
-    assert_eq!(made, calls);
+    assert!(run > 0, "no row is a list of calls");
 }
 
 #[test]
@@ -171,4 +102,35 @@ fn a_log_is_made_again() {
     assert_eq!(job.line(b"take 9", &mut [0, 0]), Ok(Said::Taken(&[1, 2])));
     let longer = [b"tick".as_slice(), &[b' '; 1 << 17]].concat();
     assert_eq!(job.line(&longer, &mut []), Err(Fault::BadLine(LineFault::TooLong)));
+}
+
+#[test]
+fn logs_are_replayed_by_their_lines_by_calls_and_by_methods() {
+    for log in logs::logs() {
+        for make in WAYS {
+            logs::replay(&log, make);
+        }
+    }
+}
+
+/// No row has such a call.
+#[test]
+fn other_settings_of_a_live_job() {
+    let mut job = Coordinator::open(&SETTINGS, &[1], 0, 1).unwrap();
+    let other =
+        Settings { pause: 5, at_once: 3, timeout: 70, tolerable: 4, retained: 2, keep_on_cancel: true, ..SETTINGS };
+    let numbers = other.numbers();
+    let call = Call::Configure { now: 8, settings: &numbers };
+    assert_eq!(call.line().unwrap(), "configure 8 1000 5 3 70 4 2 keep");
+    let (mut first, mut second) = (Vec::new(), Vec::new());
+    assert_eq!(Call::of(b"configure 8 1000 5 3 70 4 2 keep", &mut first, &mut second), Ok(Some(call)));
+    let none = Answer::Configured { checkpoints: 0, released: 0 };
+    assert_eq!(job.configure(8, &other), Ok(none));
+    assert_eq!(job.trigger(9), Ok(Answer::Triggered { expired: 0, id: 1 }));
+    let bad = Settings { interval: 9, ..SETTINGS };
+    assert_eq!(job.configure(9, &bad), Err(Fault::BadConfig));
+    assert_eq!(Call::Configure { now: 9, settings: &bad.numbers() }.line(), Err(Fault::BadConfig));
+    assert_eq!(Settings::of_numbers(&numbers), Some(other));
+    assert_eq!(Settings::of_numbers(&numbers[1..]), None);
+    assert_eq!(Settings::of_numbers(&[10, 0, 1, 1, 0, 1, 2]), None);
 }

@@ -1,6 +1,6 @@
-//! The logs of examples/logs and examples/reads, and the example of docs/LOGS.md: how their calls are made, and what they print.
+//! The logs of examples/logs and examples/reads, the example of docs/LOGS.md, and rows: how their calls are made, and what they print.
 use crate::settings::SETTINGS;
-use relkvanu::{Answer, Call, Coordinator, Fault, Fenced, Line, Live, Said};
+use relkvanu::{Answer, Call, Coordinator, Fault, Fenced, Line, LineFault, Live, Said};
 
 /// The lines of a log, and after each arrow what a line prints.
 fn lines_of(log: &str) -> Vec<(String, Vec<String>)> {
@@ -35,22 +35,26 @@ pub fn logs() -> Vec<String> {
 }
 
 /// How the call of a line is made.
-pub type Make = for<'a> fn(&mut Coordinator, &str, &'a mut [u64]) -> Result<Said<'a>, Fault>;
+pub type Make = for<'a> fn(&mut Coordinator, &[u8], &'a mut [u64]) -> Result<Said<'a>, Fault>;
 
-fn by_line<'a>(job: &mut Coordinator, line: &str, files: &'a mut [u64]) -> Result<Said<'a>, Fault> {
-    job.line(line.as_bytes(), files)
-}
-
-fn by_call<'a>(job: &mut Coordinator, line: &str, files: &'a mut [u64]) -> Result<Said<'a>, Fault> {
+/// The line of the call that it says says the same call.
+fn by_call<'a>(job: &mut Coordinator, line: &[u8], files: &'a mut [u64]) -> Result<Said<'a>, Fault> {
     let (mut first, mut second) = (Vec::new(), Vec::new());
-    let call = Call::of(line.as_bytes(), &mut first, &mut second)?.unwrap();
-    Ok(job.make(&call, files)?.said)
+    let Some(call) = Call::of(line, &mut first, &mut second)? else { return Ok(Said::Skipped) };
+    let (written, (mut first, mut second)) = (call.line()?, (Vec::new(), Vec::new()));
+    assert_eq!(Call::of(written.as_bytes(), &mut first, &mut second), Ok(Some(call)));
+    assert_eq!(Line::of(line), Ok(Line::Call));
+    let waited = job.file_counts().waiting;
+    let made = job.make(&call, files)?;
+    assert_eq!((&made.line, made.waited, made.counts), (&written, waited, job.file_counts()));
+    Ok(made.said)
 }
 
 /// By the method of the call.
-fn by_method<'a>(job: &mut Coordinator, line: &str, files: &'a mut [u64]) -> Result<Said<'a>, Fault> {
+fn by_method<'a>(job: &mut Coordinator, line: &[u8], files: &'a mut [u64]) -> Result<Said<'a>, Fault> {
     let (mut first, mut second) = (Vec::new(), Vec::new());
-    let answer = match Call::of(line.as_bytes(), &mut first, &mut second)?.unwrap() {
+    let Some(call) = Call::of(line, &mut first, &mut second)? else { return Ok(Said::Skipped) };
+    let answer = match call {
         Call::Tick { now } => job.tick(now)?,
         Call::Savepoint { now } => job.savepoint(now)?,
         Call::Ack { now, id, subtask, fresh, reused } => job.ack(now, id, subtask, fresh, reused)?,
@@ -60,7 +64,12 @@ fn by_method<'a>(job: &mut Coordinator, line: &str, files: &'a mut [u64]) -> Res
         Call::Deleted { file } => job.deleted(file)?,
         Call::Undeleted { file } => job.undeleted(file)?,
         Call::Count { file } => job.count(file)?,
-        Call::Take { most } => return job.take(&mut files[..usize::try_from(most).unwrap()]).map(Said::Taken),
+        Call::Dispose { id } => job.dispose(id)?,
+        Call::Show { id } => return job.show(id).map(Said::Shown),
+        Call::Take { most } => {
+            let most = files.len().min(usize::try_from(most).unwrap());
+            return job.take(&mut files[..most]).map(Said::Taken);
+        }
         Call::Fence { first_name } => job.fence(first_name).map(|()| Answer::Named)?,
         Call::Reserve { term, count } => job.reserve(term, count).map(|names| Answer::Reserved(names.start))?,
         Call::Forfeit { term, names } => job.forfeit(term, names).map(|()| Answer::Forfeited)?,
@@ -130,31 +139,32 @@ fn or_fenced(told: Result<String, Fault>) -> String {
     }
 }
 
-pub const WAYS: [Make; 3] = [by_line, by_call, by_method];
+pub const WAYS: [Make; 3] = [|job, line, files| job.line(line, files), by_call, by_method];
 
-/// What a line prints: a second line has the term that began.
-fn told(job: &mut Coordinator, line: &str, make: Make) -> Vec<String> {
-    let mut files = vec![0; 64];
-    match make(job, line, &mut files) {
-        Ok(Said::Called(answer @ (Answer::Restored { .. } | Answer::Cancelled { .. }))) => {
-            let term = job.term().map(|it| format!("term {}", it.term));
-            std::iter::once(answer.to_string()).chain(term).collect()
-        }
-        Ok(Said::Called(answer)) => vec![answer.to_string()],
-        Ok(Said::Taken(files)) => {
-            let words: Vec<String> = files.iter().map(u64::to_string).collect();
-            vec![format!("take {}", words.join(" "))]
-        }
-        Ok(other) => panic!("{line}: {other:?}"),
+/// What a line with this number prints: nothing, or a line.
+pub fn told(job: &mut Coordinator, line: &[u8], number: usize, make: Make) -> Option<String> {
+    let mut files = vec![0; 4096];
+    Some(match make(job, line, &mut files) {
+        Ok(Said::Skipped) | Err(Fault::BadLine(LineFault::NoCall)) => return None,
+        Ok(Said::Called(answer)) => answer.to_string(),
+        Ok(Said::Taken(files)) => format!("take {}", listed(files)),
+        Ok(Said::Shown(json)) => json,
         // a fence that is refused is so as the line of a log, and a task by its term
-        Err(Fault::Fenced(why @ (Fenced::NoNames | Fenced::HasNames | Fenced::NameInUse))) => {
-            vec![format!("refused {why}")]
-        }
-        Err(Fault::Fenced(why)) => vec![format!("fenced {why}")],
-        Err(Fault::Refused(why)) => vec![format!("refused {why}")],
-        Err(Fault::BadName) => vec!["refused BadName".to_string()],
-        Err(fault) => panic!("{line}: {fault}"),
-    }
+        Err(Fault::Fenced(why @ (Fenced::NoNames | Fenced::HasNames | Fenced::NameInUse))) => format!("refused {why}"),
+        Err(Fault::Fenced(why)) => format!("fenced {why}"),
+        Err(Fault::Refused(why)) => format!("refused {why}"),
+        Err(fault @ (Fault::BadName | Fault::BadShape)) => format!("refused {fault:?}"),
+        Err(Fault::BadLine(why)) => format!("line {number} fault {why}"),
+        Err(fault) => panic!("{fault}"),
+    })
+}
+
+/// What a line of a log prints: a second line has the term that began.
+fn told_in_log(job: &mut Coordinator, line: &str, make: Make) -> Vec<String> {
+    let told = told(job, line.as_bytes(), 0, make).unwrap();
+    let is_begun = told.starts_with("restored ") || told.starts_with("cancelled ");
+    let term = if is_begun { job.term().ok() } else { None };
+    std::iter::once(told).chain(term.map(|it| format!("term {}", it.term))).collect()
 }
 
 /// Makes the calls of a log so.
@@ -169,7 +179,7 @@ pub fn replay(log: &str, make: Make) {
             Line::Config(given) => settings = given,
             Line::Job(given) => shape = given,
             Line::Start(now) => job = Coordinator::open(&settings, &shape, now, 1).ok(),
-            Line::Call => assert_eq!(told(job.as_mut().unwrap(), &line, make), wanted, "{line}"),
+            Line::Call => assert_eq!(told_in_log(job.as_mut().unwrap(), &line, make), wanted, "{line}"),
             other => assert_eq!(other, Line::Skip),
         }
     }
