@@ -1,12 +1,10 @@
-/* coordinator SCRIPT..: the C++ header, call by call and read by read, with values that are worked out from docs/RULES.md; and the calls
- * that the lines of the scripts say. */
+/* The C++ header, call by call and read by read, with values that are worked out from docs/RULES.md. */
 #include "../../include/relkvanu.hpp"
 
 #include "aborts.hpp"
 
 #include <cstdio>
 #include <cstdlib>
-#include <fstream>
 #include <type_traits>
 #include <vector>
 
@@ -206,26 +204,6 @@ static void line_says_its_call() {
     CHECK(is(ckpt::line_call("restore 5 0"), ckpt::error::no_such_savepoint));
 }
 
-/* The lines of scripts that say a call: each is written again, and that line says the same call. */
-static std::size_t said_in(const char *path) {
-    std::ifstream script(path);
-    std::size_t calls = 0;
-    for (std::string line; std::getline(script, line);) {
-        ckpt::line_call_answer told = ckpt::line_call(line);
-        const ckpt::said_call *it = std::get_if<ckpt::said_call>(&told);
-        if (it == nullptr) {
-            continue;
-        }
-        ckpt::line_call_answer written = ckpt::line_call(std::get<std::string>(ckpt::call_line(it->call, it->first, it->second)));
-        const ckpt::said_call &again = std::get<ckpt::said_call>(written);
-        CHECK(again.call.kind == it->call.kind && again.call.vertex == it->call.vertex && again.call.index == it->call.index);
-        CHECK(again.call.now == it->call.now && again.call.number == it->call.number && again.first == it->first &&
-              again.second == it->second);
-        calls++;
-    }
-    return calls;
-}
-
 /* A moment that is far ahead is refused, and changes nothing. */
 static void ahead() {
     const std::uint64_t day = 24 * 60 * 60 * 1000, late = 1000 + 5000 + day + 1; /* a timer may wait until checkpoint 1 expires */
@@ -295,12 +273,7 @@ static void fences() {
     CHECK(std::holds_alternative<ckpt::cancelled>(job.cancel(1000)) && is(job.reserve(2, 1), ckpt::error::fenced_ended));
 }
 
-int main(int argc, char **argv) {
-    std::size_t calls = 0;
-    for (int at = 1; at < argc; at++) {
-        calls += said_in(argv[at]);
-    }
-    CHECK(argc == 1 || calls > 0);
+int main() {
     line_says_its_call();
     ahead();
     reads();

@@ -5,43 +5,25 @@
  * as much under words that are 0, be it at the opening or at the openings from images, so the first comparison can fail. The
  * cost is the processor time, the best of twelve runs, since other programs may run beside it. */
 #define _GNU_SOURCE
-#include "../../../include/relkvanu.h"
+#include "fenced.h"
 
-#include <inttypes.h>
-#include <stdio.h>
-#include <stdlib.h>
-#include <string.h>
 #include <time.h>
 #include <unistd.h>
 
-enum { MOST_FILES = 1 << 17, OF_ONE_ACKNOWLEDGEMENT = 4000, AT_ONCE = 4096, RUNS = 12 };
+enum { MOST_FILES = 1 << 17, OF_ONE_ACKNOWLEDGEMENT = 4000, RUNS = 12 };
 
 struct numbers {
     uint64_t items[MOST_FILES];
     size_t len;
 };
 
-static void fail(const char *what) {
-    fprintf(stderr, "hostile: %s\n", what);
-    exit(2);
-}
-
-/* The answer's first number, if the call was made with this reply. */
-static uint64_t number_of(relkvanu_answer answer, uint32_t what) {
-    if (answer.code != RELKVANU_DONE || answer.what != what) {
-        fprintf(stderr, "hostile: code %" PRIu32 ", what %" PRIu32 " in place of what %" PRIu32 "\n", answer.code, answer.what, what);
-        exit(2);
-    }
-    return answer.a;
+static void is(relkvanu_answer told, uint32_t what) {
+    expect(told, RELKVANU_DONE, what, told.a, told.b, __LINE__);
 }
 
 static void read_numbers(const char *path, struct numbers *numbers) {
     FILE *from = fopen(path, "r");
-    if (from == NULL) {
-        perror(path);
-        exit(2);
-    }
-    numbers->len = 0;
+    CHECK(from != NULL);
     while (numbers->len < MOST_FILES && fscanf(from, "%" SCNu64, &numbers->items[numbers->len]) == 1) {
         numbers->len++;
     }
@@ -54,24 +36,17 @@ static void complete(relkvanu *job, uint64_t now, uint64_t id, uint16_t tasks, c
         size_t first = (size_t)task * OF_ONE_ACKNOWLEDGEMENT, left = files == NULL ? 0 : files->len - first;
         size_t len = left < OF_ONE_ACKNOWLEDGEMENT ? left : OF_ONE_ACKNOWLEDGEMENT;
         const uint64_t *fresh = files == NULL ? NULL : files->items + first;
-        relkvanu_answer answer = relkvanu_ack(job, now, id, 0, task, fresh, len, NULL, 0);
-        number_of(answer, task + 1 == tasks ? RELKVANU_ACK_COMPLETED : RELKVANU_ACK_PENDING);
+        is(relkvanu_ack(job, now, id, 0, task, fresh, len, NULL, 0), task + 1 == tasks ? RELKVANU_ACK_COMPLETED : RELKVANU_ACK_PENDING);
     }
 }
 
 /* Fetches all files, and reports each as deleted, or as not deleted. */
-static uint64_t report_all(relkvanu *job, relkvanu_answer (*report)(relkvanu *, uint64_t), uint32_t what) {
-    static uint64_t files[AT_ONCE];
-    uint64_t waiting = relkvanu_file_counts(job).waiting, told = 0;
-    while (told < waiting) {
-        size_t most = waiting - told < AT_ONCE ? (size_t)(waiting - told) : AT_ONCE;
-        uint64_t fetched = number_of(relkvanu_take(job, files, most), RELKVANU_TAKEN);
-        for (uint64_t place = 0; place < fetched; place++) {
-            number_of(report(job, files[place]), what);
-        }
-        told += fetched;
+static void report_all(relkvanu *job, size_t len, relkvanu_answer (*report)(relkvanu *, uint64_t), uint32_t what) {
+    static uint64_t files[MOST_FILES];
+    DONE(relkvanu_take(job, files, MOST_FILES), RELKVANU_TAKEN, len, 0);
+    for (size_t place = 0; place < len; place++) {
+        is(report(job, files[place]), what);
     }
-    return told;
 }
 
 /* The words that key the maps: those of the opening, and those of each opening from an image. */
@@ -83,53 +58,39 @@ struct secrets {
 static void reopen(relkvanu *job, const struct secrets *secrets) {
     size_t len = (size_t)relkvanu_save(job, NULL, 0).a;
     uint8_t *image = malloc(len);
-    if (image == NULL) {
-        fail("no memory for an image");
-    }
-    number_of(relkvanu_save(job, image, len), RELKVANU_SAVED);
+    CHECK(image != NULL);
+    DONE(relkvanu_save(job, image, len), RELKVANU_SAVED, len, 0);
     relkvanu_close(job);
-    number_of(relkvanu_open_saved(job, image, len, secrets->saved[0], secrets->saved[1]), RELKVANU_OPENED);
+    DONE(relkvanu_open_saved(job, image, len, secrets->saved[0], secrets->saved[1]), RELKVANU_OPENED, 0, 0);
     free(image);
 }
 
 static void count_all(relkvanu *job, const struct numbers *files) {
     for (size_t place = 0; place < files->len; place++) {
-        number_of(relkvanu_count(job, files->items[place]), RELKVANU_COUNTED);
+        is(relkvanu_count(job, files->items[place]), RELKVANU_COUNTED);
     }
 }
 
 /* A job in which all files are named, counted, dropped with their record, fetched, reported as not deleted, fetched and
- * deleted. */
-static void run(const struct numbers *files, const struct secrets *secrets) {
-    relkvanu job = {NULL};
-    relkvanu_settings settings = {1000, 0, 1, 1000000, 0, 1, false};
-    uint64_t shape[] = {(files->len + OF_ONE_ACKNOWLEDGEMENT - 1) / OF_ONE_ACKNOWLEDGEMENT};
-    number_of(relkvanu_open(&job, &settings, shape, 1, 0, 1, secrets->opening[0], secrets->opening[1]), RELKVANU_OPENED);
-    number_of(relkvanu_tick(&job, 1000), RELKVANU_TICK_TRIGGERED);
-    complete(&job, 1001, 1, (uint16_t)shape[0], files);
-    count_all(&job, files);
-    reopen(&job, secrets);
-    count_all(&job, files);
-    number_of(relkvanu_tick(&job, 2000), RELKVANU_TICK_TRIGGERED);
-    complete(&job, 2001, 2, (uint16_t)shape[0], NULL);
-    reopen(&job, secrets);
-    if (report_all(&job, relkvanu_undeleted, RELKVANU_UNDELETED) != files->len) {
-        fail("not each file was fetched");
-    }
-    if (report_all(&job, relkvanu_deleted, RELKVANU_DELETED) != files->len) {
-        fail("not each file was deleted");
-    }
-    relkvanu_counts counts = relkvanu_file_counts(&job);
-    if (counts.in_use != 0 || counts.waiting != 0 || counts.taken != 0) {
-        fail("a file is left");
-    }
-    relkvanu_close(&job);
-}
-
-/* The processor time of a run, in seconds. */
+ * deleted. Returns the processor time, in seconds. */
 static double cost(const struct numbers *files, const struct secrets *secrets) {
     clock_t before = clock();
-    run(files, secrets);
+    relkvanu job = {NULL};
+    uint64_t tasks[] = {(files->len + OF_ONE_ACKNOWLEDGEMENT - 1) / OF_ONE_ACKNOWLEDGEMENT};
+    DONE(relkvanu_open(&job, &settings, tasks, 1, 0, 1, secrets->opening[0], secrets->opening[1]), RELKVANU_OPENED, 0, 0);
+    is(relkvanu_tick(&job, 1000), RELKVANU_TICK_TRIGGERED);
+    complete(&job, 1001, 1, (uint16_t)tasks[0], files);
+    count_all(&job, files);
+    reopen(&job, secrets);
+    count_all(&job, files);
+    is(relkvanu_tick(&job, 2000), RELKVANU_TICK_TRIGGERED);
+    complete(&job, 2001, 2, (uint16_t)tasks[0], NULL);
+    reopen(&job, secrets);
+    report_all(&job, files->len, relkvanu_undeleted, RELKVANU_UNDELETED);
+    report_all(&job, files->len, relkvanu_deleted, RELKVANU_DELETED);
+    relkvanu_counts counts = relkvanu_file_counts(&job);
+    CHECK(counts.in_use == 0 && counts.waiting == 0 && counts.taken == 0);
+    relkvanu_close(&job);
     return (double)(clock() - before) / CLOCKS_PER_SEC;
 }
 
@@ -139,18 +100,11 @@ static double lesser(double one, double other) {
 
 int main(int count, char **paths) {
     static struct numbers chosen, others;
-    if (count != 3) {
-        fail("two files of numbers are wanted");
-    }
+    struct secrets secret;
+    CHECK(count == 3 && getentropy(&secret, sizeof secret) == 0);
     read_numbers(paths[1], &chosen);
     read_numbers(paths[2], &others);
-    if (chosen.len == 0 || chosen.len != others.len) {
-        fail("the two files have not as many numbers");
-    }
-    struct secrets secret;
-    if (getentropy(&secret, sizeof secret) != 0) {
-        fail("no random words");
-    }
+    CHECK(chosen.len != 0 && chosen.len == others.len);
     struct secrets known_at_opening = secret, known_at_images = secret;
     memset(known_at_opening.opening, 0, sizeof known_at_opening.opening);
     memset(known_at_images.saved, 0, sizeof known_at_images.saved);

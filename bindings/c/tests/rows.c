@@ -1,7 +1,7 @@
 /* rows SCRIPT WANTED: opens a coordinator as the script or log says, makes its calls, and compares each answer with the lines of the
  * file WANTED. The script has a config and a job line, a start line, and after that only calls and lines with faults
- * (docs/SCRIPT.md). No other script is run: the status is 3. The script is run once with all memory, and then once for each request
- * for memory, which is refused once. A call that runs out of memory returns so, and is made again. */
+ * (docs/SCRIPT.md). It is run once with all memory, and then once for each request for memory, which is refused once. A call that runs out of memory returns so,
+ * and is made again. */
 #define _GNU_SOURCE
 #include "refusing_heap.h"
 #include "script.h"
@@ -35,37 +35,6 @@ static ssize_t next_line(char **line, size_t *room, FILE *from) {
         (*line)[--len] = '\0';
     }
     return len;
-}
-
-/* Which line may come next in a list of calls. */
-enum part { OPENING, CONFIGURED, SHAPED, STARTING, CALLS, OTHER };
-
-static enum part after(enum part part, uint32_t line) {
-    switch (part) {
-    case OPENING: return line == RELKVANU_LINE_CONFIG ? CONFIGURED : line == RELKVANU_LINE_JOB ? SHAPED : OTHER;
-    case CONFIGURED: return line == RELKVANU_LINE_JOB ? STARTING : OTHER;
-    case SHAPED: return line == RELKVANU_LINE_CONFIG ? STARTING : OTHER;
-    case STARTING: return line == RELKVANU_LINE_START ? CALLS : OTHER;
-    case CALLS: return line == RELKVANU_LINE_CALL ? CALLS : OTHER;
-    default: return OTHER;
-    }
-}
-
-/* Whether the script opens one coordinator, and then makes calls alone. */
-static bool is_list_of_calls(const char *path) {
-    char *line = NULL;
-    size_t room = 0;
-    enum part part = OPENING;
-    FILE *from = opened(path);
-    for (ssize_t len = next_line(&line, &room, from); len >= 0; len = next_line(&line, &room, from)) {
-        uint64_t numbers[SCRIPT_SHAPE];
-        relkvanu_answer says = relkvanu_line_says((const uint8_t *)line, (size_t)len, numbers, SCRIPT_SHAPE);
-        bool has_part = says.code == RELKVANU_DONE && says.what != RELKVANU_LINE_SKIP;
-        part = says.code == RELKVANU_TOO_SHORT ? OTHER : has_part ? after(part, says.what) : part;
-    }
-    free(line);
-    fclose(from);
-    return part == CALLS;
 }
 
 /* Runs the script. Returns whether the answers are the expected ones. */
@@ -112,9 +81,6 @@ int main(int argc, char **argv) {
     if (argc != 3) {
         fprintf(stderr, "rows SCRIPT WANTED\n");
         return 2;
-    }
-    if (!is_list_of_calls(argv[1])) {
-        return 3;
     }
     size_t len;
     char *wanted = contents(argv[2], &len);
