@@ -125,47 +125,6 @@ static void no_names(void) {
 }
 
 /* A line with a term does what the function of its call does. */
-static void twins(void) {
-    relkvanu job = named(5), twin = named(5);
-    uint64_t fresh[] = {6, 5}, reused = 5, given_up[] = {8, 7}, shape_of_two[] = {2}, files[PLACES], others[PLACES];
-    relkvanu_settings others_settings = {500, 0, 2, 10000, 3, 2, true}, bad_settings = {9, 0, 2, 10000, 3, 2, true};
-#define TWINS(text, call)                                                          \
-    do {                                                                           \
-        relkvanu_answer left = line_into(&job, text, files, PLACES), right = call; \
-        CHECK(same_answer(left, right));                                           \
-        struct seen one = look(&job), other = look(&twin);                         \
-        CHECK(same(&one, &other));                                                 \
-    } while (0)
-    TWINS("fence 9", relkvanu_fence(&twin, 9));
-    TWINS("reserve 1 4", relkvanu_reserve(&twin, 1, 4));
-    TWINS("in 3 tick 1000", relkvanu_tick(&twin, 1000));
-    TWINS("in 1 ack 1000 1 0.0 +6 +5", relkvanu_ack_in(&twin, 1, 1000, 1, 0, 0, fresh, 2, NULL, 0));
-    TWINS("in 1 ack 1000 1 0.0 +6 +5", relkvanu_ack_in(&twin, 1, 1000, 1, 0, 0, fresh, 2, NULL, 0));
-    TWINS("forfeit 1 8 7", relkvanu_forfeit(&twin, 1, given_up, 2));
-    TWINS("in 3 savepoint 1000", relkvanu_savepoint(&twin, 1000));
-    TWINS("in 1 ack 1000 2 0.0 =5", relkvanu_ack_in(&twin, 1, 1000, 2, 0, 0, NULL, 0, &reused, 1));
-    TWINS("in 3 configure 1500 500 0 2 10000 3 2 keep", relkvanu_configure(&twin, 1500, &others_settings));
-    TWINS("configure 1500 9 0 2 10000 3 2 keep", relkvanu_configure(&twin, 1500, &bad_settings));
-    TWINS("in 3 tick 2000", relkvanu_tick(&twin, 2000));
-    TWINS("in 1 decline 2000 3 0.0", relkvanu_decline_in(&twin, 1, 2000, 3, 0, 0));
-    TWINS("in 3 restore 2100 2 2", relkvanu_restore(&twin, 2100, 2, shape_of_two, 1));
-    TWINS("in 3 trigger 2100", relkvanu_trigger(&twin, 2100));
-    TWINS("trigger 2100", relkvanu_trigger(&twin, 2100));
-    TWINS("trigger 2100", relkvanu_trigger(&twin, 2100));
-    TWINS("in 1 decline 2100 3 0.0", relkvanu_decline_in(&twin, 1, 2100, 3, 0, 0));
-    TWINS("in 3 dispose 2", relkvanu_dispose(&twin, 2));
-    TWINS("in 3 count 5", relkvanu_count(&twin, 5));
-    TWINS("in 3 show 2", relkvanu_show(&twin, 2, NULL, 0));
-    TWINS("in 3 cancel 2200", relkvanu_cancel(&twin, 2200));
-    TWINS("in 3 take 4", relkvanu_take(&twin, others, PLACES));
-    CHECK(files[0] == others[0]);
-    TWINS("in 3 undeleted 5", relkvanu_undeleted(&twin, 5));
-    TWINS("in 3 take 1", relkvanu_take(&twin, others, 1));
-    TWINS("in 3 deleted 5", relkvanu_deleted(&twin, 5));
-#undef TWINS
-    relkvanu_close(&twin);
-    relkvanu_close(&job);
-}
 
 static void change_each_byte(relkvanu *job, const char *text) {
     static const char others[] = {'\0', '\t', '\r', ' ', '+', '-', '.', '9', 'x', '\x7f', '\xff'};
@@ -276,7 +235,6 @@ int main(void) {
     faults();
     no_calls();
     no_names();
-    twins();
     cut_lines();
     long_lines();
     opening();

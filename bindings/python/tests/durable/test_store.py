@@ -1,4 +1,4 @@
-"""The module relkvanu.store: replies and errors, names, threads, an event loop, and the discarder."""
+"""The module relkvanu.store: replies and errors, threads, an event loop, and the discarder."""
 import asyncio
 import dataclasses
 import errno
@@ -16,7 +16,7 @@ import weakref
 from unittest import mock
 
 from relkvanu import (
-    AckCompleted, AckPending, BadArgument, Chosen, Closed, Configured, DeclineAborted, Fenced, Forfeited, Kind, Mode, OutOfRange, Refused, Reserved,
+    AckCompleted, AckPending, BadArgument, Chosen, Closed, Configured, DeclineAborted, Fenced, Kind, Mode, OutOfRange, Refused,
     RestoredCheckpoint, RestoredSavepoint, SavepointTriggered, Settings, Taken, Triggered, store_header,
 )
 from relkvanu.manifest import members, sums_in
@@ -203,37 +203,6 @@ class Calls(Folder):
                 os._exit(2)
             self.assertEqual(os.waitstatus_to_exitcode(os.waitpid(child, 0)[1]), 7)
             self.complete(job, 1)
-
-
-class Names(Folder):
-    def fenced(self, name, call, *words, file=None):
-        with self.assertRaises(Fenced) as caught:
-            call(*words)
-        self.assertEqual((caught.exception.name, caught.exception.file), (name, file))
-
-    def test_terms(self):
-        with self.open() as job:
-            self.assertEqual((job.report.term, job.report.next_name, job.term()), (1, 1, (1, 1)))
-            self.assertEqual(job.reserve(1, 5), range(1, 6))
-            job.tick(10)
-            self.fenced("OldTerm", job.ack_in, 0, 1, 0, 0, [1])
-            self.fenced("OldTerm", job.decline_in, 2, 1, 0, 0)
-            self.fenced("NeverReserved", job.ack_in, 1, 1, 0, 0, [9], file=9)
-            self.assertEqual(job.ack_in(1, 1, 0, 0, [1], now=11).reply, AckPending(1))
-            self.fenced("Spent", job.ack_in, 1, 1, 0, 0, [1], file=1)
-            outcomes = job.calls([Call.forfeit(1, [3, 4]), Call.reserve(1, 2), Call.ack(1, 0, 1, [2], now=12, term=1), Call.reserve(2, 1), Call.reserve(1, 0)])
-            self.assertEqual([it.reply for it in outcomes[:3]], [Forfeited(), Reserved(6, 2), AckCompleted(0, 0)])
-            self.assertEqual([(type(it), it.name) for it in outcomes[3:]], [(Fenced, "OldTerm"), (Fenced, "BadCount")])
-            self.assertEqual(job.garbage([5, 4, 9, 1, 3]), ((4, 3), (9,)))
-            made = job.restore()
-            self.assertEqual((made.reply, made.term), (RestoredCheckpoint(1, 0), 2))
-            job.forfeit(2, [])
-            self.fenced("OldTerm", job.forfeit, 1, [5])
-            with job.read() as reads:
-                self.assertEqual((reads.term(), reads.garbage([5, 8])), ((2, 8), ((5,), (8,))))
-        with self.open(create=False) as job:
-            self.assertEqual((job.report.term, job.report.next_name, job.cancel().term), (2, 8, 3))
-            self.fenced("Ended", job.reserve, 3, 1)
 
 
 class Files(Folder):

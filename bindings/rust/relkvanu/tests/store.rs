@@ -6,7 +6,7 @@ use common::{new_job, triggered, Place, SETTINGS};
 use relkvanu::store::{
     CallError, Made, Options, Outcome, Phase, Step, StopFailed, Store, StoreError, StoreErrorKind, NOW,
 };
-use relkvanu::{Answer, Call, Choice, Fault, Fenced, Mode, Refusal, Settings};
+use relkvanu::{Answer, Call, Choice, Fault, Mode, Refusal, Settings};
 use std::collections::BTreeSet;
 use std::fs;
 use std::io::{self, Read};
@@ -103,46 +103,9 @@ fn a_call_in_a_read() {
     complete(&store, 11);
 }
 
-fn fenced<T: std::fmt::Debug>(told: Result<T, CallError>, why: Fenced) {
-    match told {
-        Err(CallError::Fault(Fault::Fenced(found))) => assert_eq!(found, why),
-        other => panic!("{other:?}"),
-    }
-}
-
 fn ack_in(store: &Store, term: u64, id: u64, index: u16, file: u64) -> Result<Answer, CallError> {
     let call = Call::AckIn { term, now: 0, id, subtask: (0, index), fresh: &[file], reused: &[] };
     store.call(call).map(|made| made.called().unwrap())
-}
-
-const RESTORE: Call = Call::Restore { now: NOW, savepoint: None, shape: None };
-
-#[test]
-fn terms_and_names() {
-    let folder = Place::new("names");
-    let mut options = new_job(&[2]);
-    options.storage = Some(folder.state());
-    let store = Store::open(&folder.job(), &options).unwrap();
-    let names = store.report().names;
-    assert_eq!((names.term, names.next_name), (1, 1));
-    assert_eq!(store.reserve(1, 5).unwrap(), 1..6);
-    for file in [1, 3, 9] {
-        store.put(file, b"state").unwrap();
-    }
-    assert_eq!(store.put(9, b"other").unwrap_err().kind, StoreErrorKind::Present);
-    let id = triggered(&store);
-    assert_eq!(ack_in(&store, 1, id, 0, 1).unwrap(), Answer::AckPending { missing: 1 });
-    fenced(ack_in(&store, 1, id, 0, 1), Fenced::Spent(1));
-    store.forfeit(1, &[3]).unwrap();
-    let sorted = store.garbage(&[1, 2, 3, 4, 9]).unwrap();
-    assert_eq!((sorted.garbage, sorted.unissued), (vec![3], vec![9]));
-    assert_eq!(store.sweep().unwrap(), 0);
-    assert_eq!((store.counts().swept, store.counts().unissued), (1, 1));
-    assert_eq!([1, 3, 9].map(|it| folder.state().join(it.to_string()).exists()), [true, false, true]);
-    assert_eq!(store.call(RESTORE).unwrap().term, Some(2));
-    fenced(store.reserve(1, 1), Fenced::OldTerm);
-    fenced(store.forfeit(1, &[4]), Fenced::OldTerm);
-    assert_eq!(store.term().map(|it| (it.term, it.next_name)).ok(), Some((2, 6)));
 }
 
 #[test]
