@@ -356,8 +356,7 @@ def method(call: Call) -> str:
     native = f"(at, out) -> Native.{java_name(call.name)}(at{passed}, out)"
     if call.has_moment() or call.is_quiet():
         return text + f"        return ({reply_type(call)}) {'timed(now, ' if call.has_moment() else 'replied('}{native});\n    }}\n"
-    text += f"        try {{\n            return ({reply_type(call)}) handle.moved({native});\n"
-    return text + "        } finally {\n            Reference.reachabilityFence(this);\n        }\n    }\n"
+    return text + f"        return ({reply_type(call)}) fenced(() -> handle.moved({native}));\n    }}\n"
 
 
 def documented(sentence: str, call: Call, has_number: bool) -> str:

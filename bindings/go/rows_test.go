@@ -76,13 +76,13 @@ func byLines(job *relkvanu.Coordinator, number int, line []byte) string {
 	return printed(number, reply, err)
 }
 
-// byMethods makes the call of each line by its method. The library says only whether the line makes a call.
+// byMethods makes the call that each line says by its method.
 func byMethods(job *relkvanu.Coordinator, number int, line []byte) string {
-	says, err := relkvanu.LineSays(line)
-	if _, is := says.(relkvanu.LineCall); !is {
+	call, is, err := relkvanu.CallOf(line)
+	if err != nil || !is {
 		return printed(number, nil, err)
 	}
-	reply, err := called(job, strings.Fields(strings.TrimSuffix(string(line), "\r")))
+	reply, err := called(job, call)
 	return printed(number, reply, err)
 }
 
@@ -99,110 +99,77 @@ func byCalls(job *relkvanu.Coordinator, number int, line []byte) string {
 	return byLines(job, number, again)
 }
 
-func number(word string) uint64 {
-	it, err := strconv.ParseUint(strings.TrimLeft(word, "+="), 10, 64)
-	if err != nil {
-		panic(err)
-	}
-	return it
-}
-
 func numbers(words []string) []uint64 {
 	var all []uint64
 	for _, word := range words {
-		all = append(all, number(word))
+		all = append(all, must(strconv.ParseUint(word, 10, 64)))
 	}
 	return all
 }
 
-// lists are the files of an ack line that it marks with + and with =.
-func lists(words []string) (fresh, reused []uint64) {
-	for _, word := range words {
-		if word[0] == '+' {
-			fresh = append(fresh, number(word))
-		} else {
-			reused = append(reused, number(word))
+func restored(job *relkvanu.Coordinator, it relkvanu.Call) (fmt.Stringer, error) {
+	shape := it.First
+	if len(shape) == 0 {
+		shape = nil
+	}
+	if it.Number == 0 {
+		return job.Restore(it.Now, shape)
+	}
+	return job.RestoreSavepoint(it.Now, it.Number, shape)
+}
+
+// called makes a call, that of a task in its term.
+func called(job *relkvanu.Coordinator, it relkvanu.Call) (fmt.Stringer, error) {
+	switch it.Kind {
+	case relkvanu.CallAck:
+		if it.Term != 0 {
+			return job.AckIn(it.Term, it.Now, it.Number, it.Subtask, it.First, it.Second)
 		}
+		return job.Ack(it.Now, it.Number, it.Subtask, it.First, it.Second)
+	case relkvanu.CallDecline:
+		if it.Term != 0 {
+			return job.DeclineIn(it.Term, it.Now, it.Number, it.Subtask)
+		}
+		return job.Decline(it.Now, it.Number, it.Subtask)
+	case relkvanu.CallRestore:
+		return restored(job, it)
+	case relkvanu.CallFence:
+		return relkvanu.Named{}, job.Fence(it.Number)
+	case relkvanu.CallReserve:
+		return job.Reserve(it.Term, it.Number)
+	case relkvanu.CallForfeit:
+		return relkvanu.Forfeited{}, job.Forfeit(it.Term, it.First)
+	case relkvanu.CallAdvance:
+		return job.Advance(it.Now, it.Term, it.Number)
 	}
-	return fresh, reused
+	return ofFiles(job, it)
 }
 
-func subtask(word string) relkvanu.Subtask {
-	vertex, index, _ := strings.Cut(word, ".")
-	return relkvanu.Subtask{Vertex: uint16(number(vertex)), Index: uint16(number(index))}
-}
-
-func restored(job *relkvanu.Coordinator, now uint64, from string, shape []uint64) (fmt.Stringer, error) {
-	if from == "latest" {
-		return job.Restore(now, shape)
-	}
-	return job.RestoreSavepoint(now, number(from), shape)
-}
-
-func called(job *relkvanu.Coordinator, words []string) (fmt.Stringer, error) {
-	given := words[1:]
-	switch words[0] {
-	case "ack":
-		fresh, reused := lists(given[3:])
-		return job.Ack(number(given[0]), number(given[1]), subtask(given[2]), fresh, reused)
-	case "decline":
-		return job.Decline(number(given[0]), number(given[1]), subtask(given[2]))
-	case "restore":
-		return restored(job, number(given[0]), given[1], numbers(given[2:]))
-	case "fence":
-		return relkvanu.Named{}, job.Fence(number(given[0]))
-	case "reserve":
-		return job.Reserve(number(given[0]), number(given[1]))
-	case "forfeit":
-		return relkvanu.Forfeited{}, job.Forfeit(number(given[0]), numbers(given[1:]))
-	case "advance":
-		return job.Advance(number(given[0]), number(given[1]), number(given[2]))
-	case "in":
-		return calledIn(job, number(given[0]), given[1:])
-	}
-	return ofFiles(job, words[0], number(given[0]))
-}
-
-// calledIn makes the call of a task of a term; another one is the plain call.
-func calledIn(job *relkvanu.Coordinator, term uint64, words []string) (fmt.Stringer, error) {
-	given := words[1:]
-	switch words[0] {
-	case "ack":
-		fresh, reused := lists(given[3:])
-		return job.AckIn(term, number(given[0]), number(given[1]), subtask(given[2]), fresh, reused)
-	case "decline":
-		return job.DeclineIn(term, number(given[0]), number(given[1]), subtask(given[2]))
-	}
-	return called(job, words)
-}
-
-func ofFiles(job *relkvanu.Coordinator, word string, number uint64) (fmt.Stringer, error) {
-	switch word {
-	case "take":
+func ofFiles(job *relkvanu.Coordinator, it relkvanu.Call) (fmt.Stringer, error) {
+	switch it.Kind {
+	case relkvanu.CallTake:
 		counts, err := job.FileCounts()
 		if err != nil {
 			return nil, err
 		}
-		if number > counts.Waiting {
-			number = counts.Waiting
+		if it.Number > counts.Waiting {
+			it.Number = counts.Waiting
 		}
-		files, err := job.Take(make([]uint64, number))
+		files, err := job.Take(make([]uint64, it.Number))
 		return relkvanu.Taken{Files: files}, err
-	case "deleted":
-		return relkvanu.FileDeleted{File: number}, job.Deleted(number)
-	case "undeleted":
-		return relkvanu.FileUndeleted{File: number}, job.Undeleted(number)
+	case relkvanu.CallDeleted:
+		return relkvanu.FileDeleted{File: it.Number}, job.Deleted(it.Number)
+	case relkvanu.CallUndeleted:
+		return relkvanu.FileUndeleted{File: it.Number}, job.Undeleted(it.Number)
 	}
-	return byName(job, word, number)
+	return byName(job, it)
 }
 
-// byName makes the call of this name with its number, which returns a reply and an error.
-func byName(job *relkvanu.Coordinator, word string, number uint64) (fmt.Stringer, error) {
-	method := reflect.ValueOf(job).MethodByName(strings.ToUpper(word[:1]) + word[1:])
-	if !method.IsValid() {
-		panic(word)
-	}
-	told := method.Call([]reflect.Value{reflect.ValueOf(number)})
+// byName makes a call of one number, a moment or another one, by the first word of its line. It returns a reply and an error.
+func byName(job *relkvanu.Coordinator, it relkvanu.Call) (fmt.Stringer, error) {
+	it.Term = 0
+	word, _, _ := strings.Cut(string(must(it.Line())), " ")
+	told := reflect.ValueOf(job).MethodByName(strings.ToUpper(word[:1]) + word[1:]).Call([]reflect.Value{reflect.ValueOf(it.Now + it.Number)})
 	err, _ := told[1].Interface().(error)
 	return told[0].Interface().(fmt.Stringer), err
 }
