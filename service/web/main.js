@@ -206,14 +206,10 @@ at("file-form").addEventListener("submit", (event) => {
   event.preventDefault();
   lookUp(at("file-number").value);
 });
-at("do-checkpoint").addEventListener("click", () => act(actions.checkpoint(shown.told.job)));
-at("do-savepoint").addEventListener("click", () => act(actions.savepoint(shown.told.job)));
-at("do-stop").addEventListener("click", () => act(actions.stop(shown.told.job)));
-at("do-begin").addEventListener("click", () => act(actions.begin(shown.told.job)));
-at("do-settings").addEventListener("click", () => act(actions.settings(shown.told.job)));
-at("do-restore").addEventListener("click", () => act(actions.restore(shown.told.job, shown.told.savepoints)));
-at("do-cancel").addEventListener("click", () => act(actions.cancel(shown.told.job)));
-at("do-delete").addEventListener("click", () => act(actions.remove(shown.told.job)));
+const asked = { ...actions, delete: actions.remove };
+for (const verb of ["checkpoint", "savepoint", "stop", "begin", "settings", "restore", "cancel", "delete"]) {
+  at(`do-${verb}`).addEventListener("click", () => act(asked[verb](shown.told.job, shown.told.savepoints)));
+}
 at("do-term").addEventListener("click", showTerm);
 addEventListener("hashchange", look);
 matchMedia("(prefers-color-scheme: dark)").addEventListener("change", () => location.reload());

@@ -66,11 +66,10 @@ export function doing(job) {
   return job.phase === "stopping" || job.phase === "stopped" ? job.phase : job.mode;
 }
 
-const GOOD = new Set(["completed"]);
-const BAD = new Set(["expired", "declined", "failed over"]);
+const TONES = { completed: "good", expired: "bad", declined: "bad", "failed over": "bad" };
 
 export function tone(how) {
-  return GOOD.has(how) ? "good" : BAD.has(how) ? "bad" : "other";
+  return TONES[how] ?? "other";
 }
 
 function link(job, word, kind, isCurrent) {

@@ -397,8 +397,10 @@ class Job:
         return self._make(calls, key, ended=True)
 
     def _make(self, calls, key, **more):
-        key = uuid.uuid4().hex if key is None else key
-        return self._service.request("POST", f"{self._path}/calls", {"calls": calls, **more}, key)
+        return self._post("calls", {"calls": calls, **more}, key)
+
+    def _post(self, what, body, key):
+        return self._service.request("POST", f"{self._path}/{what}", body, uuid.uuid4().hex if key is None else key)
 
     def call(self, call, key=None):
         """Makes one call. Raises `Refused` if the coordinator refuses it, and `Fenced` if the term or the names do."""
@@ -465,14 +467,12 @@ class Job:
     def fence(self, first_name, key=None):
         """Makes a job that a recovery opened give out names, from this one on: all numbers of files that it ever used are below. Raises `Fenced` if
         the job has names, or a file of it has this number or a greater one."""
-        key = uuid.uuid4().hex if key is None else key
-        return self._service.request("POST", f"{self._path}/fence", {"first_name": str(first_name)}, key)
+        return self._post("fence", {"first_name": str(first_name)}, key)
 
     def checkpoint(self, key=None, *, full=False):
         """Triggers a checkpoint now, whatever the interval and the pause; its number is the answer's `id`. The barrier of a `full` one names no base, so the
         tasks write all their state anew. Raises `Refused` if as many are pending as may be, or the job does not run."""
-        key = uuid.uuid4().hex if key is None else key
-        return self._service.request("POST", f"{self._path}/checkpoints", {"full": True} if full else {}, key)
+        return self._post("checkpoints", {"full": True} if full else {}, key)
 
     def set(self, **settings):
         """Changes settings of the job while it runs: those that are given, as `interval=30_000`. The answer has all that the job has then,
@@ -487,20 +487,17 @@ class Job:
     def stop_job(self, key=None):
         """Stops the job with a savepoint, whose number is the answer's `id`: the timer rests, and with the last acknowledgement the job has
         stopped at it, until `begin_job`. Raises `Refused` if the job stops or has stopped already, or does not run."""
-        key = uuid.uuid4().hex if key is None else key
-        return self._service.request("POST", f"{self._path}/stop", {}, key)
+        return self._post("stop", {}, key)
 
     def begin_job(self, key=None):
         """Begins the job again where it has stopped. Engines that wait for it then make `begin`. Raises `Refused` if the job has not stopped."""
-        key = uuid.uuid4().hex if key is None else key
-        return self._service.request("POST", f"{self._path}/begin", {}, key)
+        return self._post("begin", {}, key)
 
     def advance(self, term, first_name, key=None):
         """Lets the job go on from an older copy of the service's log, as a backup: it begins again, as by `begin`, in a term above `term`, which is
         at least each that was told, and gives out names from `first_name` on, which is above each that was given out. Raises `Refused`
         if it is cancelled."""
-        key = uuid.uuid4().hex if key is None else key
-        return self._service.request("POST", f"{self._path}/advance", {"term": term, "first_name": str(first_name)}, key)
+        return self._post("advance", {"term": term, "first_name": str(first_name)}, key)
 
     def until_begun(self):
         """Waits as long as the job has stopped: an engine that starts does so before `begin`. Returns the state of the job. Raises `OtherLog` if a

@@ -1,6 +1,6 @@
 //! Reads JSON objects member by member, without a tree of values: each member stays a slice of the body until it is asked for. So a body
 //! takes little more memory than its bytes. An error names the place of the bad value, such as `calls[3].fresh[0]`.
-use serde::de::{Deserializer, Error, IgnoredAny, MapAccess, SeqAccess, Visitor};
+use serde::de::{Deserializer, Error, MapAccess, SeqAccess, Visitor};
 use serde::Deserialize;
 use serde_json::value::RawValue;
 use std::borrow::Cow;
@@ -98,6 +98,19 @@ impl<'a> Members<'a> {
         number.ok_or_else(|| self.wrong(name, &format!("is no whole number from {least} to {most}")))
     }
 
+    /// What a member says that may be missing.
+    pub fn may<T>(&mut self, name: &str, read: impl FnOnce(&mut Self) -> Checked<T>) -> Checked<Option<T>> {
+        self.has(name).then(|| read(self)).transpose()
+    }
+
+    /// Reads a body, which has no other members.
+    pub fn read<T>(bytes: &'a [u8], read: impl FnOnce(&mut Self) -> Checked<T>) -> Checked<T> {
+        let mut members = Members::of_body(bytes)?;
+        let told = read(&mut members)?;
+        members.finish()?;
+        Ok(told)
+    }
+
     /// Refuses the members that are left.
     pub fn finish(self) -> Checked<()> {
         match self.members.iter().map(|(name, _)| name).min() {
@@ -163,39 +176,21 @@ pub struct Items<'a> {
 
 /// The items of a list, at most `most` of them; `None` if the value is no list.
 pub fn items(value: &RawValue, most: usize) -> Option<Items<'_>> {
-    let mut from = serde_json::Deserializer::from_str(value.get());
-    from.deserialize_seq(OfList { most }).ok()
-}
-
-struct OfList {
-    most: usize,
-}
-
-impl<'de> Visitor<'de> for OfList {
-    type Value = Items<'de>;
-
-    fn expecting(&self, f: &mut fmt::Formatter) -> fmt::Result {
-        f.write_str("a list")
-    }
-
-    fn visit_seq<S: SeqAccess<'de>>(self, mut items: S) -> Result<Items<'de>, S::Error> {
-        let mut first = Vec::new();
-        while first.len() < self.most {
-            match items.next_element()? {
-                Some(item) => first.push(item),
-                None => return Ok(Items { count: first.len(), first }),
-            }
-        }
-        let mut count = first.len();
-        while items.next_element::<IgnoredAny>()?.is_some() {
-            count += 1;
-        }
-        Ok(Items { first, count })
-    }
+    let (mut first, mut count) = (Vec::new(), 0);
+    each(value, |place, item| {
+        first.extend((place < most).then_some(item));
+        count += 1;
+        Ok(())
+    })?
+    .ok()?;
+    Some(Items { first, count })
 }
 
 /// Reads each item of a list by `item`, which is given its place, and stops at the first that is wrong; `None` if the value is no list.
-pub fn each<T>(value: &RawValue, item: impl FnMut(usize, &RawValue) -> Checked<T>) -> Option<Checked<Vec<T>>> {
+pub fn each<'a, T>(
+    value: &'a RawValue,
+    item: impl FnMut(usize, &'a RawValue) -> Checked<T>,
+) -> Option<Checked<Vec<T>>> {
     let mut wrong = None;
     let mut from = serde_json::Deserializer::from_str(value.get());
     match from.deserialize_seq(Each { item, wrong: &mut wrong }) {
@@ -209,7 +204,7 @@ struct Each<'w, F> {
     wrong: &'w mut Option<Invalid>,
 }
 
-impl<'de, T, F: FnMut(usize, &RawValue) -> Checked<T>> Visitor<'de> for Each<'_, F> {
+impl<'de, T, F: FnMut(usize, &'de RawValue) -> Checked<T>> Visitor<'de> for Each<'_, F> {
     type Value = Vec<T>;
 
     fn expecting(&self, f: &mut fmt::Formatter) -> fmt::Result {

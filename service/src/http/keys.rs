@@ -50,7 +50,7 @@ impl Keys {
     /// Reads all files again, and takes what they say in the place of what was read before. If one of them can't be used, all stays as it was.
     pub fn read_again(&self, metrics: &Metrics) {
         let read = self.fresh();
-        metrics.upkeep.reload_failed(read.is_err());
+        metrics.upkeep.reload_failed.set(read.is_err().into());
         match read {
             Ok((tokens, certificate)) => {
                 self.take(tokens, certificate);

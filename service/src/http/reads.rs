@@ -59,17 +59,17 @@ async fn metrics(app: &App, query: &str) -> Answered {
         app.jobs().await.unwrap_or_default()
     };
     let jobs = tokio::time::timeout(ASK_WRITER, asked).await.unwrap_or_default();
-    app.metrics.lead(app.board.is_ready());
-    app.metrics.queue.length(app.inbox.len());
+    app.metrics.leader.set(app.board.is_ready().into());
+    app.metrics.queue.requests.set(app.inbox.len() as i64);
     app.metrics.process.look();
-    app.metrics.bodies(app.bodies.taken());
+    app.metrics.bodies.set(app.bodies.taken() as i64);
     if app.board.is_ready() {
         app.metrics.queue.followed();
     }
-    app.metrics.commit_takes(app.board.commit_takes());
+    app.metrics.commit_takes.set(app.board.commit_takes().as_secs_f64());
     app.metrics.upkeep.damaged(app.board.damaged().iter().map(|(job, _)| job.as_str()));
     app.metrics.upkeep.replay(app.board.replay.progress());
-    app.metrics.upkeep.history_up(app.history_file.works());
+    app.metrics.upkeep.history_up.set(app.history_file.works().into());
     // those of many jobs take long, and the other requests go on by another thread
     let served = |job: &str| app.board.served(job);
     let text = tokio::task::block_in_place(|| app.metrics.text(&jobs, &app.board.names(), served));

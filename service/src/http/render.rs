@@ -168,21 +168,23 @@ fn dropped(ids: &[u64]) -> String {
 /// The metadata of a live record, as the coordinator shows it; file numbers are strings in an answer.
 #[derive(Deserialize, Serialize)]
 pub struct Metadata {
-    acks: Vec<Acked>,
-    id: u64,
-    kind: String,
+    /// Of the subtasks that have acknowledged.
+    pub acks: Vec<Acked>,
+    pub id: u64,
+    pub kind: String,
     missing: u64,
-    shape: Vec<u64>,
-    started: u64,
+    pub shape: Vec<u64>,
+    /// The moment of its trigger.
+    pub started: u64,
     state: String,
 }
 
 #[derive(Deserialize, Serialize)]
-struct Acked {
+pub struct Acked {
     /// They ascend.
     #[serde(serialize_with = "as_strings")]
-    files: Vec<u64>,
-    subtask: String,
+    pub files: Vec<u64>,
+    pub subtask: String,
 }
 
 fn as_strings<S: Serializer>(files: &[u64], to: S) -> Result<S::Ok, S::Error> {
@@ -196,26 +198,6 @@ impl Metadata {
 
     pub fn is_done(&self) -> bool {
         self.state == "done"
-    }
-
-    /// Its number, its kind and its shape.
-    pub fn head(&self) -> (u64, &str, &[u64]) {
-        (self.id, &self.kind, &self.shape)
-    }
-
-    /// The subtasks that have acknowledged, each with its files, which ascend.
-    pub fn acks(&self) -> impl Iterator<Item = (&str, &[u64])> {
-        self.acks.iter().map(|ack| (ack.subtask.as_str(), ack.files.as_slice()))
-    }
-
-    /// The moment of its trigger.
-    pub fn started(&self) -> u64 {
-        self.started
-    }
-
-    /// How many subtasks take part.
-    pub fn subtasks(&self) -> u64 {
-        self.shape.iter().sum()
     }
 
     /// The subtasks that have not acknowledged.

@@ -47,7 +47,7 @@ async fn accept(app: &Arc<App>, listener: &TcpListener, is_open: mpsc::Sender<()
 }
 
 async fn connected(app: Arc<App>, stream: TcpStream, slot: Arc<Slot>, _is_open: mpsc::Sender<()>) {
-    app.metrics.connections().inc();
+    app.metrics.connections.inc();
     // a peer that has gone does not need the option
     let _ = stream.set_nodelay(true);
     match app.keys.tls().map(Tls::acceptor) {
@@ -58,7 +58,7 @@ async fn connected(app: Arc<App>, stream: TcpStream, slot: Arc<Slot>, _is_open: 
             }
         }
     }
-    app.metrics.connections().dec();
+    app.metrics.connections.dec();
 }
 
 /// What a connection agrees on by TLS, unless it takes too long, another connection needs its slot, or the service stops. One that

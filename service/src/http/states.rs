@@ -1,7 +1,7 @@
 //! A complete record as a whole, with all that its tasks begin with after a restore.
 use super::query::numbers;
 use super::reads::metadata;
-use super::render::Metadata;
+use super::render::{Acked, Metadata};
 use super::reply::{body, error, Answered, Refusable};
 use super::{no_job, App};
 use crate::model::{Given, SubtaskState};
@@ -35,7 +35,7 @@ pub async fn answer(app: &App, job: &str, id: u64, query: &str) -> Answered {
     numbers(query, [])?;
     let number = app.number(job)?;
     let record = complete(app, job, id).await?;
-    let files: Vec<u64> = record.acks().flat_map(|(_, files)| files.iter().copied()).collect();
+    let files: Vec<u64> = record.acks.iter().flat_map(|ack| ack.files.iter().copied()).collect();
     let read = app.read_log(move |reader| Ok((reader.states(number, id)?, reader.bytes_of(number, &files)?)));
     let (states, sizes) = read.await?;
     // the rows go with the record, which may have ended meanwhile
@@ -55,21 +55,19 @@ async fn complete(app: &App, job: &str, id: u64) -> Refusable<Metadata> {
 fn whole(record: &Metadata, states: &[SubtaskState], sizes: &HashMap<u64, u64>) -> String {
     let said: HashMap<String, &SubtaskState> = states.iter().map(|it| (it.subtask.to_string(), it)).collect();
     let none = Given::default();
-    let one = |(subtask, ascending)| {
-        let (files, given) = said.get(subtask).map_or((ascending, &none), |it| (it.files.as_slice(), &it.given));
-        let sizes = files.iter().map(|file| sizes.get(file).copied()).collect();
-        let files = files.iter().map(u64::to_string).collect();
+    let Metadata { acks, id, kind, shape, .. } = record;
+    let subtasks = acks.iter().map(|Acked { files: ascending, subtask }| {
+        let (files, given) = said.get(subtask).map_or((ascending, &none), |it| (&it.files, &it.given));
         One {
             subtask,
-            files,
-            sizes,
+            files: files.iter().map(u64::to_string).collect(),
+            sizes: files.iter().map(|file| sizes.get(file).copied()).collect(),
             payload: &given.payload,
             bytes: given.bytes.unwrap_or(0),
             millis: given.millis.unwrap_or(0),
         }
-    };
-    let (id, kind, shape) = record.head();
-    serde_json::to_string(&Whole { id, kind, shape, subtasks: record.acks().map(one).collect() }).unwrap_or_default()
+    });
+    serde_json::to_string(&Whole { id: *id, kind, shape, subtasks: subtasks.collect() }).unwrap_or_default()
 }
 
 #[cfg(test)]

@@ -76,8 +76,8 @@ async fn pending(app: &App, job: &JobState) -> Refusable<Vec<Value>> {
             found.push(json!({
                 "id": record.id,
                 "kind": record.kind.to_string(),
-                "started": live.started(),
-                "subtasks": live.subtasks(),
+                "started": live.started,
+                "subtasks": live.shape.iter().sum::<u64>(),
                 "missing": missing[..missing.len().min(MOST_MISSING)],
                 "more_missing": missing.len().saturating_sub(MOST_MISSING),
             }));

@@ -6,6 +6,7 @@ use crate::model::{
 };
 use openssl::base64::{decode_block, encode_block};
 use serde_json::value::RawValue;
+use std::borrow::Cow;
 
 /// The greatest number that every JSON reader keeps exactly.
 const GREATEST: u64 = 1 << 53;
@@ -106,20 +107,14 @@ impl Members<'_> {
     /// The bytes of the whole snapshot, which may be said beside those of each fresh file.
     fn whole_snapshot(&mut self, whole: Option<u64>) -> Checked<Option<u64>> {
         const NAME: &str = "snapshot_bytes";
-        if !self.has(NAME) {
-            return Ok(whole);
-        }
-        if whole.is_some() {
+        if whole.is_some() && self.has(NAME) {
             return Err(self.wrong(NAME, "is said by bytes too, which is a list beside it"));
         }
-        self.number(NAME, 0, GREATEST).map(Some)
+        Ok(self.may(NAME, |it| it.number(NAME, 0, GREATEST))?.or(whole))
     }
 
-    /// A payload in base64; `None` if there is no such member.
-    fn payload(&mut self) -> Checked<Option<String>> {
-        if !self.has("payload") {
-            return Ok(None);
-        }
+    /// A payload in base64.
+    fn payload(&mut self) -> Checked<String> {
         let given = self.text("payload")?.into_owned();
         let bytes = decode_block(&given).ok().filter(|bytes| encode_block(bytes) == given);
         let bytes = bytes.ok_or_else(|| self.wrong("payload", "is no base64 in one line, with its padding"))?;
@@ -127,14 +122,11 @@ impl Members<'_> {
             let why = format!("has {} bytes, and not at most {MOST_PAYLOAD}", bytes.len());
             return Err(self.wrong("payload", &why));
         }
-        Ok(Some(given))
+        Ok(given)
     }
 
-    /// Why a subtask declines; `None` if there is no such member, or it is empty.
-    fn reason(&mut self) -> Checked<Option<String>> {
-        if !self.has("reason") {
-            return Ok(None);
-        }
+    /// Why a subtask declines.
+    fn reason(&mut self) -> Checked<String> {
         let reason = self.text("reason")?.into_owned();
         if reason.len() > MOST_REASON {
             let why = format!("has {} bytes, and not at most {MOST_REASON}", reason.len());
@@ -143,7 +135,7 @@ impl Members<'_> {
         if reason.contains('\0') {
             return Err(self.wrong("reason", "has a zero"));
         }
-        Ok((!reason.is_empty()).then_some(reason))
+        Ok(reason)
     }
 
     /// What an acknowledgement gives beside its files, if it names one of it.
@@ -151,8 +143,8 @@ impl Members<'_> {
         if bytes.is_none() && self.are_taken() {
             return Ok(None);
         }
-        let payload = self.payload()?;
-        let millis = if self.has("millis") { Some(self.number("millis", 0, GREATEST)?) } else { None };
+        let payload = self.may("payload", Members::payload)?;
+        let millis = self.may("millis", |it| it.number("millis", 0, GREATEST))?;
         if payload.is_none() && bytes.is_none() && millis.is_none() {
             return Ok(None);
         }
@@ -210,7 +202,7 @@ pub fn new_job(bytes: &[u8]) -> Checked<NewJob> {
         return Err(members.wrong("names", "is no field here: every job gives out the names of its files"));
     }
     let storage = members.take("storage").map(|value| storage_of(Members::of("storage", value)?)).transpose()?;
-    let first = if members.has("first") { members.number("first", 1, GREATEST)? } else { 1 };
+    let first = members.may("first", |it| it.number("first", 1, GREATEST))?.unwrap_or(1);
     members.finish()?;
     Ok(NewJob { name, settings, shape, first, storage })
 }
@@ -221,13 +213,7 @@ pub fn storage(bytes: &[u8]) -> Checked<JobStorage> {
 }
 
 fn storage_of(mut members: Members) -> Checked<JobStorage> {
-    let mut text = |name: &str| -> Checked<Option<String>> {
-        if members.has(name) {
-            members.text(name).map(|text| Some(text.into_owned()))
-        } else {
-            Ok(None)
-        }
-    };
+    let mut text = |name: &str| members.may(name, |it| it.text(name).map(Cow::into_owned));
     let (folder, bucket, endpoint, region) = (text("folder")?, text("bucket")?, text("endpoint")?, text("region")?);
     let (prefix, suffix) = (text("prefix")?.unwrap_or_default(), text("suffix")?.unwrap_or_default());
     let keeps_versions = members.flag("keeps_versions")?.unwrap_or(false);
@@ -241,39 +227,29 @@ fn storage_of(mut members: Members) -> Checked<JobStorage> {
 
 /// Reads the body that gives a job names: the first one, as a string or as a number.
 pub fn first_name(bytes: &[u8]) -> Checked<u64> {
-    let mut members = Members::of_body(bytes)?;
-    let number = members.first_name()?;
-    members.finish()?;
-    Ok(number)
+    Members::read(bytes, Members::first_name)
 }
 
 /// Reads the body of an advance: the greatest term that was told, and the first name that may be given out.
 pub fn advance(bytes: &[u8]) -> Checked<Call> {
-    let mut members = Members::of_body(bytes)?;
-    let (term, first_name) = (members.number("term", 0, GREATEST)?, members.first_name()?);
-    members.finish()?;
-    Ok(Call::Advance { term, first_name })
+    Members::read(bytes, |it| Ok(Call::Advance { term: it.number("term", 0, GREATEST)?, first_name: it.first_name()? }))
 }
 
 /// Reads the body that asks which files may be deleted.
 pub fn garbage(bytes: &[u8]) -> Checked<Vec<u64>> {
-    let mut members = Members::of_body(bytes)?;
-    let files = members.some_files("files", MOST_GARBAGE)?;
-    members.finish()?;
-    Ok(files)
+    Members::read(bytes, |it| it.some_files("files", MOST_GARBAGE))
 }
 
 /// Reads the body that changes settings of a job: those that it names, and at least one.
 pub fn change(bytes: &[u8]) -> Checked<Change> {
-    let mut members = Members::of_body(bytes)?;
-    let mut change = Change::default();
-    for (number, field) in change.numbers.iter_mut().zip(&FIELDS) {
-        if members.has(field.name) {
-            *number = Some(members.number(field.name, field.least, field.most)?);
+    let change = Members::read(bytes, |members| {
+        let mut change = Change::default();
+        for (number, field) in change.numbers.iter_mut().zip(&FIELDS) {
+            *number = members.may(field.name, |it| it.number(field.name, field.least, field.most))?;
         }
-    }
-    change.keep_on_cancel = members.flag("keep_on_cancel")?;
-    members.finish()?;
+        change.keep_on_cancel = members.flag("keep_on_cancel")?;
+        Ok(change)
+    })?;
     if change.is_none() {
         return Err(invalid("body", "names no setting"));
     }
@@ -282,15 +258,13 @@ pub fn change(bytes: &[u8]) -> Checked<Change> {
 
 /// Reads what a checkpoint is to be: with `full` its barrier names no base.
 pub fn checkpoint(bytes: &[u8]) -> Checked<Call> {
-    let mut members = Members::of_body(bytes)?;
-    let is_full = members.flag("full")?.unwrap_or(false);
-    members.finish()?;
+    let is_full = Members::read(bytes, |it| it.flag("full"))?.unwrap_or(false);
     Ok(if is_full { Call::TriggerFull } else { Call::Trigger })
 }
 
 /// Reads a body that says nothing.
 pub fn nothing(bytes: &[u8]) -> Checked<()> {
-    Members::of_body(bytes)?.finish()
+    Members::read(bytes, |_| Ok(()))
 }
 
 fn settings(mut members: Members) -> Checked<Settings> {
@@ -365,7 +339,7 @@ fn ack(members: &mut Members, term: u64) -> Checked<Call> {
 
 fn decline(members: &mut Members, term: u64) -> Checked<Call> {
     let (term, id, subtask) = (members.term(term)?, members.id()?, members.subtask()?);
-    Ok(Call::Decline { term, id, subtask, reason: members.reason()? })
+    Ok(Call::Decline { term, id, subtask, reason: members.may("reason", Members::reason)?.filter(|it| !it.is_empty()) })
 }
 
 /// A restore. To an older checkpoint it needs the consent that what sinks published since then stays published.

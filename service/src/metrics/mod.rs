@@ -65,10 +65,10 @@ pub struct Metrics {
     image_seconds: Histogram,
     images_fail: Parted<IntGaugeVec>,
     clock_ahead: Gauge,
-    leader: IntGauge,
-    connections: IntGauge,
-    bodies: IntGauge,
-    commit_takes: Gauge,
+    pub leader: IntGauge,
+    pub connections: IntGauge,
+    pub bodies: IntGauge,
+    pub commit_takes: Gauge,
     records: Parted<IntCounterVec>,
     durations: Parted<HistogramVec>,
     gauges: Gauges,
@@ -159,21 +159,6 @@ impl Metrics {
         self.requests.with_label_values(&[route, status]).inc();
     }
 
-    /// The gauge of open connections.
-    pub fn connections(&self) -> &IntGauge {
-        &self.connections
-    }
-
-    /// The bytes that the bodies of requests take.
-    pub fn bodies(&self, bytes: usize) {
-        self.bodies.set(i64::try_from(bytes).unwrap_or(i64::MAX));
-    }
-
-    /// For how long the commit that is under way has taken.
-    pub fn commit_takes(&self, time: Duration) {
-        self.commit_takes.set(time.as_secs_f64());
-    }
-
     /// A record stopped being pending, `seconds` after its trigger.
     pub fn record(&self, job: &str, kind: &str, how: &str, seconds: f64) {
         self.records.with_label_values(&[job, kind, how]).inc();
@@ -200,10 +185,6 @@ impl Metrics {
     pub fn forget(&self, job: &str) {
         let _held = self.values(job);
         self.families.forget(job);
-    }
-
-    pub fn lead(&self, leads: bool) {
-        self.leader.set(i64::from(leads));
     }
 
     /// All metrics as text, with the gauges of these jobs. `names` has the jobs of this process, and `served` tells of each whether it still has it.

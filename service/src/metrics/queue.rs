@@ -7,7 +7,7 @@ const WAITS: [f64; 12] = [0.0005, 0.001, 0.0025, 0.005, 0.01, 0.025, 0.05, 0.1, 
 const LATE: [f64; 10] = [0.005, 0.01, 0.025, 0.05, 0.1, 0.25, 1.0, 5.0, 30.0, 300.0];
 
 pub struct Queue {
-    requests: IntGauge,
+    pub requests: IntGauge,
     waited: Histogram,
     tick_late: Histogram,
     followed: Gauge,
@@ -24,10 +24,6 @@ impl Queue {
                 "When a process that stands by had read all of the log last, in Unix time.",
             )?,
         })
-    }
-
-    pub fn length(&self, requests: usize) {
-        self.requests.set(i64::try_from(requests).unwrap_or(i64::MAX));
     }
 
     /// The writer took a request that had waited for so long.

@@ -7,7 +7,7 @@ use prometheus::{Gauge, GaugeVec, IntGauge, IntGaugeVec, Opts};
 use std::time::{Duration, SystemTime, UNIX_EPOCH};
 
 pub struct Upkeep {
-    history_up: IntGauge,
+    pub history_up: IntGauge,
     history_lag: Parted<GaugeVec>,
     keys_behind: Gauge,
     samples_behind: Gauge,
@@ -20,7 +20,7 @@ pub struct Upkeep {
     damaged: IntGaugeVec,
     jobs: IntGauge,
     replayed: IntGauge,
-    reload_failed: IntGauge,
+    pub reload_failed: IntGauge,
 }
 
 impl Upkeep {
@@ -82,11 +82,6 @@ impl Upkeep {
         })
     }
 
-    /// Whether the tokens and the certificate could not be read again.
-    pub fn reload_failed(&self, failed: bool) {
-        self.reload_failed.set(i64::from(failed));
-    }
-
     /// The jobs that are kept out are these.
     pub fn damaged<'a>(&self, jobs: impl Iterator<Item = &'a str>) {
         self.damaged.reset();
@@ -97,10 +92,6 @@ impl Upkeep {
     pub fn replay(&self, Progress { jobs, replayed, .. }: Progress) {
         self.jobs.set(jobs as i64);
         self.replayed.set(replayed as i64);
-    }
-
-    pub fn history_up(&self, is_up: bool) {
-        self.history_up.set(i64::from(is_up));
     }
 
     pub fn history_lag(&self, job: &str, lag: Duration) {

@@ -5,7 +5,7 @@ use openssl::base64::encode_block;
 use relkvanu::job::Job;
 use relkvanu::runner::Engine;
 use relkvanu::store::{Ending, Made, Past, Phase, StopFailed, StoreErrorKind};
-use relkvanu::{Answer, Kind, Mode};
+use relkvanu::{Answer, Mode};
 use serde_json::{json, Value};
 use std::num::NonZeroU64;
 use std::time::{SystemTime, UNIX_EPOCH};
@@ -15,14 +15,6 @@ const MOST_HISTORY: usize = 1000;
 /// Milliseconds of Unix time.
 pub(super) fn unix_now() -> u64 {
     SystemTime::now().duration_since(UNIX_EPOCH).map_or(0, |it| it.as_millis() as u64)
-}
-
-fn kind(of: Kind) -> &'static str {
-    if of == Kind::Savepoint {
-        "savepoint"
-    } else {
-        "checkpoint"
-    }
 }
 
 fn how(ending: Ending) -> &'static str {
@@ -120,7 +112,7 @@ impl<E: Engine> Served<E> {
     fn live(&self) -> Told {
         Ok(self.runner.store().read(|job| {
             let live = (0..).map_while(|place| job.live(place));
-            let told = |it: relkvanu::Live| json!({"id": it.id, "kind": kind(it.kind), "done": it.done, "missing": job.missing(it.id).unwrap_or(0)});
+            let told = |it: relkvanu::Live| json!({"id": it.id, "kind": it.kind.to_string(), "done": it.done, "missing": job.missing(it.id).unwrap_or(0)});
             live.map(told).collect::<Vec<Value>>()
         })?.into())
     }
@@ -134,7 +126,7 @@ impl<E: Engine> Served<E> {
     fn figures(&self, it: &Past) -> Value {
         let seen = |millis: u64| (it.acks > 0).then_some(millis);
         json!({
-            "id": it.id, "kind": kind(it.kind), "how": how(it.ending), "triggered": self.unix(it.triggered), "ended": self.unix(it.ended),
+            "id": it.id, "kind": it.kind.to_string(), "how": how(it.ending), "triggered": self.unix(it.triggered), "ended": self.unix(it.ended),
             "acks": it.acks, "first": seen(it.first), "median": seen(it.median), "p99": seen(it.p99), "slowest": seen(it.slowest),
             "bytes": it.bytes, "millis": it.millis, "reason": (!it.reason.is_empty()).then_some(&it.reason),
         })
@@ -194,7 +186,7 @@ impl<E: Engine> Served<E> {
         let after = |name: &str| figures[name].as_u64().map(|millis| started + millis);
         let pending = if is_done { "completed" } else { "pending" };
         json!({
-            "id": id, "kind": past.map_or_else(|| text("kind"), |it| json!(kind(it.kind))),
+            "id": id, "kind": past.map_or_else(|| text("kind"), |it| json!(it.kind.to_string())),
             "shape": live.map_or_else(|| json!(self.runner.store().job().map_or(Vec::new(), |it| it.1)), |it| it["shape"].clone()),
             "started": started, "finished": figures["ended"], "how": past.map_or(pending, |it| how(it.ending)),
             "gone": if live.is_some() { &Value::Null } else { &figures["ended"] }, "why": null,
@@ -219,7 +211,7 @@ impl<E: Engine> Served<E> {
             })
         };
         let parts: Vec<Value> = found.parts.iter().map(part).collect();
-        Ok(json!({"id": id, "kind": kind(found.kind), "shape": found.shape, "subtasks": parts}))
+        Ok(json!({"id": id, "kind": found.kind.to_string(), "shape": found.shape, "subtasks": parts}))
     }
 
     fn files(&self, asked: &Asked) -> Told {
