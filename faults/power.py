@@ -386,9 +386,9 @@ def cut(path: "str | pathlib.Path") -> None:
     os.truncate(path, max((it[1] for it in whole_records(journal)), default=0))
 
 
-def settle(path: "str | pathlib.Path", root: "str | pathlib.Path", start: Optional[Tree] = None, begins: Sequence[str] = ("",)) -> None:
+def settle(path: "str | pathlib.Path", root: "str | pathlib.Path", start: Optional[Tree] = None) -> None:
     """Cuts the journal behind its last whole record, and adds what a process had done, and not told yet, when it was killed. The files tell that
-    which are there below the root, and whose names begin so. The next process goes on from them, so the journal has to, too."""
+    which are there below the root. The next process goes on from them, so the journal has to, too."""
     cut(path)
     disk = Disk(start or {})
     for record in Journal.read(path, root, start).records:
@@ -396,7 +396,7 @@ def settle(path: "str | pathlib.Path", root: "str | pathlib.Path", start: Option
     told, there = disk.whole(), read_tree(root)
     with open(path, "ab", buffering=0) as to:
         for name in sorted({*told, *there}):
-            if name.startswith(tuple(begins)) and not name.endswith("-shm"):  # SQLite maps that one, and nobody sees it written
+            if not name.endswith("-shm"):  # SQLite maps that one, and nobody sees it written
                 for kind, at, given in untold(name in told, told.get(name), name in there, there.get(name)):
                     whole = f"{root}/{name}".encode()
                     to.write(HEADER.pack(kind, len(whole), at, len(given)) + whole + given)

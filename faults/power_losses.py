@@ -5,6 +5,7 @@ Those with a log, and those over the durable coordinator, go on after a loss, fr
 job knows then, and no other file.
 
 In each one sync after the other is left out, as it were: then a loss has to do harm."""
+import contextlib
 import functools
 import itertools
 import os
@@ -13,13 +14,16 @@ import random
 import re
 import shutil
 import signal
+import sqlite3
 import subprocess
 import sys
 import threading
 import time
+from typing import AbstractSet, NamedTuple, Optional, Set
 
-import lost_jobs
-from power import Journal, Loss, Trials, read_tree, settle, tell, write_tree
+from power import Journal, Loss, Lost, Trials, read_tree, settle, tell, write_tree
+from relkvanu import Settings
+from relkvanu.store import Store, StoreError
 
 HERE = pathlib.Path(__file__).resolve().parent
 PYTHON = HERE.parent / "examples/python"
@@ -27,6 +31,65 @@ SECONDS = 600  # of a process, on a busy machine
 ROUNDS = int(os.environ.get("ROUNDS", "1"))
 CONTROLLED = 600  # losses from which one that does harm is looked for
 EACH_GOES_ON = 4  # one in so many losses of a job over the durable coordinator: the others are opened alone
+COMPLETE = re.compile(rb"^record (\d+) is complete$|^complete: (\d+)$", re.M)
+
+
+class Job(NamedTuple):
+    """What a job has, once it was opened again."""
+
+    choice: int  # the record that a restore begins from; 0: none
+    used: Set[int]
+    waiting: Set[int]
+    taken: Set[int]
+    deleted: Set[int]  # as its log says
+
+
+def told_record(lost: Lost) -> int:
+    """The last record that somebody was told of."""
+    return max((int(one or other) for told in lost.told for one, other in COMPLETE.findall(told)), default=0)
+
+
+def opened(path: pathlib.Path, storage: Optional[pathlib.Path]) -> Optional[Job]:
+    """Opens the job as its next process does; None: there is none yet."""
+    try:
+        with Store(path, Settings(interval=10), [1], storage=storage) as job:
+            with job.read() as reads:
+                used, next = set(), 0
+                while (live := reads.live_from(next)) is not None:
+                    used.update(reads.pins_of(live.id), *reads.show(live.id).files.values())
+                    next = live.id + 1
+                choice = reads.choice()
+                waiting = {reads.waiting_file(it) for it in range(reads.file_counts().waiting)}
+                taken = set(reads.taken_files())
+    except StoreError as error:
+        assert error.name == "Absent", error
+        return None
+    with contextlib.closing(sqlite3.connect(path)) as database:
+        lines = [line for (line,) in database.execute("SELECT line FROM log")]
+    deleted = {int(line.split(" ")[1]) for line in lines if line.startswith("deleted ")}
+    return Job(choice.id if choice else 0, used, waiting, taken, deleted)
+
+
+def numbers(folder: pathlib.Path) -> Set[int]:
+    """Of the files that are there. A part of a file counts as the file."""
+    return {int(it.name.partition(".part")[0]) for it in folder.iterdir() if it.name.partition(".part")[0].isdecimal()}
+
+
+def checked(lost: Lost, folder: pathlib.Path, is_marked: bool, untold: AbstractSet[int] = frozenset()) -> Optional[Job]:
+    """All that somebody was told is there. Each file in use is as it was written, and none that was reported as deleted came back, beside those
+    that were there when the journal began. The folder is that of a loss, in which nobody was, with job.db and state."""
+    storage = folder / "state"
+    job = opened(folder / "job.db", storage if is_marked else None) if storage.exists() else None
+    if job is None:
+        assert not told_record(lost), f"there is no job, and record {told_record(lost)} was told"
+        return None
+    assert job.choice >= told_record(lost), f"record {told_record(lost)} was complete, and the choice is {job.choice}"
+    for file in job.used:
+        found, was = lost.tree.get(f"state/{file}"), lost.whole.get(f"state/{file}")
+        assert found and found == was, f"file {file} is in use: it had {was!r}, and has {found!r}"
+    back = {file for file in job.deleted - untold if f"state/{file}" in lost.tree and f"state/{file}" not in lost.whole}
+    assert not back, f"files {sorted(back)} were reported as deleted, and came back"
+    return job
 
 
 def some_of(journal, most, chance):
@@ -89,7 +152,7 @@ class LogJob:
 
     def look(self, lost, _):
         """What has to hold of the files that are left. Returns the last record of the log."""
-        told, log = lost_jobs.told_record(lost), lost.tree.get("log")
+        told, log = told_record(lost), lost.tree.get("log")
         last, file = last_of(log or b"")
         assert last >= told, f"record {told} was complete, and the last one of the log is {last}"
         assert last == 0 or lost.tree.get(file) == lost.whole[file], f"file {file} is in use: it has {lost.tree.get(file)!r}"
@@ -100,7 +163,7 @@ class LogJob:
     def check(self, lost, folder):
         last = self.look(lost, folder)
         ran = self.run(folder, *(["new"] if "log" not in lost.tree else []))
-        complete = [int(one or other) for one, other in lost_jobs.COMPLETE.findall(ran.stdout)]
+        complete = [int(one or other) for one, other in COMPLETE.findall(ran.stdout)]
         is_told_again = complete[:1] == [last] or last == 0  # a start tells of the last record of its log once more
         assert ran.returncode == 0 and complete and is_told_again and complete[-1] > last, ran.stdout.decode()
         assert {it.name for it in folder.iterdir()} == {"log", last_of((folder / "log").read_bytes())[1]}, list(folder.iterdir())
@@ -165,21 +228,21 @@ class StoreJob(LogJob):
 
     def look(self, lost, folder):
         """What has to hold of the job, which is opened."""
-        return lost_jobs.check(lost, folder, "state", self.is_marked, untold=self.untold)
+        return checked(lost, folder, self.is_marked, untold=self.untold)
 
     def check(self, lost, folder):
         job = self.look(lost, folder)
         if job is not None and next(self.numbers) % EACH_GOES_ON != 0:
             return
         last = self.goes_on(0 if job is None else job.choice, folder)
-        after = lost_jobs.opened(folder / "job.db", folder / "state" if self.is_marked else None)
-        there = lost_jobs.numbers(folder / "state")
+        after = opened(folder / "job.db", folder / "state" if self.is_marked else None)
+        there = numbers(folder / "state")
         untold = set() if self.joins_discarder else after.taken - there
         assert after.choice >= last and there | untold == after.used | after.waiting | after.taken, (last, there, after)
 
     def deletions_untold(self, lost):
         folder = write_tree(lost.tree, self.samples.work / f"before another loss of {self.name}")
-        job = lost_jobs.check(lost, folder, "state", self.is_marked)
+        job = checked(lost, folder, self.is_marked)
         shutil.rmtree(folder, ignore_errors=True)
         return set() if job is None else {file for file in job.deleted if f"state/{file}" in lost.tree}
 
@@ -201,7 +264,7 @@ class FirstJob(StoreJob):
     def goes_on(self, choice, folder):
         ran = self.run(folder, "new")
         begins = [int(it) for it in re.findall(rb"^begins from checkpoint (\d+) with \d+$", ran.stdout, re.M)]
-        assert ran.returncode == 0 and begins == [choice] * (choice != 0) and len(lost_jobs.COMPLETE.findall(ran.stdout)) == 3, ran.stdout.decode()
+        assert ran.returncode == 0 and begins == [choice] * (choice != 0) and len(COMPLETE.findall(ran.stdout)) == 3, ran.stdout.decode()
         return choice + 3
 
 
@@ -230,10 +293,10 @@ class PutBack:
         if not any(b" goes on from " in it for it in lost.told):
             ran = subprocess.run(self.command(folder), env=self.env, stdout=subprocess.PIPE, stderr=subprocess.STDOUT, timeout=SECONDS)
             assert ran.returncode == 0, ran.stdout.decode()
-        assert lost_jobs.opened(folder / "job.db", folder / "state").choice == 20, "it is the job that was set aside"
+        assert opened(folder / "job.db", folder / "state").choice == 20, "it is the job that was set aside"
         self.run("stored.py", folder, "40")
-        job = lost_jobs.opened(folder / "job.db", folder / "state")
-        assert job.choice == 40 and not job.taken and lost_jobs.numbers(folder / "state") == job.used | job.waiting, job
+        job = opened(folder / "job.db", folder / "state")
+        assert job.choice == 40 and not job.taken and numbers(folder / "state") == job.used | job.waiting, job
 
     def lost(self):
         chance = random.Random(self.name)

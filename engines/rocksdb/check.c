@@ -18,7 +18,8 @@ static void check_counts(struct job *job) {
     }
 }
 
-void check_record(struct job *job, uint64_t id, uint64_t *offsets) {
+/* Opens all files of a done record, and compares what its databases have with the stream. */
+static void check_record(struct job *job, uint64_t id) {
     static struct record record;
     static struct files held[TASKS];
     struct store stores[TASKS];
@@ -26,9 +27,6 @@ void check_record(struct job *job, uint64_t id, uint64_t *offsets) {
     job_open_record(job, &record, stores, held, "checked");
     for (unsigned partition = 0; partition < PARTITIONS; partition++) {
         store_check(&stores[partition % record.parallelism], job->seed, partition);
-        if (offsets != NULL) {
-            offsets[partition] = store_offset(&stores[partition % record.parallelism], partition);
-        }
     }
     for (unsigned index = 0; index < record.parallelism; index++) {
         store_close(&stores[index]);
@@ -107,9 +105,9 @@ void check_end(struct job *job, const char *folder) {
     check_counts(job);
     relkvanu_answer answer = coordinator_restore(c, 0, 0);
     CHECK(answer.code == RELKVANU_DONE && answer.what == RELKVANU_RESTORED_CHECKPOINT, "no checkpoint is retained");
-    check_record(job, answer.b, NULL);
+    check_record(job, answer.b);
     uint64_t savepoint = coordinator_progress(c).savepoint;
-    check_record(job, savepoint, NULL);
+    check_record(job, savepoint);
     sweeper_sweep(c);
     take_all(c);
     size_t all = check_folder(job), used = coordinator_counts(c).in_use;

@@ -8,8 +8,4 @@
  * deleted. The storage folder has exactly the files in use, waiting and taken. A recovery from the image before the last one gives the
  * same state, and finds no file to sweep. A cancelled job leaves no file. */
 void check_end(struct job *job, const char *folder);
-
-/* Opens all files of a done record, and compares what its databases have with the stream. With offsets it says how far each partition was counted. */
-void check_record(struct job *job, uint64_t id, uint64_t *offsets);
-
 #endif

@@ -17,12 +17,6 @@ static void may_die_at(struct coordinator *c, enum place place) {
     pthread_mutex_unlock(&c->lock);
 }
 
-void coordinator_die_at(struct coordinator *c, struct death death) {
-    pthread_mutex_lock(&c->lock);
-    c->death = death.place < PLACES && death.nth != 0 ? death : c->death;
-    pthread_mutex_unlock(&c->lock);
-}
-
 void coordinator_step(struct coordinator *c) {
     may_die_at(c, BETWEEN_STEPS);
 }
@@ -76,7 +70,7 @@ void coordinator_open(struct coordinator *c, const char *folder, uint32_t flags,
     memset(c, 0, sizeof *c);
     pthread_mutex_init(&c->lock, NULL);
     c->death = death;
-    uint64_t image_calls = trace_is_whole() ? RELKVANU_STORE_NO_IMAGES : IMAGE_CALLS;
+    uint64_t image_calls = trace_is_on() ? RELKVANU_STORE_NO_IMAGES : IMAGE_CALLS;
     relkvanu_store_options options = {.flags = RELKVANU_STORE_CREATE | flags,
         .image_calls = image_calls,
         .storage = storage,
@@ -164,52 +158,17 @@ static relkvanu_answer made_by(struct coordinator *c, struct caller task, relkva
     return answer;
 }
 
-enum told coordinator_await(struct coordinator *c, uint64_t ms, relkvanu_answer *answer) {
+bool coordinator_tick(struct coordinator *c, uint64_t ms, relkvanu_answer *answer) {
     relkvanu_store_call tick;
     int status = relkvanu_store_await_tick(c->store, ms, &tick);
     if (status == RELKVANU_STORE_TIMED_OUT || status == RELKVANU_STORE_NO_MEMORY ||
         (status == RELKVANU_STORE_OK && tick.answer.code == RELKVANU_NO_MEMORY)) {
-        return NOTHING_IS_DUE;
-    } else if (status == RELKVANU_STORE_JOB_STOPPED) {
-        return JOB_IS_STOPPED;
-    } else if (status == RELKVANU_STORE_NOT_STOPPED) {
-        return STOP_HAS_FAILED;
+        return false;
     }
     coordinator_check(c, "a tick is not committed", status);
     trace_answered(tick.place);
-    c->term = tick.term != 0 ? tick.term : c->term;
     *answer = noted(c, tick.answer);
-    return IT_ANSWERS;
-}
-
-bool coordinator_tick(struct coordinator *c, uint64_t ms, relkvanu_answer *answer) {
-    return coordinator_await(c, ms, answer) == IT_ANSWERS;
-}
-
-void coordinator_stop_job(struct coordinator *c) {
-    relkvanu_store_call call = {.call = {0}};
-    coordinator_check(c, "a stop is not committed", relkvanu_store_stop_job(c->store, &call));
-    CHECK(call.answer.code == RELKVANU_DONE || call.answer.what == RELKVANU_NOT_RUNNING, "a stop is refused: %" PRIu32, call.answer.what);
-    may_die_at(c, AFTER_A_CALL);
-}
-
-void coordinator_begin_job(struct coordinator *c) {
-    relkvanu_store_call call = {.call = {0}};
-    coordinator_check(c, "a begin is not committed", relkvanu_store_begin_job(c->store, &call));
-    CHECK(call.answer.code == RELKVANU_DONE, "a begin is refused: %" PRIu32, call.answer.what);
-    may_die_at(c, AFTER_A_CALL);
-}
-
-relkvanu_store_job_phase coordinator_phase(struct coordinator *c) {
-    relkvanu_store_job_phase phase;
-    coordinator_check(c, "the phase", relkvanu_store_phase(c->store, &phase));
-    return phase;
-}
-
-bool coordinator_is_checkpoint(struct coordinator *c, uint64_t id) {
-    relkvanu_answer live = relkvanu_live_from(read_begin(c), id);
-    relkvanu_store_read_end(c->store);
-    return live.what == RELKVANU_LIVE_CHECKPOINT && live.a == id && live.b == 1;
+    return true;
 }
 
 relkvanu_answer coordinator_savepoint(struct coordinator *c) {

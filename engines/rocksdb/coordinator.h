@@ -51,28 +51,10 @@ void coordinator_open(struct coordinator *c, const char *folder, uint32_t flags,
 
 void coordinator_close(struct coordinator *c);
 
-/* The process dies at the place from now on, if it counts something. */
-void coordinator_die_at(struct coordinator *c, struct death death);
-
 /* A tick, once one is due, if that is within so many ms. Returns whether one was. */
 bool coordinator_tick(struct coordinator *c, uint64_t ms, relkvanu_answer *answer);
 
-/* What the timer has to say. */
-enum told { NOTHING_IS_DUE, IT_ANSWERS, JOB_IS_STOPPED, STOP_HAS_FAILED };
-
-/* The same of a job that is stopped and begins again: it hands over the answers of these calls, too, and then c->term is that of the tasks. */
-enum told coordinator_await(struct coordinator *c, uint64_t ms, relkvanu_answer *answer);
-
 relkvanu_answer coordinator_savepoint(struct coordinator *c);
-
-/* A stop with a savepoint, and the begin after it. Whoever waits for the timer gets the answer. */
-void coordinator_stop_job(struct coordinator *c);
-void coordinator_begin_job(struct coordinator *c);
-
-relkvanu_store_job_phase coordinator_phase(struct coordinator *c);
-
-/* Whether the record is a done checkpoint. */
-bool coordinator_is_checkpoint(struct coordinator *c, uint64_t id);
 
 /* A task, as the coordinator sees it: its subtask, and the term that it was started with. */
 struct caller {

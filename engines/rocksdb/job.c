@@ -17,7 +17,7 @@ void job_open(struct job *job, const char *folder, struct death death) {
     path_of(path, "%.400s/storage", folder);
     path_of(job->local, "%.400s/local", folder);
     storage_make(path);
-    coordinator_open(&job->coordinator, folder, job->flags, death);
+    coordinator_open(&job->coordinator, folder, 0, death);
     job->storage.folder = relkvanu_store_folder(job->coordinator.store);
     job->discarder = (struct discarder){.coordinator = &job->coordinator, .storage = &job->storage, .chance = {mixed(job->seed + 1)}};
     job->sweeper = (struct sweeper){.coordinator = &job->coordinator, .chance = {mixed(job->seed + 2)}};
@@ -65,9 +65,6 @@ static void prepare(struct job *job, unsigned index) {
     task->caller = (struct caller){index, job->coordinator.term};
     task->names = (struct names){0, 0};
     task->is_failed = &job->is_failed;
-    task->told = &job->told;
-    task->stop_failed = &job->stop_failed;
-    task->holds = 0;
     task->cuts = job->cuts;
     task->parallelism = job->parallelism;
     task->held.len = 0;
@@ -148,15 +145,12 @@ static uint64_t restore(struct job *job, enum end end) {
 }
 
 /* Starts the source and the tasks, with the state of a record. */
-void job_start(struct job *job, uint64_t id) {
+static void start(struct job *job, uint64_t id) {
     empty_folder(job->local);
     for (unsigned index = 0; index < job->parallelism; index++) {
         prepare(job, index);
     }
     load(job, id);
-    for (unsigned index = 0; index < job->parallelism; index++) {
-        sink_start(&job->tasks[index].sink, job->target[0] != 0 ? job->target : NULL, index, &job->tasks[index].store, job->parallelism);
-    }
     atomic_store(&job->is_failed, false);
     atomic_store(&job->source_stops, false);
     job->victim = TASKS;
@@ -177,7 +171,7 @@ static void take_steps(struct job *job, const uint32_t *steps, size_t len, enum 
         case RELKVANU_STORE_START_TASKS:
             discarder_start(&job->discarder);
             sweeper_start(&job->sweeper);
-            job_start(job, id);
+            start(job, id);
             break;
         default: CHECK(false, "step %" PRIu32 " is none of a job that runs", steps[place]);
         }
@@ -185,7 +179,7 @@ static void take_steps(struct job *job, const uint32_t *steps, size_t len, enum 
 }
 
 /* Stops the source, and the tasks: at once, or at the end of their queues. */
-void job_stop(struct job *job, bool at_once) {
+static void stop(struct job *job, bool at_once) {
     atomic_store(&job->source_stops, true);
     for (unsigned index = 0; at_once && index < job->parallelism; index++) {
         atomic_store(&job->tasks[index].is_stopped, true);
@@ -198,25 +192,15 @@ void job_stop(struct job *job, bool at_once) {
     }
 }
 
-void job_end_tasks(struct job *job) {
-    job_stop(job, true);
+static void end_tasks(struct job *job) {
+    stop(job, true);
     for (unsigned index = 0; index < job->parallelism; index++) {
         store_close(&job->tasks[index].store);
     }
 }
 
-void job_restart(struct job *job) {
-    job_end_tasks(job);
-    job_start(job, restore(job, FAILED));
-}
-
-void job_recover(struct job *job) {
-    job->parallelism = TASKS;
-    take_steps(job, job->coordinator.report.steps, job->coordinator.report.steps_len, FAILED);
-}
-
-void job_send_barriers(struct job *job, uint64_t id, bool stops) {
-    struct message message = {.barrier = id, .stops = stops};
+static void send_barriers(struct job *job, uint64_t id) {
+    struct message message = {.barrier = id};
     job->cut_of[id % CUTS] = id;
     for (unsigned index = 0; index < job->parallelism; index++) {
         trace("barrier %" PRIu64 " to 0.%u %" PRIu64, id, index, job->tasks[index].caller.term);
@@ -235,7 +219,7 @@ static bool is_over(const struct job *job) {
 
 /* Each second the seed chooses a task, which stops where it is, or in the middle of its next checkpoint. The job is
  * mostly left alone until it has completed a checkpoint. */
-void job_choose_victim(struct job *job) {
+static void choose_victim(struct job *job) {
     if (job->victim != TASKS || is_over(job) || now() < job->next_failure) {
         return;
     } else if (coordinator_progress(&job->coordinator).completed == 0 && chance_below(&job->chance, 200) != 0) {
@@ -251,7 +235,7 @@ void job_choose_victim(struct job *job) {
     }
 }
 
-bool job_has_failed(struct job *job) {
+static bool has_failed(struct job *job) {
     return atomic_load(&job->is_failed) || (job->victim != TASKS && atomic_load(&job->tasks[job->victim].is_stopped));
 }
 
@@ -263,7 +247,7 @@ static void drive(struct job *job) {
         CHECK(answer.what == RELKVANU_NOT_RUNNING, "a tick is refused: %" PRIu32, answer.what);
         atomic_store(&job->is_failed, true);
     } else if (answer.what == RELKVANU_TICK_TRIGGERED) {
-        job_send_barriers(job, answer.b, false);
+        send_barriers(job, answer.b);
     } else if (answer.what == RELKVANU_TICK_FAILED) {
         atomic_store(&job->is_failed, true);
     }
@@ -271,7 +255,7 @@ static void drive(struct job *job) {
     if (has_passed(job, 25) && progress.savepoint == 0 && progress.savepoint_pending == 0) {
         answer = coordinator_savepoint(c);
         if (answer.code == RELKVANU_DONE) {
-            job_send_barriers(job, answer.a, false);
+            send_barriers(job, answer.a);
         }
     }
 }
@@ -281,9 +265,9 @@ static enum end drive_on(struct job *job) {
     bool is_rescaled = job->parallelism == OTHER_TASKS;
     for (;;) {
         drive(job);
-        job_choose_victim(job);
+        choose_victim(job);
         struct progress progress = coordinator_progress(&job->coordinator);
-        if (job_has_failed(job)) {
+        if (has_failed(job)) {
             return FAILED;
         } else if (has_passed(job, 50) && progress.savepoint != 0 && !progress.is_rolled_back) {
             return ROLLS_BACK;
@@ -306,10 +290,10 @@ void job_run(struct job *job) {
     job->parallelism = TASKS;
     take_steps(job, report->steps, report->steps_len, end);
     while ((end = drive_on(job)) != OVER) {
-        job_end_tasks(job);
-        job_start(job, restore(job, end));
+        end_tasks(job);
+        start(job, restore(job, end));
     }
-    job_stop(job, false);
+    stop(job, false);
     for (unsigned place = 0; place < ZOMBIES; place++) {
         zombie_join(&job->zombies[place]);
     }

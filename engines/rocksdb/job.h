@@ -18,17 +18,12 @@ struct job {
     uint64_t seed;
     uint64_t started, seconds; /* of this process */
     bool is_endless;           /* the process is to be killed */
-    uint32_t flags;            /* of the opening */
     struct chance chance;
     unsigned parallelism;
     struct task tasks[TASKS];
     struct zombie zombies[ZOMBIES]; /* in turn */
     uint64_t zombies_begun;
     atomic_bool is_failed;
-    char target[PATH]; /* of the sinks; empty: there are none */
-    _Atomic uint64_t told, stop_failed;
-    uint64_t stopping; /* the savepoint of the last stop */
-    bool runs;         /* the job has tasks */
     pthread_t source;
     atomic_bool source_stops;
     uint64_t offsets[PARTITIONS]; /* the source's */
@@ -45,17 +40,6 @@ void job_open(struct job *job, const char *folder, struct death death);
 /* Does what a recovery requires, and runs until the time is over and a savepoint, a roll back and a restore in another parallelism are done.
  * Then the source has stopped, all its records are counted, and no zombie runs. The discarder and the sweeper go on. */
 void job_run(struct job *job);
-
-/* The parts of job_run that stops.c uses, too: the steps of a recovery, in the same parallelism; the tasks' start with the state of a record (0: none);
- * their end, at once or at the end of their queues; their end with that of their databases; and all that a failure requires. */
-void job_recover(struct job *job);
-void job_start(struct job *job, uint64_t id);
-void job_stop(struct job *job, bool at_once);
-void job_end_tasks(struct job *job);
-void job_restart(struct job *job);
-void job_send_barriers(struct job *job, uint64_t id, bool stops);
-void job_choose_victim(struct job *job);
-bool job_has_failed(struct job *job);
 
 /* Opens the databases of the record that a restore returned, one for each subtask of the record, in local/of. */
 void job_open_record(struct job *job, const struct record *record, struct store *stores, struct files *held, const char *of);

@@ -1,29 +1,14 @@
-/* engine FOLDER SEED SECONDS [KILLS], engine FOLDER SEED stops STOPS, or engine FOLDER SEED losses LOSSES: runs a job of four tasks with a RocksDB each for this many seconds over a folder of
+/* engine FOLDER SEED SECONDS [KILLS]: runs a job of four tasks with a RocksDB each for this many seconds over a folder of
  * its own, and checks its end. With KILLS the process that runs it is first killed this many times, and started again over
- * its job: at places and moments that the seed chooses, in turn each kind of place and a moment. With stops the tasks have sinks, and the job is
- * stopped and begins again this many times, in processes of which most are killed. With losses too, and each process is killed at a moment; then the job's
- * file is lost, and is made again from the manifests, this many times. */
+ * its job: at places and moments that the seed chooses, in turn each kind of place and a moment. */
 #define _GNU_SOURCE
 #include "check.h"
-#include "lost.h"
-#include "stops.h"
 
 #include <signal.h>
-#include <string.h>
-#include <sys/stat.h>
 #include <sys/wait.h>
 #include <unistd.h>
 
-enum {
-    MOST_NTH = 150,
-    MOST_RESERVATIONS = 40,
-    MOST_WRITES = 400,
-    MOST_MS = 1200,
-    LEAST_MS = 200,
-    GUARD_MS = 900000,
-    MOST_STOPS = 3,
-    MOST_AFTER_A_STOP = 60
-};
+enum { MOST_NTH = 150, MOST_RESERVATIONS = 40, MOST_WRITES = 400, MOST_MS = 1200, GUARD_MS = 900000 };
 
 static void print_end(const struct job *job) {
     const struct coordinator *c = &job->coordinator;
@@ -118,91 +103,10 @@ static void run_and_kill(const char *folder, uint64_t seed, uint64_t nth) {
     CHECK(was_killed(status), "process %" PRIu64 " was not killed, but ended with %x", nth, (unsigned)status);
 }
 
-/* Runs the job with sinks until it is stopped so many times more. It dies at the place that is counted from its first stop on. */
-static void run_stops(
-    const char *folder, uint64_t seed, uint64_t choices, unsigned stops, uint32_t flags, struct death death, bool is_last) {
-    static struct job job;
-    job.seed = seed;
-    job.flags = flags;
-    job.is_endless = true;
-    job.chance.state = mixed(choices);
-    path_of(job.target, "%.400s/target", folder);
-    mkdir(job.target, 0700);
-    job_open(&job, folder, (struct death){PLACES, 0});
-    stops_run(&job, folder, stops, death);
-    sweeper_stop(&job.sweeper);
-    discarder_stop(&job.discarder);
-    if (is_last) {
-        stops_check(&job, folder);
-    }
-    coordinator_close(&job.coordinator);
-}
-
-/* Starts a process that stops the job a few times. Every second one is killed: at a write of the store, at a moment, or soon after it has begun to
- * stop. Returns whether it was. */
-static bool stop_some(const char *folder, uint64_t seed, uint64_t nth) {
-    struct chance chance = {mixed(seed ^ mixed(nth))};
-    uint64_t way = nth / 2 % (PLACES + 2);
-    enum place place = nth % 2 == 0 || way > PLACES ? PLACES : (enum place)way;
-    struct death death = {place, 1 + chance_below(&chance, place <= AFTER_A_WRITE ? MOST_WRITES : MOST_AFTER_A_STOP)};
-    uint64_t ms = nth % 2 == 1 && place == PLACES ? 1 + chance_below(&chance, MOST_MS) : GUARD_MS;
-    pid_t child = fork();
-    if (child == 0) {
-        if (place <= AFTER_A_WRITE) {
-            die_in_a_write(death);
-        }
-        run_stops(folder, seed, chance.state, 1 + (unsigned)chance_below(&chance, MOST_STOPS), 0, death, false);
-        _exit(0);
-    }
-    int status = awaited(child, ms);
-    CHECK(was_killed(status) || status == 0, "process %" PRIu64 " was not killed, but ended with %x", nth, (unsigned)status);
-    return was_killed(status);
-}
-
-static void run_all_stops(const char *folder, uint64_t seed, size_t stops) {
-    uint64_t kills = 0, nth = 0;
-    for (; stops_count(folder) + 1 < stops; nth++) {
-        kills += stop_some(folder, seed, nth);
-    }
-    run_stops(folder, seed, seed, 1, 0, (struct death){PLACES, 0}, true);
-    printf("rocksdb: of %" PRIu64 " processes %" PRIu64 " were killed\n", nth + 1, kills);
-}
-
-/* Starts a process that runs and stops the job until it is killed at a moment, and loses the job's file. Returns whether it was made again. */
-static bool lose_one(const char *folder, uint64_t seed, uint64_t nth) {
-    struct chance chance = {mixed(seed ^ mixed(nth))};
-    uint64_t ms = LEAST_MS + chance_below(&chance, MOST_MS);
-    pid_t child = fork();
-    if (child == 0) {
-        run_stops(folder, seed, chance.state, UINT32_MAX, RELKVANU_STORE_MANIFESTS, (struct death){PLACES, 0}, false);
-        _exit(1);
-    }
-    int status = awaited(child, ms);
-    CHECK(was_killed(status), "process %" PRIu64 " was not killed, but ended with %x", nth, (unsigned)status);
-    return lose_log(folder);
-}
-
-static void run_losses(const char *folder, uint64_t seed, uint64_t losses) {
-    uint64_t lost = 0, nth = 0;
-    for (; lost < losses; nth++) {
-        lost += lose_one(folder, seed, nth);
-    }
-    run_stops(folder, seed, seed, 1, RELKVANU_STORE_MANIFESTS, (struct death){PLACES, 0}, true);
-    printf("rocksdb: the log was lost %" PRIu64 " times, after kills of %" PRIu64 " processes\n", lost, nth);
-}
-
 int main(int argc, char **argv) {
     if (argc != 4 && argc != 5) {
-        fprintf(stderr, "engine FOLDER SEED SECONDS [KILLS] | engine FOLDER SEED stops STOPS | engine FOLDER SEED losses LOSSES\n");
+        fprintf(stderr, "engine FOLDER SEED SECONDS [KILLS]\n");
         return 2;
-    }
-    if (argc == 5 && strcmp(argv[3], "losses") == 0) {
-        run_losses(argv[1], strtoull(argv[2], NULL, 10), strtoull(argv[4], NULL, 10));
-        return 0;
-    }
-    if (argc == 5 && strcmp(argv[3], "stops") == 0) {
-        run_all_stops(argv[1], strtoull(argv[2], NULL, 10), strtoull(argv[4], NULL, 10));
-        return 0;
     }
     uint64_t seed = strtoull(argv[2], NULL, 10), seconds = strtoull(argv[3], NULL, 10);
     uint64_t kills = argc == 5 ? strtoull(argv[4], NULL, 10) : 0;

@@ -10,7 +10,6 @@ enum { QUEUE_LEN = 64 };
 
 struct message {
     uint64_t barrier; /* the number of a record of the coordinator, or 0: then it is a batch */
-    bool stops;       /* the record is the savepoint of a stop */
     unsigned partition;
     uint64_t offset; /* after the batch */
     uint16_t keys[BATCH];

@@ -75,31 +75,6 @@ static uint64_t store_get(const struct store *store, unsigned partition, unsigne
     return value;
 }
 
-/* No partition's key begins so. */
-static const char LIST_KEY[KEY_LEN] = {(char)0xff, (char)0xff, (char)0xff};
-
-void store_note_list(struct store *store, const uint64_t *records, size_t len) {
-    rocksdb_writebatch_t *batch = rocksdb_writebatch_create();
-    rocksdb_writebatch_put(batch, LIST_KEY, KEY_LEN, (const char *)records, len * sizeof records[0]);
-    store_write(store, batch);
-    rocksdb_writebatch_destroy(batch);
-}
-
-size_t store_list(const struct store *store, uint64_t *records, size_t most) {
-    size_t len = 0;
-    char *error = NULL;
-    rocksdb_readoptions_t *options = rocksdb_readoptions_create();
-    char *bytes = rocksdb_get(store->db, options, LIST_KEY, KEY_LEN, &len, &error);
-    rocksdb_readoptions_destroy(options);
-    went_well(error);
-    CHECK(len <= most * sizeof records[0], "a list has %zu bytes", len);
-    if (bytes != NULL) {
-        memcpy(records, bytes, len);
-        rocksdb_free(bytes);
-    }
-    return bytes == NULL ? 0 : len / sizeof records[0];
-}
-
 uint64_t store_offset(const struct store *store, unsigned partition) {
     return store_get(store, partition, NO_KEY);
 }

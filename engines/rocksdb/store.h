@@ -19,10 +19,6 @@ void store_close(struct store *store);
 /* Counts keys of a partition, and notes that it is counted up to the offset: both or none. */
 void store_count(struct store *store, unsigned partition, uint64_t offset, const uint16_t *keys, size_t len);
 
-/* Notes the records that the task's sink has prepared, and reads them: how many there are, at most `most`. */
-void store_note_list(struct store *store, const uint64_t *records, size_t len);
-size_t store_list(const struct store *store, uint64_t *records, size_t most);
-
 uint64_t store_offset(const struct store *store, unsigned partition);
 
 /* Compares what is counted of a partition with the stream up to its offset. */

@@ -110,9 +110,7 @@ static void decline(struct task *task, uint64_t id) {
 /* The same message once more: its names are spent. */
 static void repeat(struct task *task, const struct upload *upload) {
     relkvanu_answer answer = task_ack(task, upload);
-    if (task->holds != 0 && answer.code == RELKVANU_FENCED && answer.what == RELKVANU_OLD_TERM) {
-        return; /* the job is stopped */
-    } else if (upload->fresh.len != 0) {
+    if (upload->fresh.len != 0) {
         CHECK(answer.code == RELKVANU_FENCED && answer.what == RELKVANU_SPENT, "a repeat is answered %" PRIu32 " %" PRIu32, answer.code,
             answer.what);
     } else {
@@ -120,12 +118,6 @@ static void repeat(struct task *task, const struct upload *upload) {
                                               : answer.what == RELKVANU_ACK_LATE && answer.a == 0,
             "a repeat without files is answered %" PRIu32, answer.what);
     }
-}
-
-/* Raises a number that several tasks raise. */
-static void tell(_Atomic uint64_t *told, uint64_t id) {
-    uint64_t before = atomic_load(told);
-    while (before < id && !atomic_compare_exchange_weak(told, &before, id)) {}
 }
 
 /* Uploads the checkpoint in the folder and acknowledges. Returns whether that was accepted, or the task was stopped. It is
@@ -147,9 +139,6 @@ static bool uploads(struct task *task, uint64_t id, const char *folder) {
         give_up(task, &upload);
         task->held.len = 0;
         return false;
-    }
-    if (answer.what == RELKVANU_ACK_COMPLETED && task->sink.is_on && coordinator_is_checkpoint(task->coordinator, id)) {
-        tell(task->told, id);
     }
     if (answer.what != RELKVANU_ACK_LATE) {
         task->held.len = 0;
@@ -178,7 +167,6 @@ static void take_part(struct task *task, uint64_t id) {
     for (unsigned partition = task->caller.index; partition < PARTITIONS; partition += task->parallelism) {
         task->cuts[id % CUTS][partition] = store_offset(&task->store, partition);
     }
-    sink_prepare(&task->sink, id, &task->store, task->parallelism);
     coordinator_step(task->coordinator);
     path_of(folder, "%.400s/checkpoint", task->folder);
     store_snapshot(&task->store, folder);
@@ -189,28 +177,15 @@ static void take_part(struct task *task, uint64_t id) {
     CHECK(remove(folder) == 0, "%s can't be removed", folder);
 }
 
-/* After its part of a stop's savepoint the task does nothing more, unless the stop fails. */
-static void hold(struct task *task, uint64_t id) {
-    while (!atomic_load(&task->is_stopped) && atomic_load(task->stop_failed) < id) {
-        sleep_ms(1);
-    }
-    task->holds = 0;
-}
-
 static void *work(void *with) {
     struct task *task = with;
     struct message message;
     while (!atomic_load(&task->is_stopped) && queue_get(&task->queue, &message)) {
         if (message.barrier != 0) {
-            task->holds = message.stops ? message.barrier : 0;
             take_part(task, message.barrier);
         } else {
             store_count(&task->store, message.partition, message.offset, message.keys, BATCH);
         }
-        if (task->holds != 0) {
-            hold(task, message.barrier);
-        }
-        sink_publish(&task->sink, atomic_load(task->told));
     }
     queue_close(&task->queue);
     return NULL;

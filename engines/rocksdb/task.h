@@ -4,7 +4,6 @@
 
 #include "coordinator.h"
 #include "queue.h"
-#include "sink.h"
 #include "storage.h"
 #include "store.h"
 
@@ -43,7 +42,6 @@ struct task {
     struct caller caller; /* with the term that it was started with */
     struct names names;
     struct store store;
-    struct sink sink;
     struct queue queue;
     struct files held;  /* of the database's files, those of its last accepted acknowledgement */
     struct upload left; /* what it was uploading when it was stopped; id 0: nothing */
@@ -51,11 +49,8 @@ struct task {
     uint64_t (*cuts)[PARTITIONS]; /* the job's: how far each partition was counted at a record's barrier */
     unsigned parallelism;
     atomic_bool is_stopped;
-    atomic_uint stops_after;       /* in the next checkpoint, after this many files; 0: not there */
-    atomic_bool *is_failed;        /* the job's: it has to be restored */
-    _Atomic uint64_t *told;        /* the job's: the greatest checkpoint that is complete */
-    _Atomic uint64_t *stop_failed; /* the job's: the greatest savepoint of a stop that has failed */
-    uint64_t holds;                /* the savepoint of a stop that it has acknowledged, or 0 */
+    atomic_uint stops_after; /* in the next checkpoint, after this many files; 0: not there */
+    atomic_bool *is_failed;  /* the job's: it has to be restored */
 };
 
 /* The numbers of files, and how many. */

@@ -17,10 +17,6 @@ bool trace_is_on(void) {
     return getenv("ENGINE_TRACE") != NULL;
 }
 
-bool trace_is_whole(void) {
-    return trace_is_on() && getenv("ENGINE_CUTS") == NULL;
-}
-
 void trace_answered(uint64_t place) {
     pthread_mutex_lock(&lock);
     answered = place > answered ? place : answered;

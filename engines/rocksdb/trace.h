@@ -5,10 +5,8 @@
 
 #include "common.h"
 
+/* The log must not be cut then, since the trace and the log are to be put together. */
 bool trace_is_on(void);
-
-/* The log must not be cut, since the trace and the log are to be put together. With ENGINE_CUTS in the environment they are not. */
-bool trace_is_whole(void);
 
 /* A call at this place of the log was answered. */
 void trace_answered(uint64_t place);
