@@ -1,6 +1,6 @@
 #!/usr/bin/env python3
 """checks/judge_trace.py FOLDER TRACE: puts the lines of the log of FOLDER/job.db into what an engine has told of itself, and has relkvanu-conform judge
-the whole: it obeys the rules. Then one line is left out or added in turn, and the rule is named that is broken then. Prints how many lines there are.
+the whole: it obeys the rules. Prints how many lines there are.
 
 The engine tells before a step or after an answer. Each line has in front the greatest place in the log that the process was answered by then, or 0 if
 who tells does not know it. More of the log may have been committed: where a step rests on that, as the deletion of a file that was taken, lines are
@@ -135,57 +135,12 @@ def merged(folder, told):
     return [line for part in it.parts for line in part]
 
 
-def find(trace, begins):
-    return next(place for place, line in enumerate(trace) if line.startswith(begins))
-
-
-def first_message(trace):
-    """The place of the first message with new files that its task is told was accepted."""
-    for place, line in enumerate(trace):
-        if line.startswith("task ") and " sends ack " in line and "+" in line:
-            _, subtask, start, *_ = line.split(" ")
-            told = next((it for it in trace[place:] if it.startswith(f"answer to {subtask} {start} ")), "")
-            if told.endswith(" accepted"):
-                return place
-    raise AssertionError("no message was accepted")
-
-
-def reservation(trace, file):
-    """The place of the line that reserved the name."""
-    end = int(trace[find(trace, "fence ")].split(" ")[1])
-    for place, line in enumerate(trace):
-        end += int(line.split(" ")[2]) if line.startswith("reserve ") else 0
-        if int(file) < end:
-            return place
-    raise AssertionError(f"nobody reserved {file}")
-
-
-def broken(trace):
-    """For a rule a trace that breaks it, by a file of a message."""
-    sent = first_message(trace)
-    task, file = trace[sent].partition(" sends")[0], trace[sent].split("+")[1].split(" ")[0]
-    _, subtask, start = task.split(" ")
-    synced, reserved = find(trace, f"{task} syncs {file}"), reservation(trace, file) + 1
-    accepted = sent + find(trace[sent:], f"answer to {subtask} {start} accepted") + 1
-    yield 1, trace[:reserved] + [f"{task} writes {file}"] + trace[reserved:]
-    yield 2, trace[:synced] + trace[synced + 1:]
-    yield 4, trace[:accepted] + [f"task {subtask} 1000000 starts"] + trace[accepted:]
-    yield 5, trace[:accepted] + ["process 1000000 starts"] + trace[accepted:]
-    yield 6, trace[:accepted] + [f"{task} unlinks {file}"] + trace[accepted:]
-    yield 7, trace[:accepted] + [f"task {subtask} 1000000 writes {file}"] + trace[accepted:]
-    yield 8, trace[:accepted] + [f"sweeper unlinks {file}"] + trace[accepted:]
-    yield 10, trace[:synced] + ["storage away", f"{task} writes {file}", "storage back"] + trace[synced:]
-
-
 def main(folder, told):
     trace = merged(folder, pathlib.Path(told).read_text(encoding="utf-8").splitlines())
     assert any(line.startswith("refused in ") for line in trace) and any(line.startswith("sweeper unlinks") for line in trace)
     findings = check(trace)
     assert not findings, "\n".join(map(str, findings[:20]))
-    for rule, lines_of in broken(trace):
-        rules = [it.rule for it in check(lines_of) if it.rule is not None]
-        assert rules and rules[0] == rule, (rule, rules[:5])
-    print(f"traced: relkvanu-conform found that a trace of {len(trace)} lines obeys the rules, and which rule is broken where one line is changed")
+    print(f"traced: relkvanu-conform found that a trace of {len(trace)} lines obeys the rules")
 
 
 if __name__ == "__main__":
