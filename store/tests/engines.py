@@ -10,7 +10,6 @@ from relkvanu import Settings
 from relkvanu.store import Store
 
 TASKS = 3
-FILES = 4 * TASKS
 MARKER = ".relkvanu-job"
 SEED = os.environ.get("SEED", str(time.time()))
 NEW = "new"  # makes the job, if there is none
@@ -41,14 +40,6 @@ def await_opening(folder, process):
     """Waits until the process has the lock of the job."""
     lock, end = folder / "job.db.lock", time.monotonic() + LONGEST
     while process.poll() is None and time.monotonic() < end and not (lock.exists() and lock.read_text().startswith(f"{process.pid}\n")):
-        time.sleep(0.001)
-
-
-def await_checkpoints(folder, process, before):
-    """Waits until the process has made some files, so that a kill comes among checkpoints also on a busy machine."""
-    end, seen = time.monotonic() + LONGEST, set()
-    while process.poll() is None and time.monotonic() < end and len(seen) < FILES:
-        seen |= listed(folder) - before
         time.sleep(0.001)
 
 

@@ -6,7 +6,7 @@
 - Without a savepoint no record is whole, and a backup may be that of another job. Then nothing has changed, and the job goes on.
 - A put-back that ends at a call that writes is made again. In between an engine goes on, or is refused and touches no file.
 - What was set aside is the job again when it is put back, also after the file in its place was opened.
-- While an engine runs, nothing is put back. One that was forgotten on another host puts and deletes nothing after the next opening, and ends.
+- While an engine runs, nothing is put back.
 
 ROUNDS in the environment has so many times as many of the ends; 0 is each. SEED chooses others; it is printed."""
 import contextlib
@@ -16,10 +16,8 @@ import random
 import shutil
 import subprocess
 import sys
-import time
 
-from busy import slowed
-from engines import LONGEST, SEED, await_checkpoints, await_opening, known, listed, recovers, run_tests
+from engines import LONGEST, SEED, await_opening, known, recovers, run_tests
 from relkvanu import Settings
 from relkvanu.store import Store
 
@@ -205,26 +203,6 @@ def while_an_engine_runs(it):
     recovers(folder, it.engine, known(folder)[3] + 5)
 
 
-def a_forgotten_engine(it):
-    """The marker names a later opening: the engine that runs puts and deletes nothing more, and ends."""
-    folder, _ = it.job_behind()
-    marker, there = folder / "state/.relkvanu-job", listed(folder)
-    with subprocess.Popen([*it.engine, folder], stderr=subprocess.PIPE, text=True) as process:
-        await_checkpoints(folder, process, there)  # the marker is its own then
-        job, _, epoch = marker.read_text().rstrip().rpartition(" ")
-        later = folder / "later"
-        later.write_text(f"{job} {int(epoch) + 1}\n")
-        later.rename(marker)
-        time.sleep(0.2 * slowed())  # a put or a deletion that was under way
-        before = files(folder)
-        _, told = process.communicate(timeout=LONGEST)
-    # a put says Storage, and so does a manifest that is refused: then the next call says Closed, with the same words
-    assert process.returncode not in (0, None) and "the marker of the storage names another job" in told, (process.returncode, told)
-    assert files(folder) == before, sorted(files(folder).keys() ^ before.keys())
-    marker.write_text(f"{job} {epoch}\n")
-    recovers(folder, it.engine, known(folder)[3] + 5)
-
-
 def at_each_end(it):
     """A put-back that ends before or after a call that writes."""
     base, copy = it.job_behind()
@@ -282,7 +260,7 @@ def a_look(it):
 
 
 TESTS = (a_look, with_a_savepoint, from_an_older_savepoint, from_a_savepoint_alone, far_above_the_names, a_stray_file, without_a_savepoint, no_backup,
-         back_again, while_an_engine_runs, a_forgotten_engine, at_each_end)
+         back_again, while_an_engine_runs, at_each_end)
 
 
 def main(samples, shim):

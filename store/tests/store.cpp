@@ -209,28 +209,35 @@ static void discarder(const std::string &path) {
     CHECK(why(job.await_tick(1000)) == ckpt::store_error::stopped);
 }
 
-/* State files: two checkpoints, a file that nobody knows, a discarder and a sweep. */
-static void files(const std::string &path) {
-    const std::string folder = path + "-state";
-    ckpt::Store job = opened_over(folder, path + "5");
+/* State files, whose names begin so: two checkpoints, a file that nobody knows, a discarder and a sweep. */
+template <class Put, class Discard, class Sweep>
+static void keeps_files(ckpt::Store &job, const std::string &path, Put put, Discard discard, Sweep sweep) {
+    auto is_there = [&path](const char *file) { return access((path + file).c_str(), F_OK) == 0; };
     for (std::uint64_t file : {1, 2, 11, 12, 77}) {
-        CHECK(!job.put(file, "state"));
+        CHECK(!put(file));
     }
-    CHECK(job.put(77, "another") == ckpt::store_error::present);
     std::size_t left = 1;
-    CHECK(std::get<ckpt::reserved>(job.reserve(1, 77)).first == 1 && !job.sweep(left) && left == 0);
+    CHECK(std::get<ckpt::reserved>(job.reserve(1, 77)).first == 1 && !sweep(left) && left == 0);
     complete(job, 1);
     complete(job, 11);
     std::error_code ended;
-    std::thread thread([&] { ended = job.discard_files(); });
-    while (access((folder + "/1").c_str(), F_OK) == 0 || access((folder + "/2").c_str(), F_OK) == 0) {
+    std::thread thread([&] { ended = discard(); });
+    while (is_there("1") || is_there("2")) {
         std::this_thread::sleep_for(std::chrono::milliseconds(5));
     }
     job.stop();
     thread.join();
-    CHECK(ended == ckpt::store_error::stopped);
-    CHECK(std::holds_alternative<ckpt::restored>(job.restore()));
-    CHECK(!job.sweep(left) && left == 0 && access((folder + "/77").c_str(), F_OK) != 0 && access((folder + "/12").c_str(), F_OK) == 0);
+    CHECK(ended == ckpt::store_error::stopped && std::holds_alternative<ckpt::restored>(job.restore()));
+    CHECK(!sweep(left) && left == 0 && !is_there("77") && is_there("12"));
+}
+
+static void files(const std::string &path) {
+    const std::string folder = path + "-state";
+    ckpt::Store job = opened_over(folder, path + "5");
+    keeps_files(
+        job, folder + "/", [&](std::uint64_t file) { return job.put(file, "state"); }, [&] { return job.discard_files(); },
+        [&](std::size_t &left) { return job.sweep(left); });
+    CHECK(job.put(12, "another") == ckpt::store_error::present);
 }
 
 /* Files that come part by part, and those that are there; and what the job of an opening is. */
@@ -272,25 +279,13 @@ static void storage(const std::string &path) {
     how.is_new = true;
     how.prefix = "s-";
     ckpt::Folder files = std::get<ckpt::Folder>(ckpt::Folder::open(folder, "orders", how));
-    for (std::uint64_t file : {1, 2, 11, 12, 77}) {
-        CHECK(!files.put(file, "state"));
-    }
-    std::size_t left = 1;
-    CHECK(std::get<ckpt::reserved>(job.reserve(1, 77)).first == 1 && !job.sweep_storage(files, left) && left == 0);
-    complete(job, 1);
-    complete(job, 11);
-    std::error_code ended;
-    std::thread thread([&] { ended = job.discard_storage(files); });
-    while (access((folder + "/s-1").c_str(), F_OK) == 0 || access((folder + "/s-2").c_str(), F_OK) == 0) {
-        std::this_thread::sleep_for(std::chrono::milliseconds(5));
-    }
-    job.stop();
-    thread.join();
-    CHECK(ended == ckpt::store_error::stopped && std::holds_alternative<ckpt::restored>(job.restore()));
-    CHECK(!job.sweep_storage(files, left) && left == 0 && access((folder + "/s-77").c_str(), F_OK) != 0 &&
-          access((folder + "/s-12").c_str(), F_OK) == 0);
+    auto sweep = [&](std::size_t &left) { return job.sweep_storage(files, left); };
+    keeps_files(
+        job, folder + "/s-", [&](std::uint64_t file) { return files.put(file, "state"); }, [&] { return job.discard_storage(files); },
+        sweep);
+    std::size_t left;
     CHECK(rename((folder + "/s-.relkvanu-storage").c_str(), (folder + "/away").c_str()) == 0);
-    CHECK(job.sweep_storage(files, left) == ckpt::store_error::storage && access((folder + "/s-12").c_str(), F_OK) == 0);
+    CHECK(sweep(left) == ckpt::store_error::storage && access((folder + "/s-12").c_str(), F_OK) == 0);
 }
 
 static void names(const std::string &path) {
