@@ -413,18 +413,21 @@ class Streams(Base):
             checkpoints.run(lambda position: [(it, it) for it in range(position + 1, 5)])
             self.assertEqual((checkpoints.position, checkpoints.state("total")), (4, 10))
 
+    def refuse(self, *builds, **more):
+        for build in builds:
+            source = streamz.Stream()
+            kept = build(source)
+            self.assertRaises(GraphError, self.opened, source, **more)
+            self.assertIsNotNone(kept)
+            self.assertFalse((self.folder / "job.db").exists())
+
     def test_graphs_that_are_refused(self):
-        for build in (
+        self.refuse(
             lambda it: it.scatter().accumulate(add).sink(print), lambda it: it.scatter().filter(bool).accumulate(add),
             lambda it: it.scatter().flatten().accumulate(add), lambda it: it.scatter().pluck(0).accumulate(add),
             lambda it: it.scatter().accumulate(add).partition(2), lambda it: it.scatter().map(abs),
             lambda it: [it.scatter().accumulate(add), it.scatter().accumulate(add)], lambda it: it.accumulate(add),
-            lambda it: it.scatter().accumulate(add, with_state=True),
-        ):
-            source = streamz.Stream()
-            kept = build(source)
-            self.assertRaises(GraphError, self.opened, source)
-            self.assertIsNotNone(kept)
+            lambda it: it.scatter().accumulate(add, with_state=True))
 
     def test_a_client_that_is_made_after_the_graph(self):
         with mock.patch("streamz.core._dask_default_client", side_effect=ValueError):
@@ -523,16 +526,10 @@ class Streams(Base):
             self.assertEqual((checkpoints.position, checkpoints.state("total")), (4, 10))
 
     def test_graphs_that_one_process_refuses(self):
-        for build in (
+        self.refuse(
             lambda it: it.accumulate(add).buffer(3), lambda it: it.sliding_window(2).accumulate(add), lambda it: it.map(abs),
             lambda it: [it.accumulate(add), it.accumulate(add)], lambda it: it.accumulate(add, stream_name="a").accumulate(add, stream_name="a"),
-            lambda it: it.union(streamz.Stream()).accumulate(add), lambda it: it.unique().accumulate(add),
-        ):
-            source = streamz.Stream()
-            kept = build(source)
-            self.assertRaises(GraphError, self.opened, source, client=None)
-            self.assertIsNotNone(kept)
-            self.assertFalse((self.folder / "job.db").exists())
+            lambda it: it.union(streamz.Stream()).accumulate(add), lambda it: it.unique().accumulate(add), client=None)
 
     def test_one_process_that_is_killed(self):
         """Until one comes to its end, a bit later each time: the state and the rows are exact, and the storage has what the last record uses."""
@@ -874,34 +871,30 @@ def commands_of(title):
 
 class Samples(Base):
     def first(self, *command):
-        """The first program, by a command in a folder that has nothing else. Its last state has ten files and a list."""
-        program = (SAMPLES / "first.py").read_text(encoding="utf-8")
-        self.assertLessEqual(sum(1 for it in program.splitlines() if it), 15)
+        """The first program, by a command in a folder that has nothing but it and the one that stops it. Its last state has ten files and a list."""
         (self.folder / "first").mkdir()
-        (self.folder / "first/first.py").write_text(program)
+        for name in ("first.py", "stopped.py"):
+            (self.folder / "first" / name).write_text((SAMPLES / name).read_text(encoding="utf-8"))
         told = subprocess.run(command, cwd=self.folder / "first", stdout=subprocess.PIPE, stderr=subprocess.PIPE, text=True, timeout=900,
                               env={**os.environ, "PATH": f"/usr/bin:/bin:{os.environ['PATH']}"})
         self.assertEqual(told.returncode, 0, told.stderr[-2000:])
         self.assertEqual(len([it for it in os.listdir(self.folder / "first/state") if it.isdecimal()]), 11)
         return told.stdout
 
+    def alone(self, commands):
+        """In a network of its own, where nobody has its port."""
+        return self.first("unshare", "-rn", "bash", "-ec", f"ip link set lo up; trap 'kill $(jobs -p); wait' EXIT\n{commands}")
+
     def test_the_first_program_word_for_word(self):
-        """In a network of its own, where nobody has its port. The second time it goes on from its end."""
-        commands = f"ip link set lo up; trap 'kill $(jobs -p); wait' EXIT\n{commands_of('on one machine')}python3 first.py 127.0.0.1:8786\n"
-        self.assertEqual(self.first("unshare", "-rn", "bash", "-ec", commands), TOLD * 2)
+        """The second time it goes on from its end."""
+        self.assertLessEqual(sum(1 for it in (SAMPLES / "first.py").read_text(encoding="utf-8").splitlines() if it), 15)
+        self.assertEqual(self.alone(f"{commands_of('on one machine')}python3 first.py 127.0.0.1:8786\n"), TOLD * 2)
 
     def test_the_stop_of_the_first_program(self):
         """It stops some steps before its end, and goes on from there."""
-        (self.folder / "first").mkdir()
-        for name in ("first.py", "stopped.py"):
-            (self.folder / "first" / name).write_text((SAMPLES / name).read_text(encoding="utf-8"))
         starts = commands_of("on one machine").rpartition("python3 first.py")[0]
-        commands = f"ip link set lo up; trap 'kill $(jobs -p); wait' EXIT\n{starts}{commands_of('to stop the job, and to begin it again')}"
-        told = subprocess.run(("unshare", "-rn", "bash", "-ec", commands), cwd=self.folder / "first", stdout=subprocess.PIPE, stderr=subprocess.PIPE, text=True,
-                              timeout=900, env={**os.environ, "PATH": f"/usr/bin:/bin:{os.environ['PATH']}"})
-        self.assertEqual(told.returncode, 0, told.stderr[-2000:])
-        self.assertRegex(told.stdout, rf"\Athe job has stopped at savepoint [1-4]?\d: .*begin=True.*\n{TOLD}\Z")
-        self.assertEqual(len([it for it in os.listdir(self.folder / "first/state") if it.isdecimal()]), 11)
+        told = self.alone(f"{starts}{commands_of('to stop the job, and to begin it again')}")
+        self.assertRegex(told, rf"\Athe job has stopped at savepoint [1-4]?\d: .*begin=True.*\n{TOLD}\Z")
 
     @unittest.skipUnless(os.path.exists("/dev/net/tun"), "no /dev/net/tun: two machines")
     def test_the_first_program_on_two_machines(self):
