@@ -92,43 +92,37 @@ func TestALineOfALogIsNotChecked(t *testing.T) {
 	must(job.Tick(1000000000000 + day))
 }
 
-// everyCall makes each call and read.
+// everyCall makes each call and read of one coordinator that can fail, with ones. A function under the lock has a test of its own.
 func everyCall(job *relkvanu.Coordinator) []error {
-	it := relkvanu.Subtask{}
-	_, _, live := job.Live(0)
-	_, _, from := job.LiveFrom(0)
-	_, _, of := job.FilesOf(1, it)
-	_, _, waiting := job.WaitingFile(0)
-	_, _, missing := job.Missing(1)
-	_, _, expiry := job.OldestExpiry()
-	_, _, next := job.NextTick(relkvanu.Ticked{})
-	return append(ofOneNumber(job), []error{
-		errorOf(job.Tick(1000)), errorOf(job.Savepoint(1000)), errorOf(job.Ack(1000, 1, it, []uint64{1}, nil)), errorOf(job.Decline(1000, 1, it)),
-		errorOf(job.Dispose(1)), errorOf(job.Restore(1000, nil)), errorOf(job.Restore(1000, []uint64{2})), errorOf(job.Restore(1000, []uint64{})),
-		errorOf(job.RestoreSavepoint(1000, 1, nil)), errorOf(job.Cancel(1000)), errorOf(job.Take(make([]uint64, 1))), job.Deleted(1), job.Undeleted(1),
-		errorOf(job.Show(1)), errorOf(job.Count(1)), errorOf(job.Save()), errorOf(job.Line([]byte("tick 1000"))), errorOf(job.Line([]byte("show 1"))),
-		errorOf(job.Mode()), errorOf(job.Moment()), errorOf(job.Due()), errorOf(job.Choice()), errorOf(job.Standing(1)), errorOf(job.PinsOf(1)),
-		errorOf(job.Term()), job.Fence(1), errorOf(job.Reserve(1, 1)), job.Forfeit(1, nil), errorOf(job.AckIn(1, 1000, 1, it, []uint64{1}, nil)),
-		errorOf(job.DeclineIn(1, 1000, 1, it)), errorOf(job.Garbage([]uint64{1})),
-		errorOf(job.TakenFiles()), errorOf(job.FileCounts()), live, from, of, waiting, missing, expiry, next,
-	}...)
-}
-
-// ofOneNumber makes each call that takes one number and returns an error, by their names.
-func ofOneNumber(job *relkvanu.Coordinator) []error {
 	var told []error
-	all := reflect.TypeOf(job)
+	all := reflect.ValueOf(job)
 	for place := 0; place < all.NumMethod(); place++ {
-		it := all.Method(place)
-		isCall := it.Type.NumIn() == 2 && it.Type.In(1).Kind() == reflect.Uint64 && it.Type.NumOut() > 0
-		if !isCall || it.Type.Out(it.Type.NumOut()-1) != reflect.TypeOf((*error)(nil)).Elem() {
+		call, given := all.Method(place), []reflect.Value{}
+		for number := 0; number < call.Type().NumIn(); number++ {
+			given = append(given, argument(call.Type().In(number)))
+		}
+		results := call.Type().NumOut()
+		name := all.Type().Method(place).Name
+		if name == "Locked" || name == "Close" || results == 0 || call.Type().Out(results-1) != reflect.TypeOf((*error)(nil)).Elem() {
 			continue
 		}
-		results := it.Func.Call([]reflect.Value{reflect.ValueOf(job), reflect.ValueOf(uint64(1000))})
-		err, _ := results[len(results)-1].Interface().(error)
+		err, _ := call.Call(given)[results-1].Interface().(error)
 		told = append(told, err)
 	}
 	return told
+}
+
+// argument is a one, or a slice of one, or what a type has in it at first.
+func argument(of reflect.Type) reflect.Value {
+	switch it := reflect.New(of).Elem(); of.Kind() {
+	case reflect.Uint64:
+		it.SetUint(1)
+		return it
+	case reflect.Slice:
+		return reflect.MakeSlice(of, 1, 1)
+	default:
+		return it
+	}
 }
 
 func TestAClosedOneStaysClosed(t *testing.T) {

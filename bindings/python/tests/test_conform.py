@@ -39,25 +39,17 @@ def found(lines):
 
 
 class Obeying(unittest.TestCase):
-    def test_a_whole_job(self):
-        self.assertEqual(check(WHOLE), [])
-        self.assertEqual(check([*WHOLE, *RESTART, *checkpoint(3, 3, start=2, reused=" =2")]), [])
-
-    def test_comments_and_empty_lines(self):
-        self.assertEqual(check(["# a job", "", *WHOLE]), [])
-
-    def test_a_message_that_was_dropped_or_refused(self):
-        lines = [*OPENING, "tick 10", "log synced", "barrier 1 to 0.0 1", "from 0.0 1", "dropped decline 10 1 0.0",
-                 "from 0.0 1", "refused ack 10 7 0.0 +1"]
-        self.assertEqual(check(lines), [])
-
-    def test_a_sweep_after_a_restore(self):
-        lines = [*OPENING, "task 0.0 1 writes 9", "process 1 ends", "log cut", "process 2 starts", "restore 0 latest", "log synced", "sweeper unlinks 9",
-                 "folder synced", "task 0.0 2 starts"]
-        self.assertEqual(check(lines), [])
-
-    def test_a_task_deletes_a_file_that_it_never_acknowledged(self):
-        self.assertEqual(check([*OPENING, "task 0.0 1 writes 9", "task 0.0 1 unlinks 9"]), [])
+    def test_what_breaks_no_rule(self):
+        for name, lines in {
+            "a whole job": WHOLE, "a restart": [*WHOLE, *RESTART, *checkpoint(3, 3, start=2, reused=" =2")], "comments and empty lines": ["# a job", "", *WHOLE],
+            "a message that was dropped or refused": [
+                *OPENING, "tick 10", "log synced", "barrier 1 to 0.0 1", "from 0.0 1", "dropped decline 10 1 0.0", "from 0.0 1", "refused ack 10 7 0.0 +1"],
+            "a sweep after a restore": [
+                *OPENING, "task 0.0 1 writes 9", "process 1 ends", "log cut", "process 2 starts", "restore 0 latest", "log synced", "sweeper unlinks 9",
+                "folder synced", "task 0.0 2 starts"],
+            "a task deletes a file that it never acknowledged": [*OPENING, "task 0.0 1 writes 9", "task 0.0 1 unlinks 9"],
+        }.items():
+            self.assertEqual(check(lines), [], name)
 
 
 class Judging(unittest.TestCase):
@@ -264,28 +256,21 @@ class Damaged(unittest.TestCase):
         self.assertIn(f"line {line}:", str(told.exception))
 
     def test_lines_that_are_none(self):
-        for line in ("task 0.0 starts", "process one starts", "tick", "write 1", "task 0.0 1 writes 1 2", "barrier 1", "log", "restore", "TICK 10",
-                     "task 0.0 1 sends ack 1 1", "answer to 0.0 1 maybe"):
+        for line in (
+            "task 0.0 starts", "process one starts", "tick", "write 1", "task 0.0 1 writes 1 2", "barrier 1", "log", "restore", "TICK 10",
+            "task 0.0 1 sends ack 1 1", "answer to 0.0 1 maybe",
+            "ack 10 1 0.0 +1", "tick 10 10",  # calls that the library does not take
+            "refused tick 10",  # and one that it does not refuse
+        ):
             with self.subTest(line=line):
                 self.refuses([*OPENING, line], 7)
 
-    def test_a_call_that_the_library_does_not_take(self):
-        self.refuses([*OPENING, "ack 10 1 0.0 +1"], 7)
-        self.refuses([*OPENING, "tick 10 10"], 7)
-
-    def test_a_call_that_the_library_does_not_refuse(self):
-        self.refuses([*OPENING, "refused tick 10"], 7)
-
-    def test_an_opening_that_is_none(self):
+    def test_lines_in_a_wrong_place(self):
+        """An opening that is none, a log that was not copied, and a process that has ended."""
         self.refuses(["process 1 starts", "tick 10", "job 1", "start 0"], 4)
         self.refuses(["tick 10"], 1)
-
-    def test_a_log_that_was_not_copied(self):
-        self.refuses([*OPENING, "process 1 ends", "log put back"], 8)
-
-    def test_a_process_that_has_ended(self):
-        self.refuses([*OPENING, "process 1 ends", "tick 10"], 8)
-        self.refuses([*OPENING, "process 1 ends", "process 1 goes on"], 8)
+        for line in ("log put back", "tick 10", "process 1 goes on"):
+            self.refuses([*OPENING, "process 1 ends", line], 8)
 
 
 def acknowledged(record, task, end=("log synced",)):

@@ -130,28 +130,13 @@ class Calls(unittest.TestCase):
         with job:
             pass
         job.close()
-        for call in (
-            lambda: job.tick(1000),
-            lambda: job.savepoint(1000),
-            lambda: job.ack(1000, 1, 0, 0, [1]),
-            lambda: job.decline(1000, 1, 0, 0),
-            lambda: job.dispose(1),
-            lambda: job.restore(1000),
-            lambda: job.restore(1000, None, [2]),
-            lambda: job.cancel(1000),
-            lambda: job.take(1),
-            lambda: job.deleted(1),
-            lambda: job.undeleted(1),
-            lambda: job.show(1),
-            lambda: job.count(1),
-            lambda: job.save(),
-            lambda: job.line(b"tick 1000"),
-            lambda: job.reserve(1, 1), lambda: job.forfeit(1, [7]), lambda: job.ack_in(1, 2000, 2, 0, 0, [7]), lambda: job.decline_in(1, 2000, 2, 0, 0),
-            lambda: job.garbage([7]), job.mode, job.moment, job.due, job.oldest_expiry, job.choice, lambda: job.live(0), lambda: job.missing(1), job.file_counts,
-            lambda: job.live_from(0), lambda: job.standing(1), lambda: job.files_of(1, 0, 0), lambda: job.pins_of(1), lambda: job.waiting_file(0),
-            job.taken_files, lambda: job.next_tick(None), job.term, lambda: job.fence(1),
+        for name, *given in (
+            ("ack", 1000, 1, 0, 0, [1]), ("decline", 1000, 1, 0, 0), ("restore", 1000), ("restore", 1000, None, [2]), ("take", 1), ("show", 1), ("save",),
+            ("line", b"tick 1000"), ("reserve", 1, 1), ("forfeit", 1, [7]), ("ack_in", 1, 2000, 2, 0, 0, [7]), ("decline_in", 1, 2000, 2, 0, 0), ("garbage", [7]),
+            ("mode",), ("moment",), ("due",), ("oldest_expiry",), ("choice",), ("live", 0), ("missing", 1), ("file_counts",), ("live_from", 0), ("standing", 1),
+            ("files_of", 1, 0, 0), ("pins_of", 1), ("waiting_file", 0), ("taken_files",), ("next_tick", None), ("term",), ("fence", 1),
         ):
-            self.assertRaises(Closed, call)
+            self.assertRaises(Closed, getattr(job, name), *given)
         for kind, make in {**calls.OF_A_MOMENT, **calls.OF_A_NUMBER}.items():
             given = [number for name, number in vars(make(1000, 0)).items() if name != "term"]
             self.assertRaises(Closed, getattr(job, calls.CallKind(kind).name.lower()), *given)

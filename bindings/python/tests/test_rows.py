@@ -9,9 +9,8 @@ import re
 import unittest
 
 from relkvanu import (
-    AckCompleted, AckLate, AckPending, BadArgument, BadLine, Cancelled, Coordinator, Counted, DeclineAborted, DeclineFailed,
-    DeclineLate, Deleted, Disposed, Failed, FileCounts, Forfeited, HeldAtOnce, HeldInterval, HeldPause, Named, Refused, Reserved, RestoredCheckpoint,
-    RestoredFresh, RestoredSavepoint, SavepointTriggered, Settings, Shown, Taken, TooShort, Triggered, Undeleted, calls, lines,
+    BadArgument, BadLine, Cancelled, Coordinator, Counted, Failed, FileCounts, Forfeited, HeldAtOnce, HeldInterval, HeldPause, Named, Refused, Reserved, Settings,
+    Shown, Taken, TooShort, Triggered, calls, lines,
 )
 
 ROWS = pathlib.Path(__file__).resolve().parents[3] / "examples/rows"
@@ -23,20 +22,6 @@ TEXTS = {
     HeldAtOnce: "tick expired {0.expired} held at-once",
     HeldPause: "tick expired {0.expired} held pause",
     Failed: "tick expired {0.expired} failed",
-    SavepointTriggered: "savepoint triggered {0.id}",
-    AckPending: "ack pending {0.missing}",
-    AckCompleted: "ack completed {0.dropped} {0.released}",
-    AckLate: "ack late {0.handed_out}",
-    DeclineAborted: "decline aborted {0.released}",
-    DeclineFailed: "decline failed {0.released}",
-    DeclineLate: "decline late",
-    Disposed: "disposed {0.released}",
-    RestoredCheckpoint: "restored checkpoint {0.id} {0.released}",
-    RestoredSavepoint: "restored savepoint {0.id} {0.released}",
-    RestoredFresh: "restored fresh {0.released}",
-    Cancelled: "cancelled {0.dropped} {0.released}",
-    Deleted: "deleted {0.file}",
-    Undeleted: "undeleted {0.file}",
     Shown: "{0.json}",
     Counted: "count {0.file} {0.uses}",
     Named: "term 1",
@@ -45,7 +30,7 @@ TEXTS = {
 
 
 def text_of(reply):
-    """What a reply prints; one without words of its own here: its name and its numbers, as in "paused 7"."""
+    """What a reply prints: its words here, or its name and its numbers, as in "ack completed 1 2"."""
     if type(reply) in TEXTS:
         return TEXTS[type(reply)].format(reply)
     name = re.sub("(?<=.)([A-Z])", r" \1", type(reply).__name__).lower()

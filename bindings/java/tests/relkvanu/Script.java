@@ -16,7 +16,7 @@ import java.util.function.Function;
 
 /** The script of a row, and what its lines print. */
 final class Script {
-    /** What a reply prints, by its class. */
+    /** What a reply prints, by its class, if that is not its name and its numbers. */
     private static final Map<Class<?>, Function<Reply, String>> TEXTS = new java.util.HashMap<>();
 
     final List<byte[]> lines;
@@ -35,29 +35,14 @@ final class Script {
         prints(Reply.HeldAtOnce.class, it -> "tick expired " + it.expired() + " held at-once");
         prints(Reply.HeldPause.class, it -> "tick expired " + it.expired() + " held pause");
         prints(Reply.Failed.class, it -> "tick expired " + it.expired() + " failed");
-        prints(Reply.SavepointTriggered.class, it -> "savepoint triggered " + it.id());
-        prints(Reply.AckPending.class, it -> "ack pending " + it.missing());
-        prints(Reply.AckCompleted.class, it -> "ack completed " + it.dropped() + " " + it.released());
-        prints(Reply.AckLate.class, it -> "ack late " + it.handedOut());
-        prints(Reply.DeclineAborted.class, it -> "decline aborted " + it.released());
-        prints(Reply.DeclineFailed.class, it -> "decline failed " + it.released());
-        prints(Reply.DeclineLate.class, it -> "decline late");
-        prints(Reply.Disposed.class, it -> "disposed " + it.released());
-        prints(Reply.RestoredCheckpoint.class, it -> "restored checkpoint " + it.id() + " " + it.released());
-        prints(Reply.RestoredSavepoint.class, it -> "restored savepoint " + it.id() + " " + it.released());
-        prints(Reply.RestoredFresh.class, it -> "restored fresh " + it.released());
-        prints(Reply.Cancelled.class, it -> "cancelled " + it.dropped() + " " + it.released());
         prints(Reply.Taken.class, it -> it.files().length == 0 ? "take none" : "take" + spaced(it.files()));
-        prints(Reply.Deleted.class, it -> "deleted " + FileNumbers.toString(it.file()));
-        prints(Reply.Undeleted.class, it -> "undeleted " + FileNumbers.toString(it.file()));
         prints(Reply.Shown.class, Reply.Shown::json);
         prints(Reply.Counted.class, it -> "count " + FileNumbers.toString(it.file()) + " " + it.uses());
         prints(Reply.Reserved.class, it -> "reserved " + it.first());
-        prints(Reply.Forfeited.class, it -> "forfeited");
         prints(Reply.Named.class, it -> "term 1");
     }
 
-    /** A reply without words of its own here: its name and its numbers, as in "paused 7". */
+    /** The name of a reply and its numbers, as in "ack completed 1 2". */
     private static String plain(Reply reply) {
         StringBuilder text = new StringBuilder(reply.getClass().getSimpleName().replaceAll("(?<=.)([A-Z])", " $1").toLowerCase(Locale.ROOT));
         try {

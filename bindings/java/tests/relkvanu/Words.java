@@ -82,7 +82,6 @@ final class Words {
             case "decline" -> job.decline(number(1), number(2), subtask(0), subtask(1));
             case "restore" -> restored(job);
             case "take" -> job.take(Long.compareUnsigned(number(1), Integer.MAX_VALUE) < 0 ? (int) number(1) : Integer.MAX_VALUE);
-            case "fence" -> job.fence(number(1));
             case "reserve" -> job.reserve(number(1), number(2));
             case "forfeit" -> job.forfeit(number(1), numbers(2).toArray());
             case "advance" -> (Reply) job.advance(number(1), number(2), number(3));
@@ -104,7 +103,6 @@ final class Words {
             case "ack" -> Lines.ack(number(1), number(2), subtask(0), subtask(1), files("+"), files("="));
             case "decline" -> Lines.decline(number(1), number(2), subtask(0), subtask(1));
             case "restore" -> restoreLine();
-            case "fence" -> Lines.fence(number(1));
             case "reserve" -> Lines.reserve(number(1), number(2));
             case "forfeit" -> Lines.forfeit(number(1), numbers(2).toArray());
             case "advance" -> String.join(" ", words);
