@@ -215,6 +215,14 @@ class Running(unittest.TestCase):
         self.addCleanup(lambda: (engine.runner.close(), run.exception()))
         return store, engine, await_end
 
+    def last(self, record, **more):
+        """A store and an engine, whose run ends at a record."""
+        store, engine = Store(self.folder / "job.db", Settings(interval=20), [TASKS], storage=self.folder / "state", **more), Words()
+        self.addCleanup(store.close)
+        engine.runner = Runner(store, engine)
+        engine.runner.close_after(record)
+        return store, engine
+
     def running(self, *words, count=1, **settings):
         """A job that has completed a checkpoint, or so many."""
         store, engine, await_end = self.begin(*words, **settings)
@@ -592,12 +600,12 @@ class Running(unittest.TestCase):
         return str(why)
 
     def test_a_savepoint_that_is_declined(self):
-        store, engine, await_end = self.idle(tolerable=10)
+        _, engine, _ = self.idle(tolerable=10)
         engine.declined = Kind.SAVEPOINT
         self.assertEqual(self.fails(engine.runner, 1, Ending.DECLINED, "no disk"), "savepoint 1 was declined: no disk")
 
     def test_a_savepoint_that_expires(self):
-        store, engine, await_end = self.idle(timeout=50)
+        _, engine, _ = self.idle(timeout=50)
         engine.take_part = lambda it: None
         self.assertEqual(self.fails(engine.runner, 1, Ending.EXPIRED), "savepoint 1 was expired")
 
@@ -789,13 +797,9 @@ class Running(unittest.TestCase):
         id = store.stop_job().reply.id
         self.stops(engine, await_end(), id)
         self.assertEqual(sum(it[0] == "start" for it in engine.said), 1)
-        store = Store(self.folder / "job.db", Settings(interval=20), [TASKS], storage=self.folder / "state")
-        engine = Words()
-        engine.runner = Runner(store, engine)
+        store, engine = self.last(id + 2)
         engine.runner.begin_job()
-        engine.runner.close_after(id + 2)
         self.assertEqual((store.phase().phase, engine.runner.run()), (Phase.RUNNING, Ended.CLOSED))
-        store.close()
         self.assertEqual([it[0] for it in engine.said[:3]], ["end", "start", "barrier"])
         self.assertEqual(engine.said[1][2:], (id, TASKS))
 
@@ -805,20 +809,13 @@ class Running(unittest.TestCase):
         self.assertEqual((await_end(), engine.said[1:]), (Ended.CLOSED, [("end",)]))
 
     def test_a_last_record(self):
-        engine = Words()
-        store = Store(self.folder / "job.db", Settings(interval=20), [TASKS], storage=self.folder / "state", create=True)
-        engine.runner = Runner(store, engine)
-        engine.runner.close_after(3)
+        store, engine = self.last(3, create=True)
         self.assertEqual(engine.runner.run(), Ended.CLOSED)
         store.close()
         self.assertEqual([it[1] for it in engine.said if it[0] == "complete"][:3], [1, 2, 3])
         self.assertNotIn(("complete", 5), engine.said)
-        store = Store(self.folder / "job.db", Settings(interval=20), [TASKS], storage=self.folder / "state")
-        engine = Words()
-        engine.runner = Runner(store, engine)
-        engine.runner.close_after(3)
+        _, engine = self.last(3)
         self.assertEqual((engine.runner.run(), [it[0] for it in engine.said]), (Ended.CLOSED, ["end", "start", "end"]))
-        store.close()
 
     def test_tasks_that_fail_and_tasks_of_an_old_term(self):
         store, engine, await_end = self.idle()
@@ -984,9 +981,9 @@ class Taking(unittest.TestCase):
         thread.join(LONGEST)
         self.assertEqual(said, [0, 1, 2, 3])
 
-    def putter(self, inputs, input, item):
-        """A thread that waits for room."""
-        thread = threading.Thread(target=inputs.put, args=(input, item), daemon=True)
+    def begun(self, call, *words):
+        """A thread that waits."""
+        thread = threading.Thread(target=call, args=words, daemon=True)
         thread.start()
         thread.join(0.05)
         return thread
@@ -999,7 +996,7 @@ class Taking(unittest.TestCase):
         self.assertEqual(inputs.take(), (1, "a"))
         inputs.put(0, "behind")
         inputs.put(1, "b")
-        threads = [self.putter(inputs, 0, "last"), self.putter(inputs, 1, barrier(1))]
+        threads = [self.begun(inputs.put, 0, "last"), self.begun(inputs.put, 1, barrier(1))]
         self.assertEqual(inputs.take(), (1, "b"))
         threads[1].join(LONGEST)
         self.assertFalse(threads[1].is_alive())
@@ -1008,7 +1005,7 @@ class Taking(unittest.TestCase):
     def test_room_for_nothing(self):
         """An input has room for one item at least."""
         inputs = Inputs(1, room=0)
-        thread = self.putter(inputs, 0, "a")
+        thread = self.begun(inputs.put, 0, "a")
         thread.join(LONGEST)
         self.assertFalse(thread.is_alive())
         self.assertEqual(inputs.take(), (0, "a"))
@@ -1026,10 +1023,7 @@ class Taking(unittest.TestCase):
             except InputsClosed as why:
                 told.append(why)
 
-        threads = [threading.Thread(target=note, args=(it,), daemon=True) for it in waits]
-        for it in threads:
-            it.start()
-        time.sleep(0.05)
+        threads = [self.begun(note, it) for it in waits]
         self.assertEqual(told, [])
         for it in (empty, full, full):
             it.close()
@@ -1060,9 +1054,7 @@ class Taking(unittest.TestCase):
 
     def test_an_end_while_the_task_waits(self):
         inputs, taken = self.of([barrier(1)], []), []
-        thread = threading.Thread(target=self.all_of, args=(inputs, taken), daemon=True)
-        thread.start()
-        time.sleep(0.05)
+        thread = self.begun(self.all_of, inputs, taken)
         self.assertEqual(taken, [])
         inputs.end(1)
         self.await_taken(taken, [(1, barrier(1))])
@@ -1082,9 +1074,7 @@ class Taking(unittest.TestCase):
         """Nobody puts it, also after the end was taken. An input that ends while it is full waits for room."""
         inputs = Inputs(2, room=1)
         inputs.put(0, "a")
-        thread = threading.Thread(target=inputs.end, args=(0,), daemon=True)
-        thread.start()
-        thread.join(0.05)
+        thread = self.begun(inputs.end, 0)
         self.assertTrue(thread.is_alive())
         self.assertEqual(inputs.take(), (0, "a"))
         thread.join(LONGEST)
@@ -1106,9 +1096,7 @@ class Taking(unittest.TestCase):
         inputs = self.of([barrier(1), "a", "b", barrier(2), "c"], ["p"], [barrier(1), "x"])
         self.assertEqual(inputs.take(), (1, "p"))
         taken = []
-        thread = threading.Thread(target=lambda: taken.extend(inputs.take() for _ in range(7)), daemon=True)
-        thread.start()
-        time.sleep(0.05)
+        thread = self.begun(lambda: taken.extend(inputs.take() for _ in range(7)))
         self.assertEqual(taken, [])
         self.assertTrue(inputs.give_up(1))
         self.await_taken(taken, [(0, "a"), (2, "x"), (0, "b")])

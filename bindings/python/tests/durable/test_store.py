@@ -310,15 +310,10 @@ class Payloads(Folder):
             restored = job.restore_whole()
             self.assertEqual((restored.term, restored.record.parts, restored.record.term), (2, whole.parts, 2))
             self.complete_one(job, 2, 2)
-            with self.assertRaises(StoreError) as caught:
-                job.load(1)
-            self.assertEqual(caught.exception.name, "Absent")
+            self.raises("Absent", job.load, 1)
             self.assertEqual([it.id for it in job.history(1)], [2])
             self.storage.joinpath(str(job.load().parts[0].files[0])).unlink()
-            with self.assertRaises(StoreError) as caught:
-                job.load()
-            self.assertEqual((caught.exception.name, caught.exception.closes), ("FileLost", False))
-            self.assertIn("is missing", caught.exception.message)
+            self.assertIn("is missing", self.raises("FileLost", job.load))
 
     def complete_one(self, job, term, id):
         job.trigger()
