@@ -356,57 +356,43 @@ pub(crate) fn live(told: sys::relkvanu_answer) -> Option<Live> {
 mod tests {
     use super::*;
 
-    /// Each answer, with numbers that differ, what the header has of it, and its text by docs/SCRIPT.md and docs/LOGS.md. None is left out.
-    fn answers() -> Vec<(Answer, (u32, u64, u64), &'static str)> {
-        use Answer as A;
-        #[rustfmt::skip]
-        let all = vec![
-            (A::Triggered { expired: 0, id: 1 }, (1, 0, 1), "tick expired 0 triggered 1"),
-            (A::HeldInterval { expired: 2 }, (2, 2, 0), "tick expired 2 held interval"),
-            (A::HeldAtOnce { expired: 0 }, (3, 0, 0), "tick expired 0 held at-once"),
-            (A::HeldPause { expired: 10 }, (4, 10, 0), "tick expired 10 held pause"),
-            (A::Failed { expired: 1 }, (5, 1, 0), "tick expired 1 failed"),
-            (A::SavepointTriggered(4), (6, 4, 0), "savepoint triggered 4"),
-            (A::AckPending { missing: 2 }, (7, 2, 0), "ack pending 2"),
-            (A::AckCompleted { dropped: 3, released: 12 }, (8, 3, 12), "ack completed 3 12"),
-            (A::AckLate { handed_out: 1 }, (9, 1, 0), "ack late 1"),
-            (A::DeclineAborted { released: 5 }, (10, 5, 0), "decline aborted 5"),
-            (A::DeclineFailed { released: 6 }, (11, 6, 0), "decline failed 6"),
-            (A::DeclineLate, (12, 0, 0), "decline late"),
-            (A::Disposed { released: 3 }, (13, 3, 0), "disposed 3"),
-            (A::Restored { from: Choice::Checkpoint(7), released: 8 }, (14, 8, 7), "restored checkpoint 7 8"),
-            (A::Restored { from: Choice::Savepoint(9), released: 0 }, (15, 0, 9), "restored savepoint 9 0"),
-            (A::Restored { from: Choice::Fresh, released: 30 }, (16, 30, 0), "restored fresh 30"),
-            (A::Cancelled { dropped: 1, released: 2 }, (17, 1, 2), "cancelled 1 2"),
-            (A::Deleted(u64::MAX), (19, u64::MAX, 0), "deleted 18446744073709551615"),
-            (A::Undeleted(11), (20, 11, 0), "undeleted 11"),
-            (A::Counted { file: 31, uses: 2 }, (22, 31, 2), "count 31 2"),
-            (A::Configured { checkpoints: 3, released: 12 }, (61, 3, 12), "configured 3 12"),
-            (A::Reserved(20), (56, 20, 0), "reserved 20"),
-            (A::Forfeited, (57, 0, 0), "forfeited"),
-            (A::Named, (59, 0, 0), "term 1"),
-        ];
-        for (what, form) in TEXTS {
-            let has_row = all.iter().any(|(_, numbers, _)| numbers.0 == what);
-            assert!(has_row, "{form} is left out");
-        }
-        all
-    }
-
+    /// Each number of an answer is one. Its text is the library's, which bindings/c/tests/texts.c tests, but for two that a script says with other words.
     #[test]
-    fn each_answer_has_its_numbers_and_its_text() {
-        for (answer, (what, a, b), text) in answers() {
-            assert_eq!((answer.numbers(), answer.to_string().as_str()), ((what, a, b), text));
-            assert_eq!(Answer::of_numbers(what, a, b), Some(answer), "{text}");
-        }
-    }
-
-    #[test]
-    fn other_numbers_are_no_answers() {
-        let known: Vec<u32> = answers().iter().map(|(_, numbers, _)| numbers.0).collect();
+    fn numbers_and_texts_of_answers() {
         for what in (0..200).chain([u32::MAX]) {
-            assert_eq!(Answer::of_numbers(what, 1, 2).is_some(), known.contains(&what), "{what}");
+            let has_text = TEXTS.iter().any(|(known, _)| *known == what);
+            let found = Answer::of_numbers(what, 7, u64::MAX);
+            assert_eq!(found.is_some(), has_text, "{what}");
+            let Some(answer) = found else { continue };
+            let (what, a, b) = answer.numbers();
+            assert_eq!(Answer::of_numbers(what, a, b), Some(answer));
+            let told = sys::relkvanu_answer { code: sys::RELKVANU_DONE, what, a: 7, b: u64::MAX };
+            let mut text = [0; 128];
+            // SAFETY: the text has so many bytes
+            let len = unsafe { sys::relkvanu_answer_text(&told, text.as_mut_ptr(), text.len()) };
+            let text = match what {
+                sys::RELKVANU_RESERVED => "reserved 7",
+                sys::RELKVANU_NAMED => "term 1",
+                _ => std::str::from_utf8(&text[..len]).unwrap(),
+            };
+            assert_eq!(answer.to_string(), text);
         }
         assert_eq!((Answer::TAKEN, Answer::of_numbers(Answer::TAKEN, 1, 0)), (18, None));
+    }
+
+    /// Those with two numbers say which is which.
+    #[test]
+    fn names_of_two_numbers() {
+        for (answer, numbers) in [
+            (Answer::Triggered { expired: 0, id: 1 }, (1, 0, 1)),
+            (Answer::AckCompleted { dropped: 3, released: 12 }, (8, 3, 12)),
+            (Answer::Restored { from: Choice::Checkpoint(7), released: 8 }, (14, 8, 7)),
+            (Answer::Restored { from: Choice::Savepoint(9), released: 0 }, (15, 0, 9)),
+            (Answer::Cancelled { dropped: 1, released: 2 }, (17, 1, 2)),
+            (Answer::Counted { file: 31, uses: 2 }, (22, 31, 2)),
+            (Answer::Configured { checkpoints: 3, released: 12 }, (61, 3, 12)),
+        ] {
+            assert_eq!(answer.numbers(), numbers);
+        }
     }
 }

@@ -412,85 +412,22 @@ fn a_process_that_dies_between_a_stop_and_its_publication() {
     }
 }
 
-/// An engine with the functions that every engine has.
-struct Untold;
-
-impl Engine for Untold {
-    fn start(&self, _: &Arc<Runner<Untold>>, _: u64, _: Option<&Record>) -> Told {
-        Err("no task runs".into())
-    }
-
-    fn barrier(&self, _: Barrier) -> Told {
-        Err("no task runs".into())
-    }
-
-    fn complete(&self, _: u64) -> Told {
-        Err("no task runs".into())
-    }
-
-    fn end(&self) -> Told {
-        Ok(())
-    }
+/// An engine with the functions that every engine has. Its sink panics.
+struct Least {
+    start: fn(&Arc<Runner<Least>>, u64),
+    barrier: fn(&Runner<Least>, &Barrier) -> Told,
+    job: Mutex<Option<Arc<Runner<Least>>>>,
 }
 
-#[test]
-fn an_engine_that_is_not_told_of_a_stop() {
-    let (place, job, run) = running("runner-untold", QUICK);
-    stops(&job);
-    ended_as(Ended::Stopped, job, run);
-    assert_eq!(Runner::new(opened(&place, QUICK), Untold).run().unwrap(), Ended::Stopped);
-}
-
-/// Its barrier acknowledges right after an operator has cancelled the job.
-#[derive(Default)]
-struct Late(Mutex<Option<Arc<Runner<Late>>>>);
-
-impl Engine for Late {
-    fn start(&self, job: &Arc<Runner<Late>>, _: u64, _: Option<&Record>) -> Told {
-        *self.0.lock().unwrap() = Some(job.clone());
+impl Engine for Least {
+    fn start(&self, job: &Arc<Runner<Least>>, term: u64, _: Option<&Record>) -> Told {
+        *self.job.lock().unwrap() = Some(job.clone());
+        (self.start)(job, term);
         Ok(())
     }
 
     fn barrier(&self, it: Barrier) -> Told {
-        let job = self.0.lock().unwrap().clone().unwrap();
-        job.store().call(Call::Cancel { now: NOW })?;
-        let why = job.ack_payload(&it, (0, 0), &[]).unwrap_err();
-        assert_eq!(why, CallError::Fault(Fault::Fenced(Fenced::OldTerm)));
-        Err(why.into())
-    }
-
-    fn complete(&self, _: u64) -> Told {
-        Err("it was cancelled".into())
-    }
-
-    fn end(&self) -> Told {
-        Ok(())
-    }
-}
-
-#[test]
-fn a_barrier_of_a_term_that_has_just_ended() {
-    let place = Place::new("runner-late");
-    assert_eq!(Runner::new(opened(&place, QUICK), Late::default()).run().unwrap(), Ended::Cancelled);
-}
-
-/// Its tasks acknowledge in threads that nobody waits for, and its sink panics.
-struct Panics;
-
-impl Engine for Panics {
-    fn start(&self, job: &Arc<Runner<Panics>>, term: u64, _: Option<&Record>) -> Told {
-        let job = job.clone();
-        thread::spawn(move || {
-            job.store().trigger().unwrap();
-            for index in 0..TASKS {
-                job.ack(term, 1, (0, index), &[], &[], More::default()).unwrap();
-            }
-        });
-        Ok(())
-    }
-
-    fn barrier(&self, _: Barrier) -> Told {
-        Ok(())
+        (self.barrier)(self.job.lock().unwrap().as_ref().unwrap(), &it)
     }
 
     fn complete(&self, _: u64) -> Told {
@@ -503,9 +440,46 @@ impl Engine for Panics {
 }
 
 #[test]
+fn an_engine_that_is_not_told_of_a_stop() {
+    let (place, job, run) = running("runner-untold", QUICK);
+    stops(&job);
+    ended_as(Ended::Stopped, job, run);
+    let untold = Least {
+        start: |_, _| panic!("no task runs"),
+        barrier: |_, _| Err("nor has it a barrier".into()),
+        job: Mutex::default(),
+    };
+    assert_eq!(Runner::new(opened(&place, QUICK), untold).run().unwrap(), Ended::Stopped);
+}
+
+/// It acknowledges right after an operator has cancelled the job.
+#[test]
+fn a_barrier_of_a_term_that_has_just_ended() {
+    let place = Place::new("runner-late");
+    let barrier: fn(&Runner<Least>, &Barrier) -> Told = |job, it| {
+        job.store().call(Call::Cancel { now: NOW })?;
+        let why = job.ack_payload(it, (0, 0), &[]).unwrap_err();
+        assert_eq!(why, CallError::Fault(Fault::Fenced(Fenced::OldTerm)));
+        Err(why.into())
+    };
+    let late = Least { start: |_, _| (), barrier, job: Mutex::default() };
+    assert_eq!(Runner::new(opened(&place, QUICK), late).run().unwrap(), Ended::Cancelled);
+}
+
+/// Its tasks acknowledge in threads that nobody waits for.
+#[test]
 fn a_panic_in_a_thread_of_the_engine() {
     let place = Place::new("runner-panics");
-    let told = Runner::new(opened(&place, IDLE), Panics).run();
+    let start: fn(&Arc<Runner<Least>>, u64) = |job, term| {
+        let job = job.clone();
+        thread::spawn(move || {
+            job.store().trigger().unwrap();
+            for index in 0..TASKS {
+                job.ack(term, 1, (0, index), &[], &[], More::default()).unwrap();
+            }
+        });
+    };
+    let told = Runner::new(opened(&place, IDLE), Least { start, barrier: |_, _| Ok(()), job: Mutex::default() }).run();
     assert_eq!(told.unwrap_err().to_string(), "the engine has panicked");
 }
 
