@@ -36,11 +36,15 @@ class Sinks(unittest.TestCase):
         for it in numbers:
             sink((it,))
 
+    def prepared(self, sink, *numbers, record=1):
+        """Begins a sink, which prepares these. Returns its state."""
+        sink.begin("a")
+        self.put(sink, *numbers)
+        return sink.cut(record)
+
     def test_what_is_prepared_is_published_once_its_record_is_complete(self):
         for sink in self.sinks():
-            sink.begin("a")
-            self.put(sink, 1, 2)
-            sink.cut(1)
+            self.prepared(sink, 1, 2)
             self.put(sink, 3)  # behind the cut
             self.assertEqual(self.rows(sink), [])
             sink.complete(1)
@@ -49,9 +53,7 @@ class Sinks(unittest.TestCase):
 
     def test_an_entry_of_a_record_that_failed_goes_with_the_next(self):
         for sink in self.sinks():
-            sink.begin("a")
-            self.put(sink, 1)
-            sink.cut(1)
+            self.prepared(sink, 1)
             self.put(sink, 2)
             sink.cut(2)
             sink.complete(2)
@@ -59,9 +61,7 @@ class Sinks(unittest.TestCase):
 
     def test_a_restart_publishes_what_the_state_lists_and_gives_up_all_else(self):
         for sink, again in zip(self.sinks(), self.sinks()):
-            sink.begin("a")
-            self.put(sink, 1)
-            state = sink.cut(1)
+            state = self.prepared(sink, 1)
             self.put(sink, 2)
             sink.cut(2)
             self.put(sink, 3)
@@ -88,9 +88,7 @@ class Sinks(unittest.TestCase):
 
     def test_a_backup_that_was_put_back_is_refused(self):
         for sink, again in zip(self.sinks(), self.sinks()):
-            sink.begin("a")
-            self.put(sink, 1)
-            sink.cut(1)
+            self.prepared(sink, 1)
             sink.complete(1)
             again.begin("a")
             self.put(again, 9)
@@ -100,9 +98,7 @@ class Sinks(unittest.TestCase):
 
     def test_a_prepared_file_that_is_lost(self):
         sink, _ = self.sinks()
-        sink.begin("a")
-        self.put(sink, 1)
-        state = sink.cut(1)
+        state = self.prepared(sink, 1)
         [hidden] = self.folder.glob(".*.prepared")
         hidden.unlink()
         self.assertRaises(OutputError, self.sinks()[0].begin, "a", state)
@@ -111,9 +107,7 @@ class Sinks(unittest.TestCase):
 
     def test_an_imported_record_publishes_under_its_origin(self):
         for sink, again in zip(self.sinks(), self.sinks()):
-            sink.begin("a")
-            self.put(sink, 1)
-            state = sink.cut(7)
+            state = self.prepared(sink, 1, record=7)
             again.begin("b", state)
             self.put(again, 2)
             again.cut(7)
@@ -133,9 +127,7 @@ class Sinks(unittest.TestCase):
 
     def test_a_target_that_is_away(self):
         for sink in self.sinks(patience=0.2):
-            sink.begin("a")
-            self.put(sink, 1)
-            state = sink.cut(1)
+            state = self.prepared(sink, 1)
             with mock.patch.object(sink, "publish", side_effect=OSError):
                 sink.complete(1)
                 self.assertRaises(SinkFailed, sink.complete, 1, at_once=True)
