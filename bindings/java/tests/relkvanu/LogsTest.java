@@ -61,20 +61,11 @@ class LogsTest {
         }
     }
 
-    private static Stream<DynamicTest> each(String name, String log) {
-        return WAYS.entrySet().stream().map(way -> DynamicTest.dynamicTest(name + " by " + way.getKey(), () -> makes(log, way.getValue())));
-    }
-
-    @TestFactory
-    Stream<DynamicTest> theExampleOfThePage() throws IOException {
-        String example = Files.readString(PAGE).split("\n## 5\\. An example\n")[1].split("\n```\n")[1];
-        assertEquals(19, answers(example, new ArrayList<>()).size());
-        return each("the page", example);
-    }
-
-    /** Those of names, and of reads. */
-    static Map<String, String> logs() throws IOException {
+    /** Those of names, and of reads, and the example of the page. */
+    private static Map<String, String> logs() throws IOException {
         Map<String, String> logs = new java.util.TreeMap<>();
+        logs.put("the page", Files.readString(PAGE).split("\n## 5\\. An example\n")[1].split("\n```\n")[1]);
+        assertEquals(19, answers(logs.get("the page"), new ArrayList<>()).size());
         for (String folder : List.of("logs", "reads")) {
             try (Stream<Path> found = Files.list(FOLDER.resolve(folder))) {
                 for (Path log : found.toList()) {
@@ -82,12 +73,13 @@ class LogsTest {
                 }
             }
         }
-        assertTrue(logs.size() >= 14, logs.keySet().toString());
+        assertTrue(logs.size() >= 15, logs.keySet().toString());
         return logs;
     }
 
     @TestFactory
     Stream<DynamicTest> eachLog() throws IOException {
-        return logs().entrySet().stream().flatMap(log -> each(log.getKey(), log.getValue()));
+        return logs().entrySet().stream().flatMap(log -> WAYS.entrySet().stream().map(way ->
+            DynamicTest.dynamicTest(log.getKey() + " by " + way.getKey(), () -> makes(log.getValue(), way.getValue()))));
     }
 }
