@@ -15,38 +15,14 @@ pub enum Access {
     Write,
 }
 
-/// Jobs by their name, or by how their names begin.
-#[derive(Clone, Debug, PartialEq, Eq)]
-struct Pattern {
-    text: String,
-    is_prefix: bool,
-}
-
-impl Pattern {
-    fn of(text: &str) -> Pattern {
-        match text.strip_suffix('*') {
-            Some(prefix) => Pattern { text: prefix.to_string(), is_prefix: true },
-            None => Pattern { text: text.to_string(), is_prefix: false },
-        }
-    }
-
-    fn has(&self, job: &str) -> bool {
-        if self.is_prefix {
-            job.starts_with(&self.text)
-        } else {
-            job == self.text
-        }
-    }
-}
-
 /// Who makes a request: the name of the token, and the jobs that it is for.
 #[derive(Clone, Debug, PartialEq, Eq)]
 pub struct Caller {
     pub name: String,
     /// Whether its token allows calls.
     pub may_write: bool,
-    /// `None`: all.
-    jobs: Option<Vec<Pattern>>,
+    /// Their names, or how they begin, with a star behind it. `None`: all.
+    jobs: Option<Vec<String>>,
     /// From when on it is refused.
     pub until: Option<SystemTime>,
 }
@@ -58,7 +34,8 @@ impl Caller {
     }
 
     pub fn may_see(&self, job: &str) -> bool {
-        self.jobs.as_ref().is_none_or(|jobs| jobs.iter().any(|pattern| pattern.has(job)))
+        let is_of = |it: &String| it.strip_suffix('*').map_or(job == it, |prefix| job.starts_with(prefix));
+        self.jobs.as_ref().is_none_or(|jobs| jobs.iter().any(is_of))
     }
 
     pub fn may_see_all(&self) -> bool {
@@ -168,7 +145,7 @@ fn token(line: usize, text: &str) -> Result<Token, BadTokens> {
         match word.split_once('=').ok_or_else(bad)? {
             ("until", day) => caller.until = Some(start_of(day).ok_or_else(bad)?),
             ("jobs", jobs) if !jobs.split(',').any(str::is_empty) => {
-                caller.jobs = Some(jobs.split(',').map(Pattern::of).collect());
+                caller.jobs = Some(jobs.split(',').map(str::to_string).collect());
             }
             ("name", name) if !name.is_empty() && name.len() <= LONGEST_NAME => caller.name = name.to_string(),
             _ => return Err(bad()),

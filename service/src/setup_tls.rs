@@ -33,24 +33,18 @@ const DAYS: &str = "90";
 const BYTES_OF_TOKEN: usize = 20;
 const LONGEST_NAME: usize = 64;
 
-/// A file that is made.
-struct Part {
-    name: &'static str,
-    mode: u32,
-}
-
-/// Those of a certificate, with their modes.
+/// The files of a certificate, with their modes.
 pub const OF_CERTIFICATE: [(&str, u32); 2] = [(KEY, 0o600), (CERTIFICATE, 0o644)];
 
-/// In the order in which they get in their place. With the settings the service speaks TLS.
-const PARTS: [Part; 7] = [
-    Part { name: "read-token", mode: 0o600 },
-    Part { name: "write-token", mode: 0o600 },
-    Part { name: "token", mode: 0o600 },
-    Part { name: KEY, mode: 0o600 },
-    Part { name: CERTIFICATE, mode: 0o644 },
-    Part { name: DROP_IN, mode: 0o644 },
-    Part { name: SETTINGS, mode: 0o644 },
+/// All files that are made, in the order in which they get in their place. With the settings the service speaks TLS.
+const PARTS: [(&str, u32); 7] = [
+    ("read-token", 0o600),
+    ("write-token", 0o600),
+    ("token", 0o600),
+    OF_CERTIFICATE[0],
+    OF_CERTIFICATE[1],
+    (DROP_IN, 0o644),
+    (SETTINGS, 0o644),
 ];
 
 /// Why nothing was set up, or not all.
@@ -93,7 +87,7 @@ fn set_up(given: &cli::SetupTls) -> Result<String, NotSet> {
         setup.make_or_nothing()?;
     }
     if !done.exists() {
-        PARTS.iter().try_for_each(|part| setup.place(part))?;
+        PARTS.into_iter().try_for_each(|(name, mode)| setup.place(name, mode))?;
         fs::rename(&setup.whole, &done).map_err(of(&done))?;
     }
     fs::remove_dir_all(&done).map_err(of(&done))?;
@@ -159,16 +153,16 @@ impl Setup<'_> {
     }
 
     /// Where a part gets.
-    fn target(&self, part: &Part) -> PathBuf {
-        if part.name == DROP_IN {
+    fn target(&self, name: &str) -> PathBuf {
+        if name == DROP_IN {
             self.given.units.join(DROP_IN_FOLDER).join(DROP_IN)
         } else {
-            self.given.settings.join(part.name)
+            self.given.settings.join(name)
         }
     }
 
     fn check_free(&self) -> Result<(), NotSet> {
-        let mut targets = PARTS.iter().filter(|part| part.name != SETTINGS).map(|part| self.target(part));
+        let mut targets = PARTS.iter().filter(|(name, _)| *name != SETTINGS).map(|(name, _)| self.target(name));
         targets.find(|it| it.symlink_metadata().is_ok()).map_or(Ok(()), |it| Err(NotSet::Taken(it)))
     }
 
@@ -186,7 +180,7 @@ impl Setup<'_> {
         self.make_tokens()?;
         make_certificate(self.given, &self.new)?;
         self.make_settings()?;
-        PARTS.iter().try_for_each(|part| synced(&self.new.join(part.name)))?;
+        PARTS.iter().try_for_each(|(name, _)| synced(&self.new.join(name)))?;
         sync_folder(&self.new.join(SETTINGS)).map_err(of(&self.new))?;
         fs::rename(&self.new, &self.whole).map_err(of(&self.whole))?;
         sync_folder(&self.whole).map_err(of(&self.given.settings))
@@ -220,11 +214,11 @@ impl Setup<'_> {
     }
 
     /// Gets a part in its place, unless it is there.
-    fn place(&self, part: &Part) -> Result<(), NotSet> {
-        let (made, target) = (self.whole.join(part.name), self.target(part));
+    fn place(&self, name: &str, mode: u32) -> Result<(), NotSet> {
+        let (source, target) = (self.whole.join(name), self.target(name));
         let folder = target.parent().unwrap_or(Path::new("."));
-        let contents = fs::read(&made).map_err(of(&made))?;
-        let new = folder.join(format!(".{}.{NEW}", part.name));
+        let contents = fs::read(&source).map_err(of(&source))?;
+        let new = folder.join(format!(".{name}.{NEW}"));
         fs::create_dir_all(folder).map_err(of(folder))?;
         if new.symlink_metadata().is_ok() {
             fs::remove_file(&new).map_err(of(&new))?;
@@ -232,8 +226,8 @@ impl Setup<'_> {
         if fs::read(&target).is_ok_and(|it| it == contents) {
             return Ok(());
         }
-        written(&new, &contents, part.mode)?;
-        if part.name == SETTINGS {
+        written(&new, &contents, mode)?;
+        if name == SETTINGS {
             self.check_settings(&target)?;
             fs::rename(&new, &target).map_err(of(&target))?;
         } else {

@@ -178,18 +178,11 @@ async fn files(app: &App, job: &str, query: &str) -> Answered {
     let ReadDone::Job(state) = app.read(Read::Job(job.to_string())).await? else {
         return Err(no_job(job).into());
     };
-    let FilesRead { upto, taken, deleted } = files_of(app, &state, before, most).await?;
-    Ok(json_reply(200, &json!({"upto": upto, "taken": taken, "deleted": deleted})))
-}
-
-pub(super) struct FilesRead {
-    pub upto: u64,
-    pub taken: Vec<FileRow>,
-    pub deleted: Vec<FileRow>,
+    Ok(json_reply(200, &files_of(app, &state, before, most).await?))
 }
 
 /// How far the history is, and at most this many taken files, and files that were deleted before a call.
-pub(super) async fn files_of(app: &App, job: &JobState, before: u64, most: u64) -> Refusable<FilesRead> {
+pub(super) async fn files_of(app: &App, job: &JobState, before: u64, most: u64) -> Refusable<Value> {
     let number = job.opening.number;
     let (taken, deleted, upto) = app
         .read_history(move |history| {
@@ -198,7 +191,7 @@ pub(super) async fn files_of(app: &App, job: &JobState, before: u64, most: u64) 
         .await?;
     let knows_all = upto >= job.seq && taken.len() as u64 == most.min(job.files.taken);
     let taken = if knows_all { taken } else { taken_by_all(app, &job.opening.name, number, most).await? };
-    Ok(FilesRead { upto, taken, deleted })
+    Ok(json!({"upto": upto, "taken": taken, "deleted": deleted}))
 }
 
 /// Taken files by the coordinator's whole list, for a history that does not know all of them.

@@ -1,7 +1,7 @@
 //! All that a tab of the page shows, in one answer: the jobs by name and mode, and one job with its pending records, its savepoints,
 //! its history and its files.
 use super::query::{numbers, Parameter};
-use super::reads::{files_of, metadata, FilesRead};
+use super::reads::{files_of, metadata};
 use super::render;
 use super::reply::{self, json_reply, Answered, Refusable};
 use super::{reads, App};
@@ -20,16 +20,9 @@ const MOST_MISSING: usize = 24;
 /// The newest savepoints that are told.
 const MOST_SAVEPOINTS: usize = 100;
 
-/// How much of the history a tab shows.
-struct Wanted {
-    records: u64,
-    samples: u64,
-    files: u64,
-}
-
 /// The job of this name is shown, or the first one if there is none.
 pub async fn answer(app: &App, name: Option<&String>, caller: &Caller, query: &str) -> Answered {
-    let [records, samples, files] = numbers(query, [RECORDS, SAMPLES, FILES])?;
+    let wanted = numbers(query, [RECORDS, SAMPLES, FILES])?;
     let jobs = app.jobs().await?;
     // the names of many jobs take long, and the other requests go on by another thread
     let (names, shown) = tokio::task::block_in_place(|| names_of(jobs, name, caller));
@@ -40,7 +33,6 @@ pub async fn answer(app: &App, name: Option<&String>, caller: &Caller, query: &s
     told["replay"] = json!(replay);
     told["jobs"] = names; // `json!` would copy them
     if let (Some(job), Some(object)) = (shown, told.as_object_mut()) {
-        let wanted = Wanted { records, samples, files };
         object.insert("job".to_string(), render::job(&job, app.board.log()));
         object.insert("pending".to_string(), Value::Array(pending(app, &job).await?));
         object.append(&mut history(app, &job, wanted).await?);
@@ -86,20 +78,15 @@ async fn pending(app: &App, job: &JobState) -> Refusable<Vec<Value>> {
     Ok(found)
 }
 
-/// What the history has of a job, how far it is, and the files that were taken and deleted.
-async fn history(app: &App, job: &JobState, wanted: Wanted) -> Refusable<serde_json::Map<String, Value>> {
-    let number = job.opening.number;
-    let FilesRead { upto, taken, deleted } = files_of(app, job, u64::MAX, wanted.files).await?;
+/// What the history has of a job, so many of each, how far it is, and the files that were taken and deleted.
+async fn history(app: &App, job: &JobState, wanted: [u64; 3]) -> Refusable<serde_json::Map<String, Value>> {
+    let (number, [records, samples, files]) = (job.opening.number, wanted);
+    let mut told = files_of(app, job, u64::MAX, files).await?;
     let savepoints: Vec<u64> = savepoints(job).collect();
     app.read_history(move |history| {
-        let told = json!({
-            "upto": upto,
-            "records": history.records(number, u64::MAX, wanted.records, Search::default())?,
-            "samples": history.samples(number, 0, wanted.samples)?,
-            "savepoints": savepoint_times(history, number, &savepoints)?,
-            "taken": taken,
-            "deleted": deleted,
-        });
+        told["records"] = json!(history.records(number, u64::MAX, records, Search::default())?);
+        told["samples"] = json!(history.samples(number, 0, samples)?);
+        told["savepoints"] = json!(savepoint_times(history, number, &savepoints)?);
         Ok(told.as_object().cloned().unwrap_or_default())
     })
     .await

@@ -191,43 +191,33 @@ impl Given<'_> {
         if length.is_some_and(|length| length > most) {
             return Err(too_long(most).into());
         }
-        let room = BodyRoom::new(&app.bodies, app.keys.token_of(&self.caller));
-        let mut reading = Reading { most, bytes: Vec::new(), room };
+        let (mut bytes, mut room) = (Vec::new(), BodyRoom::new(&app.bodies, app.keys.token_of(&self.caller)));
         tokio::select! {
             // most bodies are there at once, and need no timer
             biased;
-            read = tokio::time::timeout(time, reading.read(body)) => match read {
+            read = tokio::time::timeout(time, read_whole(body, most, &mut bytes, &mut room)) => match read {
                 Ok(read) => read?,
                 Err(_) => return Err(error(408, &format!("the body did not come within {} s", time.as_secs())).into()),
             },
             () = stops(app) => return Err(gate::busy("the service is stopping").into()),
         }
-        Ok((reading.bytes, reading.room))
+        Ok((bytes, room))
     }
 }
 
-/// A body that is being read, and its room.
-struct Reading {
-    most: usize,
-    bytes: Vec<u8>,
-    room: BodyRoom,
-}
-
-impl Reading {
-    async fn read(&mut self, mut body: Body) -> Refusable<()> {
-        while let Some(part) = body.data().await {
-            let part = part.map_err(|_| error(400, "the body ended early"))?;
-            let length = self.bytes.len() + part.len();
-            if length > self.most {
-                return Err(too_long(self.most).into());
-            }
-            if !self.room.grow(length) {
-                return Err(gate::busy("the bodies of other requests take all room").into());
-            }
-            self.bytes.extend_from_slice(&part);
+async fn read_whole(mut body: Body, most: usize, bytes: &mut Vec<u8>, room: &mut BodyRoom) -> Refusable<()> {
+    while let Some(part) = body.data().await {
+        let part = part.map_err(|_| error(400, "the body ended early"))?;
+        let length = bytes.len() + part.len();
+        if length > most {
+            return Err(too_long(most).into());
         }
-        Ok(())
+        if !room.grow(length) {
+            return Err(gate::busy("the bodies of other requests take all room").into());
+        }
+        bytes.extend_from_slice(&part);
     }
+    Ok(())
 }
 
 /// Ends some time after the service was told to stop.

@@ -1,8 +1,8 @@
 //! The events of a job, from a place on.
 use crate::http::ApiRequest;
 use crate::{Error, Job};
+use hyper::Method;
 use serde_json::{json, Value};
-use std::time::Duration;
 
 pub(crate) const GONE: u16 = 410;
 /// The reason if the log never had the place.
@@ -43,7 +43,7 @@ impl Follower {
         };
         let log = self.log.as_ref().map(|log| format!("&log={log}")).unwrap_or_default();
         let path = format!("{}/events?after={after}&wait={wait}{log}", self.job.path);
-        let told = self.job.ask(ApiRequest::poll(path, Duration::from_secs(wait))).await?;
+        let told = self.job.service.ask(ApiRequest::new(Method::GET, path).waiting(wait)).await?;
         if told.status == GONE {
             let gone = told.value()?;
             if gone["reason"] == OTHER_LOG {

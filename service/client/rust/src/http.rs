@@ -131,33 +131,20 @@ pub struct ApiRequest {
 }
 
 impl ApiRequest {
-    pub fn get(path: String) -> ApiRequest {
-        ApiRequest { method: Method::GET, path, body: None, key: None, wait: Duration::ZERO }
+    pub fn new(method: Method, path: String) -> ApiRequest {
+        ApiRequest { method, path, body: None, key: None, wait: Duration::ZERO }
     }
 
-    pub fn poll(path: String, wait: Duration) -> ApiRequest {
-        ApiRequest { wait, ..ApiRequest::get(path) }
+    pub fn with(self, body: &Value) -> ApiRequest {
+        ApiRequest { body: Some(body.to_string()), ..self }
     }
 
-    pub fn delete(path: String) -> ApiRequest {
-        ApiRequest { method: Method::DELETE, ..ApiRequest::get(path) }
+    pub fn under(self, key: Option<&str>) -> ApiRequest {
+        ApiRequest { key: key.map(str::to_string), ..self }
     }
 
-    pub fn patch(path: String, body: &Value) -> ApiRequest {
-        ApiRequest { method: Method::PATCH, body: Some(body.to_string()), ..ApiRequest::get(path) }
-    }
-
-    pub fn put(path: String, body: &Value) -> ApiRequest {
-        ApiRequest { method: Method::PUT, ..ApiRequest::patch(path, body) }
-    }
-
-    pub fn post(path: String, body: &Value, key: Option<&str>) -> ApiRequest {
-        ApiRequest {
-            method: Method::POST,
-            body: Some(body.to_string()),
-            key: key.map(str::to_string),
-            ..ApiRequest::get(path)
-        }
+    pub fn waiting(self, seconds: u64) -> ApiRequest {
+        ApiRequest { wait: Duration::from_secs(seconds), ..self }
     }
 }
 
@@ -195,11 +182,6 @@ impl Requests {
         let tls = native_tls::TlsConnector::new().map_err(|error| bad(&error))?;
         let client = Client::builder().build(HttpsConnector::from((Sockets { tcp: connector }, tls.into())));
         Ok(Requests { client, addresses: Addresses::new(urls), token: token.transpose()? })
-    }
-
-    /// The body of the answer to a request. An answer that is an error is one here.
-    pub async fn body(&self, manner: &Manner, asked: ApiRequest) -> Result<Value, Error> {
-        self.ask(manner, asked).await?.body()
     }
 
     /// Makes a request until it is answered.

@@ -43,10 +43,12 @@ pub use whole::{Part, Whole};
 use call::{numbers, texts};
 use follow::events_of;
 use http::{ApiAnswer, ApiRequest, Manner, Requests};
+use hyper::Method;
 use serde_json::{json, Value};
 use std::sync::Arc;
 use std::time::Duration;
 
+const JOBS: &str = "/v1/jobs";
 /// How many seconds a poll waits for the next event.
 const LONG_POLL: u64 = 25;
 
@@ -60,8 +62,7 @@ pub struct Service {
 /// A job of a service.
 #[derive(Clone)]
 pub struct Job {
-    requests: Arc<Requests>,
-    manner: Manner,
+    service: Service,
     path: String,
     opened: Option<Arc<Opened>>,
 }
@@ -99,15 +100,13 @@ impl Service {
     /// jobs within this time.
     #[must_use]
     pub fn within(&self, patience: Option<Duration>) -> Service {
-        let manner = Manner { patience, ..self.manner.clone() };
-        Service { requests: Arc::clone(&self.requests), manner }
+        Service { manner: Manner { patience, ..self.manner.clone() }, ..self.clone() }
     }
 
     /// The same service, which tells of each try that failed and is made again.
     #[must_use]
     pub fn noticing(&self, notice: impl Fn(&Error) + Send + Sync + 'static) -> Service {
-        let manner = Manner { notice: Some(Arc::new(notice)), ..self.manner.clone() };
-        Service { requests: Arc::clone(&self.requests), manner }
+        Service { manner: Manner { notice: Some(Arc::new(notice)), ..self.manner.clone() }, ..self.clone() }
     }
 
     /// Opens a job, or finds it. A job that is there keeps its settings and its shape, which an operator may have changed:
@@ -123,22 +122,21 @@ impl Service {
     }
 
     async fn opened(&self, name: &str, body: Value) -> Result<Job, Error> {
-        let told = self.requests.body(&self.manner, ApiRequest::post("/v1/jobs".to_string(), &body, None)).await?;
+        let told = self.body(ApiRequest::new(Method::POST, JOBS.to_string()).with(&body)).await?;
         Ok(Job { opened: Some(Arc::new(Opened::of(&told)?)), ..self.job(name) })
     }
 
     /// A job that exists.
     #[must_use]
     pub fn job(&self, name: &str) -> Job {
-        let (requests, manner) = (Arc::clone(&self.requests), self.manner.clone());
-        Job { requests, manner, path: format!("/v1/jobs/{name}"), opened: None }
+        Job { service: self.clone(), path: format!("{JOBS}/{name}"), opened: None }
     }
 
     /// Deletes a job that was cancelled or has failed, with its log and its history. The service refuses it with status 409 if files of
     /// the job are left, unless it is to `abandon` them: nobody deletes them then. Returns whether there was such a job.
     pub async fn delete(&self, name: &str, abandon: bool) -> Result<bool, Error> {
-        let path = format!("/v1/jobs/{name}?abandon={}", u8::from(abandon));
-        match self.requests.body(&self.manner, ApiRequest::delete(path)).await {
+        let path = format!("{JOBS}/{name}?abandon={}", u8::from(abandon));
+        match self.body(ApiRequest::new(Method::DELETE, path)).await {
             Err(Error::Status { status: 404, .. }) => Ok(false),
             told => told.map(|_| true),
         }
@@ -147,7 +145,16 @@ impl Service {
     /// The state of each job, as `jobs`. As `damaged` the name of each job that the service keeps out since its log can't be replayed, and why: their
     /// requests are refused with status 503 until they are mended and the service has started again.
     pub async fn jobs(&self) -> Result<Value, Error> {
-        self.requests.body(&self.manner, ApiRequest::get("/v1/jobs".to_string())).await
+        self.body(ApiRequest::new(Method::GET, JOBS.to_string())).await
+    }
+
+    async fn ask(&self, asked: ApiRequest) -> Result<ApiAnswer, Error> {
+        self.requests.ask(&self.manner, asked).await
+    }
+
+    /// The body of the answer. An answer that is an error is one here.
+    async fn body(&self, asked: ApiRequest) -> Result<Value, Error> {
+        self.ask(asked).await?.body()
     }
 }
 
@@ -161,7 +168,7 @@ impl Job {
     /// The same job, which makes a request again for this long, or for ever.
     #[must_use]
     pub fn within(&self, patience: Option<Duration>) -> Job {
-        Job { manner: Manner { patience, ..self.manner.clone() }, ..self.clone() }
+        Job { service: self.service.within(patience), ..self.clone() }
     }
 
     /// Makes calls in order, and returns the answer of each. They are no transaction.
@@ -217,7 +224,7 @@ impl Job {
     /// Triggers a checkpoint now, whatever the interval and the pause. Returns its number. Fails with [`Error::Refused`] if as many are
     /// pending as may be, or the job does not run.
     pub async fn checkpoint(&self) -> Result<Value, Error> {
-        self.operate("checkpoints").await
+        self.posted("checkpoints", &json!({})).await
     }
 
     /// The same of a checkpoint whose barrier names no base, so the tasks write all their state anew.
@@ -228,24 +235,24 @@ impl Job {
     /// Changes settings of the job, while it runs: those that are given, as `{"interval": 30000}`. Returns all that it has then, under
     /// `settings`. Fails with [`Error::Refused`] if more checkpoints are pending than may be from then on, or the job is cancelled.
     pub async fn set(&self, settings: &Value) -> Result<Value, Error> {
-        self.requests.body(&self.manner, ApiRequest::patch(format!("{}/settings", self.path), settings)).await
+        self.service.body(self.request(Method::PATCH, "/settings").with(settings)).await
     }
 
     /// Says where the job's files are, as [`Service::open_at`] does, whatever it knew. Returns the state of the job.
     pub async fn set_storage(&self, storage: &Value) -> Result<Value, Error> {
-        self.requests.body(&self.manner, ApiRequest::put(format!("{}/storage", self.path), storage)).await
+        self.service.body(self.request(Method::PUT, "/storage").with(storage)).await
     }
 
     /// Stops the job with a savepoint, whose number is the answer's `id`: the timer rests, and with the last acknowledgement the job has stopped
     /// at it, until [`begin_job`](Self::begin_job). Fails with [`Error::Refused`] if the job stops or has stopped already, or does not run.
     pub async fn stop_job(&self) -> Result<Value, Error> {
-        self.operate("stop").await
+        self.posted("stop", &json!({})).await
     }
 
     /// Begins the job again where it has stopped. Engines that wait for it then make [`begin`](Self::begin). Fails with [`Error::Refused`] if the
     /// job has not stopped.
     pub async fn begin_job(&self) -> Result<Value, Error> {
-        self.operate("begin").await
+        self.posted("begin", &json!({})).await
     }
 
     /// Waits as long as the job has stopped: an engine that starts does so before [`begin`](Self::begin). Returns the state of the job. Fails
@@ -273,16 +280,12 @@ impl Job {
         self.posted("advance", &json!({"term": term, "first_name": first_name.to_string()})).await
     }
 
-    async fn operate(&self, what: &str) -> Result<Value, Error> {
-        self.posted(what, &json!({})).await
-    }
-
     async fn posted(&self, what: &str, body: &Value) -> Result<Value, Error> {
         self.post(what, body, Some(&new_key())).await
     }
 
     async fn post(&self, what: &str, body: &Value, key: Option<&str>) -> Result<Value, Error> {
-        self.requests.body(&self.manner, ApiRequest::post(format!("{}/{what}", self.path), body, key)).await
+        self.service.body(self.request(Method::POST, &format!("/{what}")).with(body).under(key)).await
     }
 
     /// Of these files, at most 10,000, those that may be deleted, and those whose names were never given out, which nobody deletes. The
@@ -347,8 +350,8 @@ impl Job {
     /// The events after a place, and the place to go on from. Waits at most this many seconds for an event, and at most
     /// 60. Fails with status 410 if the log does not have them; a [`Follower`] goes on from the job's state.
     pub async fn events(&self, after: u64, wait: u64) -> Result<(u64, Vec<Value>), Error> {
-        let path = format!("{}/events?after={after}&wait={wait}", self.path);
-        let mut told = self.ask(ApiRequest::poll(path, Duration::from_secs(wait))).await?.body()?;
+        let events = self.request(Method::GET, &format!("/events?after={after}&wait={wait}"));
+        let mut told = self.service.body(events.waiting(wait)).await?;
         let upto = told["upto"].as_u64().ok_or(Error::Answer("has no upto".to_string()))?;
         Ok((upto, events_of(&mut told)?))
     }
@@ -366,10 +369,10 @@ impl Job {
     }
 
     async fn get(&self, rest: &str) -> Result<Value, Error> {
-        self.ask(ApiRequest::get(format!("{}{rest}", self.path))).await?.body()
+        self.service.body(self.request(Method::GET, rest)).await
     }
 
-    async fn ask(&self, asked: ApiRequest) -> Result<ApiAnswer, Error> {
-        self.requests.ask(&self.manner, asked).await
+    fn request(&self, method: Method, rest: &str) -> ApiRequest {
+        ApiRequest::new(method, format!("{}{rest}", self.path))
     }
 }
