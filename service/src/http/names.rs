@@ -58,8 +58,8 @@ pub async fn term(app: &App, job: &str, query: &str) -> Answered {
 /// Which of some files may be deleted, by what is committed. The writer answers only while it surely leads, and this looks again:
 /// a process that was suspended meanwhile sends no answer.
 pub async fn garbage(mut given: Given<'_>) -> Answered {
-    let (files, _room) = given.said(wire::garbage).await?;
-    let (app, job) = (given.app, given.job);
+    let (bytes, _room) = given.read_body().await?;
+    let (app, job, files) = (given.app, given.job, wire::garbage(&bytes)?);
     let told = app.read(Read::Garbage { job: job.clone(), files }).await?;
     if !app.board.is_ready() {
         return Err(gate::standby(app).await.into());

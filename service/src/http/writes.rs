@@ -183,7 +183,7 @@ fn key_name(headers: &HeaderMap) -> Refusable<Option<String>> {
 
 impl Given<'_> {
     /// The whole body, within its limits of bytes and time, and its room, which is kept until the request is answered.
-    async fn read_body(&mut self) -> Refusable<(Vec<u8>, BodyRoom)> {
+    pub async fn read_body(&mut self) -> Refusable<(Vec<u8>, BodyRoom)> {
         let (app, body) = (self.app, std::mem::take(self.request.body_mut()));
         let most = app.limits.body_bytes;
         let length = body.size_hint().upper().and_then(|length| usize::try_from(length).ok());
