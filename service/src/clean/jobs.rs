@@ -88,8 +88,8 @@ pub struct Known {
     /// Tells turns of this job from those of an earlier one of the same name, or in another storage.
     pub number: u64,
     pub listed: Listed,
-    pub released: Turns,
-    pub garbage: Turns,
+    /// Of each kind.
+    turns: [Turns; 2],
     /// The place of the files, kept open between two turns, and when it was used last.
     pub deletions: Option<Deletions>,
     used: Instant,
@@ -103,33 +103,16 @@ pub struct Known {
 
 impl Known {
     pub fn new(number: u64, listed: Listed, now: Instant) -> Known {
-        let turns = || Turns::new(now);
-        let (released, garbage) = (turns(), turns());
-        Known {
-            number,
-            listed,
-            released,
-            garbage,
-            deletions: None,
-            used: now,
-            looked: None,
-            absent: Vec::new(),
-            shown: None,
-        }
+        let turns = [Turns::new(now), Turns::new(now)];
+        Known { number, listed, turns, deletions: None, used: now, looked: None, absent: Vec::new(), shown: None }
     }
 
     pub fn turns(&mut self, kind: Kind) -> &mut Turns {
-        match kind {
-            Kind::Released => &mut self.released,
-            Kind::Garbage => &mut self.garbage,
-        }
+        &mut self.turns[kind as usize]
     }
 
     pub fn of(&self, kind: Kind) -> &Turns {
-        match kind {
-            Kind::Released => &self.released,
-            Kind::Garbage => &self.garbage,
-        }
+        &self.turns[kind as usize]
     }
 
     /// Whether files that were taken and not reported are to be looked for.
@@ -140,10 +123,8 @@ impl Known {
     /// Whether a turn of this kind is to begin. The first one of a job makes sure of its place, also if no file waits, and comes before
     /// garbage is looked for.
     pub fn wants(&self, kind: Kind, now: Instant) -> bool {
-        match kind {
-            Kind::Released => self.released.may_begin(now) && (self.listed.waiting > 0 || self.wants_look(now)),
-            Kind::Garbage => self.garbage.may_begin(now),
-        }
+        let has_some = kind == Kind::Garbage || self.listed.waiting > 0 || self.wants_look(now);
+        self.of(kind).may_begin(now) && has_some
     }
 
     /// Files were looked for that were taken and not reported, or have to be looked for anew.
@@ -153,20 +134,18 @@ impl Known {
 
     /// Whether its place is known to be good.
     pub fn works(&self) -> bool {
-        self.stopped().is_none() && (self.released.has_ended || self.garbage.has_ended)
+        self.stopped().is_none() && self.turns.iter().any(|turns| turns.has_ended)
     }
 
     /// Why it is not cleaned.
     pub fn stopped(&self) -> Option<&'static str> {
-        self.released.stopped.or(self.garbage.stopped)
+        self.turns.iter().find_map(|turns| turns.stopped)
     }
 
     /// Whether nothing of this kind is left for a run that ends.
     pub fn is_over(&self, kind: Kind) -> bool {
-        match kind {
-            Kind::Released => self.released.has_ended && (self.listed.waiting == 0 || self.released.stopped.is_some()),
-            Kind::Garbage => self.garbage.has_ended,
-        }
+        let turns = self.of(kind);
+        turns.has_ended && (kind == Kind::Garbage || self.listed.waiting == 0 || turns.stopped.is_some())
     }
 
     /// Keeps a place open for the next turn.
@@ -229,7 +208,7 @@ mod tests {
         assert!(!known.wants(Kind::Released, now) && known.wants(Kind::Released, now + LOOK_EACH));
         known.listed.waiting = 1;
         assert!(known.wants(Kind::Released, now));
-        known.released.begin(now);
+        known.turns(Kind::Released).begin(now);
         assert!(!known.wants(Kind::Released, now));
     }
 }

@@ -242,7 +242,7 @@ impl Schedule {
     fn wanted(&self, now: Instant) -> Vec<(bool, Instant, Turn)> {
         let is_first = |kind: Kind, known: &Known| {
             // the first turn makes sure of the place
-            kind == Kind::Released || known.released.has_ended || !self.kinds.contains(&Kind::Released)
+            kind == Kind::Released || known.of(Kind::Released).has_ended || !self.kinds.contains(&Kind::Released)
         };
         let mut wanted = Vec::new();
         for (name, known) in &self.jobs {
@@ -298,7 +298,7 @@ impl Schedule {
                 told.map_or_else(|stop| (status_of(&stop), Some(stop)), |done| (discarded(known, &done, now), None))
             }
             Told::Garbage(Ok(swept)) => {
-                known.garbage.end(turn.began + every);
+                known.turns(Kind::Garbage).end(turn.began + every);
                 let unissued = if swept.unissued > 0 && self.status == 0 { UNISSUED } else { 0 };
                 (if swept.failed > 0 { 1 } else { unissued }, None)
             }
@@ -336,12 +336,12 @@ impl Schedule {
 fn discarded(known: &mut Known, done: &Discarded, now: Instant) -> u8 {
     if done.failed > 0 {
         log::warn(&format!("job {}: {} files can't be deleted, and wait again", known.listed.name, done.failed));
-        known.released.fail(now, Some("files"), false);
+        known.turns(Kind::Released).fail(now, Some("files"), false);
         return 1;
     }
     // the next list says whether more files wait
     known.listed.waiting = if done.more { known.listed.waiting.max(1) } else { 0 };
-    known.released.end(now);
+    known.turns(Kind::Released).end(now);
     0
 }
 
