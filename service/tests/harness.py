@@ -427,7 +427,7 @@ def begins_term(line):
 
 
 # Numbers of answers in include/relkvanu.h.
-SAVEPOINT_TRIGGERED, ACK_PENDING, ACK_COMPLETED, TAKEN, RESERVED, NAMED = 6, 7, 8, 18, 56, 59
+ACK_PENDING, ACK_COMPLETED, TAKEN, RESERVED, NAMED = 7, 8, 18, 56, 59
 CALL = "job, seq, at, record, line, what, a, b, files, ended, waiting"
 WHOLE = f"(select {CALL} from archive union all select {CALL} from call)"
 

@@ -4,8 +4,7 @@ import random
 import socket
 import time
 
-from harness import BUSY, COMMAND, check_log, folder, leader_and_standby, lease_of, served, served_job, slowed, sqlite, until
-from postgres import postgres
+from harness import BUSY, COMMAND, check_log, lease_of, served, served_job, slowed, sqlite, until
 from relkvanu_service import Service, cancel
 
 JOB = {"name": "orders", "settings": {"interval": 1000000}, "shape": [2, 1]}
@@ -231,14 +230,15 @@ def test_a_job_says_where_its_files_are():
         sqlite(server.database, "update storage set text = '{' where job = 2")  # a row that can't be read takes no job along
         server.start()
         assert service.job("later").state()["storage"] is None and "a row of storage has" in server.log()
-    with postgres() as database, folder() as at:
-        first, second = leader_and_standby(at, database.url, f"lease_seconds = {lease_of(4)}\n")
-        service = Service(first.url, second.url)
-        known = told_where(service)
-        first.kill()
-        second.wait_ready(60)
-        assert {job["name"]: job["storage"] for job in service.jobs()} == known
-        return f"{len(known)} jobs, over both databases"
+        return f"{len(known)} jobs"
+
+
+def over_a_take_over(service, _):
+    """Where the generator waits another process takes over."""
+    known = told_where(service)
+    yield
+    found = {job["name"]: job["storage"] for job in service.jobs()}
+    assert {name: found[name] for name in known} == known, found
 
 
 def test_a_job_that_was_rescaled_is_opened_with_any_shape():
@@ -335,9 +335,9 @@ def test_the_timer_triggers_and_expires():
         until(lambda: server.get("/v1/jobs/t")[2]["seq"] >= 8, 5)
 
 
-def test_a_slow_client_and_many_connections():
+def test_a_slow_client():
     idle_seconds = lease_of(1)
-    with served(f"[limits]\nconnections = 20\nidle_seconds = {idle_seconds}\nbody_seconds = 2\n") as server:
+    with served(f"[limits]\nidle_seconds = {idle_seconds}\nbody_seconds = 2\n") as server:
         until(lambda: server.request("POST", "/v1/jobs", JOB)[0] in (200, 201))
         head = b"POST /v1/jobs/orders/calls HTTP/1.1\r\nHost: localhost\r\nContent-Type: application/json\r\nContent-Length: 100\r\n\r\n"
         started = time.monotonic()
@@ -356,8 +356,3 @@ def test_a_slow_client_and_many_connections():
             it.sendall(b"GET /healthz HT")
             assert it.recv(100) == b""
             assert 0.5 < time.monotonic() - started < BUSY * 3 * idle_seconds
-        idle = [socket.create_connection(("127.0.0.1", server.port), timeout=COMMAND) for _ in range(60)]
-        # idle connections are closed, so others come in
-        until(lambda: server.get("/healthz")[0] == 200, 20)
-        for it in idle:
-            it.close()

@@ -3,7 +3,6 @@ import http.client
 import json
 import os
 import resource
-import select
 import socket
 import time
 
@@ -97,27 +96,6 @@ def test_an_event_wakes_all_polls():
             it.close()
         assert most <= threads + 4, f"{most} threads"
         return f"{len(held)} polls in {time.monotonic() - started:.2f} s by {most} threads"
-
-
-def test_a_poll_too_many_is_told_so():
-    with served("[limits]\npolls = 2\n") as server:
-        server.request("POST", "/v1/jobs", JOB)
-        held = [opened(server, poll(0)) for _ in range(2)]
-
-        def refused():
-            """The answer to one more, if it is refused. One that came before one of the two may have kept that out, which polls again then."""
-            for it in select.select(held, [], [], 0)[0]:
-                held.remove(it)
-                it.close()
-                held.append(opened(server, poll(0)))
-            told = server.get("/v1/jobs/orders/events?after=0&wait=0")
-            return told[0] == 503 and told
-
-        status, headers, told = until(refused)
-        assert headers["retry-after"] == "1" and headers["connection"] == "close", (status, headers, told)
-        held[0].close()
-        until(lambda: server.get("/v1/jobs/orders/events?after=0&wait=0")[0] == 200)
-        held[1].close()
 
 
 def test_connections_without_a_token_keep_nobody_out():

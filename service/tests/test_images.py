@@ -9,8 +9,8 @@ import time
 from contextlib import closing
 
 from harness import (
-    ACK_PENDING, COMMAND, PROGRAM, SETTINGS, Archive, PgArchive, Server, Service, beside, caught_up, check_log, configured, folder, lease_of,
-    lose_history, over_copy, served, served_job, until
+    ACK_PENDING, SETTINGS, Archive, PgArchive, Server, Service, beside, caught_up, check_log, configured, folder, lease_of, over_copy, served,
+    served_job, until
 )
 from postgres import postgres
 from relkvanu_service import Gone, ack, decline, deleted, dispose, savepoint
@@ -63,13 +63,13 @@ def test_a_start_goes_from_the_last_image():
         read_and_cut(job, 150)
         # written, deleted, taken, in use; the first was deleted before the log's first call
         files = [10, 350, 391, 392, 402, 412, 420]
-        before = seen(job, files)
+        before, term = seen(job, files), job.term()
         assert before[4][0]["history"] is None and before[4][1]["history"]["why"] == "savepoint 35 was disposed of", before[4]
         for _ in range(2):
             server.again()
             caught_up(job)
             assert seen(job, files) == before
-            assert server.replayed()[-1] <= 30 and before[0]["seq"] > 200, (server.replayed(), before[0])
+            assert server.replayed()[-1] <= 30 and before[0]["seq"] > 200 and job.term() == term, (server.replayed(), before[0], job.term())
         assert server.request("POST", path, body, headers=key)[2] == early[2]
         first, events = before[0]["first"], server.get("/v1/jobs/orders/events")[2]
         assert events["first"] == first and events["events"][0]["seq"] >= first, (first, events["events"][:1])
@@ -155,28 +155,6 @@ def test_databases_of_other_versions():
         assert Service(server.url).job("orders").state()["seq"] == 2
 
 
-def test_a_history_that_is_lost_after_a_cut():
-    with served_job("orders", SETTINGS, [2], args=KEEPING) as (server, job):
-        worked(job, 20)
-        job.calls([savepoint(), ack(21, "0.1", [210]), dispose(20)])  # three files wait, record 21 is pending
-        read_and_cut(job, 30)
-        state, taken = job.state(), job.files(1000)["taken"]
-        assert len(taken) == 18 and state["files"]["waiting"] == 3, (taken, state)
-        server.stop()
-        lose_history(server)
-        server.start()
-        until(lambda: job.files()["upto"] == state["seq"])
-        assert sorted(row["file"] for row in job.files(1000)["taken"]) == sorted(row["file"] for row in taken)
-        record = job.record(21)
-        assert record["missing"] == ["0.0"] and record["history"]["acks"] == 1, record
-        assert job.file(192)["uses"] == 1 and job.file(192)["used_by"] == [{"record": 19, "subtask": "0.1"}], job.file(192)
-        files = job.take(3)
-        job.calls([deleted(int(taken[0]["file"])), deleted(files[0])])
-        caught_up(job)
-        assert job.file(files[0])["history"]["why"] == "savepoint 20 was disposed of", job.file(files[0])
-        assert job.file(int(taken[0]["file"]))["history"]["deleted"]["answer"].startswith("deleted ")
-
-
 def test_a_backup_while_images_are_made():
     with served(args=KEEPING) as server:
         archive, job = Archive(server.database), Service(server.url).open("orders", SETTINGS, [2], 1510)
@@ -254,9 +232,3 @@ def reads_whole(job):
         return [entry["seq"] for entry in job.log()] == list(range(job.state()["first"], job.state()["seq"] + 1))
     except Gone:
         return False
-
-
-def test_bad_settings_are_named():
-    for words, name in [(["--image-calls", "1000000001"], "image_calls"), (["--keep-calls", "1000000000001"], "keep_calls")]:
-        told = subprocess.run([PROGRAM, "serve", *words], stderr=subprocess.PIPE, text=True, timeout=COMMAND, check=False)
-        assert told.returncode == 78 and f"{name}: " in told.stderr, told

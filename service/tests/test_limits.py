@@ -1,4 +1,4 @@
-"""The limits of requests, each met once: bodies, answers and the writer's queue. No token, no slow sender and no deletion holds up others."""
+"""No token, no slow sender, no refused body and no deletion holds up others; and what metrics say of commits, jobs and files. test_bounds.py has the limits."""
 import http.client
 import os
 import re
@@ -10,7 +10,6 @@ import time
 from harness import COMMAND, SETTINGS, Server, beside, caught_up, configured, content, folder, lease_of, served, served_job, slowed, sqlite, until
 from relkvanu_service import Service, ack, cancel, deleted, dispose, restore, savepoint, undeleted
 from test_api import JOB
-from test_bytes import filled
 
 TICK = {"calls": [{"call": "tick"}]}
 TOKENS = {"a": "a" * 20, "b": "b" * 20}
@@ -111,19 +110,6 @@ def takes_all_room(server):
     return connection
 
 
-def test_bodies_without_a_length_take_room_too():
-    with served(f"[limits]\nbody_bytes = {MIB}\nall_bodies_bytes = {MIB}\n") as server:
-        Service(server.url).open("a", SETTINGS, [1])
-        first = takes_all_room(server)
-        second = begun_without_a_length(server, b" " * 700_000)
-        refused = status_of(second)
-        first.close()
-        until(lambda: server.request("POST", "/v1/jobs/a/calls", TICK)[0] == 200)
-        second.close()
-        server.kill()
-        assert refused[0] == 503 and b"the bodies of other requests" in refused[1], refused
-
-
 def test_a_refusal_reaches_a_client_that_still_sends():
     """Its body is read on after the answer, so its system does not drop that: whoever sends the whole body first reads then why it was refused."""
     with served(f"[limits]\nbody_bytes = {MIB}\nall_bodies_bytes = {MIB}\nidle_seconds = 600\n") as server:
@@ -182,78 +168,6 @@ def test_a_client_that_sends_on_is_left():
         for it in [silent, loud, *waits]:
             it.close()
         return f"after {sent / MIB:.0f} MiB, after {idle} s, and at a stop"
-
-
-def test_a_body_that_is_too_long():
-    with served(f"[limits]\nbody_bytes = 4096\nall_bodies_bytes = {MIB}\n") as server:
-        Service(server.url).open("a", SETTINGS, [1])
-        text = '{"calls":[{"call":"tick"}]}'
-        statuses = []
-        for length in (4096, 4097):
-            it = http.client.HTTPConnection("127.0.0.1", server.port, timeout=COMMAND)
-            it.request("POST", "/v1/jobs/a/calls", text.ljust(length), {"Content-Type": "application/json"})
-            statuses.append((it.getresponse().status))
-        server.kill()
-        assert statuses == [200, 413], statuses
-
-
-def test_an_answer_that_is_larger_than_all_room_gets_all_of_it():
-    """The room of large answers: one that needs more gets all of it, and another one waits for it."""
-    with served(f"[limits]\nall_answers_bytes = {MIB}\n") as server:
-        filled(server, 1)
-        path = "/v1/jobs/large/records/2"
-        status, head, _ = server.get(path)
-        assert status == 200 and int(head["content-length"]) > MIB, (status, head)
-
-        def unread():
-            """A reader that reads nothing, and so keeps the room. The answer before it may have it for a moment after its last byte is read."""
-            it = socket.socket()
-            it.setsockopt(socket.SOL_SOCKET, socket.SO_RCVBUF, 1 << 12)
-            it.connect(("127.0.0.1", server.port))
-            it.sendall(f"GET {path} HTTP/1.1\r\nHost: localhost\r\n\r\n".encode())
-            if it.recv(12, socket.MSG_PEEK) == b"HTTP/1.1 200":
-                return it
-            return it.close()
-
-        slow = until(unread)
-        refused = server.get(path)
-        slow.close()
-        until(lambda: server.get(path)[0] == 200)
-        server.kill()
-        assert refused[0] == 503 and "other large answers" in str(refused[2]), refused
-        return f"an answer of {head['content-length']} bytes in a room of {MIB}, and 503 beside it"
-
-
-def test_a_queue_that_is_full_refuses():
-    with served("[limits]\nqueue = 2\n") as server:
-        Service(server.url).open("a", SETTINGS, [1])
-        base = sqlite3.connect(server.database, isolation_level=None)
-        base.execute("begin immediate")  # so that no commit ends
-        told = []
-
-        def ask():
-            told.append(server.request("POST", "/v1/jobs/a/calls", TICK))
-
-        threads = [beside(ask) for _ in range(12)]
-        until(lambda: told)
-        refused = list(told)
-        base.execute("rollback")
-        for thread in threads:
-            thread.join()
-        server.kill()
-        assert all(status == 503 and "too many requests wait" in str(text) for status, _, text in refused), refused
-        statuses = sorted(status for status, _, _ in told)
-        assert statuses[0] == 200 and set(statuses) == {200, 503}, statuses
-        return f"{statuses.count(503)} of {len(statuses)} were refused"
-
-
-def test_open_files_are_divided():
-    """600 open files are 472 connections: half of them of clients, a quarter new ones."""
-    with folder() as at:
-        args = configured(at, "[limits]\nconnections = 2000\nnew_connections = 2000\n")
-        server = Server(at, prefix=["prlimit", "--nofile=600:600"], args=args).start()
-        server.kill()
-        assert "allows 236 connections, 118 that wait for events and 118 new ones" in server.log(), server.log()[-400:]
 
 
 def writer_seconds(server):

@@ -1,11 +1,9 @@
 """What an operator does to a job that runs: a checkpoint now, and other settings, over the API, the client and the commands."""
 import json
 import subprocess
-import time
 
-import requests
 
-from harness import COMMAND, PROGRAM, Service, beside, caught_up, raised, served, served_job, until
+from harness import COMMAND, PROGRAM, Service, caught_up, raised, served, served_job, until
 from relkvanu_service import Failed, Fenced, Refused, ack, cancel
 
 NEVER = 1 << 40
@@ -46,9 +44,6 @@ def test_a_changed_interval_holds_without_a_restart():
         first = list(job.log())[2]
         assert first["line"].split() == ["configure", str(first["at"]), "50", "0", "1", "600000", "0", "1", "delete"], first
         assert "configure interval=50" in server.log(), server.log()
-        # an open finds the job by any settings, and says those of now
-        for settings, differ in (({"interval": NEVER}, True), ({"interval": 50}, False), ({"interval": 51}, True)):
-            assert Service(server.url).open("orders", settings, [1]).opened == (told["settings"], [1], differ), settings
 
 
 def test_a_refused_change_changes_nothing():
@@ -113,15 +108,6 @@ def test_a_smaller_number_retained_drops_checkpoints():
         assert [one["id"] for one in job.state()["live"]] == [3] and sorted(job.take()) == [11, 12]
         caught_up(job)
         assert [job.record(made)["history"]["why"] for made in (1, 2)] == ["not retained"] * 2, job.record(1)
-
-
-def test_a_record_expires_by_the_timeout_of_now():
-    with served_job("orders", {"interval": NEVER, "tolerable": 9}, [1]) as (server, job):
-        job.checkpoint()
-        job.set(timeout=1)
-        until(lambda: not job.state()["live"])
-        caught_up(job)
-        assert job.record(1)["history"]["how"] == "expired", job.record(1)
 
 
 def test_a_checkpoint_under_a_key_is_triggered_once():
@@ -286,33 +272,3 @@ def test_an_advance():
         told = subprocess.run([PROGRAM, "check", "--database", server.database], stdout=subprocess.PIPE, stderr=subprocess.STDOUT, text=True, timeout=COMMAND, check=False)
         assert told.returncode == 0, told
         return f"terms up to {before['term']}"
-
-
-def test_a_kill_leaves_all_of_the_way_back_or_nothing():
-    with served() as server:
-        tasks, whole, turn = Tasks(server), 0, 0
-        job, kills = tasks.job, 25
-        # a busy machine makes none so soon
-        while turn < kills or whole == 0 and turn < 10 * kills:
-            until(lambda: tasks.complete() and len([one for one in job.state()["live"] if one["done"] and one["kind"] == "checkpoint"]) > 1)
-            older = next(one["id"] for one in job.state()["live"] if one["done"] and one["kind"] == "checkpoint")
-            going = beside(gone_back, job.within(0.1), older)
-            time.sleep(turn * (0.0008 if turn < kills else 0.004))
-            server.kill()
-            going.join()
-            server.start()
-            tasks.take_over(job.begin())
-            lines = [one["line"].split() for one in job.log()]
-            copies = [one["record"] for one in job.log() if one["line"].startswith("savepoint ")]
-            restores = [int(words[2]) for words in lines if words[0] == "restore" and words[2] != "latest"]
-            assert copies == restores, (turn, copies, restores)
-            whole, turn = len(copies), turn + 1
-        assert 0 < whole < turn, f"{whole} of {turn} were made"
-        return f"{whole} of {turn} were made, and the others left nothing"
-
-
-def gone_back(job, older):
-    try:
-        job.go_back(older, True)
-    except (Failed, requests.RequestException):
-        pass  # the service was killed

@@ -3,8 +3,7 @@ import base64
 import os
 import time
 
-from harness import Service, caught_up, folder, leader_and_standby, lease_of, lose_history, raised, served, served_job, sqlite, until
-from postgres import postgres
+from harness import Service, caught_up, folder, lose_history, raised, served, served_job, sqlite, until
 from relkvanu_service import Failed, ack, cancel, decline, dispose, restore, savepoint, trigger
 
 SETTINGS = {"interval": 1 << 40, "timeout": 1 << 39, "retained": 3}
@@ -218,27 +217,25 @@ def test_the_history_says_nothing_that_nobody_told():
         return f"{len(wanted)} records"
 
 
-def test_payloads_and_figures_outlive_a_take_over():
-    with postgres() as database, folder() as at:
-        leader, standby = leader_and_standby(at, database.url, f"lease_seconds = {lease_of(3)}\n")
-        job = Service(leader.url).open("orders", SETTINGS, [2])
-        job.calls([trigger(), *both(1, b"a", 10), trigger(), ack(2, "0.0", [21, 20], payload=PAYLOAD, size=1, millis=2), ack(2, "0.1")])
-        job.calls([savepoint(), *both(3, b"c"), savepoint(), both(4, b"d")[0], decline(4, "0.1", reason="no disk")])
-        wanted = {"0.0": ([21, 20], PAYLOAD, 1, 2), "0.1": ([], b"", 0, 0)}
-        counted = "select string_agg(record::text, ' ' order by record) from subtask_state"
-        assert whole(job, 2) == wanted and database.sql(counted) == "1 1 2 3 3", database.sql(counted)
-        before = figures(job)
-        leader.kill()
-        standby.wait_ready()
-        job = Service(standby.url).job("orders")
-        assert whole(job, 2) == wanted and figures(job) == before and before[0]["reason"] == "no disk", (figures(job), before)
-        answer = job.call({**restore({"checkpoint": 1}), "accept_published": True})
-        assert whole(job, answer["id"]) == {"0.0": ([10], b"a0", 0, 0), "0.1": ([11], b"a1", 0, 0)}
-        assert database.sql(counted) == f"3 3 {answer['id']} {answer['id']}", database.sql(counted)
-        # all of it in one commit
-        more = [trigger(), *both(6, b"f"), trigger(), *both(7, b"g"), {**restore({"checkpoint": 6}), "accept_published": True}]
-        answer = job.calls(more)[-1]
-        assert whole(job, answer["id"]) == {"0.0": ([], b"f0", 0, 0), "0.1": ([], b"f1", 0, 0)}, answer
-        for id in (3, 5, answer["id"]):
-            job.calls([cancel(), dispose(id)])
-        assert database.sql("select count(*) from subtask_state") == "0"
+def over_a_take_over(service, database):
+    """Where the generator waits another process takes over."""
+    job = service.open("paid", SETTINGS, [2])
+    job.calls([trigger(), *both(1, b"a", 10), trigger(), ack(2, "0.0", [21, 20], payload=PAYLOAD, size=1, millis=2), ack(2, "0.1")])
+    job.calls([savepoint(), *both(3, b"c"), savepoint(), both(4, b"d")[0], decline(4, "0.1", reason="no disk")])
+    wanted = {"0.0": ([21, 20], PAYLOAD, 1, 2), "0.1": ([], b"", 0, 0)}
+    number = database.sql("select job from job where name = 'paid'")
+    counted = f"select string_agg(record::text, ' ' order by record) from subtask_state where job = {number}"
+    assert whole(job, 2) == wanted and database.sql(counted) == "1 1 2 3 3", database.sql(counted)
+    before = figures(job)
+    yield
+    assert whole(job, 2) == wanted and figures(job) == before and before[0]["reason"] == "no disk", (figures(job), before)
+    answer = job.call({**restore({"checkpoint": 1}), "accept_published": True})
+    assert whole(job, answer["id"]) == {"0.0": ([10], b"a0", 0, 0), "0.1": ([11], b"a1", 0, 0)}
+    assert database.sql(counted) == f"3 3 {answer['id']} {answer['id']}", database.sql(counted)
+    # all of it in one commit
+    more = [trigger(), *both(6, b"f"), trigger(), *both(7, b"g"), {**restore({"checkpoint": 6}), "accept_published": True}]
+    answer = job.calls(more)[-1]
+    assert whole(job, answer["id"]) == {"0.0": ([], b"f0", 0, 0), "0.1": ([], b"f1", 0, 0)}, answer
+    for id in (3, 5, answer["id"]):
+        job.calls([cancel(), dispose(id)])
+    assert not database.sql(counted)

@@ -5,9 +5,12 @@ import signal
 import time
 
 import kills
-from harness import BUSY, PgArchive, Server, check_log, configured, folder, kept, leader_and_standby, lease_of, served, slowed, until
+import test_api
+import test_payloads
+import test_sizes
+import test_stop_begin
+from harness import BUSY, PgArchive, Server, Service, check_log, configured, folder, kept, leader_and_standby, lease_of, served, slowed, until
 from postgres import postgres
-from relkvanu_service import Service
 from writers import made_by
 
 # a standby is beside its leader: as long as a busy machine needs to keep it
@@ -122,6 +125,19 @@ def test_take_over():
         return f"leads again after {', '.join(f'{it:.2f}' for it in times)} s with a lease of {LEASE} s; {found[0]}"
 
 
+def test_what_outlives_a_take_over():
+    """Sizes, payloads, phases of stops, and where the files of jobs are: each beside the others, in jobs of its own."""
+    with postgres() as database, folder() as at:
+        leader, standby = leader_and_standby(at, database.url, f"lease_seconds = {LEASE}\n")
+        service = Service(leader.url, standby.url)
+        found = [module.over_a_take_over(service, database) for module in (test_sizes, test_payloads, test_stop_begin, test_api)]
+        for it in found:
+            next(it)
+        leader.kill()
+        standby.wait_ready(60)
+        assert [next(it, "to the end") for it in found] == ["to the end"] * len(found)
+
+
 def test_a_stop_in_good_order():
     """It lets the other lead at once, and not when the lease is over."""
     lease = 600
@@ -135,6 +151,10 @@ def test_a_stop_in_good_order():
         handed = time.monotonic() - started
         assert handed < lease / 2, handed
         assert {job["name"] for job in Service(standby.url).jobs()} == set(kills.JOBS)
+        # and one that stands by ends at once: the end of a commit may take 6 s
+        leader.stand_by()
+        started = time.monotonic()
+        assert leader.stop() == 0 and time.monotonic() - started < 5 * slowed(), time.monotonic() - started
         return f"{handed:.2f} s after it, with a lease of {lease} s"
 
 

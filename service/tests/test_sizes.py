@@ -1,7 +1,6 @@
 """Sizes that acknowledgements say: each file's through its life, a record's, over starts, take-overs, cuts and a lost history."""
 
-from harness import CALL, Service, caught_up, folder, leader_and_standby, lease_of, lose_history, raised, served_job, sqlite, until
-from postgres import postgres
+from harness import CALL, caught_up, lose_history, raised, served_job, sqlite, until
 from relkvanu_service import Failed, ack, deleted, dispose, savepoint, undeleted
 from test_images import KEEPING, SETTINGS, read_and_cut
 from test_metrics import scraped
@@ -75,21 +74,20 @@ def test_sizes_outlive_cuts():
         return f"{job.state()['first'] - 1} calls cut"
 
 
-def test_sizes_outlive_a_take_over():
-    with postgres() as database, folder() as at:
-        leader, standby = leader_and_standby(at, database.url, f"lease_seconds = {lease_of(3)}\n")
-        wanted = worked(Service(leader.url).open("orders", SETTINGS, [2]))
-        # the size of a file that is not there
-        database.sql("insert into size values (1, 77, 5)")
-        leader.kill()
-        standby.wait_ready()
-        job = Service(standby.url).job("orders")
-        assert told(job) == wanted, told(job)
-        job.calls([deleted(12)])
-        assert database.sql("select string_agg(file::text, ' ' order by file) from size") == "11 13 21 31 41 77"
-        # what archives rely on
-        columns = "select string_agg(column_name, ', ' order by ordinal_position) from information_schema.columns where table_name = 'call'"
-        assert database.sql(columns) == CALL
+def over_a_take_over(service, database):
+    """Where the generator waits another process takes over."""
+    wanted = worked(service.open("sized", SETTINGS, [2]))
+    number = database.sql("select job from job where name = 'sized'")
+    # the size of a file that is not there
+    database.sql(f"insert into size values ({number}, 77, 5)")
+    yield
+    job = service.job("sized")
+    assert told(job) == wanted, told(job)
+    job.calls([deleted(12)])
+    assert database.sql(f"select string_agg(file::text, ' ' order by file) from size where job = {number}") == "11 13 21 31 41 77"
+    # what archives rely on
+    columns = "select string_agg(column_name, ', ' order by ordinal_position) from information_schema.columns where table_name = 'call'"
+    assert database.sql(columns) == CALL
 
 
 def test_jobs_without_sizes_have_none():

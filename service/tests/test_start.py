@@ -1,21 +1,18 @@
 """How the service starts: with what it may not, and over logs that were changed."""
-import shutil
-import sqlite3
+import pathlib
 import subprocess
-import threading
 import time
 
-from harness import ACK_COMPLETED, COMMAND, PROGRAM, Server, beside, check_log, folder, over_copy, save, served, until
-from relkvanu_service import Service
-from run import Skipped
+from harness import ACK_COMPLETED, COMMAND, PROGRAM, Server, folder, save, served, sqlite, until
 
 JOB = {"name": "orders", "settings": {"interval": 50}, "shape": [1]}
 
 
-def refused(args, status, text):
-    told = subprocess.run([PROGRAM, "serve", *args], stderr=subprocess.PIPE, stdout=subprocess.PIPE, text=True, timeout=COMMAND, check=False)
-    assert told.returncode == status, (args, told)
-    assert text in told.stderr, (args, told.stderr)
+def refused(args, status, text, **given):
+    """Returns what a start says that ends so."""
+    told = subprocess.run([PROGRAM, "serve", *args], stderr=subprocess.PIPE, stdout=subprocess.PIPE, text=True, timeout=COMMAND, check=False, **given)
+    assert told.returncode == status and text in told.stderr, (args, told)
+    return told.stderr
 
 
 def test_bad_configurations_are_named():
@@ -27,6 +24,8 @@ def test_bad_configurations_are_named():
         database = ["--database", f"{at}/x.db"]
         refused([*database, "--listen", "0.0.0.0:0"], 78, "token_file")
         refused([*database, "--listen", "here"], 78, "listen")
+        refused(["--image-calls", "1000000001"], 78, "image_calls: ")
+        refused(["--keep-calls", "1000000000001"], 78, "keep_calls: ")
         refused(["--config", file("a", "listn = 'x'")], 78, "listn")
         refused(["--config", file("b", "[limits]\ncalls = 0")], 78, "limits.calls")
         refused(["--config", f"{at}/none"], 78, "none")
@@ -34,22 +33,6 @@ def test_bad_configurations_are_named():
         refused(["--database", f"{at}/no/x.db", "--listen", "127.0.0.1:0"], 75, "no/x.db")
         told = subprocess.run([PROGRAM, "--version"], stdout=subprocess.PIPE, text=True, check=True)
         assert told.stdout.startswith("relkvanu "), told
-
-
-def test_tokens():
-    with folder() as at:
-        save(f"{at}/token", "read " + "r" * 20 + "\nwrite " + "w" * 20 + "\n")
-        server = Server(at, args=["--token-file", f"{at}/token"]).start()
-        read, write = "r" * 20, "w" * 20
-        for token, method, path, status in [
-            (None, "GET", "/v1/jobs", 401), ("x" * 20, "GET", "/v1/jobs", 401), (read, "GET", "/v1/jobs", 200),
-            (write, "GET", "/v1/jobs", 200), (None, "POST", "/v1/jobs", 401), (read, "POST", "/v1/jobs", 401),
-            (write, "POST", "/v1/jobs", 201), (None, "GET", "/metrics", 401), (read, "GET", "/metrics", 200),
-            (None, "GET", "/healthz", 200), (None, "GET", "/readyz", 200), (None, "GET", "/", 200),
-        ]:
-            told = server.request(method, path, JOB if method == "POST" else None, token)
-            assert told[0] == status, (token, method, path, told)
-        assert write not in server.log() and read not in server.log()
 
 
 def driven(server, calls=20):
@@ -68,94 +51,45 @@ def driven(server, calls=20):
         time.sleep(0.02)
 
 
-def test_a_log_that_answers_otherwise_stops_the_start():
-    with served() as server:
-        driven(server)
-        server.stop()
-        base = sqlite3.connect(server.database)
-        was = base.execute("select seq, a, b from call where what = ? order by seq limit 1", (ACK_COMPLETED,)).fetchone()
-        base.execute("update call set a = 7, b = 7 where seq = ?", (was[0],))
-        base.commit()
-        args = ["--database", server.database, "--listen", "127.0.0.1:0"]
-        refused(args, 78, f'job orders, call {was[0]} ')
-        refused(args, 78, f'the log says "ack completed 7 7", and this program answers "ack completed {was[1]} {was[2]}"')
-        base.execute("update call set what = 200, a = 7, b = 7 where seq = ?", (was[0],))
-        base.commit()
-        refused(args, 78, 'the log says "unknown 200 7 7"')
-        base.execute("update call set what = ?, a = ?, b = ? where seq = ?", (ACK_COMPLETED, *was[1:], was[0]))
-        base.execute("delete from call where seq = 2")
-        base.commit()
-        refused(args, 78, "job orders, call 3: call 2 is missing")
-        base.execute("update call set seq = 2, line = 'tock 1' where seq = 3")
-        base.commit()
-        refused(args, 78, '"tock 1" is no call')
+# What is done to the rows of a log, and what a start over it says. `seq` is the first call that has completed a record, and answered `a` and `b`.
+DAMAGES = [
+    ("update call set a = 7, b = 7 where seq = {seq}", 'job orders, call {seq} '),
+    ("update call set a = 7, b = 7 where seq = {seq}", 'the log says "ack completed 7 7", and this program answers "ack completed {a} {b}"'),
+    ("update call set what = 200, a = 7, b = 7 where seq = {seq}", 'the log says "unknown 200 7 7"'),
+    ("delete from call where seq = 2", "job orders, call 3: call 2 is missing"),
+    ("update call set line = 'tock 1' where seq = 2", '"tock 1" is no call'),
+    ("update job set config = 'config 1 2'", 'a row of job has Text("config 1 2") in column 3'),
+    ("update job set shape = '1 x'", 'a row of job has Text("1 x") in column 4'),
+    ("update call set waiting = -1 where seq = 1", "a row of call has Number(-1) in column 11"),
+    ("update call set line = cast(x'ff' as text) where seq = 1", "the log can't be read: "),
+]
 
 
-def test_a_database_that_is_damaged_stops_the_start():
-    """For good: a start over the same file ends in the same way."""
+def test_a_log_that_is_damaged_stops_the_start():
+    """If the service has no other job: test_damaged.py has those with others. Each is another damage of the same file."""
     with served() as server:
         driven(server)
         server.stop()
         args = ["--database", server.database, "--listen", "127.0.0.1:0"]
-        for table, column, value, cell in [
-            ("job", "config", "config 1 2", 'Text("config 1 2") in column 3'), ("job", "shape", "1 x", 'Text("1 x") in column 4'),
-            ("call", "waiting", -1, "Number(-1) in column 11"), ("call", "line", "cast(x'ff' as text)", None),
-        ]:
-            base = sqlite3.connect(server.database)
-            was = base.execute(f"select {column} from {table} limit 1").fetchone()[0]
-            where = "" if table == "job" else "where seq = 1"
-            # a text that is no UTF-8 is written by an expression
-            given, values = ("?", (value,)) if cell else (value, ())
-            base.execute(f"update {table} set {column} = {given} {where}", values)
-            base.commit()
-            refused(args, 78, f"a row of {table} has {cell}" if cell else "the log can't be read: ")
-            base.execute(f"update {table} set {column} = ? {where}", (was,))
-            base.commit()
-            base.close()
+        seq, a, b = sqlite(server.database, "select seq, a, b from call where what = ? order by seq limit 1", ACK_COMPLETED)[0]
+        whole = pathlib.Path(server.database).read_bytes()
+        for damage, said in DAMAGES:
+            sqlite(server.database, damage.format(seq=seq))
+            refused(args, 78, said.format(seq=seq, a=a, b=b))
+            for end in ("-wal", "-shm"):
+                pathlib.Path(server.database + end).unlink(missing_ok=True)
+            pathlib.Path(server.database).write_bytes(whole)
         server.start()
         server.stop()
         with open(server.database, "r+b") as it:
             it.write(b"no database " * 100)
         refused(args, 78, "file is not a database")
+        return f"{len(DAMAGES) + 1} damages"
 
 
 def test_two_processes_of_one_database():
     with served() as server:
         refused(["--database", server.database, "--listen", "127.0.0.1:0"], 75, "another process serves this database")
-
-
-def test_a_stop_loses_nothing():
-    with served() as server:
-        driven(server, 30)
-        before = server.get("/v1/jobs/orders/log?limit=1000&terms=1")[2]["calls"]
-        assert server.stop() == 0
-        server.start()
-        after = server.get("/v1/jobs/orders/log?limit=1000&terms=1")[2]["calls"]
-        assert after[: len(before)] == before
-        check_log(server.get("/v1/jobs/orders")[2], [1], after)
-        return f"{len(before)} calls"
-
-
-def test_a_backup_of_a_service_that_runs():
-    with folder() as at:
-        server = Server(at).start()
-        driven(server, 30)
-        copy = f"{at}/copy.db"
-        if not shutil.which("sqlite3"):
-            raise Skipped("sqlite3", "it is not here")
-        over = threading.Event()
-        driving = beside(lambda: [driven(server, 5) for _ in iter(over.is_set, True)])
-        first = server.get("/v1/jobs/orders")[2]["seq"]
-        subprocess.run(["sqlite3", server.database, f".backup {copy}"], check=True)
-        over.set()
-        driving.join()
-        last = list(Service(server.url).job("orders").log(terms=True))
-        server.stop()
-        with over_copy(Server(at, database=copy)) as (_, log):
-            pass
-        kept = [entry for entry in log if entry["seq"] <= len(last) and entry["at"] <= last[-1]["at"]]
-        assert len(kept) >= first and log[:first] == last[:first], (len(log), first)
-        return f"{len(kept)} of {len(last)} calls in the copy, {first} before it was made"
 
 
 def test_an_end_runs_no_finalizers():

@@ -6,7 +6,6 @@ import threading
 import time
 
 from harness import COMMAND, Server, folder, raised, served, slowed, until
-from postgres import postgres
 from test_api import JOB
 from test_connections import answer, opened, poll
 
@@ -95,16 +94,3 @@ def test_a_stop_ends_polls_and_slow_bodies():
         took = time.monotonic() - started
         assert took < 18 * slowed(), took  # 12 s for answers, and 6 s for the last commit
         return f"a poll was answered after {polled:.2f} s, a body that did not come was refused, and the end came after {took:.1f} s"
-
-
-def test_a_standby_stops_at_once():
-    with folder() as at, postgres() as database:
-        leader = Server(at, database=database.url).start()
-        standby = Server(at, database=database.url).stand_by()
-        times = []
-        for server in (standby, leader):
-            started = time.monotonic()
-            assert server.stop() == 0
-            times.append(time.monotonic() - started)
-        assert max(times) < 5 * slowed(), times  # the end of a commit may take 6 s
-        return f"a standby ended after {times[0]:.2f} s, the leader after {times[1]:.2f} s"

@@ -11,10 +11,11 @@ import time
 
 import requests
 
-from harness import BUSY, COMMAND, PROGRAM, SERVICE, Server, Service, beside, caught_up, folder, leader_and_standby, lease_of, served, served_job, until
-from postgres import postgres
+from described import description
+from harness import BUSY, COMMAND, PROGRAM, Server, Service, beside, caught_up, folder, served, served_job, until
 from preloaded import SHIM, Clocks, built, shim
-from relkvanu_service import Failed, Fenced, OtherLog, Refused, ack, cancel, decline, restore
+from relkvanu_service import Failed, OtherLog, ack, cancel, decline, restore
+from test_events import Copy
 from test_operate import NEVER, Tasks, ran, refused
 
 HOUR = 3600
@@ -57,14 +58,11 @@ def test_a_key_is_of_its_path():
 
 def test_who_waits_for_a_begin_hears_of_a_backup():
     """An engine waits where its job has stopped. The service goes on from a copy of before the stop: the engine may not go on by itself."""
-    with folder() as at:
-        server = Server(at).start()
+    with served() as server:
         tasks, told = Tasks(server), []
         tasks.complete()
-        server.stop()
-        for end in ("", "-wal"):
-            shutil.copy(server.database + end, f"{at}/copy.db{end}")
-        server.start()
+        copy = Copy(server, None)
+        copy.make()
         stops(tasks)
 
         def wait():
@@ -80,32 +78,10 @@ def test_who_waits_for_a_begin_hears_of_a_backup():
         # it has seen that the job has stopped, and polls
         assert follows.wait(COMMAND)
         time.sleep(0.5)
-        server.stop()
-        os.remove(f"{server.database}-shm")
-        for end in ("", "-wal"):
-            shutil.copy(f"{at}/copy.db{end}", server.database + end)
-        server.start()
+        copy.restore()
         waits.join(BUSY * 120)
         server.stop()
         assert len(told) == 1 and isinstance(told[0], OtherLog), told
-
-
-def test_openapi_names_what_a_checkpoint_is_refused_for():
-    """While the job stops, once it has stopped, and once it is cancelled."""
-    with open(f"{SERVICE}/web/openapi.json", encoding="utf-8") as it:
-        said = json.load(it)["paths"]["/v1/jobs/{job}/checkpoints"]["post"]["responses"]["409"]["description"]
-    with served() as server:
-        tasks = Tasks(server)
-        job = tasks.job
-        tasks.complete()
-        savepoint = job.stop_job()["id"]
-        words = [refused(job.checkpoint)]
-        take_part(tasks, savepoint, ["0.0", "0.1"])
-        words.append(refused(job.checkpoint))
-        job.call(cancel())
-        words.append(refused(job.checkpoint))
-        assert words == ["Stopping", "Stopped", "NotRunning"] and all(word in said for word in words), (words, said)
-        return ", ".join(words)
 
 
 def test_a_job_stops_and_begins():
@@ -117,7 +93,9 @@ def test_a_job_stops_and_begins():
         savepoint, before = told["id"], job.state()
         assert told["savepoint"] == "triggered" and savepoint > done and before["phase"] == "stopping", told
         assert before["stop"] == {"savepoint": savepoint, "at": before["stop"]["at"], "failed": None}, before
-        assert refused(job.stop_job) == "Stopping" and refused(job.begin_job) == "NotStopped"
+        assert refused(job.stop_job) == refused(job.checkpoint) == "Stopping" and refused(job.begin_job) == "NotStopped"
+        said = description()["paths"]["/v1/jobs/{job}/checkpoints"]["post"]["responses"]["409"]["description"]
+        assert all(word in said for word in ("Stopping", "Stopped", "NotRunning")), said
         take_part(tasks, savepoint, ["0.0"])
         assert stop_of(job)[0] == "stopping"
         # the timer, which triggers each 10 ms, rests
@@ -267,23 +245,20 @@ def test_an_hour_of_a_stop():
         return f"{seq} calls before it and after it"
 
 
-def test_another_process_goes_on_with_the_phases():
-    with postgres() as database, folder() as at:
-        first, second = leader_and_standby(at, database.url, f"lease_seconds = {lease_of(4)}\n")
-        service = Service(first.url, second.url)
-        stopping, stopped, failed = (service.open(name, {"interval": NEVER}, [1]) for name in ("stopping", "stopped", "failed"))
-        for job in (stopping, stopped, failed):
-            assert job.stop_job()["id"] == 1
-        stopped.call(ack(1, "0.0", [1]))
-        failed.call(decline(1, "0.0"))
-        told = [stop_of(job) for job in (stopping, stopped, failed)]
-        assert [phase for phase, _ in told] == ["stopping", "stopped", "running"], told
-        first.kill()
-        second.wait_ready(60)
-        assert [stop_of(job) for job in (stopping, stopped, failed)] == told
-        assert stopped.begin_job()["id"] == 1 and stopping.call(ack(1, "0.0", [1]))["ack"] == "completed"
-        assert [stop_of(job)[0] for job in (stopping, stopped, failed)] == ["stopped", "running", "running"]
-        assert database.sql("select job, phase, record, failed from phase order by job").split() == ["1|stopped|1|", "2|running||", "3|running|1|declined"]
+def over_a_take_over(service, database):
+    """Where the generator waits another process takes over."""
+    stopping, stopped, failed = jobs = [service.open(name, {"interval": NEVER}, [1]) for name in ("stopping", "stopped", "failed")]
+    for job in jobs:
+        assert job.stop_job()["id"] == 1
+    stopped.call(ack(1, "0.0", [1]))
+    failed.call(decline(1, "0.0"))
+    told = [stop_of(job) for job in jobs]
+    assert [phase for phase, _ in told] == ["stopping", "stopped", "running"], told
+    yield
+    assert [stop_of(job) for job in jobs] == told
+    assert stopped.begin_job()["id"] == 1 and stopping.call(ack(1, "0.0", [1]))["ack"] == "completed"
+    assert [stop_of(job)[0] for job in jobs] == ["stopped", "running", "running"]
+    assert database.sql("select phase, record, failed from phase order by job").split() == ["stopped|1|", "running||", "running|1|declined"]
 
 
 class Steps:
@@ -388,54 +363,6 @@ def test_a_step_is_made_whole_or_not_at_all_at_each_write():
     return ", ".join(told)
 
 
-def test_kills_at_many_moments_of_a_stop():
-    with served() as server:
-        tasks, seen, turn = Tasks(server), {}, 0
-        job, kills = tasks.job, 40
-        # a busy machine may come too late for a phase
-        while turn < kills or len(seen) < 3 and turn < 10 * kills:
-            going = beside(cycle, Service(server.url).noticing(ends).job("orders"), tasks.start.term)
-            # some kills come in each phase
-            until(lambda: stop_of(job)[0] == ("running", "stopping", "stopped")[turn % 3], each=0)
-            # (a job that is stopped begins again soon)
-            time.sleep(0 if turn % 3 == 2 else turn * 0.0005)
-            server.kill()
-            going.join(BUSY * 20)
-            server.start()
-            state = job.state()
-            (phase, stop), live = stop_of(job), {one["id"]: one["done"] for one in state["live"] if one["kind"] == "savepoint"}
-            if phase == "stopping":
-                assert live[stop["savepoint"]] is False, (turn, state)
-            if phase == "stopped":
-                assert live[stop["savepoint"]] is True and state["choice"] == {"kind": "savepoint", "id": stop["savepoint"]}, (turn, state)
-            # each complete savepoint was followed by the restore to it
-            made = [entry for entry in job.log() if entry["answer"].startswith(("restored savepoint", "ack completed"))]
-            kinds = {entry["record"] for entry in made if entry["line"].startswith("restore")}
-            assert set(savepoint for savepoint, done in live.items() if done) <= kinds, (turn, made)
-            seen[phase] = seen.get(phase, 0) + 1
-            if phase == "stopped":
-                job.begin_job()
-            tasks.take_over(job.begin())
-            base = job.state()["choice"]["id"] if "id" in job.state()["choice"] else None
-            for savepoint in (it for it, done in live.items() if done and it != base):
-                job.call({"call": "dispose", "id": savepoint})
-            turn += 1
-        assert len(seen) == 3, seen
-        return ", ".join(f"{phase} {count} times" for phase, count in seen.items())
-
-
 def ends(error):
     """No request is made again."""
     raise error
-
-
-def cycle(job, term):
-    """An operator and an engine: a stop, in which all take part, and the beginning after it. The service is killed meanwhile."""
-    try:
-        while True:
-            savepoint, task = job.stop_job()["id"], job.session(term, block=2)
-            for subtask in ("0.0", "0.1"):
-                task.ack(savepoint, subtask, [task.name()])
-            term = job.begin_job()["term"]
-    except (Failed, Refused, Fenced, requests.RequestException):
-        pass

@@ -83,7 +83,10 @@ def test_streams_take_the_places_of_polls():
         Service(server.url).open("orders", SETTINGS, [1]).call(savepoint())
         streams = [Stream(server, "/v1/jobs/orders/stream") for _ in range(2)]
         until(lambda: all(it.events() for it in streams))
-        assert server.get("/v1/jobs/orders/stream")[0] == 503 and server.get("/v1/jobs/orders")[0] == 200
+        for path in ("/v1/jobs/orders/stream", "/v1/jobs/orders/events?after=0&wait=0"):
+            status, headers, _ = server.get(path)
+            assert status == 503 and headers["retry-after"] == "1" and headers["connection"] == "close", (path, status, headers)
+        assert server.get("/v1/jobs/orders")[0] == 200
         streams[0].close()
         until(lambda: server.get("/v1/jobs/orders/events")[0] == 200)
 
