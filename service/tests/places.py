@@ -6,6 +6,7 @@ import os
 import shutil
 import subprocess
 import tempfile
+import urllib.request
 import uuid
 from contextlib import contextmanager
 
@@ -150,6 +151,16 @@ def ran(command, server, place, *more, **given):
     more = ["--once", *more] if command in KINDS else more
     told = subprocess.run(words_of(command, server, place, *more, **given), env=around(place), capture_output=True, text=True, timeout=COMMAND, check=False)
     return told.returncode, told.stdout.splitlines(), told.stderr
+
+
+def metrics_of(port):
+    """What a process serves of its metrics, by their names with labels; nothing if it serves none now."""
+    try:
+        with urllib.request.urlopen(f"http://127.0.0.1:{port}/metrics", timeout=COMMAND) as told:
+            lines = [line for line in told.read().decode().splitlines() if not line.startswith("#")]
+    except OSError:
+        return {}
+    return {line.rpartition(" ")[0]: float(line.rpartition(" ")[2]) for line in lines}
 
 
 def files(place):

@@ -32,7 +32,7 @@ MODULES = [
     "test_lease_lengths", "test_put_back", "test_names", "test_limits", "test_machines", "test_long_reads", "test_stop_rows", "test_partition",
     "test_setup_tls", "test_images", "test_power", "test_long_images", "test_damaged", "test_clocks", "test_events", "test_end_units", "test_end",
     "test_page_acts", "test_page_state", "test_put_off", "test_disks", "test_stuck", "test_failover", "test_tls_clients", "test_bytes", "test_connections",
-    "test_promotion", "test_replay", "test_sweep", "test_operate", "test_history", "test_restore", "test_commands", "test_jobs_end",
+    "test_promotion", "test_replay", "test_operate", "test_history", "test_restore", "test_commands", "test_jobs_end",
     "test_memory", "test_nights", "test_metrics", "test_discard_folder", "test_payloads", "test_sizes", "test_stop",
     "test_backup", "test_upkeep", "test_summaries", "test_security", "test_observability", "test_moves", "test_start", "test_wal", "test_page",
     "test_stream", "test_load", "test_week", "test_api", "test_clients", "test_kills", "test_bounds", "test_tries", "test_disk_order", "test_tables",

@@ -5,11 +5,9 @@ import socket
 import subprocess
 import threading
 import time
-import urllib.request
 from contextlib import closing, contextmanager
 
-from places import Bucket, Folder, around
-from postgres import postgres
+from places import Bucket, Folder, around, metrics_of
 from preloaded import SHIM, built, shim
 from proxy import Proxy
 from harness import COMMAND, PROGRAM, SETTINGS, Server, content, counts, folder, free_port, save, served, until
@@ -28,13 +26,7 @@ class Cleaner:
             self.process = subprocess.Popen([*prefix, *words], env=around(place), stdout=log, stderr=log)
 
     def metrics(self):
-        try:
-            with urllib.request.urlopen(f"http://127.0.0.1:{self.port}/metrics", timeout=COMMAND) as told:
-                lines = told.read().decode().splitlines()
-        except OSError:
-            return {}
-        found = (re.fullmatch(r"relkvanu_clean_(\S+) (\S+)", line) for line in lines)
-        return {it[1]: float(it[2]) for it in found if it}
+        return {key.removeprefix("relkvanu_clean_"): value for key, value in metrics_of(self.port).items()}
 
     def reason(self, job):
         """Why a job is not cleaned; None: it is, or it is not known."""
@@ -138,13 +130,8 @@ def all_jobs(server):
     return f"{len(jobs) + 2} jobs in {len(kinds) + 1} places"
 
 
-def test_all_jobs_over_sqlite():
+def test_all_jobs():
     with served() as server:
-        return all_jobs(server)
-
-
-def test_all_jobs_over_postgres():
-    with postgres() as database, served(database=database.url) as server:
         return all_jobs(server)
 
 
@@ -237,35 +224,23 @@ def test_two_cleaners_at_once():
             until(lambda: counts(jobs[0][0]) == (0, 0) and names[3] not in of(place, "s0-"), seconds=90, told=other.log)
 
 
-def ended_at_each_write(server, at, most):
-    """Ends a cleaner at each of its calls that write, and lets the next one go on."""
-    place, library, over = new_folder(server, "files"), built(at, SHIM), 0
-    for die in range(1, most):
-        prefix = f"s{die}-"
-        job = opened(server, f"a-{die}", place, prefix)
-        names = worked(job, place, prefix)
-        words = [PROGRAM, "clean", "--once", "--job", job.name, "--url", server.url]
-        ended = subprocess.run([*shim(library, place.path, raw=1, die=die), *words], capture_output=True, text=True, timeout=COMMAND, check=False)
-        assert names[2] in of(place, prefix), die
-        told = subprocess.run(words, capture_output=True, text=True, timeout=COMMAND, check=False)
-        assert told.returncode == 0 and kept(job, place, prefix, names), (die, told.stderr, of(place, prefix), counts(job))
-        over += ended.returncode == 0
-        if over == 2:
-            return die
-    return most
-
-
 def test_a_cleaner_that_is_ended_at_each_write():
+    """Each of its calls that write, and the next one goes on."""
     with served() as server, folder() as at:
-        trials = ended_at_each_write(server, at, 60)
-        assert 8 < trials < 60, trials
-        return f"{trials} trials"
-
-
-def test_a_cleaner_that_is_ended_over_postgres():
-    with postgres() as database, folder() as at:
-        server = Server(at, database.url).start()
-        return f"{ended_at_each_write(server, at, 5)} trials"
+        place, library, die, over = new_folder(server, "files"), built(at, SHIM), 0, 0
+        while over < 2:
+            die, prefix = die + 1, f"s{die + 1}-"
+            job = opened(server, f"a-{die}", place, prefix)
+            names = worked(job, place, prefix)
+            words = [PROGRAM, "clean", "--once", "--job", job.name, "--url", server.url]
+            ended = subprocess.run([*shim(library, place.path, raw=1, die=die), *words], capture_output=True, text=True, timeout=COMMAND, check=False)
+            assert names[2] in of(place, prefix), die
+            told = subprocess.run(words, capture_output=True, text=True, timeout=COMMAND, check=False)
+            assert told.returncode == 0 and kept(job, place, prefix, names), (die, told.stderr, of(place, prefix), counts(job))
+            over += ended.returncode == 0
+            assert die < 60, "it does not end"
+        assert die > 8, die
+        return f"{die} trials"
 
 
 def test_a_job_that_is_deleted_in_between():

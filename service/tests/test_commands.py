@@ -165,11 +165,21 @@ def test_statuses():
         assert "not reached: it did not answer within 1.0 s" in ask["read"]("jobs", "--within", 2, status=75)
         server.process.send_signal(signal.SIGCONT)
         server.stop()
-        assert "not reached" in ask["read"]("jobs", "--within", 1, status=75)
+        told = ask["read"]("jobs", "--within", 3, status=75)
+        assert "not reached" in told and "it is asked again" in told, told
         # the next address is asked
         server.start()
         gone = f"http://127.0.0.1:{free_port()}"
         assert "orders" in ran("jobs", "--url", gone, *ask["read"].more)
+
+
+def test_terms():
+    with served_job("orders", SETTINGS, [1], 0) as (server, job):
+        ask = Asked(server)
+        assert "the term is 2" in ask("restore", "orders")
+        assert ask.json("term", "orders")["term"] == 2 and ask("term", "orders").split() == ["term", "2", "next", "name", "1"]
+        job.begin().session().name()
+        assert "reserve * " in ask("log", "orders") and "reserve 3 " in ask("log", "orders", "--terms") and "next name" in ask("show", "orders")
 
 
 def worked(job, rounds, first=1):

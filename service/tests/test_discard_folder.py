@@ -2,13 +2,12 @@
 import contextlib
 import json
 import os
-import re
 import shutil
 import subprocess
 import time
-import urllib.request
 
 from proxy import Proxy
+from places import metrics_of
 from harness import COMMAND, PROGRAM, SETTINGS, Server, Service, content, counts, folder, free_port, save, served, until
 from postgres import postgres
 from relkvanu_service import ack, dispose, savepoint
@@ -99,26 +98,6 @@ def test_a_disk_that_goes():
             subprocess.run(["umount", "--lazy", folder], check=False, stderr=subprocess.DEVNULL)
 
 
-def test_it_syncs_the_folder_before_it_reports():
-    with a_job() as (server, job, folder):
-        files_of(job, folder, 100, 20)
-        trace = f"{server.folder}/trace"
-        strace = ["strace", "-f", "-y", "-o", trace, "-e", "trace=unlinkat,fsync,fdatasync,write,writev,sendto"]
-        try:
-            run = discard(server, folder, "--once", before=strace)
-        except FileNotFoundError:
-            raise Skipped("strace", "it is not here") from None
-        await_end(run, 0, "deleted=20")
-        lines = content(trace).splitlines()
-        unlinks = [at for at, line in enumerate(lines) if "unlinkat(" in line and '"s-' in line]
-        # another thread may have a line between the two of a call
-        begun = {line.split()[0]: at for at, line in enumerate(lines) if re.search(r"fsync\(\d+<[^>]*/files> <unfinished", line) and at > unlinks[-1]}
-        syncs = [at for at, line in enumerate(lines) if at > unlinks[-1] and (
-            re.search(r"fsync\(\d+<[^>]*/files>\) += 0", line) or re.search(r"fsync resumed>\) += 0", line) and at > begun.get(line.split()[0], at))]
-        reports = [at for at, line in enumerate(lines) if "/calls" in line and at > unlinks[0]]
-        assert len(unlinks) == 20 and syncs and reports and unlinks[-1] < syncs[0] < reports[0], (unlinks, syncs, reports)
-
-
 def test_it_is_killed_before_it_reports():
     """A proxy keeps the report from the service. The next run finds all of the take absent, and knows why."""
     with a_job() as (server, job, folder):
@@ -130,11 +109,6 @@ def test_it_is_killed_before_it_reports():
         proxy.http.shutdown()
         await_end(discard(server, folder, "--once"), 0, "deleted=0 absent=20 failed=0")
         assert counts(job) == (0, 0), job.state()
-        # the same files that nobody has begun to delete
-        files_of(job, folder, 200, 20, there=[])
-        assert len(job.take(20)) == 20
-        await_end(discard(server, folder, "--once"), 78, "none of 20 files")
-        assert counts(job) == (20, 0), job.state()
 
 
 def test_it_survives_the_service():
@@ -151,38 +125,50 @@ def test_it_survives_the_service():
         return f"{len(twice)} files deleted once each, over 4 kills of the service"
 
 
+def works(port):
+    """Whether a cleaner says that it works: 1 or 0, or None without its metrics."""
+    return metrics_of(port).get('relkvanu_clean_works{job_name="a"}')
+
+
+def of_files(port, outcome):
+    return metrics_of(port).get(f'relkvanu_clean_files_total{{job_name="a",kind="released",outcome="{outcome}"}}', 0)
+
+
 def test_it_never_gives_up_by_itself():
-    """There is no such job yet; then the service is away, at the first of two addresses; and it exports what it did."""
-    with served() as server:
-        folder, port = f"{server.folder}/files", free_port()
-        os.mkdir(folder)
-
-        def metrics():
-            with urllib.request.urlopen(f"http://127.0.0.1:{port}/metrics", timeout=COMMAND) as it:
-                lines = [line for line in it.read().decode().splitlines() if not line.startswith("#")]
-            return {line.rsplit(" ", 1)[0]: float(line.rsplit(" ", 1)[1]) for line in lines}
-
-        with at_work(server, folder, "--url", f"http://127.0.0.1:{free_port()}", "--metrics", f"127.0.0.1:{port}") as run:
+    """There is no such job yet; then its token is refused, and the service is away, at the first of two addresses. Its metrics, which alerts read, say that
+    it waits, and what it did."""
+    token, other, port = "a" * 20, "b" * 20, free_port()
+    with folder() as at:
+        files = f"{at}/files"
+        os.mkdir(files)
+        for name, words in (("tokens", f"write {token}"), ("token", token)):
+            written(f"{at}/{name}", words)
+        server = Server(at, args=["--token-file", f"{at}/tokens"]).start()
+        more = ["--url", f"http://127.0.0.1:{free_port()}", "--token-file", f"{at}/token", "--metrics", f"127.0.0.1:{port}"]
+        with at_work(server, files, *more) as run:
             time.sleep(1)
-            job = Service(server.url).open("a", SETTINGS, [1])
-            until(lambda: os.path.exists(f"{folder}/.relkvanu-a"))
-            files_of(job, folder, 100, 5, there=range(100, 103))
+            job = Service(server.url, token=token).open("a", SETTINGS, [1])
+            until(lambda: works(port) == 1)
+            files_of(job, files, 100, 5, there=range(100, 103))
             until(lambda: counts(job) == (0, 0))
+            for words, wanted in ((f"write {other}", 0), (f"write {token}", 1)):
+                written(f"{at}/tokens", words)
+                told_again(server)
+                until(lambda wanted=wanted: works(port) == wanted)
             server.kill()
-            until(lambda: metrics()['relkvanu_clean_lost_requests_total'] > 3)
+            until(lambda: works(port) == 0 and metrics_of(port)["relkvanu_clean_lost_requests_total"] > 3)
             server.start()
-            files_of(job, folder, 200, 5)
-            os.mkdir(f"{folder}/s-300")
+            until(lambda: works(port) == 1)
+            files_of(job, files, 200, 5)
+            os.mkdir(f"{files}/s-300")
             record = job.call(savepoint())["id"]
             job.calls([ack(record, "0.0", [300]), dispose(record)])
-            until(lambda: metrics()['relkvanu_clean_files_total{job_name="a",kind="released",outcome="failed"}'] > 0)
-            told, now = metrics(), time.time()
-            outcomes = {word: told[f'relkvanu_clean_files_total{{job_name="a",kind="released",outcome="{word}"}}'] for word in ("deleted", "absent")}
-            assert outcomes == {"deleted": 8, "absent": 2}, told
-            assert now - 600 < told['relkvanu_clean_report_timestamp_seconds{job_name="a"}'] <= now, told
+            until(lambda: of_files(port, "failed") > 0)
+            outcomes, now = {word: of_files(port, word) for word in ("deleted", "absent")}, time.time()
+            assert outcomes == {"deleted": 8, "absent": 2}, metrics_of(port)
+            assert now - 600 < metrics_of(port)['relkvanu_clean_report_timestamp_seconds{job_name="a"}'] <= now, metrics_of(port)
             assert run.poll() is None
-        lost = told['relkvanu_clean_lost_requests_total']
-        return f"{outcomes}, {lost:.0f} tries that were not answered"
+        return f"{outcomes}"
 
 
 def test_names_that_are_not_synced():
@@ -200,60 +186,18 @@ def test_names_that_are_not_synced():
             assert json.load(it) == {"prefix": "t-", "suffix": ""}
 
 
-def works(port):
-    """Whether a cleaner says that it works: "1" or "0", or None without its metrics."""
-    try:
-        with urllib.request.urlopen(f"http://127.0.0.1:{port}/metrics", timeout=COMMAND) as it:
-            lines = it.read().decode().splitlines()
-    except OSError:
-        return None
-    return next((line.rsplit(" ", 1)[1] for line in lines if line.startswith("relkvanu_clean_works")), None)
-
-
-def test_a_running_cleaner_tells_that_it_waits_for_the_service():
-    """By its metric, which an alert reads: while its token is refused, and while nobody answers. Then it goes on by itself."""
-    token, other, port = "a" * 20, "b" * 20, free_port()
-    with folder() as at:
-        files = f"{at}/files"
-        os.mkdir(files)
-        for name, words in (("tokens", f"write {token}"), ("token", token)):
-            written(f"{at}/{name}", words)
-        server = Server(at, args=["--token-file", f"{at}/tokens"]).start()
-        job = Service(server.url, token=token).open("a", SETTINGS, [1])
-        with at_work(server, files, "--token-file", f"{at}/token", "--metrics", f"127.0.0.1:{port}") as run:
-            until(lambda: works(port) == "1")
-            for words, wanted in ((f"write {other}", "0"), (f"write {token}", "1")):
-                written(f"{at}/tokens", words)
-                told_again(server)
-                until(lambda wanted=wanted: works(port) == wanted)
-            server.kill()
-            until(lambda: works(port) == "0")
-            server.start()
-            until(lambda: works(port) == "1")
-            files_of(job, files, 100, 2)
-            until(lambda: present(files) == [])
-            assert run.poll() is None
-
-
 def test_a_second_cleaner_waits_for_the_first():
     """It waits within its process, and serves its metrics meanwhile. Then it goes on."""
-    with a_job() as (server, job, folder):
-        files_of(job, folder, 100, 3)
-        ports = [free_port() for _ in range(2)]
-        words = [PROGRAM, "clean", "--url", server.url, "--job", "a", "--folder", folder, "--prefix", "s-"]
-        run = [subprocess.Popen([*words, "--metrics", f"127.0.0.1:{port}"], stderr=subprocess.DEVNULL) for port in ports[:1]]
-        try:
-            until(lambda: works(ports[0]) == "1")
-            run.append(subprocess.Popen([*words, "--metrics", f"127.0.0.1:{ports[1]}"], stderr=subprocess.DEVNULL))
-            until(lambda: works(ports[1]) == "0")
+    ports = [free_port() for _ in range(2)]
+    first, second = (["--metrics", f"127.0.0.1:{port}"] for port in ports)
+    with a_job() as (server, job, folder), at_work(server, folder, *first) as one:
+        until(lambda: works(ports[0]) == 1)
+        with at_work(server, folder, *second) as other:
+            until(lambda: works(ports[1]) == 0)
             time.sleep(2)  # longer than its first pauses
-            assert run[1].poll() is None and works(ports[1]) == "0"
-            run[0].kill()
-            run[0].wait()
-            until(lambda: works(ports[1]) == "1")
+            assert other.poll() is None and works(ports[1]) == 0
+            one.kill()
+            one.wait()
+            until(lambda: works(ports[1]) == 1)
             files_of(job, folder, 200, 2)
             until(lambda: present(folder) == [])
-        finally:
-            for it in run:
-                it.kill()
-                it.wait()

@@ -128,11 +128,22 @@ def test_each_alert_has_its_section():
     return f"{len(alerts)} alerts"
 
 
-def test_the_unit_is_hardened():
-    needed("systemd-analyze")
-    told = subprocess.run(["systemd-analyze", "security", "--offline=true", f"{DEPLOY}/relkvanu.service"], text=True, stdout=subprocess.PIPE, stderr=subprocess.STDOUT, check=False)
-    found = re.search(r"Overall exposure level for relkvanu.service: ([0-9.]+)", told.stdout)
+def exposure_of(name):
+    """How open a unit is, which systemd can read."""
+    with folder() as at:
+        unit = f"{at}/{name}.service"
+        shutil.copy(f"{DEPLOY}/{name}.service", unit)
+        told, read = (subprocess.run(["systemd-analyze", *words, unit], text=True, stdout=subprocess.PIPE, stderr=subprocess.STDOUT, check=False).stdout
+                      for words in (["security", "--offline=true"], ["verify"]))
+    found = re.search(rf"Overall exposure level for {name}.service: ([0-9.]+)", told)
     if not found:
-        raise Skipped("a running systemd-analyze", f"it does not run here: {told.stdout.strip().splitlines()[-1:]}")
-    assert float(found.group(1)) < 3, found.group(0)
-    return f"exposure {found.group(1)}"
+        raise Skipped("a running systemd-analyze", f"it does not run here: {told.strip().splitlines()[-1:]}")
+    assert not re.search(rf"{name}.service:\d+:", read), read
+    return float(found[1])
+
+
+def test_the_units_are_hardened():
+    needed("systemd-analyze")
+    found = {name: exposure_of(name) for name in ("relkvanu", "relkvanu-clean")}
+    assert max(found.values()) < 3, found
+    return f"exposure {found}"

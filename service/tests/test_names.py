@@ -1,6 +1,6 @@
 """Terms and names: zombies after a restore, names that are given out once, what is garbage, and the jobs of a recovery."""
-import http.client
-import json
+import contextlib
+import os
 import random
 import re
 import signal
@@ -10,25 +10,16 @@ import time
 
 import kills
 from harness import (
-    COMMAND, PROGRAM, SETTINGS, WHOLE, Archive, Server, beside, caught_up, check_log, configured, entry_of, folder, leader_and_standby, lease_of, raised,
-    save, served, served_job, until
+    BUSY, COMMAND, PROGRAM, SETTINGS, WHOLE, Archive, Server, beside, caught_up, check_log, counts, entry_of, folder, leader_and_standby, lease_of, raised, save,
+    served, served_job, until
 )
 from postgres import postgres
 from relkvanu_service import Failed, Fenced, OldTerm, Refused, Service, ack, cancel, decline, deleted, dispose, reserve, restore, savepoint
 from test_api import MAKING
 from test_metrics import scraped
+from test_stream import Stream
 
 JOB = {"name": "orders", "settings": SETTINGS, "shape": [1]}
-
-
-def over_both(test):
-    """What the test says of a service over each kind of database."""
-    said = []
-    with folder() as at:
-        said.append(f"SQLite: {test(at, f'{at}/relkvanu.db')}")
-    with postgres() as database, folder() as at:
-        said.append(f"PostgreSQL: {test(at, database.url)}")
-    return "; ".join(said)
 
 
 def test_each_job_gives_out_names():
@@ -47,8 +38,7 @@ def test_each_job_gives_out_names():
 
 
 def test_a_zombie_after_a_restore():
-    def zombies(at, url):
-        server = Server(at, url).start()
+    with served() as server:
         job = Service(server.url).open("orders", SETTINGS, [1])
         old = job.begin().session(block=10)
         names = [old.name() for _ in range(3)]
@@ -91,8 +81,6 @@ def test_a_zombie_after_a_restore():
         assert server.stop() == 0
         return f"{2 * len(late) + 3} calls of an ended term changed nothing; {answered} answers as the proved program's"
 
-    return over_both(zombies)
-
 
 TERM = re.compile(r"\bin [0-9]+ |\b(reserve|forfeit) [0-9]+( |$)")
 
@@ -129,28 +117,15 @@ def test_no_event_no_list_and_no_stream_has_the_term():
         triggered = [event for event in events if event["event"] == "triggered"]
         bases = [{"kind": "fresh"}, {"kind": "savepoint", "id": 1}, {"kind": "savepoint", "id": 2}]
         assert [event["base"] for event in triggered] == bases, triggered
-        stream = streamed(server, "/v1/jobs/orders/stream?after=0", len(events))
-        assert len(stream) >= len(events) and not terms_in(stream), terms_in(stream)
+        stream = Stream(server, "/v1/jobs/orders/stream?after=0")
+        until(lambda: len(stream.told) >= len(events))
+        assert not terms_in([data for _, data in stream.told]), stream.told
         # the lines of the log have them for a write token alone
         whole = list(job.log(terms=True))
         assert [entry["line"].split(" ")[0] for entry in whole if terms_in(entry["line"])].count("in") == 3, whole
         assert [entry["line"] for entry in job.log()] == [re.sub(r"^(in|reserve|forfeit) \d+", r"\1 *", entry["line"]) for entry in whole]
         assert job.term() == {"term": 4, "next_name": int(job.state()["next_name"])} == {"term": 4, "next_name": 13}
-        return f"{len(paths)} reads and a stream of {len(stream)} messages"
-
-
-def streamed(server, path, count):
-    """The first messages of a stream."""
-    connection = http.client.HTTPConnection("127.0.0.1", server.port, timeout=COMMAND)
-    connection.request("GET", path)
-    lines, found = connection.getresponse(), []
-    while len(found) < count:
-        line = lines.readline().decode()
-        assert line, "the stream has ended"
-        if line.startswith("data: "):
-            found.append(json.loads(line.removeprefix("data: ")))
-    connection.close()
-    return found
+        return f"{len(paths)} reads and a stream of {len(stream.told)} messages"
 
 
 def test_tokens_for_terms():
@@ -177,47 +152,6 @@ def test_tokens_for_terms():
         return f"{len(asked)} routes, {len(bad)} bad bodies"
 
 
-def test_a_reserve_is_durable_before_it_is_told():
-    """The service is killed right after answers, over and over. Each name was given out once, and the log has what was told."""
-
-    def reserves(at, url):
-        server = Server(at, url, configured(at, "lease_seconds = 1\n")).start()
-        service, chance = Service(server.url), random.Random(7)
-        job = service.open("orders", SETTINGS, [1])
-        term, told, over = job.begin().term, [], threading.Event()
-
-        def task(number):
-            mine = random.Random(number)
-            while not over.is_set():
-                answer = job.call(reserve(term, mine.randint(1, 20)))
-                told.append((answer["seq"], int(answer["first"]), answer["count"]))
-
-        tasks = [beside(task, number) for number in range(4)]
-        for _ in range(12):
-            count = len(told)
-            until(lambda: len(told) > count + 2)
-            # as soon as an answer is here
-            count = len(told)
-            until(lambda: len(told) > count, each=0.0005)
-            server.kill()
-            time.sleep(chance.uniform(0, 0.1))
-            server.start()
-        over.set()
-        for one in tasks:
-            one.join(COMMAND)
-        names = [name for _, first, count in told for name in range(first, first + count)]
-        assert len(names) == len(set(names)), "a name was given out twice"
-        log = {entry["seq"]: entry for entry in job.log(terms=True)}
-        for seq, first, count in told:
-            entry = log[seq]
-            assert (entry["line"], entry["answer"]) == (f"reserve {term} {count}", f"reserved {first}"), entry
-        assert job.term()["next_name"] > max(names)
-        check_log(job.state(), [1], list(log.values()))
-        return f"{len(told)} reserves over 12 kills, {len(names)} names"
-
-    return over_both(reserves)
-
-
 def uses(log):
     """When each file was in use, by the log: from the place of the acknowledgement that named it to that at which its record ended."""
     live, found = {}, []
@@ -232,92 +166,125 @@ def uses(log):
     return found + [(file, since, float("inf")) for held in live.values() for file, since in held]
 
 
+class Churn:
+    """A job whose tasks write files, fail, are replaced, and go on in terms that have ended; its discarder; and what was told to be garbage."""
+
+    def __init__(self, server):
+        self.at, self.over, self.errors, self.told = f"{server.folder}/files", threading.Event(), [], []
+        os.mkdir(self.at)
+        self.job = Service(server.url).open("orders", {"interval": 30, "retained": 2, "timeout": 1000, "tolerable": 5}, [2])
+        self.job.claim(self.at)
+        self.current = self.job.begin()
+
+    def task(self, number):
+        chance = random.Random(number)
+        start, session, kept, done = None, None, [], set()
+        while not self.over.is_set():
+            # one in four goes on in its ended term for a while, as one that was suspended
+            if start is not self.current and (session is None or chance.random() < 0.25):
+                start, kept, done = self.current, [], set()
+                session = self.job.session(start.term, block=chance.randint(1, 9))
+            try:
+                for record in [it["id"] for it in self.job.state()["live"] if not it["done"] and it["id"] not in done]:
+                    kept = self.take_part(session, chance, record, f"0.{number}", kept)
+                    done.add(record)
+            except OldTerm:
+                start, session = None, None
+            except (Refused, Fenced):
+                kept = []
+            except Failed as failed:
+                self.errors.append(failed)
+                return
+            time.sleep(0.003)
+
+    def take_part(self, session, chance, record, subtask, kept):
+        """Returns the new files."""
+        fresh = [session.name() for _ in range(2)]
+        for name in fresh:
+            save(f"{self.at}/s-{name}", "state")
+        if chance.random() < 0.2:
+            session.forfeit(fresh[:1])
+            fresh = fresh[1:]
+        session.ack(record, subtask, fresh, kept[-1:])
+        return fresh
+
+    def sweeper(self):
+        while not self.over.is_set():
+            next_name = int(self.job.state()["next_name"])
+            garbage, unissued = self.job.garbage(range(0, next_name + 3))
+            after = self.job.state()["seq"]
+            if unissued and min(unissued) < next_name or 0 not in garbage:
+                self.errors.append((garbage, unissued, next_name))
+            self.told.append((after, garbage))
+            time.sleep(0.01)
+
+    def discard(self):
+        for file in self.job.take(20):
+            with contextlib.suppress(FileNotFoundError):
+                os.remove(f"{self.at}/s-{file}")
+            self.job.call(deleted(file))
+
+    def discarder(self):
+        while not self.over.is_set():
+            self.discard()
+            time.sleep(0.02)
+
+    def in_use(self):
+        """A record that is pending may have ended since it was seen."""
+        return {f"s-{file}" for record in self.job.state()["live"] for files in (self.job._held(record["id"]) or {}).values() for file in files}
+
+    def is_complete(self):
+        return self.job.state()["choice"]["kind"] == "checkpoint"
+
+
+def churned(server, churn, sweep):
+    """Lets all of them go on, while the job begins again and the service is killed, until a checkpoint is complete."""
+    sweepers = [subprocess.Popen([*sweep, "--every", "1s"], stdout=subprocess.DEVNULL, stderr=subprocess.DEVNULL) for _ in range(2)]
+    threads = [*(beside(churn.task, number) for number in range(2)), *(beside(it) for it in (churn.sweeper, churn.sweeper, churn.discarder))]
+    for turn in range(4 * BUSY):
+        if turn > 3 and churn.is_complete():
+            break
+        time.sleep(1)
+        churn.current = churn.job.begin()
+        server.again()
+    churn.over.set()
+    for it in threads:
+        it.join(COMMAND)
+    for it in sweepers:
+        it.kill()
+        it.wait()
+
+
 def test_garbage_is_never_in_use():
-    """Tasks, restores, a discarder, kills and a sweeper, all at once. What was told to be garbage was in use at no later place of the log."""
-    seconds = 4
-    with folder() as at:
-        server = Server(at, args=configured(at, kills.KEEPING)).start()
-        service, over, errors, told = Service(server.url), threading.Event(), [], []
-        job = service.open("orders", {"interval": 30, "retained": 2, "timeout": 1000, "tolerable": 5}, [2])
-        keeps = Archive(server.database)
-        current = [job.begin()]
-
-        def task(number):
-            chance = random.Random(number)
-            start, session, kept, done = None, None, [], set()
-            while not over.is_set():
-                if start is not current[0]:
-                    # one in four goes on in its ended term for a while, as one that was suspended
-                    if session is None or chance.random() < 0.25:
-                        start, kept, done = current[0], [], set()
-                        session = job.session(start.term, block=chance.randint(1, 9))
-                try:
-                    pending = [it["id"] for it in job.state()["live"] if not it["done"] and it["id"] not in done]
-                    for record in pending:
-                        fresh = [session.name() for _ in range(2)]
-                        if chance.random() < 0.2:
-                            session.forfeit(fresh[:1])
-                            fresh = fresh[1:]
-                        session.ack(record, f"0.{number}", fresh, kept[-1:])
-                        done.add(record)
-                        kept = fresh
-                except OldTerm:
-                    start, session = None, None
-                except (Refused, Fenced):
-                    kept = []
-                except Failed as failed:
-                    errors.append(failed)
-                    return
-                time.sleep(0.003)
-
-        def sweeper():
-            while not over.is_set():
-                next_name = int(job.state()["next_name"])
-                garbage, unissued = job.garbage(range(0, next_name + 3))
-                after = job.state()["seq"]
-                if unissued and min(unissued) < next_name or 0 not in garbage:
-                    errors.append((garbage, unissued, next_name))
-                told.append((after, garbage))
-                time.sleep(0.01)
-
-        def discarder():
-            while not over.is_set():
-                for file in job.take(20):
-                    job.call(deleted(file))
-                time.sleep(0.02)
-
-        threads = [threading.Thread(target=task, args=(number,)) for number in range(2)]
-        threads += [threading.Thread(target=it) for it in (sweeper, sweeper, discarder)]
-        for thread in threads:
-            thread.start()
-        for _ in range(4):
-            time.sleep(seconds / 4)
-            current[0] = job.begin()
-            server.again()
-        over.set()
-        for thread in threads:
-            thread.join(COMMAND)
-        assert not errors, errors[:3]
+    """Tasks, restores, a discarder, kills and sweepers, all at once. What was told to be garbage was in use at no later place of the log, and at the end the
+    folder has exactly the files in use."""
+    with served(kills.KEEPING) as server:
+        churn = Churn(server)
+        job, keeps = churn.job, Archive(server.database)
+        sweep = [PROGRAM, "clean", "--only", "garbage", "--job", "orders", "--folder", churn.at, "--prefix", "s-", "--url", server.url]
+        churned(server, churn, sweep)
+        assert not churn.errors, churn.errors[:3]
         rows = keeps.rows(f"select ended, seq, at, line, what, a, b, files from {WHOLE} it order by seq")
         log = [{**entry_of(*row), "ended": [int(it) for it in (ended or "").split()]} for ended, *row in rows]
-        assert [entry["seq"] for entry in log] == list(range(1, len(log) + 1)), "the log has gaps"
         last = {}
         for file, _, end in uses(log):
             last[file] = max(last.get(file, 0), end)
-        wrong = [(after, file) for after, garbage in told for file in garbage if last.get(file, 0) > after]
+        wrong = [(after, file) for after, garbage in churn.told for file in garbage if last.get(file, 0) > after]
         assert not wrong, wrong[:5]
         # after a restore without tasks each name is known, or garbage
         job.begin()
-        next_name = int(job.state()["next_name"])
-        garbage = set(job.garbage(range(1, next_name))[0])
+        garbage = set(job.garbage(range(1, int(job.state()["next_name"])))[0])
         known = {file for file, _, end in uses(log) if end == float("inf")}
         assert garbage and not garbage & known, garbage & known
-        return f"{len(told)} answers beside {len(log)} calls and 4 kills, {len(garbage)} of {next_name - 1} names garbage at the end"
+        while counts(job) != (0, 0):
+            churn.discard()
+        assert subprocess.run([*sweep, "--once"], stdout=subprocess.DEVNULL, timeout=COMMAND, check=False).returncode == 0
+        assert {name for name in os.listdir(churn.at) if not name.startswith(".")} == churn.in_use() != set(), (os.listdir(churn.at), churn.in_use())
+        return f"{len(churn.told)} answers beside {len(log)} calls and kills, {len(garbage)} names garbage at the end"
 
 
 def test_a_job_of_a_recovery_is_turned():
-    def turned(at, url):
-        server = Server(at, url).start()
+    with served() as server:
         job = Service(server.url).open("orders", MAKING, [1])
         job.calls([savepoint(), ack(1, "0.0", [5, 7])])
         assert [raised(Fenced, lambda: job.fence(first)).name for first in (1, 5, 7)] == ["NameInUse"] * 3
@@ -344,30 +311,6 @@ def test_a_job_of_a_recovery_is_turned():
         assert job.garbage([7]) == ([7], [])
         check_log(job.state(), [1], list(job.log(terms=True)))
         return "refused at a known file, then turned once"
-
-    return over_both(turned)
-
-
-def test_images_and_checks_of_a_job_with_names():
-    """A start goes on from an image with names, and `check` compares images and answers."""
-    with served_job("orders", SETTINGS, [1], 0, config="image_calls = 10\nkeep_calls = 10\n") as (server, job):
-        for _ in range(30):
-            task = job.begin().session(block=5)
-            record = job.call(savepoint())["id"]
-            task.ack(record, "0.0", [task.name(), task.name()])
-            if record > 3 and record % 2:
-                job.call(dispose(record))
-        until(lambda: job.state()["image"] and job.state()["first"] > 1)
-        state, term = job.state(), job.term()
-        kept = task.name()
-        server.again()
-        after = job.state()
-        assert job.term() == term and after["next_name"] == state["next_name"] and after["files"] == state["files"]
-        assert task.ack(job.call(savepoint())["id"], "0.0", [kept])["ack"] == "completed"
-        server.stop()
-        told = subprocess.run([PROGRAM, "check", "--database", server.database], stdout=subprocess.PIPE, text=True, check=False)
-        assert told.returncode == 0 and "orders" in told.stdout, told
-        return f"term {term['term']} and name {term['next_name']} over an image, {told.stdout.strip()}"
 
 
 def test_a_leader_that_is_over_answers_no_garbage():

@@ -5,10 +5,10 @@ import os
 import re
 import subprocess
 import tempfile
-import urllib.request
+import time
 
 from harness import COMMAND, PROGRAM, SERVICE, content, counts, free_port, save, until
-from places import Bucket, a_job, around, files, over_both, ran, words_of
+from places import Bucket, a_job, around, files, metrics_of, over_both, ran, words_of
 from relkvanu_service import dispose, savepoint
 
 
@@ -257,46 +257,60 @@ def test_records_that_have_all_their_files(server, job, place):
 
 
 def metrics(port):
-    """What is served, without what each process has."""
-    try:
-        with urllib.request.urlopen(f"http://127.0.0.1:{port}/metrics", timeout=COMMAND) as told:
-            lines = [line for line in told.read().decode().splitlines() if not line.startswith("#")]
-    except OSError:
-        return {}
-    return {line.rpartition(" ")[0].replace('job_name="a"', "").replace("{,", "{").replace("{}", ""): float(line.rpartition(" ")[2]) for line in lines}
+    return {key.replace('job_name="a"', "").replace("{,", "{").replace("{}", ""): value for key, value in metrics_of(port).items()}
 
 
 @over_both
 def test_metrics(server, job, place):
-    """Of a cleaner, which goes on while the service is away."""
+    """Of a cleaner, which goes on while the service is away, and deletes nothing while the place has no marker."""
     port = free_port()
     task = job.begin().session(block=5)
     job.set_storage(place.storage("s-"))
     words = [PROGRAM, "clean", "--url", server.url, "--every", "1s", "--within", "1", "--metrics", f"127.0.0.1:{port}"]
     run = subprocess.Popen(words, env=around(place), stdout=subprocess.DEVNULL, stderr=subprocess.DEVNULL)
 
-    def value(name):
-        return metrics(port).get(f"relkvanu_clean_{name}")
+    def comes(wanted, name, labels=""):
+        until(lambda: metrics(port).get(name + labels) == wanted, told=lambda: metrics(port))
 
     try:
-        names = released(job, task, place, 2)
-        until(lambda: value('files_total{kind="released",outcome="deleted"}') == 2 and value("works") == 1, told=lambda: metrics(port))
+        names, released_files = released(job, task, place, 2), '{kind="released",outcome="deleted"}'
+        comes(2, "relkvanu_clean_files_total", released_files)
+        comes(1, "relkvanu_clean_works")
         place.put(f"s-{names[0]}", b"1234567")
         # a file of 5 bytes counts too that is deleted between a look at the garbage and the service's answer
-        until(lambda: value("garbage_bytes_total") in (7, 12, 17), told=lambda: metrics(port))
+        until(lambda: metrics(port).get("relkvanu_clean_garbage_bytes_total") in (7, 12, 17), told=lambda: metrics(port))
         place.put("s-99", b"")
-        until(lambda: value("unissued_files") == 1)
+        comes(1, "relkvanu_clean_unissued_files")
+        looked = metrics(port)["relkvanu_clean_sweep_timestamp_seconds"]
+        assert metrics(port)["relkvanu_clean_interval_seconds"] == 1
         server.kill()
-        until(lambda: value("lost_requests_total") and value("works") == 0)
+        until(lambda: metrics(port).get("relkvanu_clean_lost_requests_total") and metrics(port)["relkvanu_clean_works"] == 0)
         server.start()
         released(job, task, place, 1)
-        until(lambda: value('files_total{kind="released",outcome="deleted"}') >= 3 and value("works") == 1)
+        until(lambda: metrics(port).get(f"relkvanu_clean_files_total{released_files}", 0) >= 3 and metrics(port)["relkvanu_clean_sweep_timestamp_seconds"] > looked)
+        comes(1, "relkvanu_clean_works")
+        stays_without_a_marker(job, place, names[0], comes)
         named = set(re.findall(r"relkvanu_clean_[a-z_]+", content(f"{SERVICE}/deploy/alerts.yml")))
         served = {name.partition("{")[0] for name in metrics(port)}
         assert named and named <= served | {"relkvanu_clean_stopped"}, named - served
     finally:
         run.kill()
         run.wait()
+
+
+def stays_without_a_marker(job, place, garbage, comes):
+    """A file that nobody needs, as long as the cleaner finds no marker."""
+    name, text = job.marker()
+    place.remove(name)
+    comes(1, "relkvanu_clean_stopped", '{reason="no_marker"}')
+    comes(0, "relkvanu_clean_works")
+    place.put(f"s-{garbage}", b"1")
+    time.sleep(3)
+    assert f"s-{garbage}" in files(place)
+    place.put(name, text.encode())
+    comes(1, "relkvanu_clean_works")
+    comes(None, "relkvanu_clean_stopped", '{reason="no_marker"}')
+    until(lambda: f"s-{garbage}" not in files(place))
 
 
 @over_both

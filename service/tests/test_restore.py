@@ -1,15 +1,11 @@
 """A backup that is restored: which records have all their files, which files nobody knows, and the page's commands for PostgreSQL."""
-import glob
 import json
 import os
-import shutil
 import subprocess
 
-from harness import COMMAND, PROGRAM, Server, Service, caught_up, folder, lose_history, raised, save, served, until
-from places import Bucket, around
-from places import files as files_in
+from harness import COMMAND, PROGRAM, Server, Service, caught_up, folder, raised, served, until
 from postgres import postgres
-from relkvanu_service import ack, dispose, restore, savepoint
+from relkvanu_service import ack, savepoint
 from test_commands import SETTINGS, Asked
 
 
@@ -17,43 +13,6 @@ def write(folder, *files):
     for file in files:
         with open(f"{folder}/s-{file}.bin", "wb") as it:
             it.write(b"state")
-
-
-def test_records_that_have_all_their_files():
-    with served() as server:
-        files = f"{server.folder}/files"
-        os.mkdir(files)
-        job = Service(server.url).open("orders", {"interval": 40, "retained": 2, "timeout": 1 << 40}, [1])
-        ask, words = Asked(server), ["savepoints", "orders", "--folder", files, "--prefix", "s-", "--suffix", ".bin"]
-        assert ask("savepoints", "orders").split() == "RECORD KIND TRIGGERED FILES ABSENT".split()
-        assert "no such record has all its files" in ask(*words, status=1)
-        pending = until(lambda: next((it["id"] for it in job.state()["live"] if not it["done"]), None))
-        job.call(ack(pending, "0.0", [1, 2]))
-        older = pending
-        first = job.call(savepoint())["id"]
-        job.calls([ack(first, "0.0", [3], [1])])
-        pending = until(lambda: next((it["id"] for it in job.state()["live"] if not it["done"]), None))
-        job.call(ack(pending, "0.0", [4]))
-        latest = job.state()["choice"]["id"]
-        assert latest == pending
-        write(files, 1, 2, 3)
-        told = subprocess.run([PROGRAM, *words, *ask.more], stdout=subprocess.PIPE, stderr=subprocess.PIPE, text=True, timeout=COMMAND, check=False)
-        assert told.returncode == 0 and "has no marker of this job, .relkvanu-orders" in told.stderr, told
-        save(f"{files}/{job.marker()[0]}", job.marker()[1])
-        rows = ask.json(*words)
-        # each that is retained; the file of the latest is not there
-        assert {row["id"]: (row["kind"], row["latest"], row["files"], row["absent"]) for row in rows} == {
-            older: ("checkpoint", False, 2, []), first: ("savepoint", False, 2, []), latest: ("checkpoint", True, 1, ["4"]),
-        }, rows
-        text = {line.split()[0]: line for line in ask(*words).splitlines()}
-        assert text[str(first)].split()[-2:] == ["2", "none"], text
-        assert text[str(latest)].endswith("1: 4") and "checkpoint, the latest" in text[str(latest)], text
-        write(files, "4.bin.part")
-        assert ask(*words).splitlines()[1:] == [line for line in text.values() if not line.startswith("RECORD")]
-        for file in (2, 3):
-            os.remove(f"{files}/s-{file}.bin")
-        assert "1: 3" in ask(*words, status=1)
-        assert "No such file" in ask("savepoints", "orders", "--folder", f"{files}/none", status=78)
 
 
 def test_files_of_another_length():
@@ -101,8 +60,10 @@ def test_a_restore_by_number_looks_first():
         at = ["--folder", files, "--prefix", "s-", "--suffix", ".bin"]
         os.remove(f"{files}/s-1.bin")
         os.truncate(f"{files}/s-{name}.bin", 4)
-        rows = ask.json("savepoints", "orders", *at)
+        rows, choice = ask.json("savepoints", "orders", *at), job.state()["choice"]["id"]
         assert {row["id"]: row["absent"] for row in rows} == {numbers[0]: ["1"], numbers[1]: [], numbers[2]: [], saved: [str(name)]}, rows
+        assert [(row["kind"], row["files"], row["latest"]) for row in rows] == [("savepoint" if row["id"] == saved else "checkpoint", 1, row["id"] == choice) for row in rows], rows
+        assert "No such file" in ask("savepoints", "orders", "--folder", f"{files}/none", status=78)
         before = job.state()
         for words, file in ((["--checkpoint", numbers[0], "--accept-published"], 1), (["--savepoint", saved], name)):
             told = ask("restore", "orders", *words, *at, status=1)
@@ -145,61 +106,6 @@ def test_a_job_goes_on_from_a_backup():
             os.remove(f"{files}/s-{name}.bin")
         term = job.term()
         assert "no such record has all its files in the folder" in ask(*words, status=1) and job.term() == term
-
-
-def bucket_commands(server, place):
-    """To find the records, and to delete what is released and what is garbage, for files in a bucket."""
-    at = ["--bucket", place.bucket, "--prefix", "orders/state-", "--url", server.url, *place.words("", "")[-4:]]
-    return [[PROGRAM, *words, *at] for words in (["savepoints", "orders"], ["clean", "--only", "released", "--job", "orders", "--once"], ["clean", "--look", "--job", "orders"])]
-
-
-def test_files_of_a_bucket_are_restored():
-    """When the backup is made savepoints 1 and 2 have their files, and file 4 waits for deletion. Later 3 and 4 are deleted, and 5 and 6 are new."""
-    with folder() as at:
-        place = Bucket(at)
-        server = Server(at).start()
-        job = Service(server.url).open("orders", SETTINGS, [1], 0)
-        name, text = job.marker()
-        place.put(name, text.encode())
-        task = job.begin().session(block=2)
-
-        def saved(count):
-            names = [task.name() for _ in range(count)]
-            for name in names:
-                place.put(f"state-{name}", b"state")
-            task.ack(job.call(savepoint())["id"], "0.0", names)
-
-        def ran(words):
-            told = subprocess.run(words, env=around(place), capture_output=True, text=True, timeout=COMMAND, check=False)
-            return told.returncode, told.stdout.splitlines(), told.stderr
-
-        for count in (2, 1, 1):
-            saved(count)
-        job.call(dispose(3))
-        subprocess.run([PROGRAM, "backup", "--database", server.database, "--to", f"{at}/copy.db"], check=True, timeout=COMMAND)
-        job.call(dispose(2))
-        saved(2)
-        find, discarder, sweeper = bucket_commands(server, place)
-        assert ran(discarder)[0] == 0 and files_in(place) == ["state-1", "state-2", "state-5", "state-6"], files_in(place)
-        server.stop()
-        for path in glob.glob(f"{server.database}*"):
-            os.rename(path, f"{at}/aside-{os.path.basename(path)}")
-        lose_history(server)
-        shutil.copyfile(f"{at}/copy.db", server.database)
-        server.start()
-        status, lines, told = ran(find)
-        assert (status, [line.split()[4:] for line in lines[1:]]) == (0, [["none"], ["1:", "3"]]), (status, lines, told)
-        status, lines, told = ran(sweeper)
-        unissued = ["unissued orders/state-5 5", "unissued orders/state-6 5"]
-        assert (status, sorted(lines)[-2:]) == (3, unissued), (status, lines, told)
-        subprocess.run([PROGRAM, "advance", "orders", "--url", server.url], check=True, stdout=subprocess.DEVNULL, timeout=COMMAND)
-        job.call(restore(1))
-        status, _, told = ran(discarder)
-        assert status == 0 and job.state()["files"]["waiting"] == 0, (status, told)
-        assert job.begin().session().name() > 1 << 40
-        status, lines, told = ran(sweeper)
-        assert (status, sorted(line.split()[1] for line in lines[:-1])) == (0, ["orders/state-5", "orders/state-6"]), (status, lines, told)
-        assert ran([word.replace("--look", "--once") for word in sweeper])[0] == 0 and files_in(place) == ["state-1", "state-2"], files_in(place)
 
 
 def test_a_dump_is_restored():
