@@ -11,7 +11,6 @@ import time
 from harness import PgArchive, Server, configured, content, folder, kept
 from postgres import postgres
 from preloaded import Clocks
-from relkvanu_service import Service
 from slow import Proxy
 from writers import SETTINGS, Writer, check, end
 
@@ -28,8 +27,8 @@ class Line(Proxy):
     """The line of a service to the database. While it is cut, nothing goes through in either direction, and no end is told."""
 
     def __init__(self, to):
-        self.to, self.is_cut = to, False
-        super().__init__()
+        self.is_cut = False
+        super().__init__(to)
 
     async def whole(self):
         while self.is_cut:
@@ -37,22 +36,14 @@ class Line(Proxy):
 
     async def connected(self, reader, writer):
         await self.whole()
-        try:
-            other_reader, other_writer = await asyncio.open_connection("127.0.0.1", self.to)
-        except OSError:
-            return writer.close()
-        await asyncio.gather(self.pipe(reader, other_writer), self.pipe(other_reader, writer))
+        await super().connected(reader, writer)
 
-    async def pipe(self, reader, writer):
-        try:
-            while data := await reader.read(1 << 20):
-                await self.whole()
-                writer.write(data)
-                await writer.drain()
-        except OSError:
-            pass
+    async def passed(self, data, link, answers):
         await self.whole()
-        writer.close()
+        return data
+
+    async def ended(self):
+        await self.whole()
 
 
 class Floor:
@@ -202,34 +193,39 @@ class FaultsOfTwo(Faults):
         self.suspend([*(server.process.pid for server in self.servers), *family(self.database)], seconds)
 
 
+def worked(servers, clients, faults, archive, seconds, least_epoch=0):
+    """The clients at work, and the faults. Returns how many calls were answered, and a sentence on them."""
+    service = clients[0].service
+    with kept(*servers) as ended:
+        for job in JOBS:
+            service.open(job, SETTINGS, SHAPE)
+        faults.go_on(clients, seconds, least_epoch)
+        found = [check(clients, service, job, SHAPE, archive) for job in JOBS]
+    for server in servers:
+        server.stop()
+    wrong = [status for status in ended if status not in (75, -9)]
+    assert not wrong, (wrong, [server.log()[-600:] for server in servers])
+    made, logged, oracle = (sum(one[part] or 0 for one in found) for part in range(3))
+    calls = f"{made} calls answered, {logged} in the log, {oracle} as the proved programs answer them"
+    return made, f"{seconds} s with faults ({faults.said()}): {calls}; {sum(client.reads for client in clients)} reads, none old"
+
+
 def run(seconds, seed=1):
-    chance = random.Random(seed)
     with postgres() as database, folder() as at:
-        archive_of = database.url
         lines = [Line(database.port) for _ in range(2)]
         clocks = [Clocks(at, f"clocks-{place}") for place in range(2)]
-        urls = [archive_of.replace(str(database.port), str(line.port)) for line in lines]
+        urls = [database.url.replace(str(database.port), str(line.port)) for line in lines]
         servers = [Server(at, urls[place], configured(at, CONFIG), clocks[place].prefix) for place in range(2)]
         servers[0].start()
         archive = PgArchive(database)
         servers[1].stand_by()
-        service, addresses, floor = Service(*(server.url for server in servers)), [server.url for server in servers], Floor()
-        for job in JOBS:
-            service.open(job, SETTINGS, SHAPE)
+        addresses, floor = [server.url for server in servers], Floor()
         clients = [Client(addresses, JOBS[number % 2], number, floor) for number in range(10)]
-        faults = FaultsOfTwo(chance, database, servers, lines, clocks)
-        with kept(*servers) as ended:
-            faults.go_on(clients, seconds, seconds // 30 + 1)
-            found = [check(clients, service, job, SHAPE, archive) for job in JOBS]
-        for server in servers:
-            server.stop()
-        made, logged, oracle = (sum(one[part] or 0 for one in found) for part in range(3))
-        reads, epochs = sum(client.reads for client in clients), faults.epoch()
-        wrong = [status for status in ended if status not in (75, -9)]
-        assert not wrong, (wrong, [server.log()[-600:] for server in servers])
+        faults = FaultsOfTwo(random.Random(seed), database, servers, lines, clocks)
+        made, said = worked(servers, clients, faults, archive, seconds, seconds // 30 + 1)
+        epochs = faults.epoch()
         assert made > 10 * seconds and epochs > seconds // 30, (made, epochs, faults.made)
-        calls = f"{made} calls answered, {logged} in the log, {oracle} as the proved programs answer them"
-        return f"{seconds} s with faults ({faults.said()}), {epochs} leaders: {calls}; {reads} reads, none old"
+        return f"{epochs} leaders, {said}"
 
 
 if __name__ == "__main__":

@@ -1,45 +1,21 @@
 """The clients, and the API's description against the service's real answers."""
-import json
 import os
 import shutil
-import subprocess
 import time
 
-from harness import COMMAND, ENGINE, SERVICE, SETTINGS, Service, beside, check_log, folder, raised, served, until
+import described
+from harness import COMMAND, SETTINGS, Service, beside, check_log, folder, raised, served, until
 from relkvanu_service import Failed, Refused, ack, decline, deleted, dispose, restore, savepoint, take
-from run import Skipped
 from test_api import MAKING
 
 
-def as_json_schema(node):
-    """OpenAPI's `nullable` in the words of JSON Schema."""
-    if isinstance(node, list):
-        return [as_json_schema(one) for one in node]
-    if not isinstance(node, dict):
-        return node
-    made = {key: as_json_schema(value) for key, value in node.items() if key != "nullable"}
-    return {"anyOf": [{"type": "null"}, made]} if node.get("nullable") else made
-
-
 def test_answers_fit_the_description():
-    try:
-        import jsonschema
-    except ImportError:
-        raise Skipped("python3-jsonschema", "it is not here") from None
-    with open(f"{SERVICE}/web/openapi.json", encoding="utf-8") as it:
-        described = as_json_schema(json.load(it))
-
     def fits(method, path, route, body=None, key=None, accept=None):
         headers = [("Idempotency-Key", key)] if key else []
         told = server.request(method, path, body, headers=[*headers, ("Accept", accept)] if accept else headers)
-        operation = described["paths"][route][method.lower()]
         if body is not None and told[0] in (200, 201):
-            wanted = operation["requestBody"]["content"]["application/json"]["schema"]
-            jsonschema.validate(body, {**wanted, "components": described["components"]})
-        assert str(told[0]) in operation["responses"], (method, path, told)
-        content = operation["responses"][str(told[0])].get("content", {}).get(told[1].get("content-type", "").partition(";")[0])
-        if content:
-            jsonschema.validate(told[2], {**content["schema"], "components": described["components"]})
+            described.validate(body, described.description()["paths"][route][method.lower()]["requestBody"]["content"]["application/json"])
+        described.fits(method, route, told[0], told[2], told[1].get("content-type", "").partition(";")[0])
         return told
 
     with served() as server:
@@ -171,21 +147,3 @@ def test_a_job_claims_its_folder():
             there = os.listdir(place)
             failed = raised(Failed, lambda: claims.claim(place))
             assert why in str(failed) and os.listdir(place) == there, failed
-
-
-def test_the_client_in_rust():
-    if not os.path.exists(ENGINE):
-        raise Skipped("the client in Rust", f"{ENGINE} is not built")
-    with served() as server:
-        run = subprocess.Popen([ENGINE, server.url, "rust", "20"], stdout=subprocess.PIPE, stderr=subprocess.STDOUT, text=True)
-        until(lambda: (server.get("/v1/jobs/rust")[2] or {}).get("seq", 0) > 40)
-        server.kill()
-        time.sleep(0.3)
-        server.start()
-        told = run.communicate(timeout=COMMAND)[0]
-        assert run.returncode == 0 and " checkpoints completed, " in told, told
-        log = []
-        while page := server.get(f"/v1/jobs/rust/log?terms=1&limit=1000&after={len(log)}")[2]["calls"]:
-            log += page
-        check_log(server.get("/v1/jobs/rust")[2], [2, 3], log)
-        return f"{told.strip()}, over a kill of the service"

@@ -1,11 +1,10 @@
 """A job whose log can't be replayed is kept out, and the others are served: over SQLite and PostgreSQL, at a start and a take-over."""
-import json
 import subprocess
 
-from harness import CALL, COMMAND, PROGRAM, SERVICE, Server, Service, configured, folder, lease_of, served, sqlite, until
+from described import fits
+from harness import CALL, COMMAND, PROGRAM, Server, Service, configured, folder, lease_of, served, sqlite, until
 from postgres import postgres
 from relkvanu_service import ack, savepoint
-from test_clients import as_json_schema
 from test_metrics import scraped
 
 SETTINGS = {"interval": 1 << 40, "timeout": 86_400_000}
@@ -110,18 +109,11 @@ def is_kept_out(server, name, said):
 
 def fit_the_description(server):
     """The lists, the page's view and a refusal are as the API's description has them."""
-    try:
-        import jsonschema
-    except ImportError:
-        return
-    with open(f"{SERVICE}/web/openapi.json", encoding="utf-8") as it:
-        described = as_json_schema(json.load(it))
     job = "/v1/jobs/{job}"
     for path, route, status in (("/v1/jobs", "/v1/jobs", 200), ("/v1/view", "/v1/view", 200), ("/v1/view/cut", "/v1/view/{job}", 200), ("/v1/jobs/cut", job, 503)):
         told = server.get(path)
-        schema = described["paths"][route]["get"]["responses"][str(status)]["content"]["application/json"]["schema"]
         assert told[0] == status, (path, told)
-        jsonschema.validate(told[2], {**schema, "components": described["components"]})
+        fits("GET", route, status, told[2])
 
 
 def looked_at(server, database, sound):
@@ -248,13 +240,3 @@ def test_a_take_over():
         service = Service(second.url)
         assert list(service.damaged()) == ["differs"] and seen(service.job("good")) == before
         is_kept_out(second, "differs", DAMAGES["differs"][1])
-
-
-def test_no_job_that_can_be_replayed():
-    """If not one job can be replayed, the start ends: the program or the database is the wrong one."""
-    with served() as server:
-        filled(Service(server.url), ["differs"])
-        server.stop()
-        put_damage(Sqlite(server.database), ["differs"])
-        server.start(ready=False)
-        assert server.ended() == 78 and DAMAGES["differs"][1] in server.log(), server.log()[-600:]

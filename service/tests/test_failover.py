@@ -1,10 +1,9 @@
-"""Clients whose first machine is gone, whose answers are lost, and whose proxy answers: they go on, and do nothing twice. Also `https`."""
+"""Clients whose first machine is gone, whose answers are lost, and whose proxy answers: they go on, and do nothing twice."""
 import contextlib
 import json
 import os
 import re
 import socket
-import ssl
 import subprocess
 import threading
 import time
@@ -181,47 +180,3 @@ def test_keys_are_looked_up_for_a_group():
         looked = len(re.findall(r"execute keyed: ", content(f"{database.data}/log")))
         assert keys > clients * rounds and 0 < looked < keys / 4, (keys, looked)
         return f"{keys} requests with a key, {looked} statements for all their keys"
-
-
-def with_tls(server, certificate):
-    """A proxy with TLS before a service: its URL, and the context that has its certificate."""
-    context = ssl.SSLContext(ssl.PROTOCOL_TLS_SERVER)
-    context.load_cert_chain(certificate, f"{certificate}.key")
-    proxy = Proxy(server, lambda number, body: None)
-    proxy.http.socket = context.wrap_socket(proxy.http.socket, server_side=True)
-    return f"https://localhost:{proxy.http.server_address[1]}", context
-
-
-def a_certificate(path):
-    words = ["openssl", "req", "-x509", "-newkey", "ec", "-pkeyopt", "ec_paramgen_curve:prime256v1", "-nodes", "-days", "2", "-subj", "/CN=localhost"]
-    subprocess.run([*words, "-addext", "subjectAltName=DNS:localhost", "-keyout", f"{path}.key", "-out", path], check=True, stderr=subprocess.DEVNULL)
-    return path
-
-
-def test_https():
-    if not os.path.exists(ENGINE):
-        raise Skipped("the client in Rust", f"{ENGINE} is not built")
-    with served() as server:
-        path, renewed = (a_certificate(f"{server.folder}/{name}") for name in ("certificate", "renewed"))
-        url, context = with_tls(server, path)
-        trusting = {**os.environ, "SSL_CERT_FILE": path}
-        told = subprocess.run([ENGINE, url, "a", "2"], env=trusting, capture_output=True, text=True, timeout=COMMAND, check=False)
-        assert told.returncode == 0 and "checkpoints completed" in told.stdout, told
-        assert [job["name"] for job in Service(url, ca=path).jobs()] == ["a"]
-        # a certificate that is not trusted is tried again, and ends the client with its patience
-        begun = time.monotonic()
-        told = subprocess.run([ENGINE, url, "b", "2"], capture_output=True, text=True, timeout=COMMAND, check=False)
-        assert told.returncode == 1 and "certificate verify failed" in told.stderr, told
-        took = time.monotonic() - begun
-        assert took > 30, took  # its patience is a minute
-        failed = []
-        raised(requests.RequestException, lambda: Service(url, patience=4).noticing(failed.append).jobs())
-        # its last try may have had too little time
-        assert any(isinstance(error, requests.exceptions.SSLError) for error in failed), failed
-        # one that is renewed meanwhile ends none
-        engine = subprocess.Popen([ENGINE, url, "c", "2"], env={**os.environ, "SSL_CERT_FILE": renewed}, stdout=subprocess.PIPE, text=True)
-        time.sleep(1)
-        context.load_cert_chain(renewed, f"{renewed}.key")
-        told = engine.communicate(timeout=COMMAND)[0]
-        assert engine.returncode == 0 and "checkpoints completed" in told, told
-        return f"the engine in Rust and the client in Python; without the certificate it ended after {took:.0f} s"

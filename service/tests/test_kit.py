@@ -10,14 +10,14 @@ import socket
 import stat
 import subprocess
 
-from harness import COMMAND, PROGRAM, SERVICE, Server, folder, served, until
+from described import description, fits
+from harness import COMMAND, PROGRAM, Server, folder, served, until
 from postgres import postgres
 from relkvanu.job_of_service import ServiceJob
 from relkvanu.service_manifests import Manifests, service_folder
 from relkvanu.state import StorageFiles, storage_of
 from relkvanu_service import Service
 from run import Skipped
-from test_clients import as_json_schema
 from test_commands import running_job
 from test_portable import did
 from test_runner import Lines, Run
@@ -197,9 +197,7 @@ class Asked(http.client.HTTPConnection):
     def __init__(self, path, job):
         super().__init__("job", timeout=COMMAND)
         self.path, self.job, self.done = path, f"/v1/jobs/{job}", set()
-        with open(f"{SERVICE}/web/openapi.json", encoding="utf-8") as it:
-            self.described = as_json_schema(json.load(it))
-        self.routes = {(word.upper(), route): operation["responses"] for route, it in self.described["paths"].items() for word, operation in it.items()
+        self.routes = {(word.upper(), route) for route, it in description()["paths"].items() for word, operation in it.items()
                        if isinstance(operation, dict) and operation.get("x-running-job")}
 
     def connect(self):
@@ -218,14 +216,11 @@ class Asked(http.client.HTTPConnection):
         return answer.status, told
 
     def check(self, method, path, status, told):
-        import jsonschema
-
         route = method, re.sub("/(jobs|records|files)/[^/]+", lambda it: f"/{it[1]}/{NAMES[it[1]]}", path)
         if route not in self.routes:
             assert status in (404, 405), (route, status)
             return
-        schema = self.routes[route][str(status)]["content"]["application/json"]["schema"]
-        jsonschema.validate(told, {**schema, "components": self.described["components"]})
+        fits(*route, status, told)
         self.done.update([route] if status == 200 else [])
 
 
@@ -292,7 +287,7 @@ def listens(run, path, job):
     until(lambda: at.ask("GET", "")[1]["choice"]["kind"] == "checkpoint")
     refused(at)
     operated(at)
-    assert at.done == set(at.routes), set(at.routes) - at.done
+    assert at.done == at.routes, at.routes - at.done
     told, why = run.communicate(timeout=COMMAND)
     assert told.strip().lower() == "cancelled" and not os.path.exists(path), (told, why)
 

@@ -2,10 +2,10 @@
 import http.server
 import json
 
-from harness import SERVICE, SETTINGS, Server, Service, beside, configured, folder, lease_of, raised, until
+from described import fits
+from harness import SETTINGS, Server, Service, beside, configured, folder, lease_of, raised, until
 from postgres import postgres
 from relkvanu_service import Failed, ack, savepoint
-from test_clients import as_json_schema
 from test_damaged import REQUESTS
 from test_metrics import scraped
 
@@ -53,34 +53,23 @@ def test_large_logs():
         return f"{counts[0]} calls of {len(JOBS)} jobs over SQLite, {counts[1]} over PostgreSQL"
 
 
-def fits(path, status, told):
-    with open(f"{SERVICE}/web/openapi.json", encoding="utf-8") as it:
-        described = as_json_schema(json.load(it))
-    try:
-        import jsonschema
-    except ImportError:
-        return
-    schema = described["paths"][path]["get"]["responses"][str(status)]["content"]["application/json"]["schema"]
-    jsonschema.validate(told, {**schema, "components": described["components"]})
-
-
 def not_replayed(server, jobs):
     """What a service says of jobs of which none can be replayed now."""
     for method, path, body in REQUESTS:
         status, _, told = server.request(method, f"/v1/jobs/few{path}", body)
         assert (status, told["reason"]) == (503, "replaying") and "few is not replayed yet" in told["error"], (method, path, told)
         assert told["replay"]["jobs"] == jobs and told["replay"]["replayed"] == 0, told
-    fits("/v1/jobs/{job}", 503, told)
+    fits("GET", "/v1/jobs/{job}", 503, told)
     for method, path, body in (
         ("POST", "/v1/jobs", {"name": "few", "settings": SETTINGS, "shape": [100]}), ("GET", "/v1/view/few", None), ("GET", "/v1/jobs", None),
     ):
         assert server.request(method, path, body)[2]["reason"] == "replaying", path
     listed = server.get("/v1/jobs?at_once=1")[2]
     assert listed["jobs"] == [] and listed["replaying"] == sorted(JOBS), listed
-    fits("/v1/jobs", 200, listed)
+    fits("GET", "/v1/jobs", 200, listed)
     view = server.get("/v1/view")[2]
     assert view["jobs"] == [] and view["job"] is None and view["replay"] == told["replay"], view
-    fits("/v1/view", 200, view)
+    fits("GET", "/v1/view", 200, view)
     values = scraped(server)[1]
     assert (values["relkvanu_replay_jobs"], values["relkvanu_replayed_jobs"], values["relkvanu_leader"]) == (jobs, 0, 1), values
 

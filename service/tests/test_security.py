@@ -8,6 +8,7 @@ import ssl
 import subprocess
 import time
 import urllib.request
+from contextlib import contextmanager
 
 from harness import COMMAND, PROGRAM, Server, Service, caught_up, folder, raised, save, served, until
 from relkvanu_service import Failed, ack, deleted, dispose, savepoint
@@ -16,6 +17,7 @@ from test_start import refused
 from test_stream import Stream
 
 ALL, ORDERS, READER = "a" * 20, "o" * 20, "r" * 20
+TOKEN = "0123456789abcdef0123"
 JOB = {"settings": {"interval": 1 << 40}, "shape": [1]}
 
 
@@ -35,13 +37,14 @@ def test_tokens_for_some_jobs():
         written(f"{at}/token", f"write {ALL} name=root", f"write {ORDERS} jobs=orders,eu-* name=alice", f"read {READER} jobs=eu-*")
         server = Server(at, args=["--token-file", f"{at}/token"]).start()
         for name, token, status in [
-            ("orders", ORDERS, 201), ("eu-1", ORDERS, 201), ("us", ORDERS, 403), ("us", ALL, 201), ("eu-1", READER, 401),
+            ("orders", ORDERS, 201), ("eu-1", ORDERS, 201), ("us", ORDERS, 403), ("us", ALL, 201), ("eu-1", READER, 401), ("eu-1", None, 401),
         ]:
             assert server.request("POST", "/v1/jobs", {**JOB, "name": name}, token)[0] == status, (name, token)
         for path, token, status in [
             ("/v1/jobs/orders", ORDERS, 200), ("/v1/jobs/us", ORDERS, 403), ("/v1/jobs/none", ORDERS, 403), ("/v1/jobs/eu-none", ORDERS, 404),
             ("/v1/jobs/orders", READER, 403), ("/v1/jobs/eu-1/log", READER, 200), ("/v1/jobs/us/stream", READER, 403), ("/v1/view/us", ORDERS, 403),
-            ("/metrics", ORDERS, 403), ("/metrics", ALL, 200), ("/v1/jobs/us", ALL, 200),
+            ("/metrics", ORDERS, 403), ("/metrics", ALL, 200), ("/v1/jobs/us", ALL, 200), ("/v1/jobs", None, 401), ("/v1/jobs", "x" * 20, 401), ("/metrics", None, 401),
+            ("/healthz", None, 200), ("/readyz", None, 200), ("/", None, 200),
         ]:
             assert server.get(path, token)[0] == status, (path, token)
         names = {token: [job["name"] for job in server.get("/v1/jobs", token)[2]["jobs"]] for token in (ALL, ORDERS, READER)}
@@ -111,29 +114,39 @@ def told_end(server):
 
 
 class TlsServer(Server):
-    """A service that speaks TLS."""
+    """A service that speaks TLS, with a certificate in its folder or elsewhere."""
+
+    ca = None
 
     def get(self, path, token=None):
-        context = ssl.create_default_context(cafile=f"{self.folder}/certificate.pem")
+        context = ssl.create_default_context(cafile=self.ca or f"{self.folder}/certificate.pem")
+        asked = urllib.request.Request(f"https://127.0.0.1:{self.port}{path}", headers={"Authorization": f"Bearer {token}"} if token else {})
         try:
-            with urllib.request.urlopen(f"https://127.0.0.1:{self.port}{path}", context=context, timeout=COMMAND) as answer:
+            with urllib.request.urlopen(asked, context=context, timeout=COMMAND) as answer:
                 return answer.status, {}, answer.read().decode()
         except OSError as error:
             return getattr(error, "code", 0), {}, None
 
 
-def test_tls_of_its_own():
+@contextmanager
+def tls_served(*more, token=TOKEN):
     with folder() as at:
         certificate(at, "first")
+        written(f"{at}/token", f"write {token}")
         tls = f"tls_certificate = '{at}/certificate.pem'\ntls_key = '{at}/key.pem'\n"
-        written(f"{at}/service.toml", tls, "[limits]\nidle_seconds = 2")
-        server = TlsServer(at, args=["--config", f"{at}/service.toml"]).start()
-        job = Service(f"https://127.0.0.1:{server.port}", ca=f"{at}/certificate.pem").open("orders", SETTINGS, [1])
+        written(f"{at}/service.toml", tls, *more)
+        server = TlsServer(at, args=["--config", f"{at}/service.toml", *(["--token-file", f"{at}/token"] if token else [])]).start()
+        yield server, f"https://127.0.0.1:{server.port}", f"{at}/certificate.pem"
+
+
+def test_tls_of_its_own():
+    with tls_served("[limits]\nidle_seconds = 2", token=None) as (server, url, ca):
+        at, job = server.folder, Service(url, ca=ca).open("orders", SETTINGS, [1])
         job.calls([savepoint(), ack(1, "0.0", [1])])
         # the client in Rust, by the program's commands
         told = subprocess.run(
-            [PROGRAM, "show", "orders", "--json", "--url", f"https://127.0.0.1:{server.port}"],
-            env={**os.environ, "SSL_CERT_FILE": f"{at}/certificate.pem"}, stdout=subprocess.PIPE, stderr=subprocess.PIPE, text=True, check=False,
+            [PROGRAM, "show", "orders", "--json", "--url", url],
+            env={**os.environ, "SSL_CERT_FILE": ca}, stdout=subprocess.PIPE, stderr=subprocess.PIPE, text=True, check=False,
         )
         assert told.returncode == 0 and '"seq":4' in told.stdout, told
         assert Server.get(server, "/healthz")[0] == 0  # without TLS
@@ -212,11 +225,8 @@ def test_all_files_are_read_again_or_none():
 
 
 def test_a_refusal_over_tls_reaches_a_client_that_still_sends():
-    with folder() as at:
-        certificate(at, "first")
-        written(f"{at}/service.toml", f"tls_certificate = '{at}/certificate.pem'\ntls_key = '{at}/key.pem'\n", "[limits]\nidle_seconds = 600")
-        server = TlsServer(at, args=["--config", f"{at}/service.toml"]).start()
-        context = ssl.create_default_context(cafile=f"{at}/certificate.pem")
+    with tls_served("[limits]\nidle_seconds = 600", token=None) as (server, _, ca):
+        context = ssl.create_default_context(cafile=ca)
         with context.wrap_socket(socket.create_connection(("127.0.0.1", server.port), timeout=COMMAND), server_hostname="127.0.0.1") as it:
             it.sendall(b"POST /v1/jobs HTTP/1.1\r\nHost: localhost\r\nContent-Type: text/plain\r\nTransfer-Encoding: chunked\r\n\r\n")
             for _ in range(10):

@@ -3,16 +3,13 @@ not finish."""
 import os
 import shutil
 import signal
-import ssl
 import stat
 import subprocess
-import urllib.error
-import urllib.request
 
 from harness import COMMAND, PROGRAM, SERVICE, Server, content, folder, save, until
 from preloaded import SHIM, built, shim
 from stepped import EACH, FIRST
-from test_security import certificate
+from test_security import TlsServer, certificate
 
 KILLED, FAILED = -9, 1  # by faults/shim.c; since it has killed openssl
 SECRET = ("read-token", "write-token", "token", "key.pem")
@@ -58,28 +55,12 @@ class Machine:
         assert 'listen = "0.0.0.0:7780"\n' in content(f"{self.settings}/service.toml")
 
 
-def answer(server, ca, path, token=None):
-    request = urllib.request.Request(f"https://{HERE}:{server.port}{path}", headers={"Authorization": f"Bearer {token}"} if token else {})
-    try:
-        with urllib.request.urlopen(request, context=ssl.create_default_context(cafile=ca), timeout=COMMAND) as found:
-            return found.status
-    except urllib.error.HTTPError as error:
-        return error.code
-
-
-class TlsServer(Server):
+def tls_server(at, machine):
     """A service with the settings of a machine. Its unit would give it the files of the certificate."""
-
-    def __init__(self, at, machine):
-        self.ca = f"{machine.settings}/certificate.pem"
-        save(f"{at}/serve.toml", content(f"{machine.settings}/service.toml").replace(CREDENTIALS, machine.settings))
-        super().__init__(at, args=["--config", f"{at}/serve.toml", "--token-file", f"{machine.settings}/token"])
-
-    def get(self, path, token=None):
-        try:
-            return answer(self, self.ca, path, token), {}, None
-        except OSError:
-            return 0, {}, None
+    save(f"{at}/serve.toml", content(f"{machine.settings}/service.toml").replace(CREDENTIALS, machine.settings))
+    server = TlsServer(at, args=["--config", f"{at}/serve.toml", "--token-file", f"{machine.settings}/token"])
+    server.ca = f"{machine.settings}/certificate.pem"
+    return server.start()
 
 
 def test_a_service_starts_with_it():
@@ -88,7 +69,7 @@ def test_a_service_starts_with_it():
         status, told = machine.ran("--self-signed")
         assert status == 0 and "systemctl restart relkvanu" in told, told
         machine.check()
-        server = TlsServer(at, machine).start()
+        server = tls_server(at, machine)
         tokens = [content(f"{machine.settings}/{it}-token").strip() for it in ("read", "write")]
         assert [server.get("/v1/jobs", it)[0] for it in (*tokens, "x" * 40)] == [200, 200, 401]
         assert Server.get(server, "/readyz")[0] == 0, "without TLS"
@@ -162,13 +143,13 @@ def test_a_certificate_is_renewed():
             assert status == 0 and "renewed/certificate.pem" in told and "beside that one" in told and machine.pair() == machine.first, told
         made = machine.pair("renewed/")
         assert made[0] != machine.first[0] and stat.S_IMODE(os.stat(f"{machine.settings}/renewed").st_mode) == 0o700
-        server = TlsServer(at, machine).start()
+        server = tls_server(at, machine)
         assert server.get("/readyz")[0] == 200
         status, told = machine.ran("--renew")
         assert status == 0 and "systemctl reload relkvanu" in told, told
         machine.is_renewed(made)
         server.process.send_signal(signal.SIGHUP)
-        until(lambda: answers(server))
+        until(lambda: server.get("/readyz")[0] == 200)
         assert server.stop() == 0
         # nothing is prepared, or there is no certificate
         status, told = machine.ran("--renew")
@@ -176,13 +157,6 @@ def test_a_certificate_is_renewed():
         bare = Machine(at)
         status, told = bare.ran("--renew", "--self-signed")
         assert status == 1 and "key.pem: it is not there" in told and os.listdir(bare.settings) == ["service.toml"], told
-
-
-def answers(server):
-    try:
-        return answer(server, server.ca, "/readyz") == 200
-    except OSError:
-        return False
 
 
 def test_a_renewal_ends_at_each_write():

@@ -1,6 +1,4 @@
 """The rows of a stop and a begin: over PostgreSQL they are committed whole or not at all, and `relkvanu check` compares the phase with the log."""
-import signal
-import socket
 import sqlite3
 import subprocess
 import threading
@@ -8,22 +6,22 @@ from contextlib import closing
 
 import requests
 
-from harness import COMMAND, PROGRAM, Server, Service, folder, free_port, served, served_job, sqlite, until
+from harness import COMMAND, PROGRAM, Server, Service, folder, served, served_job, sqlite, until
 from postgres import postgres
 from relkvanu_service import Failed, ack, restore, savepoint
+from slow import Proxy
 from test_operate import NEVER, Tasks
 from test_stop_begin import ends, half_stopped, stop_of, stops
 
 
-class Between:
+class Between(Proxy):
     """Passes on what a service and its PostgreSQL send to each other. From `arm` on it counts what the service sends, and ends the service at one of
     these messages: in the midst of it, or after it."""
 
     def __init__(self, database):
-        self.to, self.lock, self.left, self.how, self.server, self.has_ended = database.port, threading.Lock(), 0, None, None, False
-        self.listens = socket.create_server(("127.0.0.1", free_port()))
-        self.url = database.url.replace(str(database.port), str(self.listens.getsockname()[1]))
-        threading.Thread(target=self.accepts, daemon=True).start()
+        self.lock, self.left, self.how, self.server, self.has_ended = threading.Lock(), 0, None, None, False
+        super().__init__(database.port)
+        self.url = database.url.replace(str(database.port), str(self.port))
 
     def arm(self, server, message, how):
         with self.lock:
@@ -35,44 +33,15 @@ class Between:
             self.left = 0
             return self.has_ended
 
-    def accepts(self):
-        while True:
-            try:
-                one = self.listens.accept()[0]
-            except OSError:
-                return
-            other = socket.create_connection(("127.0.0.1", self.to))
-            for given in ((one, other, True), (other, one, False)):
-                threading.Thread(target=self.passes, args=given, daemon=True).start()
-
-    def passes(self, source, target, is_service):
-        try:
-            while data := source.recv(1 << 20):
-                if is_service:
-                    self.send(target, data)
-                else:
-                    target.sendall(data)
-        except OSError:
-            pass
-        finally:
-            for it in (source, target):
-                with closing(it):
-                    try:
-                        it.shutdown(socket.SHUT_RDWR)
-                    except OSError:
-                        pass
-
-    def send(self, target, data):
+    async def passed(self, data, link, answers):
         with self.lock:
-            is_last = self.left == 1
-            self.left -= self.left > 0
+            is_last = not answers and self.left == 1
+            self.left -= not answers and self.left > 0
             if not is_last:
-                target.sendall(data)
-                return
-            self.server.process.send_signal(signal.SIGSTOP)  # it hears of no answer
-            target.sendall(data if self.how == "after a message" else data[: len(data) // 2])
+                return data
             self.has_ended = True
-            self.server.kill()
+            self.server.kill()  # it hears of no answer
+            return data if self.how == "after a message" else data[: len(data) // 2]
 
 
 def rows(database, name):
@@ -153,7 +122,6 @@ def test_a_stop_and_a_begin_at_each_message_to_postgresql():
             assert check.returncode == 0, check.stdout
         finally:
             server.stop()
-            between.listens.close()
         return ", ".join(f"{count} ends {how}" for how, count in told.items())
 
 

@@ -1,16 +1,16 @@
 """While the database takes no commits, or does not answer: what health checks, metrics and reads say then, and what they do not."""
-import asyncio
 import os
 import re
 import sqlite3
-import subprocess
 import threading
 import time
 
-from harness import BUSY, COMMAND, LOCKED, PROGRAM, SERVICE, Server, content, folder, free_port, served, slowed, sqlite, until
+from harness import BUSY, LOCKED, SERVICE, Server, content, folder, free_port, served, slowed, sqlite, until
 from postgres import postgres
+from slow import Forgetful
 from test_api import JOB
 from test_connections import within
+from test_start import refused
 
 CALLS = {"calls": [{"call": "tick"}]}
 
@@ -91,45 +91,6 @@ def test_long_names_are_not_repeated_whole():
         return f"{len(bodies) + 4} requests"
 
 
-class Forgetful(threading.Thread):
-    """A proxy that forgets connections: it goes on, and passes nothing more."""
-
-    def __init__(self, to):
-        super().__init__(daemon=True)
-        self.to, self.port, self.links, self.listens = to, free_port(), [], threading.Event()
-        self.start()
-        assert self.listens.wait(COMMAND), "the proxy does not listen"
-
-    def run(self):
-        asyncio.run(self.main())
-
-    async def pipe(self, reader, writer, link):
-        while data := await reader.read(1 << 16):
-            link["at"] = time.monotonic()
-            if not link["is_forgotten"]:
-                writer.write(data)
-                await writer.drain()
-        writer.close()
-
-    async def link(self, reader, writer):
-        it = {"at": time.monotonic(), "is_forgotten": False}
-        self.links.append(it)
-        there, back = await asyncio.open_connection("127.0.0.1", self.to)
-        await asyncio.gather(self.pipe(reader, back, it), self.pipe(there, writer, it), return_exceptions=True)
-
-    async def main(self):
-        async with await asyncio.start_server(self.link, "127.0.0.1", self.port) as it:
-            self.listens.set()
-            await it.serve_forever()
-
-    def forget(self, idle):
-        """Forgets the connections that were idle for so many seconds. Returns how many."""
-        chosen = [link for link in self.links if time.monotonic() - link["at"] > idle]
-        for link in chosen:
-            link["is_forgotten"] = True
-        return len(chosen)
-
-
 def test_a_connection_to_postgresql_that_was_forgotten():
     with folder() as at, postgres() as database:
         proxy = Forgetful(database.port)
@@ -205,13 +166,9 @@ def test_files_of_long_lists():
 def test_what_is_no_database_is_refused():
     with folder() as at:
         for text in "host=db dbname=x password=secret", "dbname = x", "mysql://u:secret@db/x", "":
-            words = [PROGRAM, "serve", "--listen", "127.0.0.1:0", "--database", text]
-            told = subprocess.run(words, stderr=subprocess.PIPE, text=True, timeout=COMMAND, check=False, cwd=at)
-            assert told.returncode == 78 and "database: " in told.stderr and "secret" not in told.stderr, (text, told)
+            assert "secret" not in refused(["--listen", "127.0.0.1:0", "--database", text], 78, "database: ", cwd=at), text
+        refused(["--listen", "127.0.0.1:0", "--database", f"Postgres://u@127.0.0.1:{free_port()}/x"], 75, "onnection", cwd=at)
         assert os.listdir(at) == [], os.listdir(at)
-        words = [PROGRAM, "serve", "--listen", "127.0.0.1:0", "--database", f"Postgres://u@127.0.0.1:{free_port()}/x"]
-        told = subprocess.run(words, stderr=subprocess.PIPE, text=True, timeout=COMMAND, check=False, cwd=at)
-        assert told.returncode == 75 and "onnection" in told.stderr and os.listdir(at) == [], told
 
 
 def test_files_are_private_and_a_link_is_no_other_database():
@@ -227,7 +184,5 @@ def test_files_are_private_and_a_link_is_no_other_database():
         modes = {name: os.stat(f"{at}/{name}").st_mode & 0o777 for name in made}
         assert len(modes) >= 6 and set(modes.values()) == {0o600}, {name: oct(mode) for name, mode in modes.items()}
         os.symlink(server.database, f"{at}/link.db")
-        words = [PROGRAM, "serve", "--listen", "127.0.0.1:0", "--database", f"{at}/link.db", "--history", f"{at}/h"]
-        told = subprocess.run(words, stderr=subprocess.PIPE, text=True, timeout=COMMAND, check=False)
-        assert told.returncode == 75 and "another process serves this database" in told.stderr, told
+        refused(["--listen", "127.0.0.1:0", "--database", f"{at}/link.db", "--history", f"{at}/h"], 75, "another process serves this database")
         return f"{len(modes)} files of mode 600; a symbolic link ended with 75"

@@ -5,28 +5,16 @@ import subprocess
 import sys
 import threading
 import time
-from contextlib import contextmanager
 
 import requests
 
-from harness import HERE, folder, lease_of, raised
+from harness import COMMAND, ENGINE, HERE, PROGRAM, lease_of, raised
 from relkvanu_service import Service
+from run import Skipped
 from test_connections import many_files
-from test_security import TlsServer, certificate, told_again, written
+from test_security import TOKEN, certificate, tls_served, told_again
 
-TOKEN = "0123456789abcdef0123"
 HERD, CLIENTS, PLACES = 600, 40, 128
-
-
-@contextmanager
-def tls_served(*more):
-    with folder() as at:
-        certificate(at, "first")
-        written(f"{at}/token", f"write {TOKEN}")
-        tls = f"tls_certificate = '{at}/certificate.pem'\ntls_key = '{at}/key.pem'\n"
-        written(f"{at}/service.toml", tls, *more)
-        server = TlsServer(at, args=["--config", f"{at}/service.toml", "--token-file", f"{at}/token"]).start()
-        yield server, f"https://127.0.0.1:{server.port}", f"{at}/certificate.pem"
 
 
 def begun(kind, url, ca, count, start):
@@ -103,4 +91,22 @@ def test_a_certificate_that_is_renewed_ends_no_client():
 
         assert Service(url, token=TOKEN, ca=ca, patience=60).noticing(renew).jobs() == []
         assert "CERTIFICATE_VERIFY_FAILED" in str(renewed[0]), renewed
+        return f"refused after {took:.1f} s, and answered once it was renewed"
+
+
+def test_the_client_in_rust():
+    """The same: by a command with a patience of its own, and by an engine that starts before the certificate is renewed."""
+    if not os.path.exists(ENGINE):
+        raise Skipped("the client in Rust", f"{ENGINE} is not built")
+    with tls_served(token=None) as (server, url, ca):
+        began, patience = time.monotonic(), 4
+        told = subprocess.run([PROGRAM, "jobs", "--url", url, "--within", str(patience)], capture_output=True, text=True, timeout=COMMAND, check=False)
+        took = time.monotonic() - began
+        assert told.returncode == 78 and "certificate verify failed" in told.stderr and took >= patience / 2, (told, took)
+        certificate(server.folder, "second")
+        engine = subprocess.Popen([ENGINE, url, "a", "2"], env={**os.environ, "SSL_CERT_FILE": ca}, stdout=subprocess.PIPE, text=True)
+        time.sleep(1)
+        told_again(server, "the certificate is read again")
+        told = engine.communicate(timeout=COMMAND)[0]
+        assert engine.returncode == 0 and "checkpoints completed" in told, told
         return f"refused after {took:.1f} s, and answered once it was renewed"
