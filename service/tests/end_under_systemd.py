@@ -1,4 +1,4 @@
-"""What test_end_units.py does inside the container: the procedures of the pages, on a machine that was set up as they say. Prints what
+"""What test_unit.py does inside the container: the procedures of the pages, on a machine that was set up as they say. Prints what
 it found as JSON, or an error."""
 import json
 import os

@@ -19,7 +19,7 @@ FailureAction=exit-force
 [Service]
 Type=oneshot
 WorkingDirectory=/try
-ExecStart=/usr/bin/python3 /tests/under_systemd.py
+ExecStart=/usr/bin/python3 /tests/{script}.py
 StandardOutput=file:/try/told
 StandardError=file:/try/errors
 TimeoutStartSec=1740
@@ -27,7 +27,7 @@ TimeoutStartSec=1740
 
 
 def booted(at):
-    """Boots systemd over a root of its own, with /usr of this machine, and runs under_systemd.py in it."""
+    """Boots systemd over a root of its own, with /usr of this machine, and runs a script in it."""
     binds = [f"--bind={at}:/try", f"--bind-ro={HERE}:/tests", f"--bind-ro={SERVICE}/deploy:/deploy", f"--bind-ro={PROGRAM}:/relkvanu", f"--bind-ro={TOP}/docs:/docs"]
     binds += [f"--bind-ro={TOP}/examples/service/procedures.sh:/procedures.sh"]
     binds += [f"--bind-ro={at}/try.service:/etc/systemd/system/try.service", "--bind-ro=/dev/null:/etc/systemd/system/systemd-firstboot.service", "--bind-ro=/etc/ssl/openssl.cnf"]
@@ -40,18 +40,31 @@ def booted(at):
         return subprocess.run(["timeout", "-k", "5", "1800", "systemd-nspawn", *words], stdout=subprocess.PIPE, stderr=subprocess.STDOUT, text=True, errors="replace", check=False)
 
 
-def test_under_systemd():
+def told_by(script, at):
+    """What a script says that runs under systemd in a container."""
     if os.geteuid() != 0 or not shutil.which("systemd-nspawn"):
         raise Skipped("root and systemd-nspawn", "systemd can't be booted here")
+    save(f"{at}/try.service", BOOT.format(script=script))
+    boot = booted(at)
+    if not os.path.exists(f"{at}/errors"):
+        raise Skipped("a booting systemd", f"it does not boot here: {boot.stdout[-300:]!r}")
+    errors = content(f"{at}/errors")
+    assert not errors, f"{errors[:2000]} .. {errors[-8000:]}"
+    return json.loads(content(f"{at}/told"))
+
+
+def test_under_systemd():
     with folder() as at:
-        save(f"{at}/try.service", BOOT)
-        boot = booted(at)
-        if not os.path.exists(f"{at}/errors"):
-            raise Skipped("a booting systemd", f"it does not boot here: {boot.stdout[-300:]!r}")
-        errors = content(f"{at}/errors")
-        assert not errors, errors[-10_000:]
-        told = json.loads(content(f"{at}/told"))
-        assert told["exposure"] < 3 and told["clean_exposure"] < 3, told
+        told = told_by("under_systemd", at)
         again = f"ready again {told['after_kill']:.1f} s after SIGKILL, {told['after_stop']:.1f} s after SIGSTOP with a watchdog of 2 s"
-        rest = f"78 and 2 end it; a start took {told['long_start']:.1f} s; a backup was restored, and the program upgraded; the cleaner has exposure {told['clean_exposure']}; TLS"
-        return f"exposure {told['exposure']}; {again}; {rest}"
+        return f"{again}; 78 and 2 end it; a start took {told['long_start']:.1f} s; a backup was restored, and the program upgraded; TLS"
+
+
+def test_the_end_of_a_job():
+    """The end of a job with its units, and of one with `keep_on_cancel`."""
+    with folder() as at:
+        shutil.copy(f"{SERVICE}/client/python/relkvanu_service.py", at)
+        shutil.copytree(f"{TOP}/bindings/python/relkvanu", f"{at}/relkvanu")
+        shutil.copytree(os.environ["RELKVANU_LIB"], f"{at}/library")
+        told = told_by("end_under_systemd", at)
+        return f"a lost job goes on from record {told['recovered']}, a job ended with its {told['ended']} files, and one kept {told['kept']}"

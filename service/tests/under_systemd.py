@@ -239,8 +239,7 @@ def check_restored(before):
 
 
 def check_files_set_aside(before):
-    """None is replaced, in whichever state the commands found them: once the copy is in place, after a loss of power while they were moved, and after
-    the disk was lost."""
+    """None is replaced once the copy is in place, and the way back is the same. (test_put_back.py has what a loss of power or of the disk leaves.)"""
     aside = "/var/lib/relkvanu/aside"
 
     def check_aside():
@@ -259,21 +258,10 @@ def check_files_set_aside(before):
     given("relkvanu put-back --back --database $DATABASE", "systemctl enable --now relkvanu")
     until(is_ready)
     assert request("GET", "/v1/jobs/orders")[1]["mode"] == "cancelled" and not os.path.exists(aside)
-    # the power was lost when one of the files was moved
     run("systemctl", "stop", "relkvanu")
     shutil.rmtree("/var/lib/relkvanu/aside.not-used")
-    assert os.path.exists("/var/lib/relkvanu/relkvanu.db-wal")
-    os.mkdir(aside)
-    os.rename("/var/lib/relkvanu/relkvanu.db", f"{aside}/relkvanu.db")
     check_restored(before)
-    check_aside()
-    for is_linked in (True, False):
-        run("systemctl", "stop", "relkvanu")
-        shutil.rmtree("/var/lib/private/relkvanu")
-        if not is_linked:
-            os.remove("/var/lib/relkvanu")
-        check_restored(before)
-    os.rmdir(aside)
+    shutil.rmtree(aside)
 
 
 def words(unit="relkvanu"):
@@ -396,12 +384,6 @@ def check_the_cleaner():
     os.rename("/srv/marker", marker)
     run("systemctl", "restart", unit)
     until(lambda: not os.path.exists(path))
-    return exposure_of("relkvanu-clean.service")
-
-
-def exposure_of(unit):
-    told = run("systemd-analyze", "security", "--no-pager", unit)
-    return float(re.search(r"Overall exposure level for \S+: ([0-9.]+)", told)[1])
 
 
 def check_an_option_for_one_start():
@@ -513,7 +495,7 @@ def main():
     install()
     check_it_runs()
     check_a_reload()
-    clean_exposure = check_the_cleaner()
+    check_the_cleaner()
     run("systemctl", "enable", "--now", "relkvanu-backup.timer")
     after_kill = after(signal.SIGKILL)
     after_stop = after_a_stop(2)
@@ -525,12 +507,11 @@ def main():
     long_start = check_a_long_start()
     run("systemctl", "stop", "relkvanu")
     assert property_of("Result") == "success" and property_of("ExecMainStatus") == "0"
-    exposure = exposure_of("relkvanu.service")
     check_a_bad_setting_ends_it()
     check_tls_from_nothing()
     told = journal()
     assert "serves on" in told and WRITE not in told, told[-1000:]
-    print(json.dumps({"exposure": exposure, "clean_exposure": clean_exposure, "after_kill": after_kill, "after_stop": after_stop, "long_start": long_start}))
+    print(json.dumps({"after_kill": after_kill, "after_stop": after_stop, "long_start": long_start}))
 
 
 if __name__ == "__main__":
