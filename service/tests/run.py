@@ -35,7 +35,7 @@ MODULES = [
     "test_promotion", "test_replay", "test_operate", "test_history", "test_restore", "test_commands", "test_jobs_end",
     "test_memory", "test_nights", "test_metrics", "test_discard_folder", "test_payloads", "test_sizes", "test_stop",
     "test_backup", "test_upkeep", "test_summaries", "test_security", "test_observability", "test_moves", "test_start", "test_wal", "test_page",
-    "test_stream", "test_load", "test_week", "test_api", "test_clients", "test_kills", "test_bounds", "test_tries", "test_disk_order", "test_tables",
+    "test_stream", "test_load", "test_api", "test_clients", "test_kills", "test_bounds", "test_tries", "test_disk_order", "test_tables",
     "test_kit", "test_runner", "test_laws",
 ]
 

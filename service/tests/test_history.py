@@ -23,8 +23,6 @@ class Model:
         return max(done) if done else self.base
 
     base = None
-    last_done = 0
-    failures = 0
 
     def present(self):
         return set().union(*[set().union(it["pins"], *it["acks"].values()) for it in self.live.values()] or [set()])

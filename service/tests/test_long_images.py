@@ -87,8 +87,11 @@ def test_each_part_has_a_commit_of_its_own():
         return f"{parts} commits"
 
 
+FAILING = 'relkvanu_image_failing{job_name="large"}'
+
+
 def test_an_image_that_is_not_written_whole():
-    """Its parts go: those of one that was put off, and those that a process left which was killed."""
+    """The database has no room for it. Its parts go: those of one that was put off, and those that a process left which was killed."""
     with postgres() as database, served(database=database.url, args=["--image-calls", "90"]) as server:
         job = opened(Service(server.url))
         database.sql("""create function refused() returns trigger language plpgsql as
@@ -104,6 +107,7 @@ def test_an_image_that_is_not_written_whole():
 
         until(lambda: tries() > 0, each=0.01)
         assert job.call(TICK)["seq"] == 91 and job.state()["image"] is None
+        until(lambda: server.metric(FAILING) == 1)
         # they are deleted before the next try, which comes after 2 s, and then after twice as long each time
         until(lambda: tries() > 1, each=0.01)
         server.kill()
@@ -114,8 +118,13 @@ def test_an_image_that_is_not_written_whole():
         database.sql("drop trigger refused on image_part; create trigger refused before insert on image_part for each row execute function refused()")
         server.start()
         assert database.sql(NOT_WHOLE) == "0" and server.replayed()[-1] == 91, server.replayed()
+        # one that is too long for the database is no reason to end either
+        database.sql("""create or replace function refused() returns trigger language plpgsql as
+            $$ begin raise exception 'too long' using errcode = '54000'; end $$""")
+        until(lambda: job.call(TICK) and "too long" in server.log(), each=0.2)
         database.sql("drop trigger refused on image_part")
         image = until(lambda: job.call(TICK) and job.state()["image"], 30)
+        until(lambda: server.metric(FAILING) == 0)
         assert database.sql(NOT_WHOLE) == "0" and int(database.sql("select sum(length(text)) from image_part")) == image["bytes"]
         before = job.state()
         server.again()

@@ -1,8 +1,7 @@
 """PostgreSQL over a year: a table of keys in its steady state, a read that lasts for hours beside the commits, and commits that last."""
-import subprocess
 import time
 
-from harness import SETTINGS, beside, content, folder, leader_and_standby, lease_of, served, served_job, until
+from harness import SETTINGS, beside, content, folder, leader_and_standby, lease_of, served, until
 from postgres import postgres
 from relkvanu_service import Service
 
@@ -82,26 +81,6 @@ def test_a_commit_writes_no_version_of_the_leader():
         # two each 20 s at most: a commit of calls, and an empty one
         assert calls >= 300 and beats <= 10 + took / 10, (calls, beats, took)
         return f"{calls} calls in as many commits, and {beats} versions of the row"
-
-
-def test_commits_beside_a_long_read():
-    """Time of the same calls before a snapshot is held, and beside it once hundreds of commits were made."""
-    with postgres() as database, served_job("a", SETTINGS, [1], database=database.url) as (server, job):
-        holds = subprocess.Popen(["psql", "-qX", database.url], stdin=subprocess.PIPE, stdout=subprocess.DEVNULL, text=True)
-        holds.stdin.write("begin isolation level repeatable read; select 1;\n")
-        holds.stdin.flush()
-        # the service is between two statements of a transaction at times too
-        snapshot = "application_name = 'psql' and state = 'idle in transaction' and backend_xmin is not null"
-        until(lambda: database.sql(f"select count(*) from pg_stat_activity where {snapshot}") == "1")
-        for _ in range(600):
-            job.call(TICK)
-        size = int(database.sql("select pg_relation_size('leader') / 8192"))
-        holds.stdin.write("rollback;\n")
-        holds.stdin.close()
-        holds.wait()
-        server.stop()
-        assert size <= 2, size
-        return f"{size} pages of `leader` beside a read"
 
 
 def test_a_commit_that_lasts_keeps_its_leader():

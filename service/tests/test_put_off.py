@@ -1,4 +1,5 @@
-"""Images and summaries that a database has no room for: calls go on, and they are made later. A metric tells it of images."""
+"""Images and summaries that a database has no room for: calls go on, and they are made later. A metric tells it of images. (test_long_images.py has images
+in PostgreSQL.)"""
 import errno
 
 from harness import SETTINGS, Service, caught_up, check_log, lose_history, served, served_job, until
@@ -26,27 +27,6 @@ def refuse(database, tables, text, code):
 def allow(database, tables):
     for table in tables:
         database.sql(f"drop trigger refused on {table}")
-
-
-def test_an_image_that_postgresql_has_no_room_for():
-    with postgres() as database, served_job("orders", SETTINGS, [1], database=database.url, args=["--image-calls", "20", "--keep-calls", "0"]) as (server, job):
-        refuse(database, ["image"], "no room", "53100")
-        for _ in range(60):
-            assert tick(server), server.log()[-400:]
-        until(lambda: server.metric(FAILING) == 1, told=lambda: server.log()[-400:])
-        assert job.state()["image"] is None
-        until(lambda: "an image of job orders is put off" in server.log(), told=lambda: server.log()[-400:])
-        assert server.process.poll() is None
-        # one that is too long for the database is no reason to end either
-        refuse(database, ["image"], "too long", "54000")
-        until(lambda: tick(server) and "too long" in server.log(), 20, 0.2)
-        allow(database, ["image"])
-        until(lambda: tick(server) and job.state()["image"], 20, 0.2)
-        until(lambda: server.metric(FAILING) == 0)
-        seq = job.state()["seq"]
-        server.again()
-        assert job.state()["seq"] == seq and server.replayed()[-1] < seq
-        return f"{seq} calls; the image was made {seq - server.replayed()[-1]} calls after the job's opening"
 
 
 def test_a_summary_that_postgresql_has_no_room_for():

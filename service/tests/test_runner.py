@@ -2,6 +2,7 @@
 each combination."""
 import collections
 import contextlib
+import functools
 import glob
 import importlib
 import json
@@ -240,29 +241,8 @@ def combination(coordinator, files, to):
         return f"{KILLS} kills, {moved} of them after progress; {lines} lines, each once"
 
 
-def test_durable_folder():
-    return combination(durable, "folder", "files")
-
-
-def test_durable_foreign_folder():
-    return combination(durable, "foreign", "table")
-
-
-def test_durable_bucket():
-    return combination(durable, "bucket", "files")
-
-
-def test_service_over_sqlite_folder():
-    return combination(over_sqlite, "folder", "table")
-
-
-def test_service_over_sqlite_bucket():
-    return combination(over_sqlite, "bucket", "files")
-
-
-def test_service_over_postgres_folder():
-    return combination(over_postgres, "folder", "files")
-
-
-def test_service_over_postgres_bucket():
-    return combination(over_postgres, "bucket", "table")
+COMBINATIONS = [
+    (durable, "folder", "files"), (durable, "foreign", "table"), (durable, "bucket", "files"), (over_sqlite, "folder", "table"), (over_sqlite, "bucket", "files"),
+    (over_postgres, "folder", "files"), (over_postgres, "bucket", "table"),
+]
+globals().update({f"test_{it[0].__name__}_{it[1]}": functools.partial(combination, *it) for it in COMBINATIONS})

@@ -1,14 +1,11 @@
 """The write-ahead log of SQLite: syncs that fail, losses of power after them, and files that another program takes away."""
-import http.client
-import json
 import os
 import random
 import sqlite3
 import sys
-import threading
 import time
 
-from harness import COMMAND, TOP, Server, check_log, folder, kept, over_copy, served, sqlite, until
+from harness import TOP, Server, check_log, folder, over_copy, served, sqlite
 from preloaded import SHIM, built, shim
 from relkvanu_service import Service
 
@@ -70,63 +67,6 @@ def test_a_loss_of_power_after_a_failed_sync():
         assert None not in acknowledged and len(acknowledged) == len(set(acknowledged)), acknowledged
         check_acknowledged(acknowledged, server, at)
         return f"{len(acknowledged)} acknowledged calls, 20 of them after the failed sync"
-
-
-class Load(threading.Thread):
-    """Makes calls until it is stopped, and keeps those that were acknowledged."""
-
-    def __init__(self, server):
-        super().__init__(daemon=True)
-        self.server, self.over, self.acknowledged = server, threading.Event(), []
-
-    def run(self):
-        while not self.over.is_set():
-            connection = http.client.HTTPConnection("127.0.0.1", self.server.port, timeout=COMMAND)
-            try:
-                while not self.over.is_set():
-                    connection.request("POST", "/v1/jobs/orders/calls", json.dumps(TICK), {"Content-Type": "application/json"})
-                    told = connection.getresponse()
-                    body = told.read()
-                    if told.status == 200:
-                        self.acknowledged.append(json.loads(body)["answers"][0]["seq"])
-            except (OSError, http.client.HTTPException, ValueError):
-                time.sleep(0.02)
-            finally:
-                connection.close()
-
-
-def test_losses_of_power_after_random_failed_syncs():
-    counts, ends = [], 0
-    with folder() as at:
-        library = built(at, SHIM)
-        for trial in range(3):
-            place = f"{at}/{trial}"
-            os.mkdir(place)
-            server = Server(place, args=["--image-calls", "200", "--keep-calls", "1000000"])
-            server.prefix = journaled(library, server, fault="sync", on="-wal$", random=60)
-            server.start(ready=False)
-            with kept(server) as ended:
-                server.wait_ready(kept=True)
-                until(lambda: server.request("POST", "/v1/jobs", JOB)[0] in (200, 201))
-                loads = [Load(server) for _ in range(8)]
-                for load in loads:
-                    load.start()
-                time.sleep(random.uniform(1.5, 2.5))
-                # on a busy machine there are few syncs meanwhile
-                until(lambda: ended and sum(len(load.acknowledged) for load in loads) > 20, 60)
-            server.process.kill()
-            server.process.wait()
-            for load in loads:
-                load.over.set()
-            for load in loads:
-                load.join(COMMAND)
-            acknowledged = [seq for load in loads for seq in load.acknowledged]
-            assert set(ended) <= {75} and len(acknowledged) > 20, (ended, len(acknowledged))
-            check_acknowledged(acknowledged, server, place)
-            counts.append(len(acknowledged))
-            ends += len(ended)
-    assert ends > 0, "no sync failed"
-    return f"{sum(counts)} acknowledged calls in {len(counts)} losses of power, {ends} failed syncs before them"
 
 
 def test_a_log_that_another_program_deletes():
