@@ -15,11 +15,11 @@ pub elements-barriers : (o : Option ℕ) (items : List Item) → elements (barri
 elements-barriers None items = refl
 elements-barriers (Some m) items = refl
 
-before-its_barrier : (n : ℕ) (o : Option ℕ) (items : List Item) → is_number n o ≡ true → before n (barriers o ++ items) ≡ []
+pub before-its_barrier : (n : ℕ) (o : Option ℕ) (items : List Item) → is_number n o ≡ true → before n (barriers o ++ items) ≡ []
 before-its_barrier n None items e = grind (arith, common_steps)
 before-its_barrier n (Some m) items e = grind (arith, common_steps)
 
-before-other_barrier : (n : ℕ) (o : Option ℕ) (items : List Item) → is_number n o ≡ false → before n (barriers o ++ items) ≡ before n items
+pub before-other_barrier : (n : ℕ) (o : Option ℕ) (items : List Item) → is_number n o ≡ false → before n (barriers o ++ items) ≡ before n items
 before-other_barrier n None items e = refl
 before-other_barrier n (Some m) items e = grind (arith, common_steps)
 

@@ -1,12 +1,12 @@
 -- How many inputs are open, and how many are held.
-use Rattle.std.proofs.Common.{◌≡◌, ℕ, zero, suc, ◌+◌, ◌≤◌, Bool, List, [], ◌∷◌, ◌++◌, length, map, take, drop, refl, sym, arith}
+use Rattle.std.proofs.Common.{◌≡◌, ℕ, zero, suc, ◌+◌, Bool, List, [], ◌∷◌, ◌++◌, length, map, take, drop, refl, sym, arith}
 use Rattle.std.proofs.lemmas.Bool.{cases_Bool}
 use Rattle.std.proofs.lemmas.Grind.{common_steps}
 use Rattle.std.proofs.lemmas.List.{append-nil, length-map}
 use Rattle.std.proofs.Math.Seq.{drop-length}
 use Rattle.ckpt_align.specs.Counts.{AreCounted}
 use Rattle.std.specs.List.{list_any}
-use Rattle.std.specs.Prelude.{count_by, nat_lt, slice_get, slice_set, Some, replicate}
+use Rattle.std.specs.Prelude.{count_by, nat_lt, slice_get, slice_set, Some}
 use Rattle.ckpt_ids.proofs.CountLemmas.{count_by-cons}
 use Rattle.ckpt_ids.specs.Counting.{one_if}
 use Rattle.ckpt_align.specs.declared.input.Input.{Input}
@@ -24,13 +24,6 @@ count_by-set p [] i x y e = grind (arith, common_steps)
 count_by-set p (z ∷ xs) zero x y e = grind (arith, common_steps, count_by-cons p z xs, count_by-cons p y xs)
 count_by-set p (z ∷ xs) (suc i) x y e = grind (arith, common_steps, count_by-set p xs i x y e, count_by-cons p z xs, count_by-cons p z (slice_set xs i y))
 
--- no more than all
-pub counted_within : (xs : List Input) → count_by is_open xs + count_by is_held xs ≤ length xs
-counted_within [] = omega arith
-counted_within (Open ∷ xs) = grind (arith, common_steps, counted_within xs, count_by-cons is_open Open xs, count_by-cons is_held Open xs)
-counted_within (Held ∷ xs) = grind (arith, common_steps, counted_within xs, count_by-cons is_open Held xs, count_by-cons is_held Held xs)
-counted_within (Ended ∷ xs) = grind (arith, common_steps, counted_within xs, count_by-cons is_open Ended xs, count_by-cons is_held Ended xs)
-
 -- once they are released
 pub open_once_released : (xs : List Input) → count_by is_open (map released xs) ≡ count_by is_open xs + count_by is_held xs
 open_once_released [] = refl
@@ -43,15 +36,6 @@ held_once_released [] = refl
 held_once_released (Open ∷ xs) = grind (arith, common_steps, held_once_released xs, count_by-cons is_held Open (map released xs))
 held_once_released (Held ∷ xs) = grind (arith, common_steps, held_once_released xs, count_by-cons is_held Open (map released xs))
 held_once_released (Ended ∷ xs) = grind (arith, common_steps, held_once_released xs, count_by-cons is_held Ended (map released xs))
-
--- at the opening
-pub open_at_first : (n : ℕ) → count_by is_open (replicate n Open) ≡ n
-open_at_first zero = refl
-open_at_first (suc n) = grind (arith, common_steps, open_at_first n, count_by-cons is_open Open (replicate n Open))
-
-pub held_at_first : (n : ℕ) → count_by is_held (replicate n Open) ≡ 0
-held_at_first zero = refl
-held_at_first (suc n) = grind (arith, common_steps, held_at_first n, count_by-cons is_held Open (replicate n Open))
 
 -- the counts once each held input is released; `len` is how many inputs there are
 pub released_counted : (xs ys : List Input) (len open_ones held_ones : ℕ) → AreCounted xs open_ones held_ones → ys ≡ map released xs → len ≡ length xs

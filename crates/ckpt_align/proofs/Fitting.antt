@@ -34,9 +34,6 @@ not_late-least a n e = grind (arith, common_steps, cases_Bool (is_aligning a))
 pub not_late-greater : (a : Alignment) (n : ℕ) → a.latest < n → is_late a n ≡ false
 not_late-greater a n h = grind (arith, common_steps, cases_Bool (is_aligning a))
 
-pub not_late-idle : (a : Alignment) (n : ℕ) → is_aligning a ≡ false → is_late a n ≡ false → a.latest < n
-not_late-idle a n idle e = grind (arith, common_steps)
-
 pub not_late-released : (a : Alignment) (n : ℕ) → is_late (all_released a) n ≡ false → a.latest < n
 not_late-released a n e = grind (arith, common_steps, none_held a.inputs)
 

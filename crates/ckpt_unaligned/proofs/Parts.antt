@@ -4,7 +4,7 @@ use Rattle.ckpt_align.specs.declared.input.Input.{Input}
 use Rattle.ckpt_align.specs.declared.input.Input.TheVariants.{Open, Held, Ended}
 use Rattle.ckpt_align.proofs.Names.{is_open, released, Item, Element, Barrier, End, barriers, before, elements, event_of, is_number}
 use Rattle.ckpt_align.proofs.InputLemmas.{any-get, length-replicate}
-use Rattle.ckpt_align.proofs.Carrying.{elements-barriers}
+use Rattle.ckpt_align.proofs.Carrying.{before-its_barrier, before-other_barrier, elements-barriers}
 use Rattle.ckpt_align.specs.declared.event.Refusal.{Refusal}
 use Rattle.ckpt_align.specs.Laws.{Channel}
 use Rattle.ckpt_ids.proofs.PlaceLemmas.{some_at}
@@ -469,14 +469,6 @@ local_part inputs actions action n j rest w within =
     sym (local_from actions (opened inputs) nothing_yet [] action n j rest (opened_fits inputs j) (rw (length-replicate inputs Open) within) w)
 
 -- the sender: what it sent before its snapshot is what its output carries before the barrier
-
-before-its_barrier : (n : ℕ) (o : Option ℕ) (items : List Item) → is_number n o ≡ true → before n (barriers o ++ items) ≡ []
-before-its_barrier n None items e = grind (arith, common_steps)
-before-its_barrier n (Some m) items e = grind (arith, common_steps)
-
-before-other_barrier : (n : ℕ) (o : Option ℕ) (items : List Item) → is_number n o ≡ false → before n (barriers o ++ items) ≡ before n items
-before-other_barrier n None items e = refl
-before-other_barrier n (Some m) items e = grind (arith, common_steps)
 
 barrier_first : (n c : ℕ) (o : Option ℕ) (r : Recorder) (actions : List Action) (is : Bool) (a : Action) → is_number n o ≡ is → sent_by c r a ≡ barriers o → elements (sent c (after r a) (before_snap n (after r a) actions)) ≡ before n (sent c (after r a) actions)
     → elements (sent c r (if is then [] else a ∷ before_snap n (after r a) actions)) ≡ before n (barriers o ++ sent c (after r a) actions)
