@@ -96,7 +96,7 @@ processed_begins j a xs more ys e = (
   ap (processed j a) e ∙ ap elements (taken-append j a xs more) ∙ elements-append (taken j a xs) (taken j (replay a xs) more),
 )
 
-prefix_trans : (xs ys zs : List ℕ) → IsPrefix xs ys → IsPrefix ys zs → IsPrefix xs zs
+pub prefix_trans : (xs ys zs : List ℕ) → IsPrefix xs ys → IsPrefix ys zs → IsPrefix xs zs
 prefix_trans xs ys zs h k = (h.0 ++ k.0, k.1 ∙ ap (λ l. l ++ k.0) h.1 ∙ append_assoc xs h.0 k.0)
 
 -- At each moment what a receiver has processed before its cut is the beginning of what the sender has sent before its

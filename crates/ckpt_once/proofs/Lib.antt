@@ -11,4 +11,3 @@ pub mod Restarting
 pub mod PlainRuns
 pub mod Choosing
 pub mod Snapping
-pub mod ExampleLemmas

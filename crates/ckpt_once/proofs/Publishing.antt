@@ -20,7 +20,7 @@ use Rattle.ckpt_once.proofs.Sealing.{all_sealed, published_begins, published_up_
 abbrev channel_of : Sink → Channel
 channel_of sink = record { sender = sink.task; output = sink.output; receiver = sink.task; input = 0 }
 
-published_attempt : (n : ℕ) (job : Job) (from : States) (h : History) (sink : Sink) (earlier : List ℕ) → HaveCut n job from h → IsIn sink.task job.tasks → ((m : ℕ) → IsIn m earlier → m ≤ n)
+pub published_attempt : (n : ℕ) (job : Job) (from : States) (h : History) (sink : Sink) (earlier : List ℕ) → HaveCut n job from h → IsIn sink.task job.tasks → ((m : ℕ) → IsIn m earlier → m ≤ n)
     → published_in job from h sink (earlier ++ n ∷ []) ≡ written job from (run_of job (before_cuts n job from h)) sink
 published_attempt n job from h sink earlier cut has below =
     let xs : List Action = acts_of job from h sink.task in

@@ -162,7 +162,7 @@ all_sealed o a w (x ∷ xs) =
 
 -- publishing
 
-contents-append : (ones more : List Transaction) → contents (ones ++ more) ≡ contents ones ++ contents more
+pub contents-append : (ones more : List Transaction) → contents (ones ++ more) ≡ contents ones ++ contents more
 contents-append [] more = refl
 contents-append (one ∷ ones) more = ap (λ l. one.content ++ l) (contents-append ones more) ∙ sym (append_assoc one.content (contents ones) (contents more))
 

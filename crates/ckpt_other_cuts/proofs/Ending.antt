@@ -1,24 +1,21 @@
 -- Tasks that have ended have their part of a record, too.
 use Rattle.std.proofs.lemmas.Grind.{common_steps}
-use Rattle.std.proofs.Common.{arith, ◌≡◌, ℕ, ◌<◌, true, List, ◌++◌, ◌∙◌, sym, ap, subst, inl, inr}
+use Rattle.std.proofs.Common.{arith, ◌≡◌, ℕ, ◌<◌, true, List, ◌++◌, ◌∙◌, sym, ap, inl, inr}
 use Rattle.std.proofs.lemmas.List.{append_assoc}
-use Rattle.ckpt_ids.specs.declared.ack.Acked.{Acked}
 use Rattle.ckpt_ids.specs.declared.call.Call.{Call}
 use Rattle.ckpt_ids.specs.declared.subtask.SubtaskId.{SubtaskId}
-use Rattle.ckpt_ids.specs.Acknowledged.{acknowledges_before}
 use Rattle.ckpt_ids.specs.Ordered.{IsIn}
 use Rattle.ckpt_ids.specs.Records.{Record}
 use Rattle.ckpt_ids.specs.Shapes.{subtasks}
-use Rattle.ckpt_ids.proofs.OrderedLemmas.{IsIn-from_in_order, IsIn-from_map}
 use Rattle.ckpt_align.specs.Alignment.{Alignment, opened}
 use Rattle.ckpt_align.specs.Histories.{Item, Action, before, before_cut, elements, processed, replay, sent, taken}
 use Rattle.ckpt_align.specs.Laws.{Channel, IsConnected, IsInOrder, Network, Task}
 use Rattle.ckpt_align.proofs.Carrying.{processed_before, sent_before}
-use Rattle.ckpt_model.specs.Laws.{AreCalls, CanOpen, accepted_by, along}
+use Rattle.ckpt_model.specs.Laws.{AreCalls, CanOpen}
 use Rattle.ckpt_model.specs.State.{Opening}
 use Rattle.ckpt_model.specs.State as model
 use Rattle.ckpt_model.specs.Histories as history
-use Rattle.ckpt_model.proofs.Histories.Acknowledgements.{acknowledgements}
+use Rattle.ckpt_cuts.proofs.Consistency.{each-from_done}
 use Rattle.ckpt_once.proofs.ActionLemmas.{before_begins, taken-append}
 use Rattle.ckpt_other_cuts.proofs.Stopping.{ends}
 use Rattle.ckpt_other_cuts.specs.Finished.{AcknowledgesParts, DoneIsConsistent, FinishedCut, HasFinished, HasItsPart}
@@ -57,14 +54,7 @@ finished_cut n w all c has = let its = all c has in channel n w c its.0 its.1 it
 -- each subtask of a completed record was acknowledged for
 acknowledged : (o : Opening) (calls : List Call) (w : Network) (r : Record) (s : SubtaskId) → CanOpen o → AreCalls calls → IsIn r (history.replay (model.opened o) calls).records → r.done ≡ true
     → AcknowledgesParts r.id o calls w → IsIn s (subtasks r.shape) → HasItsPart r.id (w.task s)
-acknowledged o calls w r s opens are has done acks member =
-    let law = acknowledgements o calls opens are r has in
-    let Of : List SubtaskId → Type 0 = λ ss. IsIn s ss in
-    let one = IsIn-from_map (λ (a : Acked). a.subtask) s r.acks (subst Of (sym (law.1 done)) member) in
-    let Among : List Acked → Type 0 = λ xs. IsIn one.0 xs in
-    let accepted = IsIn-from_in_order acknowledges_before one.0 (along (accepted_by r.id) (model.opened o) calls) (subst Among law.0 one.1) in
-    let Part : SubtaskId → Type 0 = λ t. HasItsPart r.id (w.task t) in
-    subst Part (sym one.2) (acks one.0 accepted)
+acknowledged o calls w r s = each-from_done (λ t. HasItsPart r.id (w.task t)) o calls r s
 
 pub done_is_consistent : (o : Opening) (calls : List Call) (w : Network) → CanOpen o → AreCalls calls → DoneIsConsistent o calls w
 done_is_consistent o calls w opens are r has done channels acks c among = grind (arith, common_steps, acknowledged, channel)

@@ -1,36 +1,23 @@
 -- Restarts in other shapes, one behind the other.
-use Rattle.std.proofs.Common.{◌≡◌, ℕ, ◌≤◌, Bool, List, ◌∷◌, ◌++◌, ◌∙◌, refl, sym, ap, []}
+use Rattle.std.proofs.Common.{◌≡◌, ℕ, Bool, List, ◌∷◌, ◌++◌, ◌∙◌, refl, sym, ap, []}
 use Rattle.std.specs.List.{filter}
 use Rattle.std.proofs.lemmas.List.{append_assoc}
 use Rattle.std.proofs.lemmas.List.Elements.{filter-append}
 use Rattle.ckpt_ids.specs.declared.subtask.SubtaskId.{SubtaskId}
 use Rattle.ckpt_ids.specs.Ordered.{IsIn}
-use Rattle.ckpt_align.specs.Alignment.{opened}
-use Rattle.ckpt_align.specs.Histories.{Action}
 use Rattle.ckpt_model.specs.Laws.{CanOpen}
 use Rattle.ckpt_model.specs.State.{Opening}
 use Rattle.ckpt_once.specs.Jobs.{HaveCut, History, IsJob, IsQuiet, IsRun, Job, Run, States, before_cuts, of, run_of, starts, states_after}
 use Rattle.ckpt_once.specs.Programs.{emitted, on_output, state}
-use Rattle.ckpt_once.specs.Sinks.{Sink, published_in, sealed, written}
+use Rattle.ckpt_once.specs.Sinks.{Sink, published_in, written}
 use Rattle.ckpt_once.proofs.Joining.{is_quiet-join, put-join, runs_join, states-join}
-use Rattle.ckpt_once.proofs.Running.{acts_of, put_before_is, record_is_of_run, without_barriers}
-use Rattle.ckpt_once.proofs.Sealing.{published_up_to, sealed_up_to}
+use Rattle.ckpt_once.proofs.Running.{record_is_of_run, without_barriers}
 use Rattle.ckpt_other_cuts.specs.Reshaped.{AreRestarts, IsBegun, IsShapeOf, ReshapingInvisible, Restart, Spread, Stage, key_states, published_before, published_now, recorded, sink_over}
 use Rattle.ckpt_other_cuts.proofs.KeyRuns.{AgreeOn, channel_of, is_key_quiet, is_key_run, key_run, key_states_after, same_quiet, same_run, written_by_keys}
-use Rattle.ckpt_once.proofs.Publishing.{published_now as published_since}
+use Rattle.ckpt_once.proofs.Publishing.{published_attempt, published_now as published_since}
 use Rattle.ckpt_once.proofs.Restarting.{have_cut}
 
 -- runs one behind the other
-
--- what a sink of a subtask published
-
-published_then : (n : ℕ) (job : Job) (begun : States) (h : History) (sink : Sink) (earlier : List ℕ) → HaveCut n job begun h → IsIn sink.task job.tasks → ((m : ℕ) → IsIn m earlier → m ≤ n)
-    → published_in job begun h sink (earlier ++ n ∷ []) ≡ written job begun (run_of job (before_cuts n job begun h)) sink
-published_then n job begun h sink earlier cut has below =
-    let xs : List Action = acts_of job begun h sink.task in
-    published_up_to n earlier (sealed sink.output (opened (job.inputs sink.task)) [] xs) below
-    ∙ sealed_up_to sink.output n (job.inputs sink.task) [] [] xs (cut sink.task has)
-    ∙ sym (put_before_is n job begun h (channel_of sink))
 
 -- a stage
 
@@ -83,7 +70,7 @@ is_reached o keys (restart ∷ restarts) opens is are =
           ∙ ap (λ s. state (keys.program k) s (of k second)) (same k has)
           ∙ states-join keys (starts keys) second first k;
       published = λ sink has. ap (λ l. l ++ published_now stage sink (restart.earlier ++ n ∷ [])) (before.published sink has)
-          ∙ ap (λ l. wrote sink ++ filter (spread.is_from sink) l) (published_then n job begun h (sink_over spread sink) restart.earlier cut (shape.tasks sink.task has) ends.is_last)
+          ∙ ap (λ l. wrote sink ++ filter (spread.is_from sink) l) (published_attempt n job begun h (sink_over spread sink) restart.earlier cut (shape.tasks sink.task has) ends.is_last)
           ∙ ap (λ l. wrote sink ++ l) (written_by_keys keys job spread begun plain shape of_record.0 ends.is_routed sink has)
           ∙ ap (λ s. wrote sink ++ on_output sink.output (emitted (keys.program sink.task) s (of sink.task second))) (same sink.task has)
           ∙ sym (put-join keys (starts keys) second first (channel_of sink));

@@ -14,7 +14,7 @@ use Rattle.ckpt_once.specs.Programs.{Emitted, Move, Program, emitted, on_output,
 use Rattle.ckpt_once.specs.Jobs.{By, IsJob, IsPrefix, Job, Run, States, of, starts, states_after}
 use Rattle.ckpt_once.specs.Sinks.{Sink, Transaction, contents, published, up_to, written}
 use Rattle.ckpt_once.proofs.Running.{of_here, of_there}
-use Rattle.ckpt_once.proofs.Sealing.{published_begins, published_up_to}
+use Rattle.ckpt_once.proofs.Sealing.{contents-append, published_begins, published_up_to}
 use Rattle.ckpt_once.proofs.TurnLemmas.{on_output-append}
 use Rattle.ckpt_unaligned.specs.Laws.{HasPart}
 use Rattle.ckpt_unaligned.specs.Recording.{opened}
@@ -37,10 +37,6 @@ rising-split (x ∷ xs) ys h =
 
 abbrev id_of : Transaction → ℕ
 id_of one = one.id
-
-contents-append : (xs ys : List Transaction) → contents (xs ++ ys) ≡ contents xs ++ contents ys
-contents-append [] ys = refl
-contents-append (x ∷ xs) ys = ap (λ l. x.content ++ l) (contents-append xs ys) ∙ sym (append_assoc x.content (contents xs) (contents ys))
 
 up_to-all : (n : ℕ) (ones : List Transaction) → ((k : ℕ) → IsIn k (map id_of ones) → k ≤ n) → up_to n ones ≡ ones
 up_to-all n [] h = refl

@@ -13,6 +13,7 @@ use Rattle.ckpt_align.specs.Laws.{Channel}
 use Rattle.ckpt_once.specs.Programs.{Emitted, Move, Program, emitted, from_input, on_output, state}
 use Rattle.ckpt_once.specs.Jobs.{By, IsPrefix, IsRun, Job, Run, States, of, put_on, starts, states_after, taken_off}
 use Rattle.ckpt_once.specs.Sinks.{Sink, written}
+use Rattle.ckpt_once.proofs.ActionLemmas.{prefix_trans}
 use Rattle.ckpt_once.proofs.Joining.{emitted-append, from_input-append, put-join, states-join, taken-join}
 use Rattle.ckpt_once.proofs.TurnLemmas.{on_output-append}
 use Rattle.ckpt_unaligned.proofs.Parts.{global_part}
@@ -27,11 +28,6 @@ recorders_keep_channels job b s was c has =
     ∙ ap (λ xs. was.network.first c ++ xs) (sym (was.sends c has))
     ∙ sym (global_part s.record_id was.network c (was.is_connected c has) (was.in_order c has) (was.is_whole c has))
     ∙ was.takes c has
-
--- beginnings
-
-pub prefix-trans : (xs ys zs : List ℕ) → IsPrefix xs ys → IsPrefix ys zs → IsPrefix xs zs
-prefix-trans xs ys zs h k = (h.0 ++ k.0, k.1 ∙ ap (λ l. l ++ k.0) h.1 ∙ append_assoc xs h.0 k.0)
 
 -- the moves of one task
 
@@ -148,14 +144,14 @@ in_order_by : (job : Job) (b : Begin) (n : ℕ) (part : Channel → List ℕ) (n
 in_order_by job b n part newer doings it c false e has all k =
     let Of : List ℕ → Type 0 = λ xs. IsPrefix (taken_off (before_snaps n (it ∷ doings)) c) xs in
     subst Of (sym (same_puts job b c (before_snaps n doings) (moves doings) (not_snapped n c.sender doings e)))
-    (prefix-trans (taken_off (before_snaps n (it ∷ doings)) c) (taken_off (moves (it ∷ doings)) c) (puts job b (moves doings) c) (taken_is_prefix n (it ∷ doings) c) k)
+    (prefix_trans (taken_off (before_snaps n (it ∷ doings)) c) (taken_off (moves (it ∷ doings)) c) (puts job b (moves doings) c) (taken_is_prefix n (it ∷ doings) c) k)
 in_order_by job b n part newer doings it c true e has all k =
     let whole : Run = before_snaps n (newer ++ it ∷ doings) in
     let Of : List ℕ → Type 0 = λ xs. IsPrefix (taken_off (before_snaps n (it ∷ doings)) c) xs in
     let same : of c.sender whole ≡ of c.sender (before_snaps n doings) =
     ap (λ ds. of c.sender (before_snaps n ds)) (sym (append_assoc newer (it ∷ []) doings)) ∙ snapped n c.sender (newer ++ it ∷ []) doings e in
     subst Of (same_puts job b c whole (before_snaps n doings) same)
-    (prefix-trans (taken_off (before_snaps n (it ∷ doings)) c) (taken_off whole c) (puts job b whole c) (older_taken (before_snaps n (it ∷ doings)) whole c (older_run n newer (it ∷ doings))) (part c, all c has))
+    (prefix_trans (taken_off (before_snaps n (it ∷ doings)) c) (taken_off whole c) (puts job b whole c) (older_taken (before_snaps n (it ∷ doings)) whole c (older_run n newer (it ∷ doings))) (part c, all c has))
 
 tail_run : (job : Job) (b : Begin) (t : SubtaskId) (w : Doing) (run : Run) → IsRunFrom job b (with_doing t w run) → IsRunFrom job b run
 tail_run job b t (Moves m) run k = k.0
