@@ -75,8 +75,10 @@ const PAUSE: Duration = Duration::from_millis(1);
 /// A line that was not read for want of memory must not pass for another one. If memory does not come back, the process ends, as it
 /// does if there is none for a list of its own.
 pub fn parse_line(line: &str) -> Option<(u64, Call)> {
+    // room for each word, so that the library reads the line once
+    let words = line.bytes().filter(|byte| *byte == b' ').count();
     for _ in 0..ATTEMPTS {
-        match relkvanu::Call::of(line.as_bytes(), &mut Vec::new(), &mut Vec::new()) {
+        match relkvanu::Call::of(line.as_bytes(), &mut vec![0; words], &mut vec![0; words]) {
             Ok(said) => return changing(said?),
             Err(Fault::Memory) => thread::sleep(PAUSE),
             Err(_) => return None,
