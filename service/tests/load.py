@@ -33,12 +33,6 @@ def wrk(url, connections, batch, seconds):
     return rate, int(bad.group(1)) if bad else 0, slow.group(1) if slow else "?"
 
 
-def values(server):
-    """The metrics without labels."""
-    lines = [line.split(" ") for line in server.get("/metrics")[2].splitlines()]
-    return {words[0]: float(words[1]) for words in lines if len(words) == 2}
-
-
 def processor_times(server):
     """The seconds that its threads have run, as users and in the system."""
     return [int(ticks) / os.sysconf("SC_CLK_TCK") for ticks in content(f"/proc/{server.process.pid}/stat").rpartition(")")[2].split()[11:13]]
@@ -72,17 +66,13 @@ def main(seconds=10, where="sqlite"):
     print(f"load {os.getloadavg()[0]:.1f} after")
 
 
-def start_time(server):
-    """How long a start takes, and how many calls it makes again."""
+def started_over(server, what):
+    """Prints how long a start takes, how many calls it makes again, and what that takes of a processor."""
     started = time.monotonic()
     server.start(ready=False)
     server.wait_ready(600)
-    return time.monotonic() - started, server.replayed()[-1]
-
-
-def started_over(server, what):
-    took, made = start_time(server)
-    print(f"start {what}: {took:.1f} s for {made} calls", flush=True)
+    took, ran = time.monotonic() - started, sum(processor_times(server))
+    print(f"start {what}: {took:.1f} s, {ran:.1f} s of a processor, for {server.replayed()[-1]} calls", flush=True)
 
 
 def forget_images(server, database):
@@ -98,8 +88,8 @@ def measure(at, seconds, database):
         times = f"{each:.0f} µs of a processor each, and {of_wrk:.0f} µs of wrk"
         print(f"{connections} connections, {batch} a request: {rate:.0f} acknowledgements/s, 99% within {slow}, {acks} calls logged, {times}", flush=True)
     print(f"memory with the job of 4096 subtasks: {memory(server) / 1024:.0f} MiB")
-    made, state = values(server), server.get("/v1/jobs/load")[2]
-    count, took = made["relkvanu_image_seconds_count"], made["relkvanu_image_seconds_sum"]
+    state = server.get("/v1/jobs/load")[2]
+    count, took = (server.metric(f"relkvanu_image_seconds_{it}") for it in ("count", "sum"))
     print(f"{count:.0f} images, of {state['image']['bytes']} bytes at last, {1000 * took / count:.1f} ms each; load {os.getloadavg()[0]:.1f}")
     server.kill()
     if not database:
