@@ -220,11 +220,11 @@ static void large_images(void) {
     }
     CHECK(relkvanu_store_calls(store, calls, RELKVANU_STORE_MOST_CALLS) == RELKVANU_STORE_OK, "a list");
     CHECK(totals_of(store).images == images, "an image after %d short calls", RELKVANU_STORE_MOST_CALLS);
-    while (totals_of(store).images == images && forfeits < 8) {
+    while (totals_of(store).images == images && forfeits < 16) {
         forfeit_many(store);
         forfeits++;
     }
-    CHECK(totals_of(store).images == images + 1 && forfeits != 8, "%" PRIu64 " images after %" PRIu64 " forfeits", totals_of(store).images,
+    CHECK(totals_of(store).images == images + 1 && forfeits != 16, "%" PRIu64 " images after %" PRIu64 " forfeits", totals_of(store).images,
         forfeits);
     relkvanu_store_close(store);
     relkvanu_store_close(opens_with(job_options(RELKVANU_STORE_CREATE, IMAGE_CALLS)));

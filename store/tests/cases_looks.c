@@ -192,15 +192,28 @@ static void unsynced_opening(void) {
     CHECK(!says("SQLite"), "%s", report.message);
 }
 
-static bool fails_once;
+static bool fails_once, is_full_once;
 static unsigned failed_syncs;
 
-/* In place of that of the C library, by which SQLite syncs: the next one of a -wal fails, if it is asked to. */
-int fdatasync(int fd) {
+static bool is_wal(int fd) {
     char link[64], path[PATHS] = "";
     snprintf(link, sizeof link, "/proc/self/fd/%d", fd);
-    ssize_t len = fails_once ? readlink(link, path, sizeof path - 1) : 0;
-    if (len > 4 && strcmp(path + len - 4, "-wal") == 0) {
+    ssize_t len = readlink(link, path, sizeof path - 1);
+    return len > 4 && strcmp(path + len - 4, "-wal") == 0;
+}
+
+/* In place of those of the C library, by which SQLite writes and syncs: the next one of a -wal fails, if it is asked to. */
+ssize_t pwrite64(int fd, const void *bytes, size_t len, off64_t at) {
+    if (is_full_once && is_wal(fd)) {
+        is_full_once = false;
+        errno = ENOSPC;
+        return -1;
+    }
+    return syscall(SYS_pwrite64, fd, bytes, len, at);
+}
+
+int fdatasync(int fd) {
+    if (fails_once && is_wal(fd)) {
         fails_once = false;
         failed_syncs++;
         errno = EIO;
@@ -224,5 +237,26 @@ static void unsynced_commit(void) {
     relkvanu_store_close(store);
 }
 
+/* A commit that finds no room is tried again, with all calls of the group: of more rows than one statement has. */
+static void commit_without_room(void) {
+    enum { CALLS = 70 };
+    static relkvanu_store_call calls[CALLS];
+    relkvanu_store_options options = job_options(RELKVANU_STORE_CREATE, RELKVANU_STORE_NO_IMAGES);
+    options.patience = 300000;
+    relkvanu_store *store = opens(&options, RELKVANU_STORE_OK);
+    for (size_t i = 0; i < CALLS; i++) {
+        calls[i].call = (relkvanu_call){.kind = RELKVANU_CALL_RESERVE, .number = 1, .term = 1};
+    }
+    is_full_once = true;
+    CHECK(relkvanu_store_calls(store, calls, CALLS) == RELKVANU_STORE_OK && calls[CALLS - 1].place == CALLS, "a list");
+    CHECK(!is_full_once && totals_of(store).retries == 1, "it was not tried again");
+    relkvanu_store_close(store);
+    options.flags = RELKVANU_STORE_RECOVER;
+    store = opens(&options, RELKVANU_STORE_OK);
+    CHECK(report.replayed == CALLS, "%" PRIu64 " calls", report.replayed);
+    relkvanu_store_close(store);
+}
+
 const struct test look_cases[] = {CASE(waits_grow), CASE(unsynced_deletions), CASE(marker_goes_during_deletions),
-    CASE(marker_of_a_storage_goes), CASE(bad_copies), CASE(unsynced_opening), CASE(unsynced_commit), {NULL, NULL}};
+    CASE(marker_of_a_storage_goes), CASE(bad_copies), CASE(unsynced_opening), CASE(unsynced_commit), CASE(commit_without_room),
+    {NULL, NULL}};

@@ -10,12 +10,17 @@
 #include <stdlib.h>
 #include <string.h>
 #include <sys/file.h>
+#include <sys/mman.h>
 #include <unistd.h>
 
 static pthread_mutex_t all_mutex = PTHREAD_MUTEX_INITIALIZER;
 static relkvanu_store *all;
 static pthread_once_t once = PTHREAD_ONCE_INIT;
 static unsigned forks; /* so far */
+
+/* The process that stores are of, in a page that is empty in a forked child, however it was forked: so to look takes no system call, and each call of a store
+ * looks. NULL: the system has no such page. */
+static _Atomic(pid_t) *process;
 
 static void before_fork(void) {
     pthread_mutex_lock(&all_mutex);
@@ -37,12 +42,19 @@ static void in_child(void) {
 }
 
 static void watch_forks(void) {
+    size_t len = (size_t)sysconf(_SC_PAGESIZE);
+    void *page = mmap(NULL, len, PROT_READ | PROT_WRITE, MAP_PRIVATE | MAP_ANONYMOUS, -1, 0);
+    bool is_emptied = page != MAP_FAILED && madvise(page, len, MADV_WIPEONFORK) == 0;
+    process = is_emptied ? page : NULL;
     pthread_atfork(before_fork, after_fork, in_child);
 }
 
 void rks_list(relkvanu_store *s) {
     pthread_once(&once, watch_forks);
     pthread_mutex_lock(&all_mutex);
+    if (process != NULL) {
+        *process = s->process;
+    }
     s->older = all;
     all = s;
     pthread_mutex_unlock(&all_mutex);
@@ -59,7 +71,7 @@ void rks_unlist(relkvanu_store *s) {
 }
 
 bool rks_is_forked(const relkvanu_store *s) {
-    return getpid() != s->process;
+    return (process != NULL ? *process : getpid()) != s->process;
 }
 
 /* The same name in the folder, which has no symbolic links then. Sets errno if it returns NULL. */

@@ -464,6 +464,7 @@ static int open_job(relkvanu_store *s, const char *path, const relkvanu_store_op
 /* RELKVANU_STORE_OK, or why not. */
 int rks_begin_store(relkvanu_store *s) {
     pthread_condattr_t by_clock;
+    pthread_mutexattr_t spins; /* nobody has the mutex for long */
     s->handle = s->handles;
     s->file.lock = s->file.shm = s->storage.folder = s->submits.event = -1;
     s->queue.tail = &s->queue.head;
@@ -475,7 +476,8 @@ int rks_begin_store(relkvanu_store *s) {
     if (s->submits.event < 0) {
         return rks_file_fault(s, "an eventfd", errno);
     }
-    bool is_done = pthread_mutex_init(&s->mutex, NULL) == 0 && pthread_condattr_init(&by_clock) == 0 &&
+    bool is_done = pthread_mutexattr_init(&spins) == 0 && pthread_mutexattr_settype(&spins, PTHREAD_MUTEX_ADAPTIVE_NP) == 0 &&
+                   pthread_mutex_init(&s->mutex, &spins) == 0 && pthread_condattr_init(&by_clock) == 0 &&
                    pthread_condattr_setclock(&by_clock, CLOCK_MONOTONIC) == 0 && pthread_cond_init(&s->changed, &by_clock) == 0 &&
                    pthread_cond_init(&s->queue.gathered, &by_clock) == 0 && pthread_cond_init(&s->keeper.changed, &by_clock) == 0 &&
                    sem_init(&s->submits.work, 0, 0) == 0;

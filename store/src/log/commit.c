@@ -9,7 +9,7 @@
 #include <time.h>
 #include <zlib.h>
 
-enum { SMALL_IMAGE = 1 << 16, LOG_OF_IMAGE = 4 }; /* bytes; the log before the next image, in images */
+enum { SMALL_IMAGE = 1 << 16, LOG_OF_IMAGE = 8 }; /* bytes; the log before the next image, in images */
 
 /* The checksum of the calls so far with one more: its line, its answer and its files. */
 uint32_t rks_chain(uint32_t chain, const struct rks_row *row) {
@@ -86,14 +86,28 @@ static int insert(relkvanu_store *s, enum rks_statement statement, const struct 
     return code == SQLITE_OK ? rks_step(s, statement, "call") : rks_fault(s, "call");
 }
 
-/* Many rows by one statement take SQLite less than two thirds of the time that they take one by one. */
-static int insert_all(relkvanu_store *s) {
-    int status = RELKVANU_STORE_OK;
-    for (size_t at = 0, len; at < s->group.rows_len && status == RELKVANU_STORE_OK; at += len) {
-        len = s->group.rows_len - at < RKS_MANY ? 1 : RKS_MANY;
-        status = insert(s, len == 1 ? RKS_INSERT : RKS_INSERT_MANY, &s->group.rows[at], len);
+/* Inserts the rows that are not there yet, in the transaction that may have begun: so many by one statement, since they take SQLite less than two thirds of the
+ * time that they take one by one. */
+static int insert_rows(relkvanu_store *s, bool with_the_rest) {
+    int status = sqlite3_get_autocommit(s->log.db) ? rks_step(s, RKS_BEGIN, "begin") : RELKVANU_STORE_OK;
+    size_t end = with_the_rest ? s->group.rows_len : s->group.rows_len - s->group.rows_len % RKS_MANY;
+    for (size_t len; s->group.inserted < end && status == RELKVANU_STORE_OK; s->group.inserted += len) {
+        len = end - s->group.inserted < RKS_MANY ? 1 : RKS_MANY;
+        status = insert(s, len == 1 ? RKS_INSERT : RKS_INSERT_MANY, &s->group.rows[s->group.inserted], len);
     }
     return status;
+}
+
+static int roll_back(relkvanu_store *s) {
+    s->group.inserted = 0;
+    return sqlite3_get_autocommit(s->log.db) ? RELKVANU_STORE_OK : rks_step(s, RKS_ROLLBACK, "rollback");
+}
+
+/* If it fails, the commit begins anew, and tells. */
+void rks_insert_ahead(relkvanu_store *s) {
+    if (s->group.rows_len - s->group.inserted >= RKS_MANY && insert_rows(s, false) != RELKVANU_STORE_OK) {
+        roll_back(s);
+    }
 }
 
 /* Deletes calls that both images cover, a part at a time, so that no commit takes long. Returns in *cut up to which call. */
@@ -112,10 +126,7 @@ static int cut_log(relkvanu_store *s, uint64_t *cut) {
 static int transact(relkvanu_store *s, bool has_image, bool *may_retry) {
     char words[RKS_MESSAGE];
     uint64_t cut = 0;
-    int status = rks_step(s, RKS_BEGIN, "begin");
-    if (status == RELKVANU_STORE_OK) {
-        status = insert_all(s);
-    }
+    int status = insert_rows(s, true);
     if (status == RELKVANU_STORE_OK && s->job.writes_phase) {
         status = rks_write_phase(s);
     }
@@ -144,7 +155,7 @@ static int transact(relkvanu_store *s, bool has_image, bool *may_retry) {
     *may_retry = primary == SQLITE_FULL || primary == SQLITE_NOMEM || primary == SQLITE_BUSY || primary == SQLITE_LOCKED ||
                  primary == SQLITE_TOOBIG || s->log.code == SQLITE_IOERR_WRITE || s->log.code == SQLITE_IOERR_NOMEM;
     memcpy(words, s->fault, sizeof words);
-    if (!sqlite3_get_autocommit(s->log.db) && rks_step(s, RKS_ROLLBACK, "rollback") != RELKVANU_STORE_OK) {
+    if (roll_back(s) != RELKVANU_STORE_OK) {
         *may_retry = false;
     }
     memcpy(s->fault, words, sizeof words);
@@ -168,6 +179,7 @@ static bool has_saved(relkvanu_store *s, bool is_wanted) {
         return false;
     }
     s->log.next_image = saturated(s->log.place, s->options.image_calls);
+    rks_room(&s->log.image, s->log.logged); /* one that does not fit is made twice */
     s->log.logged = 0;
     /* While many files wait, images are large. Then a call costs no more for them than so many bytes. */
     if (rks_save(s) != RELKVANU_STORE_OK) {

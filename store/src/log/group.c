@@ -37,7 +37,7 @@ void rks_free_rows(relkvanu_store *s) {
 }
 
 void rks_begin_group(relkvanu_store *s) {
-    s->group.rows_len = s->group.receipts_len = 0;
+    s->group.rows_len = s->group.receipts_len = s->group.inserted = 0;
 }
 
 void rks_note_receipt(relkvanu_store *s, relkvanu_answer receipt) {

@@ -11,7 +11,8 @@ struct rks_waiter {
     struct rks_waiter *next;
     relkvanu_store_call *calls;
     size_t calls_len;
-    sem_t turn;
+    uint32_t number;       /* its place among all that came, modulo 2^32 */
+    atomic_bool is_called; /* to lead, or because it is answered: then it is its thread's again */
     int status;
     bool is_answered; /* otherwise its turn is to lead */
     bool is_submitted;
@@ -91,11 +92,21 @@ struct rks_group {
     relkvanu_answer *held;  /* and in these places; */
     uint64_t *receipts;     /* and these are the receipts of the answers, in the order of the group's calls */
     size_t rows_len, receipts_len, rows_room;
+    size_t inserted; /* rows, by the transaction that has begun */
     struct rks_block *lines;
     uint64_t took;             /* the sync of the last commit, in ns */
     size_t callers, expected;  /* of the group; those of the last one, and the ones that waited when it ended */
     size_t rests, resting;     /* for how many groups no leader waits for callers who did not come back; how many are left */
     relkvanu_store_counts led; /* counts of the leaders */
+};
+
+/* Callers whose numbers come one after the other sleep on one word, each with a bit of its own: one system call wakes as many of them as are to be woken, and
+ * nobody else. The rest keeps the words of others out of its line of the cache. */
+enum { RKS_BELLS = 64, RKS_BITS = 32 };
+
+struct rks_bell {
+    atomic_uint rung;
+    char rest[60];
 };
 
 /* Who waits. Guarded by the mutex. While is_led one thread leads, and it alone has the log, the group and the job. */
@@ -104,6 +115,8 @@ struct rks_queue {
     struct rks_waiter *sleepers, **sleepers_tail; /* who are answered, and have to be woken */
     atomic_bool has_sleepers;                     /* it changes with the mutex, and is read without it */
     size_t queued, loners;                        /* how many wait in it; and of these, join no group */
+    uint32_t came;                                /* so far */
+    struct rks_bell bells[RKS_BELLS];             /* not guarded */
     bool is_led;
     size_t gathers; /* who leads waits until so many do; 0: it does not wait for them */
     pthread_cond_t gathered;
@@ -151,6 +164,7 @@ uint32_t rks_image_sum(uint64_t place, uint32_t chain, const void *image, size_t
 int rks_save(relkvanu_store *s);
 int rks_write_image(relkvanu_store *s);
 void rks_note_image(relkvanu_store *s);
+void rks_insert_ahead(relkvanu_store *s);
 int rks_commit(relkvanu_store *s, bool wants_image);
 
 /* replay.c */

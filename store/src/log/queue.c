@@ -4,17 +4,68 @@
 #include "../store.h"
 #include "log.h"
 
+#include <limits.h>
+#include <linux/futex.h>
 #include <stdio.h>
 #include <stdlib.h>
+#include <sys/syscall.h>
 #include <time.h>
+#include <unistd.h>
 
-enum { LONGEST_GATHERING = 5000000, WOKEN_AT_ONCE = 16, MADE_AT_ONCE = 32 }; /* ns; callers; callers */
+enum { LONGEST_GATHERING = 5000000, WOKEN_AT_ONCE = 32, MADE_AT_ONCE = 32 }; /* ns; callers; callers */
 
 void rks_drop_answers(relkvanu_store_call *calls, size_t calls_len) {
     for (size_t i = 0; i < calls_len; i++) {
         calls[i].answer = calls[i].choice = (relkvanu_answer){.code = RELKVANU_STORE_NOT_MADE};
         calls[i].place = calls[i].term = 0;
         rks_clear_more(&calls[i]);
+    }
+}
+
+static struct rks_bell *bell_of(relkvanu_store *s, uint32_t number) {
+    return &s->queue.bells[number / RKS_BITS % RKS_BELLS];
+}
+
+static uint32_t bit_of(uint32_t number) {
+    return UINT32_C(1) << number % RKS_BITS;
+}
+
+static void ring(struct rks_bell *bell, uint32_t bits) {
+    atomic_fetch_add(&bell->rung, 1);
+    syscall(SYS_futex, &bell->rung, FUTEX_WAKE_BITSET_PRIVATE, INT_MAX, NULL, NULL, bits);
+}
+
+static void call_one(relkvanu_store *s, struct rks_waiter *w) {
+    uint32_t number = w->number;
+    w->is_called = true;
+    ring(bell_of(s, number), bit_of(number));
+}
+
+/* Wakes those in a list up to another one. Who is called may be gone at once. */
+static void call_all(relkvanu_store *s, struct rks_waiter *first, const struct rks_waiter *behind) {
+    struct rks_bell *bell = NULL;
+    uint32_t bits = 0;
+    for (struct rks_waiter *w = first, *next; w != behind; w = next) {
+        uint32_t number = w->number;
+        next = w->next;
+        if (bits != 0 && bell != bell_of(s, number)) {
+            ring(bell, bits);
+            bits = 0;
+        }
+        bell = bell_of(s, number);
+        bits |= bit_of(number);
+        w->is_called = true;
+    }
+    if (bits != 0) {
+        ring(bell, bits);
+    }
+}
+
+/* Who calls does so before the word changes: so nobody sleeps who was called. */
+static void await_call(relkvanu_store *s, struct rks_waiter *w) {
+    struct rks_bell *bell = bell_of(s, w->number);
+    for (uint32_t seen = bell->rung; !w->is_called; seen = bell->rung) {
+        syscall(SYS_futex, &bell->rung, FUTEX_WAIT_BITSET_PRIVATE, seen, NULL, NULL, bit_of(w->number));
     }
 }
 
@@ -32,10 +83,7 @@ static bool wake_some(relkvanu_store *s) {
     s->queue.sleepers_tail = behind == NULL ? &s->queue.sleepers : s->queue.sleepers_tail;
     s->queue.has_sleepers = behind != NULL;
     pthread_mutex_unlock(&s->mutex);
-    for (struct rks_waiter *w = first, *next; w != behind; w = next) {
-        next = w->next;
-        sem_post(&w->turn);
-    }
+    call_all(s, first, behind);
     return behind != NULL;
 }
 
@@ -55,9 +103,7 @@ int rks_enter(relkvanu_store *s, struct rks_waiter *w) {
     }
     w->next = NULL;
     w->is_answered = false;
-    if (!w->is_submitted && sem_init(&w->turn, 0, 0) != 0) {
-        return RELKVANU_STORE_NO_MEMORY;
-    }
+    w->is_called = false;
     pthread_mutex_lock(&s->mutex);
     if (s->dead != 0) {
         pthread_mutex_unlock(&s->mutex);
@@ -66,6 +112,7 @@ int rks_enter(relkvanu_store *s, struct rks_waiter *w) {
     *s->queue.tail = w;
     s->queue.tail = &w->next;
     s->queue.queued++;
+    w->number = s->queue.came++;
     s->queue.loners += !joins(w);
     if (s->queue.gathers != 0 && (s->queue.queued >= s->queue.gathers || s->queue.loners != 0)) {
         s->queue.gathers = 0;
@@ -80,11 +127,12 @@ int rks_enter(relkvanu_store *s, struct rks_waiter *w) {
     if (is_submitted) {
         return RELKVANU_STORE_OK; /* it may be answered and freed by now */
     }
-    while (!leads && sem_wait(&w->turn) != 0) {}
+    if (!leads) {
+        await_call(s, w);
+    }
     if (w->is_answered) {
         wake_some(s);
     }
-    sem_destroy(&w->turn);
     if (!w->is_answered && w->calls == NULL) {
         rks_await_keeper(s); /* a read sees no record whose manifest is not there yet */
     }
@@ -216,14 +264,19 @@ void rks_hand_on(relkvanu_store *s, int dead) {
         s->queue.queued = s->queue.loners = 0;
     }
     s->group.expected = s->group.callers + s->queue.queued;
-    s->queue.is_led = s->queue.head != NULL;
-    if (s->queue.is_led) {
-        sem_post(s->queue.head->is_submitted ? &s->submits.work : &s->queue.head->turn);
+    struct rks_waiter *next = s->queue.head;
+    s->queue.is_led = next != NULL;
+    if (next != NULL && next->is_submitted) {
+        sem_post(&s->submits.work);
+        next = NULL;
     }
     if (s->dead != 0) {
         pthread_cond_broadcast(&s->changed);
     }
     pthread_mutex_unlock(&s->mutex);
+    if (next != NULL) {
+        call_one(s, next);
+    }
     wake_all(s, answer_all(s, failed, RELKVANU_STORE_CLOSED, NULL));
 }
 
@@ -332,6 +385,7 @@ static struct rks_waiter *make_group(relkvanu_store *s) {
     rks_begin_calls(s);
     while ((more = take_calls(s, &end, &len)) != NULL) {
         rks_make(s, more);
+        rks_insert_ahead(s); /* while callers come back */
         g.before = g.before == 0 ? s->group.callers : g.before;
         if (!has_more(s, &g)) {
             break;

@@ -132,6 +132,10 @@ int rks_open_database(relkvanu_store *s) {
     if (status == RELKVANU_STORE_OK) { /* Debian's SQLite would write each page of a payload once more, with zeros, when its record ends */
         status = rks_run(s, "PRAGMA secure_delete=FAST");
     }
+    if (status ==
+        RELKVANU_STORE_OK) { /* payloads of a record would be written to the -wal before the commit and once more by it, and be read to be deleted */
+        status = rks_run(s, "PRAGMA cache_spill=OFF; PRAGMA cache_size=-16384");
+    }
     sqlite3_wal_autocheckpoint(s->log.db, 0); /* SQLite would hide that one failed */
     sqlite3_wal_hook(s->log.db, count_pages, s);
     return status;
