@@ -1,20 +1,24 @@
 /* bench FOLDER [SECONDS]: durable acknowledgements a second of 1, 16 and 256 threads, without and with a discarder. Then, of 1 and of 256
  * threads, and of one that acknowledges by lists of 512, by turns with commits by SQLite alone, of as many rows as the groups of these threads or the lists have,
- * the share of its rows a second. The job has 4096 subtasks, and 3 files in each acknowledgement. */
+ * the share of its rows a second. The job has 4096 subtasks, and 3 files in each acknowledgement. Last a checkpoint whose subtasks have 1 KB in place of files, by
+ * such lists, by turns with the same bytes in one synced file. */
 #define _GNU_SOURCE
 #include "../include/relkvanu_store.h"
 
+#include <fcntl.h>
 #include <inttypes.h>
+#include <poll.h>
 #include <pthread.h>
 #include <sqlite3.h>
 #include <stdatomic.h>
 #include <stdio.h>
 #include <stdlib.h>
 #include <string.h>
+#include <sys/random.h>
 #include <time.h>
 #include <unistd.h>
 
-enum { SUBTASKS = 4096, FILES = 3, VERTICES = 4, AHEAD = 4, LIST = 512, MOST_THREADS = 256, MOST_TIMES = 1 << 22, TURNS = 5 };
+enum { SUBTASKS = 4096, STATE = 1024, FILES = 3, VERTICES = 4, AHEAD = 4, LIST = 512, MOST_THREADS = 256, MOST_TIMES = 1 << 22, TURNS = 5 };
 enum { STEP = 1000000 }; /* ms between two triggers: no timer of the bench ever has a tick to make */
 
 static relkvanu_store *store;
@@ -24,6 +28,7 @@ static uint64_t term;
 static uint32_t times[MOST_TIMES]; /* in units of 0.1 us */
 static double group;               /* calls a commit, in the last measurement */
 static bool by_lists;
+static uint8_t states[SUBTASKS][STATE];
 
 static void check(const char *what, bool is_so, const char *why) {
     if (!is_so) {
@@ -230,6 +235,59 @@ static void measure_share(const char *path, unsigned threads, unsigned seconds) 
         by_lists ? " by lists" : "", shares[TURNS / 2], shares[0], shares[TURNS - 1]);
 }
 
+/* The ms of a checkpoint, from its trigger until it is complete. An event loop submits the lists, and awaits the last one. */
+static double checkpoint(void) {
+    static relkvanu_store_call trigger, calls[SUBTASKS];
+    static relkvanu_store_more more[SUBTASKS];
+    relkvanu_store_completion done[SUBTASKS / LIST];
+    struct pollfd event = {.fd = relkvanu_store_descriptor(store), .events = POLLIN};
+    uint64_t began = now_ns();
+    trigger = (relkvanu_store_call){.call = {.kind = RELKVANU_CALL_TRIGGER, .now = RELKVANU_STORE_NOW}};
+    check("trigger", relkvanu_store_calls(store, &trigger, 1) == RELKVANU_STORE_OK && trigger.answer.what == RELKVANU_TICK_TRIGGERED, "no");
+    for (uint64_t i = 0; i < SUBTASKS; i++) {
+        more[i] = (relkvanu_store_more){.payload = states[i], .payload_len = STATE};
+        calls[i] = (relkvanu_store_call){.more = &more[i],
+            .call = {RELKVANU_CALL_ACK, (uint16_t)(i / 1024), (uint16_t)(i % 1024), RELKVANU_STORE_NOW, trigger.answer.b, term}};
+        check(
+            "submit", i % LIST != LIST - 1 || relkvanu_store_submit(store, &calls[i + 1 - LIST], LIST, i) == RELKVANU_STORE_OK, "refused");
+    }
+    for (size_t found = 0; found < SUBTASKS / LIST && poll(&event, 1, -1) == 1;) {
+        found += relkvanu_store_completed(store, done, SUBTASKS / LIST);
+    }
+    check("checkpoint", calls[SUBTASKS - 1].answer.what == RELKVANU_ACK_COMPLETED, "it is not complete");
+    return (double)(now_ns() - began) / 1e6;
+}
+
+/* The ms of one file with the same bytes. */
+static double one_file(const char *path) {
+    uint64_t began = now_ns();
+    int file = open(path, O_WRONLY | O_CREAT | O_TRUNC, 0600);
+    bool is_there = write(file, states, sizeof states) == sizeof states && fsync(file) == 0 && close(file) == 0;
+    check("one file", is_there, path);
+    return (double)(now_ns() - began) / 1e6;
+}
+
+static void measure_states(const char *path) {
+    double ours[TURNS], theirs[TURNS];
+    char file[4110];
+    snprintf(file, sizeof file, "%s.one", path);
+    open_job(path);
+    for (unsigned i = 0; i < TURNS; i++) {
+        for (size_t at = 0; at < SUBTASKS; at++) {
+            check("random bytes", getrandom(states[at], STATE, 0) == STATE, "none");
+        }
+        ours[i] = checkpoint();
+        theirs[i] = one_file(file);
+    }
+    relkvanu_store_close(store);
+    remove_job(path);
+    unlink(file);
+    qsort(ours, TURNS, sizeof *ours, by_size);
+    qsort(theirs, TURNS, sizeof *theirs, by_size);
+    printf(
+        "checkpoint of %d subtasks with %d bytes: %.1f ms, one synced file %.1f ms\n", SUBTASKS, STATE, ours[TURNS / 2], theirs[TURNS / 2]);
+}
+
 int main(int argc, char **argv) {
     char path[4096];
     unsigned seconds = argc > 2 ? (unsigned)atoi(argv[2]) : 3;
@@ -243,5 +301,6 @@ int main(int argc, char **argv) {
     measure_share(path, MOST_THREADS, seconds);
     by_lists = true;
     measure_share(path, 1, seconds);
+    measure_states(path);
     return 0;
 }
