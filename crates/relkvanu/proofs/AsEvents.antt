@@ -1,27 +1,26 @@
 -- A call that was made through a handle is one event, that of its line.
 use Rattle.std.proofs.Common.{◌≡◌, ℕ, Bool, true, false, ◌||◌, ltb, eqb, length, refl, sym, ap, ◌∙◌}
-use Rattle.std.specs.Prelude.{Option, Some, None, is_none, if◌then◌else◌}
+use Rattle.std.specs.Prelude.{Option, is_none, if◌then◌else◌}
 use Rattle.std.proofs.lemmas.Bool.{cond_both}
 use Rattle.ckpt_ids.specs.declared.call.Call.{Call}
 use Rattle.ckpt_ids.specs.declared.call.Call.TheVariants.{Tick, Savepoint, Ack, Decline, Dispose, Restore, Cancel, Take, Deleted, Undeleted, Show, Count, Trigger, Configure}
-use Rattle.ckpt_ids.specs.declared.reply.Refusal.{Refusal as Why}
 use Rattle.ckpt_model.specs.State.{State}
-use Rattle.ckpt_model.specs.Refusals.{refusal}
-use Rattle.ckpt_model.specs.Steps.{Stepped, effect, step, unless_refused}
+use Rattle.ckpt_model.specs.Steps.{Stepped, step}
 use Rattle.ckpt_terms.specs.declared.call.FencedCall.{FencedCall}
 use Rattle.ckpt_terms.specs.declared.call.FencedCall.TheVariants.{Reserve, Forfeit, Make, Advance}
 use Rattle.ckpt_terms.specs.declared.machine.Machine.{Machine}
 use Rattle.ckpt_terms.specs.declared.machine.Machine.TheVariants as machine
 use Rattle.ckpt_terms.specs.Machines.{MakesStep, Issued, core_in, is_free, machine_of, machine_step, names_in}
 use Rattle.ckpt_terms.proofs.MachineLemmas.{passes_on}
-use Rattle.ckpt_logged.specs.Events.{Event, Named, Plain, event_step}
+use Rattle.ckpt_logged.specs.Events.{Named, Plain}
+use Rattle.ckpt_model.proofs.Answering.StepCases.{show_stays}
 use Rattle.ckpt_logged.proofs.Shows.{whole}
 use Rattle.relkvanu.specs.declared.answer.Answer.{Answer}
 use Rattle.relkvanu.specs.declared.asked.Asked.{Asked}
 use Rattle.relkvanu.specs.declared.asked.Asked.TheVariants as ask
 use Rattle.relkvanu.specs.Buffers.{files_in}
 use Rattle.relkvanu.specs.Fenced.{call_step, term_step}
-use Rattle.relkvanu.specs.Groups.{asked_event}
+use Rattle.relkvanu.specs.Groups.{IsEventOf, asked_event}
 use Rattle.relkvanu.specs.Lines.{asked_step, call_made, core_step, line_call_step, named_step, plain_step}
 use Rattle.relkvanu.specs.Told.{answer_told, too_short}
 
@@ -30,10 +29,6 @@ both_if : {X Y : Type 0} (P : X → Y → Type 0) (b : Bool) (a c : X) (e f : Y)
 both_if P true a c e f t u = t refl
 both_if P false a c e f t u = u refl
 
--- the step is that of the event, if its answer says that the call was made
-abbrev IsEvent : Machine → Machine × Answer → Event → Type 0
-IsEvent k x event = x.1.code ≡ 0 → x.0 ≡ event_step k event
-
 -- a call that needs no term and ends none makes the coordinator's step, and the names stay
 free_step : (k : Machine) (call : Call) → is_free call ≡ true → machine_of (step (core_in k) call).0 (names_in k) ≡ (machine_step k call).0
 free_step k call free =
@@ -41,17 +36,7 @@ free_step k call free =
     let steps : MakesStep k n call (machine_step k call).1 = passes_on k call (ap (λ (b : Bool). b || is_none (names_in k)) free) in
     ap (λ (m : State). machine_of m (names_in k)) (sym steps.core) ∙ ap (λ (it : Option Issued). machine_of (core_in n) it) (sym steps.names) ∙ sym (whole n)
 
-shown_leaves : (m : State) (id : ℕ) (w : Option Why) → (unless_refused m (Show id) w).0 ≡ m
-unfolding effect
-shown_leaves m id (Some why) = refl
-shown_leaves m id None = refl
-
--- a show leaves the state
-show_stays : (m : State) (id : ℕ) → (step m (Show id)).0 ≡ m
-unfolding step
-show_stays m id = shown_leaves m id (refusal m (Show id))
-
-free_is : (k : Machine) (places : ℕ) (call : Call) → is_free call ≡ true → IsEvent k (core_step k (call_made (core_in k) places call)) (Plain call)
+free_is : (k : Machine) (places : ℕ) (call : Call) → is_free call ≡ true → IsEventOf k (core_step k (call_made (core_in k) places call)) (Plain call)
 unfolding call_made
 free_is k places (Tick now) free code = free_step k (Tick now) free
 free_is k places (Savepoint now) free code = free_step k (Savepoint now) free
@@ -74,33 +59,33 @@ free_is k places (Count file) free code = free_step k (Count file) free
 free_is k places (Trigger now) free code = free_step k (Trigger now) free
 free_is k places (Configure now config) free code = free_step k (Configure now config) free
 
-plain_is : (k : Machine) (places : ℕ) (call : Call) → IsEvent k (plain_step k places call) (Plain call)
+plain_is : (k : Machine) (places : ℕ) (call : Call) → IsEventOf k (plain_step k places call) (Plain call)
 plain_is k places call =
-    cond_both (is_free call) (core_step k (call_made (core_in k) places call)) (call_step k call) (λ (x : Machine × Answer). IsEvent k x (Plain call))
+    cond_both (is_free call) (core_step k (call_made (core_in k) places call)) (call_step k call) (λ (x : Machine × Answer). IsEventOf k x (Plain call))
     (λ free. free_is k places call free)
     (λ _ code. refl)
 
-term_is : (k : Machine) (call : FencedCall) → IsEvent k (term_step k call) (Named call)
+term_is : (k : Machine) (call : FencedCall) → IsEventOf k (term_step k call) (Named call)
 term_is (machine.Plain m) call code = absurd cc
 term_is (machine.Fenced m) call code = refl
 
-named_is : (k : Machine) (places term : ℕ) (call : Call) → IsEvent k (named_step k places term call) (if is_free call then Plain call else Named (Make term call))
+named_is : (k : Machine) (places term : ℕ) (call : Call) → IsEventOf k (named_step k places term call) (if is_free call then Plain call else Named (Make term call))
 named_is (machine.Plain m) places term call code = absurd cc
 named_is (machine.Fenced m) places term call code =
-    both_if (IsEvent (machine.Fenced m)) (is_free call) (plain_step (machine.Fenced m) places call) (term_step (machine.Fenced m) (Make term call)) (Plain call) (Named (Make term call))
+    both_if (IsEventOf (machine.Fenced m)) (is_free call) (plain_step (machine.Fenced m) places call) (term_step (machine.Fenced m) (Make term call)) (Plain call) (Named (Make term call))
     (λ _. plain_is (machine.Fenced m) places call)
     (λ _. term_is (machine.Fenced m) (Make term call))
     code
 
-line_call_is : (k : Machine) (places : ℕ) (call : FencedCall) → IsEvent k (line_call_step k places call) (asked_event (ask.Call call))
+line_call_is : (k : Machine) (places : ℕ) (call : FencedCall) → IsEventOf k (line_call_step k places call) (asked_event (ask.Call call))
 line_call_is k places (Make term call) =
-    both_if (IsEvent k) (eqb term 0) (plain_step k places call) (named_step k places term call) (Plain call) (if is_free call then Plain call else Named (Make term call))
+    both_if (IsEventOf k) (eqb term 0) (plain_step k places call) (named_step k places term call) (Plain call) (if is_free call then Plain call else Named (Make term call))
     (λ _. plain_is k places call)
     (λ _. named_is k places term call)
 line_call_is k places (Reserve term count) = term_is k (Reserve term count)
 line_call_is k places (Forfeit term names) = term_is k (Forfeit term names)
 line_call_is k places (Advance now term first) = term_is k (Advance now term first)
 
-pub asked_is : (k : Machine) (places : ℕ) (asked : Asked) → (asked_step k places asked).1.code ≡ 0 → (asked_step k places asked).0 ≡ event_step k (asked_event asked)
+pub asked_is : (k : Machine) (places : ℕ) (asked : Asked) → IsEventOf k (asked_step k places asked) (asked_event asked)
 asked_is k places (ask.Fence first) code = refl
 asked_is k places (ask.Call call) code = line_call_is k places call code

@@ -66,6 +66,10 @@ WantsMemory old call answer = (m : State) → old ≡ Some m → answer.code ≡
 abbrev pub StaysAsItWas : Option State → Option State → Answer → Type 0
 StaysAsItWas old new answer = answer.code ≡ no_memory → new ≡ old
 
+-- the handle is as it was
+abbrev pub IsSame : Handle → Handle → Type 0
+IsSame old new = (new.value ≡ old.value) × (new.names ≡ old.names) × (new.past ≡ old.past)
+
 -- an open handle says which argument is bad, and nothing has changed
 abbrev pub IsRefusedAs : Option State → Option State → ℕ → Answer → Type 0
 IsRefusedAs old new what answer = (m : State) → old ≡ Some m → (answer ≡ bad_argument what) × (new ≡ old)

@@ -48,6 +48,10 @@ pub record Has (p : Program) (handle : Handle) (group : Group) (held : List Answ
   pub counts : p.group ≡ group
   pub answers : p.held ≡ held
 
+-- this holds of each program that has these
+abbrev pub IfHas : Handle → Group → List Answer → (Program → Type 0) → Type 0
+IfHas handle group held P = (p : Program) → Has p handle group held → P p
+
 -- the program performs this operation, and has these afterwards
 abbrev pub Does : Program → Operation → Handle → Group → List Answer → Type 0
 Does p operation handle group held = (q : Program) × Performs p operation q × Has q handle group held
@@ -55,6 +59,16 @@ Does p operation handle group held = (q : Program) × Performs p operation q × 
 -- the handle has the coordinator that this event leaves
 abbrev pub IsLeftBy : Event → Program → Handle → Type 0
 IsLeftBy event p handle = (handle.value ≡ Some (core_in (event_step p.life.now event))) × (handle.names ≡ names_in (event_step p.life.now event))
+
+-- It holds this answer of another function, which told `result`.
+abbrev pub HoldsLook : Group → List Answer → Answer → Answer → Group → List Answer → Type 0
+HoldsLook old before answer result new after =
+    (p : Program) (h : Handle) → Has p h old before → result.code ≡ 0 → Does p (Looks answer) h new after
+
+-- the same of a call whose entry it appends itself
+abbrev pub HoldsAsked : Group → List Answer → Answer → Answer → Group → List Answer → Type 0
+HoldsAsked old before answer result new after =
+    (p : Program) (was h : Handle) (event : Event) → Has p was old before → IsLeftBy event p h → result.code ≡ 0 → Does p (Asks event answer) h new after
 
 -- It asks for what this line says, which is a call that can be made. What is held is the answer of this call, in the state of before.
 abbrev pub AsksByLine : Program → Result Asked Answer → ℕ → List ℕ → Handle → Group → List Answer → Type 0

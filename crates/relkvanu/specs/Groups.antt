@@ -1,7 +1,8 @@
 -- What a program with a log of its own keeps beside a handle: answers that may be told once what was made before them is synced.
-use Rattle.std.specs.Prelude.{◌≡◌, ◌<◌, ℕ, ◌+◌, ◌-◌, ◌^◌, nat_le, nat_lt, Bool, true, false, ◌==◌, ◌&&◌, ◌||◌, if◌then◌else◌, List, set, slice_get, unwrap_or}
-use Rattle.ckpt_logged.specs.Events.{Event, Fence, Named, Plain}
+use Rattle.std.specs.Prelude.{◌≡◌, ◌<◌, ℕ, ◌+◌, ◌-◌, ◌^◌, nat_le, nat_lt, Bool, true, false, ◌==◌, ◌&&◌, ◌||◌, if◌then◌else◌, List, length, set, slice_get, unwrap_or}
+use Rattle.ckpt_logged.specs.Events.{Event, Fence, Named, Plain, event_step}
 use Rattle.ckpt_terms.specs.declared.call.FencedCall.TheVariants.{Make}
+use Rattle.ckpt_terms.specs.declared.machine.Machine.{Machine}
 use Rattle.ckpt_terms.specs.Machines.{is_free}
 use Rattle.relkvanu.specs.declared.answer.Answer.{Answer}
 use Rattle.relkvanu.specs.declared.asked.Asked.{Asked}
@@ -33,6 +34,10 @@ IsRoom g places = (g.has_failed ≡ false) × (g.waiting < places) × (g.given <
 abbrev pub why_full : Group → Answer
 why_full g = if g.has_failed then bad_argument bad_group else bad_argument bad_receipt
 
+-- there is no room
+abbrev pub IsFull : Group → ℕ → Type 0
+IsFull g places = IsRoom g places → ⊥
+
 -- one answer more waits, with the next receipt, and those of the last sync may be told no more
 abbrev pub one_more : Group → Group
 one_more g = record { waiting = g.waiting + 1; told = 0; has_failed = false; given = g.given + 1 }
@@ -63,6 +68,10 @@ held_with g held a = if tells a then set held g.waiting a else held
 abbrev pub held_answer : Group → List Answer → Answer → Answer
 held_answer g held result = if result.code == 0 then unwrap_or (slice_get held g.waiting) result else result
 
+-- if there is room, this holds of the answer of the call
+abbrev pub IfRoom : Group → List Answer → List Answer → Answer → (Answer → Type 0) → Type 0
+IfRoom g old new result P = IsRoom g (length old) → P (held_answer g new result)
+
 -- the receipt is one of the last sync: no other one was given since, and those that may be told have the last ones
 abbrev pub is_told : Group → ℕ → Bool
 is_told g receipt = nat_lt receipt g.given && nat_le (g.given - receipt) g.told
@@ -78,3 +87,7 @@ abbrev pub asked_event : Asked → Event
 asked_event (ask.Fence first) = Fence first
 asked_event (ask.Call (Make term call)) = if term == 0 then Plain call else (if is_free call then Plain call else Named (Make term call))
 asked_event (ask.Call call) = Named call
+
+-- a step is that of this event, if its answer says that the call was made
+abbrev pub IsEventOf : Machine → Machine × Answer → Event → Type 0
+IsEventOf k x event = x.1.code ≡ 0 → x.0 ≡ event_step k event

@@ -2,6 +2,7 @@
 use Rattle.std.specs.Prelude.{◌≡◌, ℕ, nat_lt, if◌then◌else◌, List, length, Some, Result, Ok, Err}
 use Rattle.ckpt_model.specs.State.{State}
 use Rattle.ckpt_lines.specs.declared.limits.TheConstants.{LONGEST_LINE}
+use Rattle.ckpt_terms.specs.declared.machine.Machine.{Machine}
 use Rattle.relkvanu.specs.declared.answer.Answer.{Answer}
 use Rattle.relkvanu.specs.declared.asked.Asked.{Asked}
 use Rattle.relkvanu.specs.declared.handle.Handle.{Handle}
@@ -9,10 +10,12 @@ use Rattle.relkvanu.specs.declared.making.Made.{Made}
 use Rattle.relkvanu.specs.declared.writing.CallFields.{CallFields}
 use Rattle.relkvanu.specs.Asking.{bad_line}
 use Rattle.relkvanu.specs.Buffers.{StandsInFront}
-use Rattle.relkvanu.specs.Lines.{said_files}
+use Rattle.relkvanu.specs.Fenced.{IsHandled, IsTaken}
+use Rattle.relkvanu.specs.Lines.{said_files, said_step}
+use Rattle.relkvanu.specs.Past.{GrowsBy, said_line}
 use Rattle.relkvanu.specs.Reads.{counts_of}
 use Rattle.relkvanu.specs.Told.{bad_argument, too_short_for}
-use Rattle.relkvanu.specs.Writing.{asked_text, given}
+use Rattle.relkvanu.specs.Writing.{asked_text, call_line_text, given}
 
 -- what is asked for, if its text is no longer than a line may be and than a buffer with this many places
 abbrev pub asked_if_fits : Asked → List ℕ → ℕ → Result Asked Answer
@@ -33,6 +36,22 @@ making call first second line = to_make (given call first second) (length line)
 abbrev pub BringsMade : State → Result Asked Answer → List ℕ → List ℕ → Answer → Type 0
 BringsMade m asked old new answer = answer.code ≡ 0 → StandsInFront (said_files m asked) old new
 
+-- the same through an open handle
+abbrev pub Brings : Handle → Result Asked Answer → List ℕ → List ℕ → Answer → Type 0
+Brings handle asked old new answer = (m : State) → handle.value ≡ Some m → BringsMade m asked old new answer
+
+-- a coordinator makes what is asked for, with this buffer for files
+abbrev pub StepsAsked : List ℕ → Result Asked Answer → Machine → Machine → Answer → Type 0
+StepsAsked files asked old new answer = IsTaken (λ k. said_step k (length files) asked) old new answer
+
+-- the same through a handle
+abbrev pub Makes : List ℕ → Result Asked Answer → Handle → Handle → Answer → Type 0
+Makes files asked old new answer = IsHandled (λ k. said_step k (length files) asked) old new answer
+
+-- and the past of the handle grows by it
+abbrev pub Grows : List ℕ → Result Asked Answer → Handle → Handle → Answer → Type 0
+Grows files asked old new answer = GrowsBy (said_line (length files) asked) old.past new.past answer
+
 -- the length of the line, how many files waited for deletion before the call, and the numbers of files after it
 abbrev pub made_of : ℕ → State → State → Made
 made_of written old new =
@@ -45,3 +64,7 @@ Reports written old new made answer = answer.code ≡ 0 → made ≡ made_of wri
 -- the same through a handle
 abbrev pub HandleReports : ℕ → Handle → Handle → Made → Answer → Type 0
 HandleReports written old new made answer = (m n : State) → old.value ≡ Some m → new.value ≡ Some n → Reports written m n made answer
+
+-- how long the line of these fields and lists is
+abbrev pub line_length : Result Asked ℕ → ℕ
+line_length given = length (call_line_text given)

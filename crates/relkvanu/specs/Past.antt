@@ -1,16 +1,18 @@
 -- How the past of a handle grows.
-use Rattle.std.specs.Prelude.{◌≡◌, ◌≢◌, ℕ, Bool, nat_lt, ◌==◌, if◌then◌else◌, List, length, Option, Some, None, Result, Ok, Err}
+use Rattle.std.specs.Prelude.{◌≡◌, ◌≢◌, ℕ, nat_lt, ◌==◌, if◌then◌else◌, List, length, Option, Some, None, Result, Ok, Err}
 use Rattle.std.specs.Option.{option_map}
 use Rattle.ckpt_ids.specs.declared.call.Call.{Call}
 use Rattle.ckpt_ids.specs.declared.call.Call.TheVariants as call
+use Rattle.ckpt_ids.specs.declared.subtask.SubtaskId.{SubtaskId}
 use Rattle.ckpt_model.specs.Laws.{CanOpen}
-use Rattle.ckpt_model.specs.State.{Opening}
+use Rattle.ckpt_model.specs.State.{Opening, opened}
 use Rattle.ckpt_model.specs.Steps.{step}
 use Rattle.ckpt_terms.specs.declared.call.FencedCall.{FencedCall}
 use Rattle.ckpt_terms.specs.declared.call.FencedCall.TheVariants.{Make}
 use Rattle.ckpt_terms.specs.declared.machine.FenceFault.{FenceFault}
 use Rattle.ckpt_terms.specs.declared.machine.Machine.{Machine}
 use Rattle.ckpt_terms.specs.declared.machine.Machine.TheVariants as machine
+use Rattle.ckpt_terms.specs.Fencing.{fenced}
 use Rattle.ckpt_terms.specs.Machines.{core_in, fence_fault, is_free}
 use Rattle.ckpt_logged.specs.Chronicles.{Chronicle, begun, grown, told}
 use Rattle.ckpt_logged.specs.Events.{Fence, Plain}
@@ -20,6 +22,7 @@ use Rattle.relkvanu.specs.declared.asked.Asked.{Asked}
 use Rattle.relkvanu.specs.declared.asked.Asked.TheVariants as ask
 use Rattle.relkvanu.specs.Asking.{said}
 use Rattle.relkvanu.specs.Buffers.{files_in}
+use Rattle.relkvanu.specs.Calls.{ack_of}
 use Rattle.relkvanu.specs.Told.{no_memory}
 
 -- The past after a call is this function of the one before, unless memory ran out: then it stays.
@@ -38,6 +41,10 @@ plainly call c = told c (Plain call)
 -- a call of the layer of names is one event more, where there are names
 abbrev pub in_layer : FencedCall → Chronicle → Chronicle
 in_layer call c = grown c call
+
+-- such as an acknowledgement
+abbrev pub ack_in_layer : ℕ → ℕ → ℕ → SubtaskId → List ℕ → List ℕ → Chronicle → Chronicle
+ack_in_layer term now id subtask fresh reused = in_layer (Make term (ack_of now id subtask fresh reused))
 
 abbrev pub fenced_unless : Option FenceFault → ℕ → Chronicle → Chronicle
 fenced_unless None first c = told c (Fence first)
@@ -82,6 +89,14 @@ pub record Begins (o : Opening) (k : Machine) (old new : Option Chronicle) (answ
   pub good : answer.code ≡ 0 → CanOpen o
   pub opened : answer.code ≡ 0 → new ≡ Some (begun k)
   pub unopened : answer.code ≢ 0 → new ≡ old
+
+-- without names
+abbrev pub BeginsPlain : Opening → Option Chronicle → Option Chronicle → Answer → Type 0
+BeginsPlain o old new answer = Begins o (machine.Plain (opened o)) old new answer
+
+-- with names from this one on
+abbrev pub BeginsFenced : Opening → ℕ → Option Chronicle → Option Chronicle → Answer → Type 0
+BeginsFenced o first_name old new answer = Begins o (machine.Fenced (fenced o first_name)) old new answer
 
 -- what the past of an open handle promises
 abbrev pub IsPromised : Option Chronicle → Type 0

@@ -8,7 +8,7 @@ ghost use Rattle.ckpt_model.specs.Steps.{step};
 ghost use Rattle.ckpt_answers.specs.MetadataTexts.{metadata_bytes};
 ghost use Rattle.relkvanu.specs.Buffers.{BringsFiles, BringsJson, IsShowTold, StandsInFront, files_in, files_of_reply, json_in, json_of_reply};
 ghost use Rattle.relkvanu.specs.Buffers.{json_told, show_reply_told, show_told};
-ghost use Rattle.relkvanu.specs.Calls.{HasNoNumbers, IsAnswered, IsStepTold, StaysAsItWas, StaysClosed, WantsMemory};
+ghost use Rattle.relkvanu.specs.Calls.{HasNoNumbers, IsAnswered, IsSame, IsStepTold, StaysAsItWas, StaysClosed, WantsMemory};
 ghost use Rattle.relkvanu.specs.Past.{GrowsBy, IsGrown, plainly};
 ghost use Rattle.relkvanu.specs.Requested.{IsRefused};
 ghost use Rattle.relkvanu.specs.Told.{answer_told, no_memory, reply_told};
@@ -61,9 +61,7 @@ pub extern "C" fn relkvanu_show(
     ensures kept { result.code ≢ 0 → json.new ≡ json.old }
     ensures memory { WantsMemory handle.old.value (call.Show id) result }
     ensures numbers { HasNoNumbers result }
-    ensures unchanged { handle.new.value ≡ handle.old.value }
-    ensures names { handle.new.names ≡ handle.old.names }
-    ensures past { handle.new.past ≡ handle.old.past }
+    ensures unchanged { IsSame handle.old handle.new }
 {
     let Some(mut machine) = handle.take(alloc) else {
         return Answer::closed();

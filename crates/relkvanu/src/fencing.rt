@@ -13,10 +13,10 @@ ghost use Rattle.ckpt_logged.specs.Events.{IsWell};
 ghost use Rattle.ckpt_terms.specs.declared.call.TheConstants.{NAMES_END};
 ghost use Rattle.ckpt_terms.specs.Fencing.{fenced};
 ghost use Rattle.ckpt_terms.specs.Machines.{names_in};
-ghost use Rattle.relkvanu.specs.Calls.{HasNoNumbers, StaysAsItWas, StaysClosed, ack_of, subtask_at};
+ghost use Rattle.relkvanu.specs.Calls.{HasNoNumbers, IsSame, StaysAsItWas, StaysClosed, ack_of, subtask_at};
 ghost use Rattle.relkvanu.specs.Fenced.{IsHandled, IsTaken, WantsNames, ack_step, count_of, fence_step, term_step, term_told, term_wants};
 ghost use Rattle.relkvanu.specs.Naming.{IsNamedOpening, IsNotOpenedNamed, IsOpenedNamed, IsWhyNotNamed};
-ghost use Rattle.relkvanu.specs.Past.{Begins, GrowsBy, IsGrown, in_layer, with_fence};
+ghost use Rattle.relkvanu.specs.Past.{BeginsFenced, GrowsBy, IsGrown, ack_in_layer, in_layer, with_fence};
 ghost use Rattle.relkvanu.specs.Opening.{OpeningWantsMemory, StaysOpen, opening_of};
 ghost use Rattle.relkvanu.specs.Requested.{IsRefused};
 ghost use Rattle.relkvanu.specs.Told.{no_memory};
@@ -62,7 +62,7 @@ pub extern "C" fn relkvanu_open_fenced(
     ensures numbers { HasNoNumbers result }
     ensures unchanged { StaysAsItWas handle.old.value handle.new.value result }
     ensures names { result.code ≢ 0 → handle.new.names ≡ handle.old.names }
-    ensures past { Begins (opening_of settings.now shape.now now first) (machine.Fenced (fenced (opening_of settings.now shape.now now first) first_name)) handle.old.past handle.new.past result }
+    ensures past { BeginsFenced (opening_of settings.now shape.now now first) first_name handle.old.past handle.new.past result }
     ensures sound { result.code ≡ 0 → IsWell (machine.Fenced (fenced (opening_of settings.now shape.now now first) first_name)) }
 {
     if let Some(machine) = handle.take(alloc) {
@@ -154,9 +154,7 @@ pub extern "C" fn relkvanu_fence(alloc: Global, handle: &mut Handle, first_name:
 pub extern "C" fn relkvanu_term(alloc: Global, handle: &mut Handle) -> Answer
     ensures closed { StaysClosed handle.old.value handle.new.value result }
     ensures answered { (m : State) → handle.old.value ≡ Some m → result ≡ term_told handle.old.names }
-    ensures unchanged { handle.new.value ≡ handle.old.value }
-    ensures names { handle.new.names ≡ handle.old.names }
-    ensures past { handle.new.past ≡ handle.old.past }
+    ensures unchanged { IsSame handle.old handle.new }
 {
     let Some(machine) = handle.take(alloc) else {
         return Answer::closed();
@@ -243,7 +241,7 @@ pub extern "C" fn relkvanu_ack_in(
     ensures numbers { HasNoNumbers result }
     ensures unchanged { StaysAsItWas handle.old.value handle.new.value result }
     ensures names_unchanged { result.code ≡ no_memory → handle.new.names ≡ handle.old.names }
-    ensures past { GrowsBy (in_layer (fencing.Make term (ack_of now id (subtask_at vertex index) fresh.now reused.now))) handle.old.past handle.new.past result }
+    ensures past { GrowsBy (ack_in_layer term now id (subtask_at vertex index) fresh.now reused.now) handle.old.past handle.new.past result }
 {
     let Some(mut machine) = handle.take(alloc) else {
         return Answer::closed();

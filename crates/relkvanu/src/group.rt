@@ -4,21 +4,18 @@
 
 ghost use Rattle.std.specs.Prelude.{◌≡◌, ◌≢◌, ℕ, true, false, List, [], length, set, take, None, Some, IfSome};
 ghost use Rattle.ckpt_ids.specs.declared.call.Call.TheVariants.{Take};
-ghost use Rattle.ckpt_logged.specs.Events.{Event, Plain, event_step};
-ghost use Rattle.ckpt_model.specs.State.{State};
+ghost use Rattle.ckpt_logged.specs.Events.{Plain, event_step};
 ghost use Rattle.ckpt_terms.specs.Machines.{core_in};
 ghost use Rattle.ckpt_terms.specs.declared.machine.Machine.{Machine};
 ghost use Rattle.relkvanu.specs.declared.asked.Asked.{Asked};
 ghost use Rattle.relkvanu.specs.Buffers.{StandsInFront};
-ghost use Rattle.relkvanu.specs.Calls.{StaysClosed};
-ghost use Rattle.relkvanu.specs.Fenced.{IsHandled};
+ghost use Rattle.relkvanu.specs.Calls.{IsSame, StaysClosed};
 ghost use Rattle.relkvanu.specs.declared.answer.Answer.{Answer};
 ghost use Rattle.relkvanu.specs.declared.handle.Handle.{Handle};
-ghost use Rattle.relkvanu.specs.GroupPrograms.{AreAsked, Asks, AsksByLine, Does, Has, IsLeftBy, Looks, LooksAtCall, Notes, Operation, Performed, Program, Syncs, TellsWhatIsSynced, nothing, program};
-ghost use Rattle.relkvanu.specs.Groups.{IsRoom, all_lost, all_told, asked_event, group_with, held_answer, held_with, one_more, receipt_of, told_by, why_full};
-ghost use Rattle.relkvanu.specs.Lines.{asked_step, said_step};
-ghost use Rattle.relkvanu.specs.Making.{BringsMade, HandleReports, making};
-ghost use Rattle.relkvanu.specs.Past.{GrowsBy, said_line};
+ghost use Rattle.relkvanu.specs.GroupPrograms.{AreAsked, AsksByLine, Does, Has, HoldsAsked, HoldsLook, IfHas, Looks, LooksAtCall, Notes, Operation, Performed, Program, Syncs, TellsWhatIsSynced, nothing, program};
+ghost use Rattle.relkvanu.specs.Groups.{IfRoom, IsEventOf, IsFull, IsRoom, all_lost, all_told, asked_event, group_with, held_answer, held_with, one_more, receipt_of, told_by, why_full};
+ghost use Rattle.relkvanu.specs.Lines.{asked_step};
+ghost use Rattle.relkvanu.specs.Making.{Brings, Grows, HandleReports, Makes, line_length, making};
 ghost use Rattle.relkvanu.specs.Told.{bad_argument, done};
 ghost use Rattle.relkvanu.specs.WorkedGroup.{begin, buffer, last, notes, operations};
 ghost use Rattle.relkvanu.specs.Writing.{SaysBack, call_line_text, given};
@@ -82,22 +79,27 @@ pub extern "C" fn relkvanu_group_make(
     line: &mut [u8],
     made: &mut Made,
 ) -> Answer
-    ensures full { (IsRoom group.old (length held.old) → ⊥) → (result ≡ why_full group.old) × (handle.new.value ≡ handle.old.value) × (handle.new.names ≡ handle.old.names) × (handle.new.past ≡ handle.old.past) }
+    ensures full { IsFull group.old (length held.old) → (result ≡ why_full group.old) × IsSame handle.old handle.new }
     ensures group { IsRoom group.old (length held.old) → group.new ≡ group_with group.old (held_answer group.old held.new result) }
     ensures held { IsRoom group.old (length held.old) → held.new ≡ held_with group.old held.old (held_answer group.old held.new result) }
     ensures told { IsRoom group.old (length held.old) → result ≡ receipt_of group.old (held_answer group.old held.new result) }
-    ensures closed { IsRoom group.old (length held.old) → StaysClosed handle.old.value handle.new.value (held_answer group.old held.new result) }
-    ensures handled { IsRoom group.old (length held.old) → IsHandled (λ k. said_step k (length files.old) (making call.entry.now first.now second.now line.old)) handle.old handle.new (held_answer group.old held.new result) }
-    ensures files { IsRoom group.old (length held.old) → (m : State) → handle.old.value ≡ Some m → BringsMade m (making call.entry.now first.now second.now line.old) files.old files.new (held_answer group.old held.new result) }
+    ensures closed { IfRoom group.old held.old held.new result (StaysClosed handle.old.value handle.new.value) }
+    ensures handled { IfRoom group.old held.old held.new result (Makes files.old (making call.entry.now first.now second.now line.old) handle.old handle.new) }
+    ensures files { IfRoom group.old held.old held.new result (Brings handle.old (making call.entry.now first.now second.now line.old) files.old files.new) }
     ensures line { result.code ≡ 0 → result.what ≡ 62 → StandsInFront (call_line_text (given call.entry.now first.now second.now)) line.old line.new }
     ensures said { SaysBack (given call.entry.now first.now second.now) (take made.new.written line.new) (held_answer group.old held.new result) }
-    ensures made { HandleReports (length (call_line_text (given call.entry.now first.now second.now))) handle.old handle.new made.new (held_answer group.old held.new result) }
-    ensures past { IsRoom group.old (length held.old) → GrowsBy (said_line (length files.old) (making call.entry.now first.now second.now line.old)) handle.old.past handle.new.past (held_answer group.old held.new result) }
-    ensures kept { result.code ≢ 0 → (group.new ≡ group.old) × (held.new ≡ held.old) × (files.new ≡ files.old) × (line.new ≡ line.old) × (made.new ≡ made.old) }
-    ensures asks { (p : Program) → Has p handle.old group.old held.old → result.code ≡ 0 → result.what ≡ 62 → AsksByLine p (making call.entry.now first.now second.now line.old) (length files.old) (take made.new.written line.new) handle.new group.new held.new }
-    ensures looks { (p : Program) → Has p handle.old group.old held.old → result.code ≡ 0 → result.what ≢ 62 → LooksAtCall p (making call.entry.now first.now second.now line.old) (length files.old) handle.new group.new held.new }
-    ensures idle { (p : Program) → Has p handle.old group.old held.old → result.code ≡ 0 → handle.new.value ≡ handle.old.value → handle.new.names ≡ handle.old.names → Does p (Looks (held_answer group.old held.new result)) handle.new group.new held.new }
-    ensures stays { (p : Program) → Has p handle.old group.old held.old → result.code ≢ 0 → Has p handle.new group.new held.new }
+    ensures made { HandleReports (line_length (given call.entry.now first.now second.now)) handle.old handle.new made.new
+        (held_answer group.old held.new result) }
+    ensures past { IfRoom group.old held.old held.new result (Grows files.old (making call.entry.now first.now second.now line.old) handle.old handle.new) }
+    ensures kept { result.code ≢ 0 → (files.new ≡ files.old) × (line.new ≡ line.old) × (made.new ≡ made.old) }
+    ensures none_held { result.code ≢ 0 → (group.new ≡ group.old) × (held.new ≡ held.old) }
+    ensures asks { IfHas handle.old group.old held.old (λ p. result.code ≡ 0 → result.what ≡ 62
+        → AsksByLine p (making call.entry.now first.now second.now line.old) (length files.old) (take made.new.written line.new) handle.new group.new held.new) }
+    ensures looks { IfHas handle.old group.old held.old (λ p. result.code ≡ 0 → result.what ≢ 62
+        → LooksAtCall p (making call.entry.now first.now second.now line.old) (length files.old) handle.new group.new held.new) }
+    ensures idle { IfHas handle.old group.old held.old (λ p. result.code ≡ 0 → handle.new.value ≡ handle.old.value
+        → handle.new.names ≡ handle.old.names → Does p (Looks (held_answer group.old held.new result)) handle.new group.new held.new) }
+    ensures stays { IfHas handle.old group.old held.old (λ p. result.code ≢ 0 → Has p handle.new group.new held.new) }
 {
     if let Some(why) = refused(group, held.len()) {
         return why;
@@ -117,12 +119,12 @@ pub extern "C" fn relkvanu_group_hold(
     held: &mut [Answer],
     answer: &Answer,
 ) -> Answer
-    ensures full { (IsRoom group.old (length held.old) → ⊥) → (result ≡ why_full group.old) × (group.new ≡ group.old) × (held.new ≡ held.old) }
+    ensures full { IsFull group.old (length held.old) → (result ≡ why_full group.old) × (group.new ≡ group.old) × (held.new ≡ held.old) }
     ensures group { IsRoom group.old (length held.old) → group.new ≡ one_more group.old }
     ensures held { IsRoom group.old (length held.old) → held.new ≡ set held.old group.old.waiting answer.now }
     ensures told { IsRoom group.old (length held.old) → result ≡ done 63 group.old.given 0 }
-    ensures looks { (p : Program) (h : Handle) → Has p h group.old held.old → result.code ≡ 0 → Does p (Looks answer.now) h group.new held.new }
-    ensures asks { (p : Program) (old h : Handle) (event : Event) → Has p old group.old held.old → IsLeftBy event p h → result.code ≡ 0 → Does p (Asks event answer.now) h group.new held.new }
+    ensures looks { HoldsLook group.old held.old answer.now result group.new held.new }
+    ensures asks { HoldsAsked group.old held.old answer.now result group.new held.new }
 {
     if let Some(why) = refused(group, held.len()) {
         return why;
@@ -189,7 +191,7 @@ pub extern "C" fn relkvanu_group_answer(group: &Group, held: &[Answer], receipt:
 /// Why no answer can be held, with so many places in the buffer.
 fn refused(group: &Group, places: usize) -> Option<Answer>
     ensures none { result ≡ None → IsRoom group.now places }
-    ensures some { IfSome result (λ why. (why ≡ why_full group.now) × (IsRoom group.now places → ⊥)) }
+    ensures some { IfSome result (λ why. (why ≡ why_full group.now) × IsFull group.now places) }
 {
     if group.has_failed {
         Some(Answer::bad_argument(BAD_GROUP))
@@ -240,7 +242,7 @@ fn push(group: &mut Group, held: &mut [Answer], answer: Answer) -> u64
 
 /// A call that was made is one event, that of its line.
 pub fn made_is_an_event()
-    ensures { (k : Machine) (places : ℕ) (asked : Asked) → (asked_step k places asked).1.code ≡ 0 → (asked_step k places asked).0 ≡ event_step k (asked_event asked) }
+    ensures { (k : Machine) (places : ℕ) (asked : Asked) → IsEventOf k (asked_step k places asked) (asked_event asked) }
 {}
 
 /// A call that was not made leaves the coordinator as it was.

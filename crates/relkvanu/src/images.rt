@@ -7,7 +7,7 @@ ghost use Rattle.ckpt_model.specs.State.{State};
 ghost use Rattle.ckpt_image.specs.Written.{image_bytes};
 ghost use Rattle.ckpt_names_image.specs.Named.{Fenced, Plain, Saved, named_bytes, named_in, saved_in, saved_read};
 ghost use Rattle.relkvanu.specs.Buffers.{StandsInFront};
-ghost use Rattle.relkvanu.specs.Calls.{HasNoNumbers, StaysAsItWas, StaysClosed};
+ghost use Rattle.relkvanu.specs.Calls.{HasNoNumbers, IsSame, StaysAsItWas, StaysClosed};
 ghost use Rattle.relkvanu.specs.Images.{BringsImage, CanBeOpened, IsNamedSave, IsNotOpenedSaved, IsOpenedSaved, IsSaveTold, IsWhyNotOpened};
 ghost use Rattle.relkvanu.specs.Images.{IsWhyNotSaved, OpensAgain, SavedWantsMemory, Tells, TellsNothing, image_by, opened_with, saved_told};
 ghost use Rattle.relkvanu.specs.Opening.{StaysOpen};
@@ -50,9 +50,7 @@ pub extern "C" fn relkvanu_save(alloc: Global, handle: &mut Handle, image: &mut 
     ensures opens { (m : State) → handle.old.value ≡ Some m → OpensAgain m handle.old.names image.new result }
     ensures kept { result.code ≢ 0 → image.new ≡ image.old }
     ensures numbers { HasNoNumbers result }
-    ensures unchanged { handle.new.value ≡ handle.old.value }
-    ensures names { handle.new.names ≡ handle.old.names }
-    ensures past { handle.new.past ≡ handle.old.past }
+    ensures unchanged { IsSame handle.old handle.new }
 {
     let Some(machine) = handle.take(alloc) else {
         return Answer::closed();

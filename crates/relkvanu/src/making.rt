@@ -1,15 +1,14 @@
 //! Makes a call and writes its line.
 
-ghost use Rattle.std.specs.Prelude.{◌≡◌, ◌≢◌, ◌≤◌, true, length, take, Some, Ok, IsOk, string_bytes};
+ghost use Rattle.std.specs.Prelude.{◌≡◌, ◌≢◌, ◌≤◌, true, length, take, Some, Ok, IsOk};
 ghost use Rattle.ckpt_lines.specs.declared.limits.TheConstants.{LONGEST_LINE};
 ghost use Rattle.ckpt_model.specs.State.{State};
 ghost use Rattle.ckpt_terms.specs.Machines.{core_in, names_in};
 ghost use Rattle.relkvanu.specs.Buffers.{StandsInFront};
 ghost use Rattle.relkvanu.specs.Calls.{HasNoNumbers, StaysClosed};
-ghost use Rattle.relkvanu.specs.Fenced.{IsHandled, IsTaken};
-ghost use Rattle.relkvanu.specs.Lines.{is_free_line, said_step};
-ghost use Rattle.relkvanu.specs.Making.{BringsMade, HandleReports, Reports, asked_if_fits, made_of, making};
-ghost use Rattle.relkvanu.specs.Past.{GrowsBy, IsGrown, said_line};
+ghost use Rattle.relkvanu.specs.Lines.{is_free_line};
+ghost use Rattle.relkvanu.specs.Making.{Brings, BringsMade, Grows, HandleReports, Makes, Reports, StepsAsked, asked_if_fits, line_length, made_of, making};
+ghost use Rattle.relkvanu.specs.Past.{IsGrown, said_line};
 ghost use Rattle.relkvanu.specs.Requested.{IsRefused};
 ghost use Rattle.relkvanu.specs.Told.{no_memory};
 ghost use Rattle.relkvanu.specs.Writing.{ReadsBack, SaysBack, call_line_text, given};
@@ -63,18 +62,18 @@ pub extern "C" fn relkvanu_make(
     made: &mut Made,
 ) -> Answer
     ensures closed { StaysClosed handle.old.value handle.new.value result }
-    ensures handled { IsHandled (λ k. said_step k (length files.old) (making call.entry.now first.now second.now line.old)) handle.old handle.new result }
-    ensures files { (m : State) → handle.old.value ≡ Some m → BringsMade m (making call.entry.now first.now second.now line.old) files.old files.new result }
+    ensures handled { Makes files.old (making call.entry.now first.now second.now line.old) handle.old handle.new result }
+    ensures files { Brings handle.old (making call.entry.now first.now second.now line.old) files.old files.new result }
     ensures line { result.code ≡ 0 → StandsInFront (call_line_text (given call.entry.now first.now second.now)) line.old line.new }
     ensures read { ReadsBack (given call.entry.now first.now second.now) (take made.new.written line.new) result }
     ensures said { SaysBack (given call.entry.now first.now second.now) (take made.new.written line.new) result }
-    ensures made { HandleReports (length (call_line_text (given call.entry.now first.now second.now))) handle.old handle.new made.new result }
+    ensures made { HandleReports (line_length (given call.entry.now first.now second.now)) handle.old handle.new made.new result }
     ensures kept { result.code ≢ 0 → (files.new ≡ files.old) × (line.new ≡ line.old) × (made.new ≡ made.old) }
     ensures memory { result.code ≡ no_memory → IsOk (given call.entry.now first.now second.now) }
     ensures numbers { HasNoNumbers result }
     ensures unchanged { result.code ≢ 0 → (handle.new.value ≡ handle.old.value) × (handle.new.names ≡ handle.old.names) }
     ensures names { is_free_line (making call.entry.now first.now second.now line.old) ≡ true → handle.new.names ≡ handle.old.names }
-    ensures past { GrowsBy (said_line (length files.old) (making call.entry.now first.now second.now line.old)) handle.old.past handle.new.past result }
+    ensures past { Grows files.old (making call.entry.now first.now second.now line.old) handle.old handle.new result }
 {
     let Some(mut machine) = handle.take(alloc) else {
         return Answer::closed();
@@ -108,11 +107,11 @@ fn make_given(
     line: &mut [u8],
     made: &mut Made,
 ) -> Answer
-    ensures handled { IsTaken (λ k. said_step k (length files.old) (making fields.entry.now first.now second.now line.old)) machine.old.now machine.new.now result }
+    ensures handled { StepsAsked files.old (making fields.entry.now first.now second.now line.old) machine.old.now machine.new.now result }
     ensures files { BringsMade (core_in machine.old.now) (making fields.entry.now first.now second.now line.old) files.old files.new result }
     ensures line { result.code ≡ 0 → StandsInFront (call_line_text (given fields.entry.now first.now second.now)) line.old line.new }
     ensures read { ReadsBack (given fields.entry.now first.now second.now) (take made.new.written line.new) result }
-    ensures made { Reports (length (call_line_text (given fields.entry.now first.now second.now))) (core_in machine.old.now) (core_in machine.new.now) made.new result }
+    ensures made { Reports (line_length (given fields.entry.now first.now second.now)) (core_in machine.old.now) (core_in machine.new.now) made.new result }
     ensures kept { result.code ≢ 0 → (files.new ≡ files.old) × (line.new ≡ line.old) × (made.new ≡ made.old) }
     ensures memory { result.code ≡ no_memory → IsOk (given fields.entry.now first.now second.now) }
     ensures numbers { HasNoNumbers result }
@@ -143,7 +142,7 @@ fn make_fitting(
     line: &mut [u8],
     made: &mut Made,
 ) -> Answer
-    ensures handled { IsTaken (λ k. said_step k (length files.old) (asked_if_fits asked.now text.now (length line.old))) machine.old.now machine.new.now result }
+    ensures handled { StepsAsked files.old (asked_if_fits asked.now text.now (length line.old)) machine.old.now machine.new.now result }
     ensures files { BringsMade (core_in machine.old.now) (asked_if_fits asked.now text.now (length line.old)) files.old files.new result }
     ensures line { result.code ≡ 0 → StandsInFront text.now line.old line.new }
     ensures short { result.code ≡ 0 → length text.now ≤ LONGEST_LINE }

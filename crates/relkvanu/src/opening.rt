@@ -10,7 +10,7 @@ ghost use Rattle.ckpt_terms.specs.declared.machine.Machine.TheVariants as machin
 ghost use Rattle.ckpt_terms.specs.Machines.{core_in, names_in};
 ghost use Rattle.ckpt_logged.specs.Chronicles.{begun};
 ghost use Rattle.ckpt_logged.specs.Events.{IsWell};
-ghost use Rattle.relkvanu.specs.Past.{Begins};
+ghost use Rattle.relkvanu.specs.Past.{BeginsPlain};
 ghost use Rattle.relkvanu.specs.Requested.{IsRefused};
 ghost use Rattle.relkvanu.specs.Told.{bad_argument, bad_config, bad_shape, no_memory};
 
@@ -84,7 +84,7 @@ pub extern "C" fn relkvanu_open(
     ensures unchanged { StaysAsItWas handle.old.value handle.new.value result }
     ensures names { handle.new.names ≡ handle.old.names }
     ensures plain { handle.old.value ≡ None → handle.new.names ≡ None }
-    ensures past { Begins (opening_of settings.now shape.now now first) (machine.Plain (opened (opening_of settings.now shape.now now first))) handle.old.past handle.new.past result }
+    ensures past { BeginsPlain (opening_of settings.now shape.now now first) handle.old.past handle.new.past result }
     ensures sound { result.code ≡ 0 → IsWell (machine.Plain (opened (opening_of settings.now shape.now now first))) }
 {
     if let Some(machine) = handle.take(alloc) {

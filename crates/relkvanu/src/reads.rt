@@ -4,7 +4,7 @@ ghost use Rattle.std.specs.Prelude.{◌≡◌, None, Some, option_map, slice_get
 ghost use Rattle.ckpt_ids.specs.Records.{missing};
 ghost use Rattle.ckpt_model.specs.Coordinator.{IsSound, State, choice_of, pending_of};
 ghost use Rattle.ckpt_model.specs.Reads.{IsNextExpiry, NoneIsEarlyFrom, NoneTriggersBefore, live_of, next_due};
-ghost use Rattle.relkvanu.specs.Calls.{StaysClosed};
+ghost use Rattle.relkvanu.specs.Calls.{IsSame, StaysClosed};
 ghost use Rattle.relkvanu.specs.Reads.{choice_told, counts_of, due_told, expiry_in, expiry_told, live_told, missing_told, mode_told, moment_told, no_counts};
 
 use crate::answer::{Answer, CLOSED, DONE};
@@ -64,9 +64,7 @@ pub extern "C" fn relkvanu_mode(alloc: Global, handle: &mut Handle) -> Answer
     ensures closed { StaysClosed handle.old.value handle.new.value result }
     ensures answered { (m : State) → handle.old.value ≡ Some m → result ≡ mode_told m.mode }
     ensures sound { (m : State) → handle.old.value ≡ Some m → IsSound m }
-    ensures unchanged { handle.new.value ≡ handle.old.value }
-    ensures names { handle.new.names ≡ handle.old.names }
-    ensures past { handle.new.past ≡ handle.old.past }
+    ensures unchanged { IsSame handle.old handle.new }
 {
     let Some(machine) = handle.take(alloc) else {
         return Answer::closed();
@@ -81,9 +79,7 @@ pub extern "C" fn relkvanu_mode(alloc: Global, handle: &mut Handle) -> Answer
 pub extern "C" fn relkvanu_moment(alloc: Global, handle: &mut Handle) -> Answer
     ensures closed { StaysClosed handle.old.value handle.new.value result }
     ensures answered { (m : State) → handle.old.value ≡ Some m → result ≡ moment_told m.latest }
-    ensures unchanged { handle.new.value ≡ handle.old.value }
-    ensures names { handle.new.names ≡ handle.old.names }
-    ensures past { handle.new.past ≡ handle.old.past }
+    ensures unchanged { IsSame handle.old handle.new }
 {
     let Some(machine) = handle.take(alloc) else {
         return Answer::closed();
@@ -101,9 +97,7 @@ pub extern "C" fn relkvanu_due(alloc: Global, handle: &mut Handle) -> Answer
     ensures answered { (m : State) → handle.old.value ≡ Some m → result ≡ due_told (next_due m) }
     ensures before { (m : State) → handle.old.value ≡ Some m → NoneTriggersBefore m result.a }
     ensures from { (m : State) → handle.old.value ≡ Some m → NoneIsEarlyFrom m result.a }
-    ensures unchanged { handle.new.value ≡ handle.old.value }
-    ensures names { handle.new.names ≡ handle.old.names }
-    ensures past { handle.new.past ≡ handle.old.past }
+    ensures unchanged { IsSame handle.old handle.new }
 {
     let Some(machine) = handle.take(alloc) else {
         return Answer::closed();
@@ -120,9 +114,7 @@ pub extern "C" fn relkvanu_oldest_expiry(alloc: Global, handle: &mut Handle) -> 
     ensures closed { StaysClosed handle.old.value handle.new.value result }
     ensures answered { (m : State) → handle.old.value ≡ Some m → result ≡ expiry_told (expiry_in result) }
     ensures moment { (m : State) → handle.old.value ≡ Some m → IsNextExpiry m (expiry_in result) }
-    ensures unchanged { handle.new.value ≡ handle.old.value }
-    ensures names { handle.new.names ≡ handle.old.names }
-    ensures past { handle.new.past ≡ handle.old.past }
+    ensures unchanged { IsSame handle.old handle.new }
 {
     let Some(machine) = handle.take(alloc) else {
         return Answer::closed();
@@ -137,9 +129,7 @@ pub extern "C" fn relkvanu_oldest_expiry(alloc: Global, handle: &mut Handle) -> 
 pub extern "C" fn relkvanu_choice(alloc: Global, handle: &mut Handle) -> Answer
     ensures closed { StaysClosed handle.old.value handle.new.value result }
     ensures answered { (m : State) → handle.old.value ≡ Some m → result ≡ choice_told (choice_of m) }
-    ensures unchanged { handle.new.value ≡ handle.old.value }
-    ensures names { handle.new.names ≡ handle.old.names }
-    ensures past { handle.new.past ≡ handle.old.past }
+    ensures unchanged { IsSame handle.old handle.new }
 {
     let Some(machine) = handle.take(alloc) else {
         return Answer::closed();
@@ -155,9 +145,7 @@ pub extern "C" fn relkvanu_choice(alloc: Global, handle: &mut Handle) -> Answer
 pub extern "C" fn relkvanu_live(alloc: Global, handle: &mut Handle, place: usize) -> Answer
     ensures closed { StaysClosed handle.old.value handle.new.value result }
     ensures answered { (m : State) → handle.old.value ≡ Some m → result ≡ live_told (option_map live_of (slice_get m.records place)) }
-    ensures unchanged { handle.new.value ≡ handle.old.value }
-    ensures names { handle.new.names ≡ handle.old.names }
-    ensures past { handle.new.past ≡ handle.old.past }
+    ensures unchanged { IsSame handle.old handle.new }
 {
     let Some(machine) = handle.take(alloc) else {
         return Answer::closed();
@@ -172,9 +160,7 @@ pub extern "C" fn relkvanu_live(alloc: Global, handle: &mut Handle, place: usize
 pub extern "C" fn relkvanu_missing(alloc: Global, handle: &mut Handle, id: u64) -> Answer
     ensures closed { StaysClosed handle.old.value handle.new.value result }
     ensures answered { (m : State) → handle.old.value ≡ Some m → result ≡ missing_told (option_map missing (pending_of m.records id)) }
-    ensures unchanged { handle.new.value ≡ handle.old.value }
-    ensures names { handle.new.names ≡ handle.old.names }
-    ensures past { handle.new.past ≡ handle.old.past }
+    ensures unchanged { IsSame handle.old handle.new }
 {
     let Some(machine) = handle.take(alloc) else {
         return Answer::closed();
@@ -189,9 +175,7 @@ pub extern "C" fn relkvanu_missing(alloc: Global, handle: &mut Handle, id: u64) 
 pub extern "C" fn relkvanu_file_counts(alloc: Global, handle: &mut Handle) -> FileCounts
     ensures closed { handle.old.value ≡ None → result ≡ no_counts }
     ensures answered { (m : State) → handle.old.value ≡ Some m → result ≡ counts_of m }
-    ensures unchanged { handle.new.value ≡ handle.old.value }
-    ensures names { handle.new.names ≡ handle.old.names }
-    ensures past { handle.new.past ≡ handle.old.past }
+    ensures unchanged { IsSame handle.old handle.new }
 {
     let Some(machine) = handle.take(alloc) else {
         return FileCounts {

@@ -6,7 +6,7 @@ ghost use Rattle.ckpt_ids.specs.Ascending.{ascending};
 ghost use Rattle.ckpt_model.specs.Coordinator.{pending_of};
 ghost use Rattle.ckpt_model.specs.Reads.{live_of, pins_in, standing};
 ghost use Rattle.ckpt_model.specs.State.{State};
-ghost use Rattle.relkvanu.specs.Calls.{HasNoNumbers, StaysClosed};
+ghost use Rattle.relkvanu.specs.Calls.{HasNoNumbers, IsSame, StaysClosed};
 ghost use Rattle.relkvanu.specs.Reads.{live_told};
 ghost use Rattle.relkvanu.specs.Recovery.{BringsList, IsListTold, acked_by, acked_in, acked_told, files_acked, list_told, standing_told, waiting_told};
 ghost use Rattle.relkvanu.specs.Requested.{IsRefused};
@@ -44,9 +44,7 @@ const NONE_WAITS: u32 = 54;
 pub extern "C" fn relkvanu_live_from(alloc: Global, handle: &mut Handle, id: u64) -> Answer
     ensures closed { StaysClosed handle.old.value handle.new.value result }
     ensures answered { (m : State) → handle.old.value ≡ Some m → result ≡ live_told (option_map live_of (find (λ r. nat_le id r.id) m.records)) }
-    ensures unchanged { handle.new.value ≡ handle.old.value }
-    ensures names { handle.new.names ≡ handle.old.names }
-    ensures past { handle.new.past ≡ handle.old.past }
+    ensures unchanged { IsSame handle.old handle.new }
 {
     let Some(machine) = handle.take(alloc) else {
         return Answer::closed();
@@ -62,9 +60,7 @@ pub extern "C" fn relkvanu_live_from(alloc: Global, handle: &mut Handle, id: u64
 pub extern "C" fn relkvanu_standing(alloc: Global, handle: &mut Handle, id: u64) -> Answer
     ensures closed { StaysClosed handle.old.value handle.new.value result }
     ensures answered { (m : State) → handle.old.value ≡ Some m → result ≡ standing_told (standing m id) }
-    ensures unchanged { handle.new.value ≡ handle.old.value }
-    ensures names { handle.new.names ≡ handle.old.names }
-    ensures past { handle.new.past ≡ handle.old.past }
+    ensures unchanged { IsSame handle.old handle.new }
 {
     let Some(machine) = handle.take(alloc) else {
         return Answer::closed();
@@ -92,9 +88,7 @@ pub extern "C" fn relkvanu_files_of(
     ensures answered { (m : State) → handle.old.value ≡ Some m → result ≡ acked_told (acked_by m id vertex index) (length files.old) }
     ensures front { (m : State) → handle.old.value ≡ Some m → BringsList (files_acked (acked_by m id vertex index)) files.old files.new result }
     ensures kept { result.code ≢ 0 → files.new ≡ files.old }
-    ensures unchanged { handle.new.value ≡ handle.old.value }
-    ensures names { handle.new.names ≡ handle.old.names }
-    ensures past { handle.new.past ≡ handle.old.past }
+    ensures unchanged { IsSame handle.old handle.new }
 {
     let Some(machine) = handle.take(alloc) else {
         return Answer::closed();
@@ -123,9 +117,7 @@ pub extern "C" fn relkvanu_pins_of(
     ensures kept { result.code ≢ 0 → files.new ≡ files.old }
     ensures memory { (m : State) → handle.old.value ≡ Some m → result.code ≡ no_memory → IsSome (pending_of m.records id) }
     ensures numbers { HasNoNumbers result }
-    ensures unchanged { handle.new.value ≡ handle.old.value }
-    ensures names { handle.new.names ≡ handle.old.names }
-    ensures past { handle.new.past ≡ handle.old.past }
+    ensures unchanged { IsSame handle.old handle.new }
 {
     let Some(machine) = handle.take(alloc) else {
         return Answer::closed();
@@ -145,9 +137,7 @@ pub extern "C" fn relkvanu_pins_of(
 pub extern "C" fn relkvanu_waiting_file(alloc: Global, handle: &mut Handle, place: usize) -> Answer
     ensures closed { StaysClosed handle.old.value handle.new.value result }
     ensures answered { (m : State) → handle.old.value ≡ Some m → result ≡ waiting_told (slice_get m.waiting place) }
-    ensures unchanged { handle.new.value ≡ handle.old.value }
-    ensures names { handle.new.names ≡ handle.old.names }
-    ensures past { handle.new.past ≡ handle.old.past }
+    ensures unchanged { IsSame handle.old handle.new }
 {
     let Some(machine) = handle.take(alloc) else {
         return Answer::closed();
@@ -173,9 +163,7 @@ pub extern "C" fn relkvanu_taken_files(
     ensures front { (m : State) → handle.old.value ≡ Some m → BringsList (ascending m.taken) files.old files.new result }
     ensures kept { result.code ≢ 0 → files.new ≡ files.old }
     ensures numbers { HasNoNumbers result }
-    ensures unchanged { handle.new.value ≡ handle.old.value }
-    ensures names { handle.new.names ≡ handle.old.names }
-    ensures past { handle.new.past ≡ handle.old.past }
+    ensures unchanged { IsSame handle.old handle.new }
 {
     let Some(machine) = handle.take(alloc) else {
         return Answer::closed();

@@ -4,7 +4,7 @@ ghost use Rattle.std.specs.Prelude.{◌≡◌, ◌≢◌, ◌≤◌, filter, len
 ghost use Rattle.ckpt_terms.specs.Fencing.{is_garbage};
 ghost use Rattle.ckpt_terms.specs.Machines.{core_in, issued_by, names_in};
 ghost use Rattle.relkvanu.specs.Buffers.{StandsInFront};
-ghost use Rattle.relkvanu.specs.Calls.{StaysClosed};
+ghost use Rattle.relkvanu.specs.Calls.{IsSame, StaysClosed};
 ghost use Rattle.relkvanu.specs.Fenced.{BringsGarbage, BringsOf, IsGarbageTold, garbage_of, garbage_told, unissued_of};
 ghost use Rattle.relkvanu.specs.Kept.{IsHeld};
 ghost use Rattle.relkvanu.specs.Past.{IsPromised};
@@ -39,9 +39,7 @@ pub extern "C" fn relkvanu_garbage(
     ensures garbage { BringsGarbage handle.old.value handle.old.names files.now garbage.old garbage.new result }
     ensures unissued { BringsOf (λ n. unissued_of n files.now) handle.old.names unissued.old unissued.new result }
     ensures kept { result.code ≢ 0 → (garbage.new ≡ garbage.old) × (unissued.new ≡ unissued.old) }
-    ensures unchanged { handle.new.value ≡ handle.old.value }
-    ensures names { handle.new.names ≡ handle.old.names }
-    ensures past { handle.new.past ≡ handle.old.past }
+    ensures unchanged { IsSame handle.old handle.new }
     ensures held { IsHeld handle.old.past handle.old.value handle.old.names handle.old.past }
     ensures promised { IsPromised handle.old.past }
 {
