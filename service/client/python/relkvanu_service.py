@@ -258,12 +258,12 @@ class Service:
 
     def request(self, method, path, body=None, key=None, wait=0):
         """Makes a request until it is answered, and returns its body. Raises `Failed` if the answer is an error."""
-        until, pause, replayed = self._until(wait), _FIRST_PAUSE, -1
+        until, pause, replayed, error = self._until(wait), _FIRST_PAUSE, -1, None
         while True:
             place = self._addresses.current
             later, leader = 0.0, None
+            seconds = min(self._one_try() + wait, until - time.monotonic())
             try:
-                seconds = min(self._one_try() + wait, until - time.monotonic())
                 told = self._once(self._addresses.urls[place] + path, method, body, key, seconds)
                 if told.status_code not in _PASSING and not (told.status_code == 500 and method == "GET"):
                     self._addresses.current = place
@@ -273,8 +273,10 @@ class Service:
                 if (more := _replayed(told)) > replayed:
                     replayed, until = more, self._until(wait)
             except _LOST as lost:
-                # a handshake that was cut too, and a certificate that can't be verified: it may be renewed meanwhile
-                error = lost
+                # a handshake that was cut too, and a certificate that can't be verified: it may be renewed meanwhile. If only the patience ended
+                # the last try, the answer before it says why.
+                is_cut = seconds < self._one_try() + wait and isinstance(lost, requests.Timeout)
+                error = error if is_cut and error is not None else lost
             if self._notice is not None:
                 self._notice(error)
             rest = self._addresses.after(place, max(later, pause * random.uniform(0.5, 1.0)), leader)
