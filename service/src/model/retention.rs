@@ -2,9 +2,10 @@
 use super::image::Image;
 use super::summary::KeptSummary;
 
-/// How many bytes a call of the log counts as. An image is made when the calls since the last one have as many bytes as
-/// that one. So images take more bytes than the log only where each has more than 10 MB.
-pub const CALL_BYTES: u64 = 100;
+/// How many bytes a call of the log counts as, which is less than it has: no call of the job is answered while its image is made.
+/// An image is made when the calls since the last one count as many bytes as that one has. So images take more bytes than
+/// the log only where each has more than 10 MB.
+pub const CALL_BYTES: u64 = 50;
 /// After so many calls an image is made though it has more bytes than they: a start makes as many again in about a second.
 const MOST_CALLS: u64 = 100_000;
 /// Into how many parts images and summaries divide the kept calls, at least.
@@ -213,7 +214,7 @@ mod tests {
         kept.postpone(10);
         assert!(!kept.wants_image(19, KEEPING) && kept.wants_image(20, KEEPING));
         kept.add(&image(20, 1500), KEEPING);
-        assert!(!kept.wants_image(34, KEEPING) && kept.wants_image(35, KEEPING));
+        assert!(!kept.wants_image(49, KEEPING) && kept.wants_image(50, KEEPING));
         kept.images = vec![KeptImage { seq: 40, at: 1, bytes: u64::MAX }];
         assert!(!kept.wants_image(100_039, KEEPING) && kept.wants_image(100_040, KEEPING));
         assert!(
