@@ -1,7 +1,7 @@
 /* bench FOLDER [SECONDS]: durable acknowledgements a second of 1, 16 and 256 threads, without and with a discarder. Then, of 1 and of 256
  * threads, and of one that acknowledges by lists of 512, by turns with commits by SQLite alone, of as many rows as the groups of these threads or the lists have,
  * the share of its rows a second. The job has 4096 subtasks, and 3 files in each acknowledgement. Last a checkpoint whose subtasks have 1 KB in place of files, by
- * such lists, by turns with the same bytes in one synced file. */
+ * such lists, by turns with the same bytes in one synced file, and in one commit of SQLite alone. */
 #define _GNU_SOURCE
 #include "../include/relkvanu_store.h"
 
@@ -189,18 +189,24 @@ static void insert_rows(sqlite3 *db, sqlite3_stmt *insert, unsigned rows) {
     check("SQLite", is_done, sqlite3_errmsg(db));
 }
 
-/* Rows a second, so many in each commit. */
-static double measure_sqlite(const char *path, unsigned seconds, unsigned rows) {
+/* A log of SQLite alone, and a statement that inserts a row. */
+static sqlite3 *open_log(const char *path, const char *row, sqlite3_stmt **insert) {
     static const char setup[] = "PRAGMA locking_mode=EXCLUSIVE; PRAGMA journal_mode=WAL; PRAGMA synchronous=FULL; CREATE TABLE log(place "
-                                "INTEGER PRIMARY KEY, line TEXT)";
+                                "INTEGER PRIMARY KEY, line)";
     sqlite3 *db = NULL;
-    sqlite3_stmt *insert;
-    char what[60];
     check("SQLite",
         sqlite3_open(path, &db) == SQLITE_OK && sqlite3_exec(db, setup, NULL, NULL, NULL) == SQLITE_OK &&
-            sqlite3_prepare_v2(db, "INSERT INTO log(line) VALUES('ack 1000000 1000000 0.1000 +100000001 +100000002 +100000003')", -1,
-                &insert, NULL) == SQLITE_OK,
+            sqlite3_prepare_v2(db, row, -1, insert, NULL) == SQLITE_OK,
         sqlite3_errmsg(db));
+    return db;
+}
+
+/* Rows a second, so many in each commit. */
+static double measure_sqlite(const char *path, unsigned seconds, unsigned rows) {
+    static const char row[] = "INSERT INTO log(line) VALUES('ack 1000000 1000000 0.1000 +100000001 +100000002 +100000003')";
+    sqlite3_stmt *insert;
+    sqlite3 *db = open_log(path, row, &insert);
+    char what[60];
     times_len = 0;
     uint64_t began = now_ns();
     while (now_ns() - began < seconds * UINT64_C(1000000000)) {
@@ -267,25 +273,48 @@ static double one_file(const char *path) {
     return (double)(now_ns() - began) / 1e6;
 }
 
+/* The ms of one commit of SQLite with a row for each state. */
+static double one_commit(sqlite3 *db, sqlite3_stmt *insert) {
+    uint64_t began = now_ns();
+    bool is_there = sqlite3_exec(db, "BEGIN", NULL, NULL, NULL) == SQLITE_OK;
+    for (size_t at = 0; at < SUBTASKS; at++) {
+        is_there = is_there && sqlite3_bind_blob(insert, 1, states[at], STATE, SQLITE_STATIC) == SQLITE_OK &&
+                   sqlite3_step(insert) == SQLITE_DONE && sqlite3_reset(insert) == SQLITE_OK;
+    }
+    is_there = is_there && sqlite3_exec(db, "COMMIT", NULL, NULL, NULL) == SQLITE_OK;
+    check("SQLite", is_there, sqlite3_errmsg(db));
+    return (double)(now_ns() - began) / 1e6;
+}
+
+/* By turns, so that all have the same machine. */
 static void measure_states(const char *path) {
-    double ours[TURNS], theirs[TURNS];
-    char file[4110];
-    snprintf(file, sizeof file, "%s.one", path);
+    double ours[TURNS], file[TURNS], commit[TURNS];
+    char one[4110], two[4110];
+    sqlite3_stmt *insert;
+    snprintf(one, sizeof one, "%s.one", path);
+    snprintf(two, sizeof two, "%s.two", path);
     open_job(path);
+    sqlite3 *db = open_log(two, "INSERT INTO log(line) VALUES(?)", &insert);
+    sqlite3_wal_autocheckpoint(db, 4000); /* as the store has it */
     for (unsigned i = 0; i < TURNS; i++) {
         for (size_t at = 0; at < SUBTASKS; at++) {
             check("random bytes", getrandom(states[at], STATE, 0) == STATE, "none");
         }
         ours[i] = checkpoint();
-        theirs[i] = one_file(file);
+        file[i] = one_file(one);
+        commit[i] = one_commit(db, insert);
     }
     relkvanu_store_close(store);
+    sqlite3_finalize(insert);
+    sqlite3_close(db);
     remove_job(path);
-    unlink(file);
+    remove_job(two);
+    unlink(one);
     qsort(ours, TURNS, sizeof *ours, by_size);
-    qsort(theirs, TURNS, sizeof *theirs, by_size);
-    printf(
-        "checkpoint of %d subtasks with %d bytes: %.1f ms, one synced file %.1f ms\n", SUBTASKS, STATE, ours[TURNS / 2], theirs[TURNS / 2]);
+    qsort(file, TURNS, sizeof *file, by_size);
+    qsort(commit, TURNS, sizeof *commit, by_size);
+    printf("checkpoint of %d subtasks with %d bytes: %.1f ms, one synced file %.1f ms, one commit of SQLite alone %.1f ms\n", SUBTASKS,
+        STATE, ours[TURNS / 2], file[TURNS / 2], commit[TURNS / 2]);
 }
 
 int main(int argc, char **argv) {

@@ -1,6 +1,7 @@
 -- Acknowledgements for wrk: each request has BATCH of them, of one record, with three new files each. Each thread has
--- records of its own, and reserves names before it has used up those that it has.
+-- records of its own, and reserves names before it has used up those that it has. A connection waits PAUSE milliseconds before each request.
 local batch = tonumber(os.getenv("BATCH") or "64")
+local pause = tonumber(os.getenv("PAUSE") or "0")
 local block = 65536
 local threads = 0
 
@@ -14,6 +15,12 @@ function init()
   name, left, asked = 0, 0, false
   wrk.method = "POST"
   wrk.headers["Content-Type"] = "application/json"
+end
+
+if pause > 0 then
+  function delay()
+    return pause
+  end
 end
 
 function request()

@@ -1,12 +1,10 @@
 """Load by wrk. load.py [SECONDS [sqlite|postgres]] prints acknowledgements a second with 1 and 256 connections, of one and of 64 each, and what
-wrk itself takes of a processor. Then it prints the cost of a start over that log, with an image and without."""
+wrk itself takes of a processor."""
 import os
 import re
 import resource
-import sqlite3
 import subprocess
 import sys
-import time
 from contextlib import nullcontext
 
 from harness import HERE, Server, content, folder, until
@@ -22,11 +20,11 @@ def children_ran():
     return it.ru_utime + it.ru_stime
 
 
-def wrk(url, connections, batch, seconds):
-    """Requests a second, how many were not answered with 200, and the 99th percentile of their time."""
+def wrk(url, connections, batch, seconds, pause=0):
+    """Requests a second, how many were not answered with 200, and the 99th percentile of their time. Each connection waits `pause` milliseconds before a request."""
     threads = min(2, connections)
     words = ["wrk", "--latency", f"-t{threads}", f"-c{connections}", f"-d{seconds}s", "-s", f"{HERE}/acks.lua", url]
-    told = subprocess.run(words, env={**os.environ, "BATCH": str(batch)}, stdout=subprocess.PIPE, text=True, check=True).stdout
+    told = subprocess.run(words, env={**os.environ, "BATCH": str(batch), "PAUSE": str(pause)}, stdout=subprocess.PIPE, text=True, check=True).stdout
     rate = float(re.search(r"Requests/sec: +([0-9.]+)", told).group(1))
     bad = re.search(r"Non-2xx or 3xx responses: ([0-9]+)", told)
     slow = re.search(r"99% +(\S+)", told)
@@ -44,9 +42,9 @@ def loaded(server, ways, seconds):
     job = Service(server.url).open("load", {"interval": 10, "at_once": 64, "timeout": 3_600_000}, [4096])
     until(lambda: len(job.state()["live"]) >= 4)
     told, made = [], 0
-    for connections, batch in ways:
+    for connections, batch, *pause in ways:
         before, ran, wrk_ran = job.state()["seq"], sum(processor_times(server)), children_ran()
-        rate, bad, slow = wrk(server.url, connections, batch, seconds)
+        rate, bad, slow = wrk(server.url, connections, batch, seconds, *pause)
         acks, ran, wrk_ran = job.state()["seq"] - before, sum(processor_times(server)) - ran, children_ran() - wrk_ran
         made += acks
         assert bad == 0, f"{bad} requests were not answered with 200"
@@ -66,22 +64,6 @@ def main(seconds=10, where="sqlite"):
     print(f"load {os.getloadavg()[0]:.1f} after")
 
 
-def started_over(server, what):
-    """Prints how long a start takes, how many calls it makes again, and what that takes of a processor."""
-    started = time.monotonic()
-    server.start(ready=False)
-    server.wait_ready(600)
-    took, ran = time.monotonic() - started, sum(processor_times(server))
-    print(f"start {what}: {took:.1f} s, {ran:.1f} s of a processor, for {server.replayed()[-1]} calls", flush=True)
-
-
-def forget_images(server, database):
-    if database:
-        return database.sql("delete from image")
-    with sqlite3.connect(server.database) as base:
-        base.execute("delete from image")
-
-
 def measure(at, seconds, database):
     server = Server(at, database and database.url, ["--keep-calls", "1000000000"]).start()
     for connections, batch, rate, slow, acks, each, of_wrk in loaded(server, WAYS, seconds)[0]:
@@ -91,13 +73,8 @@ def measure(at, seconds, database):
     state = server.get("/v1/jobs/load")[2]
     count, took = (server.metric(f"relkvanu_image_seconds_{it}") for it in ("count", "sum"))
     print(f"{count:.0f} images, of {state['image']['bytes']} bytes at last, {1000 * took / count:.1f} ms each; load {os.getloadavg()[0]:.1f}")
-    server.kill()
     if not database:
         print(f"the log has {os.path.getsize(server.database) / state['seq']:.0f} bytes a call, images in it")
-    started_over(server, "from the last image")
-    server.kill()
-    forget_images(server, database)
-    started_over(server, "without images")
     server.stop()
 
 
