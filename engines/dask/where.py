@@ -7,13 +7,13 @@ CONNECT = 600  # seconds in which a scheduler that was killed is there again, on
 
 
 def coordinator_of(folder, job):
-    """A file of the driver's own, or with SERVICE the job of the service at that address, which may be away for long."""
-    address = os.environ.get("SERVICE")
-    if not address:
+    """A file of the driver's own, or with SERVICE the job of the service at these addresses, with commas between, which may be away for long."""
+    addresses = os.environ.get("SERVICE")
+    if not addresses:
         return f"{folder}/job.db"
     from relkvanu_service import Service
 
-    return Service(address, patience=3600).job(job)
+    return Service(*addresses.split(","), patience=3600).job(job)
 
 
 def place_of(url, job):
