@@ -2,10 +2,11 @@
 use super::image::Image;
 use super::summary::KeptSummary;
 
-/// How many bytes a call of the log counts as, which is less than it has: no call of the job is answered while its image is made.
-/// An image is made when the calls since the last one count as many bytes as that one has. So images take more bytes than
-/// the log only where each has more than 10 MB.
-pub const CALL_BYTES: u64 = 50;
+/// How many bytes a call of the log counts as.
+pub const CALL_BYTES: u64 = 100;
+/// An image is made when the calls since the last one have so many times the bytes of that one, since no call of the job is answered
+/// meanwhile. So images take more bytes than the log only where each has more than 10 MB.
+const LOG_OF_IMAGE: u64 = 2;
 /// After so many calls an image is made though it has more bytes than they: a start makes as many again in about a second.
 const MOST_CALLS: u64 = 100_000;
 /// Into how many parts images and summaries divide the kept calls, at least.
@@ -125,7 +126,7 @@ impl Retention {
     /// Whether to make an image at this place, because the last one is old enough.
     pub fn wants_image(&self, seq: u64, keeping: Keeping) -> bool {
         let (last, bytes) = self.last().map_or((0, 0), |image| (image.seq, image.bytes));
-        let each = keeping.image_calls.max((bytes / CALL_BYTES).min(MOST_CALLS));
+        let each = keeping.image_calls.max((bytes / CALL_BYTES * LOG_OF_IMAGE).min(MOST_CALLS));
         keeping.image_calls > 0 && seq.saturating_sub(last.max(self.tried)) >= each
     }
 
