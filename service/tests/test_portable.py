@@ -198,10 +198,11 @@ def ends_at(at, after):
             if count == at and not after:
                 os._exit(KILLED)
             mine = count
-            done = function(*given, **named)
-            if mine == at:
-                os._exit(KILLED)
-            return done
+            try:
+                return function(*given, **named)
+            finally:  # also if it raises, as the removal of what is not there
+                if mine == at:
+                    os._exit(KILLED)
         return run
 
     for name in WRITES:
