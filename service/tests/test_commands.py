@@ -400,5 +400,5 @@ def test_completions_and_the_manual_pages():
         told = subprocess.run(["mandoc", "-T", "lint", "-W", "warning", *pages], stdout=subprocess.PIPE, text=True, check=False)
         assert told.returncode == 0, told.stdout
         for verb in verbs():
-            assert f"relkvanu {verb}" in content(f"{at}/relkvanu-{verb}.1").replace("\\-", "-"), verb
+            assert f"\nrelkvanu-{verb} \\- " in content(f"{at}/relkvanu-{verb}.1"), verb
     return f"bash completes commands and options, and {len(pages)} pages"
