@@ -704,7 +704,7 @@ static void a_latest_manifest_that_is_damaged(void) {
 }
 
 /* An import that passes over a record which lacks a file says so, as a recovery does. */
-static void a_latest_record_that_lacks_a_file(void) {
+static uint64_t lacks_a_file_of_the_latest(void) {
     relkvanu_store *store = opens_with(manifests(RELKVANU_STORE_CREATE));
     uint64_t first = 0, savepoint = completes(store, 1, RELKVANU_CALL_SAVEPOINT, NULL);
     char name[PATHS];
@@ -712,9 +712,19 @@ static void a_latest_record_that_lacks_a_file(void) {
     relkvanu_store_close(store);
     snprintf(name, sizeof name, "storage/%" PRIu64, first);
     CHECK(unlink(in(name)) == 0, "%s", name);
+    return savepoint;
+}
+
+static void a_latest_record_that_lacks_a_file(void) {
+    uint64_t savepoint = lacks_a_file_of_the_latest();
     claims("storage", 0, "elsewhere", RELKVANU_STORE_OK);
-    CHECK(recovered.record == savepoint && recovered.passed == 1, "record %" PRIu64 ", %" PRIu64 " passed", recovered.record,
-        recovered.passed);
+    CHECK(recovered.record == savepoint && recovered.passed == 1, "%" PRIu64 " passed", recovered.passed);
+}
+
+static void an_import_that_passes_a_record(void) {
+    uint64_t savepoint = lacks_a_file_of_the_latest();
+    imports("storage", 0, RELKVANU_STORE_OK);
+    CHECK(recovered.record == savepoint && recovered.passed == 1, "%" PRIu64 " passed", recovered.passed);
 }
 
 /* A record keeps what it shares with the one that leaves. */
@@ -944,24 +954,26 @@ static void manifests_elsewhere(void) {
 }
 
 /* Another opening may take the place between two requests: then nothing more is put or removed there, and nobody is told that the record is complete. */
-static void is_taken_behind(int checks, int puts) {
+static void is_taken_behind(int checks, int puts, int last) {
     relkvanu_store *store = opens_without_folder(RELKVANU_STORE_CREATE);
     check_status = RELKVANU_STORAGE_OK;
     CHECK(keeps(store) == RELKVANU_STORE_OK, "it keeps none");
     uint64_t id = completes_elsewhere(store, report.term);
     checks_left = checks;
     puts_made = 0;
-    uint64_t next = acknowledges_elsewhere(store, report.term, RELKVANU_STORE_STORAGE);
+    uint64_t next = acknowledges_elsewhere(store, report.term, last);
     CHECK(puts_made == puts && (manifest_elsewhere(next) != NULL) == (puts == 1) && manifest_elsewhere(id) != NULL,
         "it puts over, or removes, what another opening has");
-    CHECK(relkvanu_store_stop_job(store, &(relkvanu_store_call){.answer = {0}}) == RELKVANU_STORE_CLOSED, "it goes on");
+    CHECK(last == RELKVANU_STORE_OK || relkvanu_store_stop_job(store, &(relkvanu_store_call){.answer = {0}}) == RELKVANU_STORE_CLOSED,
+        "it goes on");
     relkvanu_store_close(store);
     check_status = RELKVANU_STORAGE_OK;
 }
 
 static void a_place_that_is_taken(void) {
-    is_taken_behind(2, 1); /* those before the work and before the put */
-    is_taken_behind(1, 0);
+    is_taken_behind(2, 1, RELKVANU_STORE_STORAGE); /* those before the work and before the put */
+    is_taken_behind(1, 0, RELKVANU_STORE_STORAGE);
+    is_taken_behind(3, 1, RELKVANU_STORE_OK); /* and before it is told; that of the earlier record is not removed */
 }
 
 /* Writes a folder that stands for the place, with its files, but for one. */
@@ -1008,4 +1020,5 @@ const struct test manifest_cases[] = {CASE(manifests_of_records), CASE(manifests
     CASE(savepoints_live_on), CASE(a_rolled_back_job), CASE(numbers_that_failed), CASE(another_jobs_manifest), CASE(an_export),
     CASE(an_export_beside_a_job), CASE(an_import), CASE(an_import_that_goes_on), CASE(a_claim), CASE(a_latest_manifest_that_is_damaged),
     CASE(a_claim_of_shared_files), CASE(a_claim_that_goes_on), CASE(a_latest_record_that_lacks_a_file),
-    CASE(a_claim_over_an_earlier_record), CASE(a_claim_in_place), CASE(manifests_elsewhere), CASE(a_lost_job_elsewhere), {NULL, NULL}};
+    CASE(an_import_that_passes_a_record), CASE(a_claim_over_an_earlier_record), CASE(a_claim_in_place), CASE(manifests_elsewhere),
+    CASE(a_lost_job_elsewhere), {NULL, NULL}};

@@ -1,4 +1,5 @@
 """The discarder's threads, and what a timer waits for."""
+import os
 import threading
 import time
 import unittest
@@ -19,7 +20,7 @@ def cancelled(test):
 
 
 def wait_for(condition):
-    end = time.monotonic() + 300
+    end = time.monotonic() + float(os.environ.get("RELKVANU_LONGEST", "300"))
     while not condition():
         assert time.monotonic() < end, "what is waited for does not come"
         time.sleep(0.001)
