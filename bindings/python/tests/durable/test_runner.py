@@ -19,7 +19,7 @@ from relkvanu.runner import Barrier, Ended, Ending, FileLost, Inputs, InputsClos
 from relkvanu.store import Phase, Store, StoreError
 
 TASKS = 2
-LONGEST = 600  # seconds that a busy machine may take for a step
+LONGEST = float(os.environ.get("RELKVANU_LONGEST", "2400")) / 4  # seconds that a busy machine may take for a step
 HANGS = """
 import sys
 from relkvanu import Settings

@@ -27,7 +27,7 @@ from relkvanu.store import (
 from relkvanu.whole import Ending, Part, Whole
 
 SETTINGS = Settings(interval=10, timeout=1 << 30)
-LONGEST = 600  # seconds that a busy machine may take for a step
+LONGEST = float(os.environ.get("RELKVANU_LONGEST", "2400")) / 4  # seconds that a busy machine may take for a step
 
 
 class Folder(unittest.TestCase):
