@@ -46,7 +46,7 @@ def read_and_cut(job, least, each=20):
         kept = it["first"], image["seq"]
         if kept != seen_since[0]:
             seen_since[:] = kept, time.monotonic()
-        is_due = it["seq"] - image["seq"] >= max(each, image["bytes"] // 100 * 2)
+        is_due = it["seq"] - image["seq"] >= max(each, image["bytes"] // 100)
         return it["first"] > least and not is_due and job.files()["upto"] == it["seq"] and time.monotonic() - seen_since[1] > still
 
     until(is_settled)

@@ -2,11 +2,9 @@
 use super::image::Image;
 use super::summary::KeptSummary;
 
-/// How many bytes a call of the log counts as.
+/// How many bytes a call of the log counts as. An image is made when the calls since the last one have as many bytes as
+/// that one. So images take more bytes than the log only where each has more than 10 MB.
 pub const CALL_BYTES: u64 = 100;
-/// An image is made when the calls since the last one have so many times the bytes of that one, since no call of the job is answered
-/// meanwhile. So images take more bytes than the log only where each has more than 10 MB.
-const LOG_OF_IMAGE: u64 = 2;
 /// After so many calls an image is made though it has more bytes than they: a start makes as many again in about a second.
 const MOST_CALLS: u64 = 100_000;
 /// Into how many parts images and summaries divide the kept calls, at least.
@@ -126,7 +124,7 @@ impl Retention {
     /// Whether to make an image at this place, because the last one is old enough.
     pub fn wants_image(&self, seq: u64, keeping: Keeping) -> bool {
         let (last, bytes) = self.last().map_or((0, 0), |image| (image.seq, image.bytes));
-        let each = keeping.image_calls.max((bytes / CALL_BYTES * LOG_OF_IMAGE).min(MOST_CALLS));
+        let each = keeping.image_calls.max((bytes / CALL_BYTES).min(MOST_CALLS));
         keeping.image_calls > 0 && seq.saturating_sub(last.max(self.tried)) >= each
     }
 
@@ -215,7 +213,7 @@ mod tests {
         kept.postpone(10);
         assert!(!kept.wants_image(19, KEEPING) && kept.wants_image(20, KEEPING));
         kept.add(&image(20, 1500), KEEPING);
-        assert!(!kept.wants_image(49, KEEPING) && kept.wants_image(50, KEEPING));
+        assert!(!kept.wants_image(34, KEEPING) && kept.wants_image(35, KEEPING));
         kept.images = vec![KeptImage { seq: 40, at: 1, bytes: u64::MAX }];
         assert!(!kept.wants_image(100_039, KEEPING) && kept.wants_image(100_040, KEEPING));
         assert!(
