@@ -703,7 +703,7 @@ static void a_latest_manifest_that_is_damaged(void) {
     relkvanu_store_close(store);
 }
 
-/* An import that passes over a record which lacks a file says so, as a recovery does. */
+/* A job whose latest record lacks a file. Returns the savepoint before that. */
 static uint64_t lacks_a_file_of_the_latest(void) {
     relkvanu_store *store = opens_with(manifests(RELKVANU_STORE_CREATE));
     uint64_t first = 0, savepoint = completes(store, 1, RELKVANU_CALL_SAVEPOINT, NULL);
@@ -715,6 +715,7 @@ static uint64_t lacks_a_file_of_the_latest(void) {
     return savepoint;
 }
 
+/* A claim or an import that passes over such a record says so, as a recovery does. */
 static void a_latest_record_that_lacks_a_file(void) {
     uint64_t savepoint = lacks_a_file_of_the_latest();
     claims("storage", 0, "elsewhere", RELKVANU_STORE_OK);
