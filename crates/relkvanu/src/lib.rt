@@ -7,26 +7,26 @@
 //! [`recording`] need no handle.
 #![tactic(auto)]
 
-mod aligning;
-mod answer;
+pub mod aligning;
+pub mod answer;
 mod asked;
-mod buffers;
-mod calls;
-mod fenced;
-mod fencing;
-mod group;
-mod handle;
-mod images;
-mod lines;
-mod making;
-mod names;
-mod opening;
-mod plain_calls;
+pub mod buffers;
+pub mod calls;
+pub mod fenced;
+pub mod fencing;
+pub mod group;
+pub mod handle;
+pub mod images;
+pub mod lines;
+pub mod making;
+pub mod names;
+pub mod opening;
+pub mod plain_calls;
 mod raw_box;
-mod reads;
-mod recording;
-mod recovery;
+pub mod reads;
+pub mod recording;
+pub mod recovery;
 mod requests;
-mod saying;
-mod sweep;
-mod writing;
+pub mod saying;
+pub mod sweep;
+pub mod writing;
