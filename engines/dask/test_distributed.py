@@ -898,7 +898,7 @@ class Samples(Base):
 
     @unittest.skipUnless(os.path.exists("/dev/net/tun"), "no /dev/net/tun: two machines")
     def test_the_first_program_on_two_machines(self):
-        self.assertEqual(self.first("unshare", "-rnm", sys.executable, str(HERE / "machines.py"), "first", "."), TOLD)
+        self.assertEqual(self.first("unshare", "-rn", sys.executable, str(HERE / "machines.py"), "first", "."), TOLD)
 
     def test_the_graph(self):
         text = self.folder / "text"
