@@ -9,6 +9,7 @@ import subprocess
 import sys
 import tempfile
 from dataclasses import dataclass
+from typing import Optional
 
 TOP = pathlib.Path(__file__).resolve().parent.parent
 TRACES = TOP / "docs/protocol"
@@ -23,10 +24,15 @@ FAULTS = {"lost": "file {} is lost", "overwritten": "file {} is overwritten", "m
 
 @dataclass(frozen=True)
 class Switch:
-    """A rule that is switched off: the rule's number, the switch, and the words of the scope."""
+    """A rule that is switched off: the rule's number, the switch, whether it is needed over a coordinator with names, the steps of the shortest trace, the
+    states until the fault, those with the rule on (None: nobody has counted), and the words of the scope."""
 
     rule: int
     name: str
+    with_names: str
+    steps: Optional[int]
+    states: Optional[int]
+    states_on: Optional[int]
     scope: tuple
 
     def file(self):
@@ -41,6 +47,14 @@ class Explored:
     trace: str
     fault: str  # such as "lost 1", or empty
     told: str
+
+    def number_of(self, word):
+        return int(re.search(rf"^# .*? {word} ([0-9]+)", self.told, re.M)[1])
+
+    @property
+    def count(self):
+        """The states of a search, or the steps of all random runs."""
+        return self.number_of("steps" if " runs " in self.told else "states")
 
 
 @contextlib.contextmanager
@@ -61,11 +75,13 @@ def table(name):
 
 
 def switches():
-    return [Switch(int(rule), name, tuple(scope)) for rule, name, *scope in table("RULES")]
+    return [Switch(int(rule), name, with_names, int(steps), int(states), int(states_on), tuple(scope))
+            for rule, name, with_names, steps, states, states_on, *scope in table("RULES")]
 
 
 def scopes(kind):
-    return [words for found, *words in table("SCOPES") if found == kind]
+    """The words of each scope, and what it counts, if that is known."""
+    return [(tuple(words), None if count == "-" else int(count)) for found, count, *words in table("SCOPES") if found == kind]
 
 
 def explore(program, words, seconds=MOST_SECONDS):

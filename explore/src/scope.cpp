@@ -12,67 +12,14 @@ struct Named {
     const char *name, *words;
 };
 
-// The numbers are those of docs/PROTOCOL.md.
 static const Named RULE[RULES] = {
-    {"sync", "1: the log is synced before anybody acts on the answer of a call"},
-    {"fsync", "2: a task syncs a file and its folder before it acknowledges it"},
-    {"fence", "3: no message of a task that was replaced is accepted"},
-    {"term-at-start", "3: a task learns its term where it is started, not from a barrier"},
-    {"restart-restores", "4: a task is started anew only with a restore"},
-    {"one-log", "5: one process at a time appends to the log"},
-    {"no-task-deletes", "6: a task deletes no file that it named in a message"},
-    {"new-name", "7: a name that was in a message is not given to another file"},
-    {"own-name", "7: two tasks never have the same name"},
-    {"sweep-stopped", "8: no sweep by what the coordinator knows while tasks run"},
-    {"sweep-restored", "8: in a recovery the sweep comes after the restore"},
-    {"synced-folder", "9: a file is reported as deleted when the folder is synced"},
-    {"mounted-delete", "9: a file that is not found counts as deleted only if the storage is there"},
-    {"mounted-write", "10: a task writes only if the storage is there"},
-    {"give-back", "8, with names: a task gives back the names that it won't acknowledge"},
-    {"newest-log", "1: a process begins with the newest log, not with a copy that was taken before"},
-    {"cut", "11: a task with several inputs takes its snapshot when the barrier has come on each"},
-    {"give-up", "12: a sink that starts gives up what the restored record has not prepared"},
-    {"by-state", "12: a sink that starts publishes what its snapshot lists, and does not go by the numbers of records"},
-    {"savepoint-waits", "13: a sink publishes what it prepared for a savepoint when the job is restored to it"},
-    {"stop-in-one", "13: a stop is the last acknowledgement of its savepoint and the restore to it, in one commit"},
-    {"hold", "14: a task holds after its snapshot for the savepoint of a stop"},
-    {"go-back-alone", "15: the savepoint of a go back reaches no task: it is one commit with its acknowledgements and the restore"},
-    {"target-fence", "3: the target of a sink takes nothing of a task that was replaced"},
-    {"commit-first", "16: a manifest is written after the commit that completes its record"},
-    {"manifest-first", "16: nobody is told of a complete record before its manifest is in the storage"},
-    {"newest-record", "17: a recovery begins from the newest record that was the choice"},
-    {"new-numbers", "17: the records of a recovered job have numbers above all that the lost log told"},
-    {"new-terms", "17: the terms of a recovered job are above all that the lost log told"},
-    {"new-names", "17: the names that a recovered job gives out are above all that the lost log told"},
-    {"lost-log", "18: a log that was lost is refused if it comes back"},
-    {"look-first", "15: a way back looks into the storage for the files of its record before it drops the others"},
-    {"locked-marker", "18: a process that starts looks at the marker and writes it under one lock"},
+#define NAMED(it, name, words) {name, words},
+#include "rules.def"
 };
 
 static const Named BUDGET[BUDGETS] = {
-    {"trig", "checkpoints that are triggered"},
-    {"save", "savepoints"},
-    {"disp", "disposals of savepoints"},
-    {"rest", "restores while a process runs"},
-    {"crash", "ends of the coordinator's process"},
-    {"dup", "messages that are sent or delivered twice"},
-    {"power", "losses of power of the storage"},
-    {"decl", "declines and expiries"},
-    {"zbar", "barriers that reach a task that was replaced"},
-    {"unm", "times that the storage goes away"},
-    {"canc", "cancels"},
-    {"undel", "files that are reported as not deleted"},
-    {"name", "names of files, at most 30"},
-    {"msg", "messages that are under way at once, at most 6"},
-    {"scale", "restores with another parallelism, of one and of two subtasks"},
-    {"now", "checkpoints that somebody asks for"},
-    {"conf", "changes of the settings"},
-    {"stop", "stops of the job; after each it may begin again"},
-    {"back", "ways back to a checkpoint that is retained"},
-    {"elem",
-        "elements of the source, at most 7, with a sink that publishes them, and without files. Of two subtasks the first is the source"},
-    {"lose", "losses of the log, after which the job is made again from the manifests"},
-    {"gone", "files of older records that somebody else deletes"},
+#define NAMED(it, name, words) {name, words},
+#include "limits.def"
 };
 
 Scope scope;

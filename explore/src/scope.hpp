@@ -4,68 +4,15 @@
 
 #include "sets.hpp"
 
-// The rules of an engine, each of which can be switched off. scope.cpp says what they demand.
 enum Rule {
-    SYNC,
-    FSYNC,
-    FENCE,
-    TERM_AT_START,
-    RESTART_RESTORES,
-    ONE_LOG,
-    NO_TASK_DELETES,
-    NEW_NAME,
-    OWN_NAME,
-    SWEEP_STOPPED,
-    SWEEP_RESTORED,
-    SYNCED_FOLDER,
-    MOUNTED_DELETE,
-    MOUNTED_WRITE,
-    GIVE_BACK,
-    NEWEST_LOG,
-    CUT,
-    GIVE_UP,
-    BY_STATE,
-    SAVEPOINT_WAITS,
-    STOP_IN_ONE,
-    HOLD,
-    GO_BACK_ALONE,
-    TARGET_FENCE,
-    COMMIT_FIRST,
-    MANIFEST_FIRST,
-    NEWEST_RECORD,
-    NEW_NUMBERS,
-    NEW_TERMS,
-    NEW_NAMES,
-    LOST_LOG,
-    LOOK_FIRST,
-    LOCKED_MARKER,
+#define NAMED(it, name, words) it,
+#include "rules.def"
     RULES
 };
 
-// How often a search lets something happen.
 enum Budget {
-    TRIGGERS,
-    SAVEPOINTS,
-    DISPOSALS,
-    RESTORES,
-    CRASHES,
-    DUPLICATES,
-    POWER_LOSSES,
-    DECLINES,
-    ZOMBIE_BARRIERS,
-    UNMOUNTS,
-    CANCELS,
-    UNDELETED,
-    NAMES,
-    MESSAGES,
-    SCALES,
-    NOW,
-    CONFIGURES,
-    STOPS,
-    BACKS,
-    ELEMENTS,
-    LOSSES,
-    GONE,
+#define NAMED(it, name, words) it,
+#include "limits.def"
     BUDGETS
 };
 
