@@ -1,5 +1,6 @@
 """What the tests of the built program share: how it is run, over devices that fail, and what they count."""
 import os
+import pathlib
 import re
 import shutil
 import subprocess
@@ -32,16 +33,25 @@ def skip(tool, what):
     print(f"skipped: {tool}: {what}", flush=True)
 
 
+def shown():
+    """The examples: a name, the script, its output, which it shows below its lines, and the status that the program ends with."""
+    for name in sorted(it for it in os.listdir(f"{TOP}/examples") if it.endswith(".script")):
+        script = bytes_of(f"{TOP}/examples/{name}")
+        # a line of it makes a call, and the next one has the answer, unless it opens the job; an answer elsewhere is none
+        found = re.findall(rb"^(?!config |job |start )[a-z].*\n(?:    # -> (.*\n))?|^(    # -> ).*\n", script, re.M)
+        yield name.removesuffix(".script"), script, b"".join(answer or stray or b"no answer is shown\n" for answer, stray in found), 0
+
+
+def rows():
+    """The same of the rows beside them. A faulty line is all that makes the status 1."""
+    folder = f"{TOP}/examples/rows"
+    for name in sorted(it.removesuffix(".in") for it in os.listdir(folder) if it.endswith(".in")):
+        told = bytes_of(f"{folder}/{name}.out")
+        yield name, bytes_of(f"{folder}/{name}.in"), told, int(re.search(rb"^line \d+ fault ", told, re.M) is not None)
+
+
 def examples():
-    """The examples and the rows beside them: a name, the script, its whole output, and the status that the program ends with: 1 after a faulty line."""
-    found = []
-    for folder, script, output in [("examples", ".script", ".stdout"), ("examples/rows", ".in", ".out")]:
-        for name in sorted(os.listdir(f"{TOP}/{folder}")):
-            if name.endswith(script):
-                start = f"{TOP}/{folder}/{name[: -len(script)]}"
-                told = bytes_of(start + output)
-                found.append((os.path.basename(start), bytes_of(start + script), told, int(re.search(rb"^line \d+ fault ", told, re.M) is not None)))
-    return found
+    return [*shown(), *rows()]
 
 
 def bytes_of(path):
@@ -58,12 +68,6 @@ class Counts:
             self.allocations, self.reads, self.writes, self.reads_late, self.writes_late, self.threads, self.refused = map(int, text.split())
         except ValueError:
             sys.exit(f"{sys.argv[0]}: devices.c left no counts but {text!r}: is the disk full?")
-
-
-def forget(path):
-    """So that the counts of an earlier run are not taken for those of the next one."""
-    if os.path.exists(path):
-        os.remove(path)
 
 
 class Verdicts:
@@ -83,27 +87,40 @@ class Verdicts:
         sys.exit(self.failed > 0)
 
 
-class Tests(Verdicts):
+class Devices(Verdicts):
+    """Runs programs over devices.c, if there is a C compiler."""
+
     def __init__(self, name):
         super().__init__(name)
-        self.program = program()
         self.folder = tempfile.TemporaryDirectory()
         self.devices = built("faults/devices.c", f"{self.folder.name}/devices.so", "-shared", "-fPIC", "-ldl")
 
-    def run(self, script, **given):
-        """Runs a script, with what devices.c is to do, and returns the run and the counts."""
+    def run_over(self, words, script, **given):
+        """Runs a program, with what devices.c is to do, and returns the run and the counts, or none if it was killed."""
         counts = f"{self.folder.name}/counts"
-        forget(counts)
+        # those of an earlier run are not taken for those of this one
+        pathlib.Path(counts).unlink(missing_ok=True)
         around = {"LD_PRELOAD": self.devices, "COUNTS": counts, **{key.upper(): str(it) for key, it in given.items()}}
         # (of a pipe, a busy machine may give the first bytes before the others, and then the program asks for memory another number of times)
         with tempfile.TemporaryFile() as given_in:
             given_in.write(script)
             given_in.seek(0)
-            run = subprocess.run([self.program], stdin=given_in, capture_output=True, env=around, timeout=MOST_SECONDS)
-        if not os.path.exists(counts):
+            run = subprocess.run(words, stdin=given_in, capture_output=True, env=around, timeout=MOST_SECONDS)
+        return run, Counts(bytes_of(counts).decode()) if os.path.exists(counts) else None
+
+
+class Tests(Devices):
+    def __init__(self, name):
+        super().__init__(name)
+        self.program = program()
+
+    def run(self, script, **given):
+        """Runs a script, with what devices.c is to do, and returns the run and the counts."""
+        run, counts = self.run_over([self.program], script, **given)
+        if counts is None:
             # it was killed, so nothing can be said of what it asked for
             sys.exit(f"{sys.argv[0]}: {given} of {script[:200]}: the program left no counts. It ended with {run.returncode}: {run.stderr[-300:]}")
-        return run, Counts(bytes_of(counts).decode())
+        return run, counts
 
 
 def is_end(run, status, error, output):
