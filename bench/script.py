@@ -11,8 +11,6 @@ The same arguments give the same script, and no line is refused. The kinds:
   waiting      64 subtasks, the same, but nothing is taken
   discarder    64 new files a round, taken by eights; one of eight can't be deleted at first
   savepoints   900 savepoints live; in each round one is taken and one disposed of
-  triggers     a checkpoint of 512 subtasks with 2 files each; then savepoints, each declined at once
-  wide         the same with 1000 files each
 """
 
 import itertools
@@ -110,16 +108,6 @@ def savepoints(live):
             yield f"deleted {number - live}"
 
 
-def triggers(subtasks, files):
-    yield f"tick {INTERVAL}"
-    for subtask in range(subtasks):
-        words = "".join(f" +{subtask * files + file}" for file in range(files))
-        yield f"ack {INTERVAL} 1 0.{subtask}{words}"
-    for number in itertools.count(2):
-        yield f"savepoint {INTERVAL + number}"
-        yield f"decline {INTERVAL + number} {number} 0.0"
-
-
 KINDS = {
     "rounds": lambda: (opening(4), rounds(Files(4, 1, 7), deleted)),
     "ticks": lambda: (opening(4), ticks()),
@@ -129,8 +117,6 @@ KINDS = {
     "waiting": lambda: (opening(64), rounds(Files(64, 3, 8), nothing)),
     "discarder": lambda: (opening(1), rounds(Files(1, 64, 0), discarded)),
     "savepoints": lambda: (opening(1), savepoints(900)),
-    "triggers": lambda: (opening(512), triggers(512, 2)),
-    "wide": lambda: (opening(512), triggers(512, 1000)),
 }
 
 
