@@ -150,14 +150,11 @@ class Writer:
 
     # Lines: each returns its words.
 
-    def tick(self):
-        return [*self.term(False), "tick", self.moment()]
-
-    def trigger(self):
-        return [*self.term(False), "trigger", self.moment()]
-
-    def savepoint(self):
-        return [*self.term(False), "savepoint", self.moment()]
+    def words(self, line):
+        """Those of a line with this first word, or for this end."""
+        if line in ("tick", "trigger", "savepoint", "cancel"):
+            return [*self.term(False), line, self.moment()]
+        return self.reported(line) if line in ("deleted", "undeleted") else getattr(self, line)()
 
     def ack(self):
         number = self.record()
@@ -167,7 +164,7 @@ class Writer:
         """Acknowledges what is missing of a pending record, but for the last subtask, which it returns."""
         pending = [it for it in self.job.pending() if it.missing <= 20] if self.job else []
         if not pending:
-            return self.tick()
+            return self.words("tick")
         number, missing = pending[-1].number, pending[-1].missing
         for _ in range(missing - 1):
             self.say(*self.term(), "ack", self.moment(), number, self.subtask(number), *self.files())
@@ -189,9 +186,6 @@ class Writer:
             shape = self.random.choice(([4096], [1] * 256, [4000, 96]))
         return [*self.term(False), "restore", self.moment(), target, *shape]
 
-    def cancel(self):
-        return [*self.term(False), "cancel", self.moment()]
-
     def configure(self):
         return [*self.term(False), "configure", self.moment(), *self.settings()]
 
@@ -211,12 +205,6 @@ class Writer:
         job = self.job
         wrong = [self.new_file(), *(job.waiting[:1] + job.waiting[-2:] + self.some(job.used(), 1) if job else [])]
         return [*self.term(False), word, self.pick(job.taken if job else [], wrong)]
-
-    def deleted(self):
-        return self.reported("deleted")
-
-    def undeleted(self):
-        return self.reported("undeleted")
 
     def show(self):
         return [*self.term(False), "show", self.record()]
@@ -299,7 +287,7 @@ class Writer:
         """What comes before the coordinator is open, and its opening."""
         for _ in range(self.random.choice((0, 0, 0, 4, 20))):
             self.wild = 0.3
-            self.say(*getattr(self, self.random.choice(["opening_again"] * len(self.weights) + list(self.weights)))())
+            self.say(*self.words(self.random.choice(["opening_again"] * len(self.weights) + list(self.weights))))
         self.wild = 0
         for edge in self.some(([1] * 256, [4096], [1, 4095]), 1):
             self.say("job", *edge)
@@ -308,19 +296,19 @@ class Writer:
         self.say("start", self.random.choice([0, 1, 7, 1_000_000] * 9 + [MOMENTS]))
 
     def line(self):
-        return getattr(self, *self.random.choices(list(self.weights), self.weights.values()))()
+        return self.words(*self.random.choices(list(self.weights), self.weights.values()))
 
     def next_line(self):
         """A line of those that fit the mode, or any."""
         mode, names = self.job and self.job.mode, self.script.names
         if names and self.left < 12 and self.happens(0.3):
-            return self.random.choice((self.advance, self.restore, self.cancel) if names.term == TERMS else (self.advance, self.reserve))()
+            return self.words(self.random.choice(("advance", "restore", "cancel") if names.term == TERMS else ("advance", "reserve")))
         if self.left == 20 and self.happens(0.5):
-            return self.cancel()
+            return self.words("cancel")
         if mode == FAILED and self.happens(0.2):
             return self.restore()
         if mode == CANCELLED and self.happens(0.3):
-            return self.random.choice((self.dispose, self.cancel, self.restore, self.tick))()
+            return self.words(self.random.choice(("dispose", "cancel", "restore", "tick")))
         return self.line()
 
     def write(self, count):
@@ -331,7 +319,7 @@ class Writer:
             self.wild = self.random.choice((0.02, 0.02, 0.02, 0.4))
             words = self.next_line()
             if not self.logs and self.happens(0.05):
-                self.say_bytes(self.mutated(getattr(self, self.random.choice(list(self.weights)))()))
+                self.say_bytes(self.mutated(self.words(self.random.choice(list(self.weights)))))
             elif self.happens(0.03):
                 self.say_bytes(self.dressed(words))
             else:
