@@ -216,6 +216,16 @@ OF_A_NUMBER: Dict[int, Callable[[int, int], Call]] = {
 }
 # bindings/generate: end
 OF_A_NUMBER.update({CallKind.TAKE: Take, CallKind.SHOW: Show})
+OTHERS: Dict[int, Callable[[header.relkvanu_call, Tuple[int, ...], Tuple[int, ...]], Call]] = {
+    CallKind.ACK: lambda it, fresh, reused: Ack(it.now, it.number, it.vertex, it.index, fresh, reused, it.term),
+    CallKind.DECLINE: lambda it, *_: Decline(it.now, it.number, it.vertex, it.index, it.term),
+    CallKind.RESTORE: lambda it, shape, _: Restore(it.now, it.number or None, shape or None, it.term),
+    CallKind.CONFIGURE: lambda it, numbers, _: Configure(it.now, settings_of(numbers), it.term),
+    CallKind.FENCE: lambda it, *_: Fence(it.number),
+    CallKind.RESERVE: lambda it, *_: Reserve(it.term, it.number),
+    CallKind.FORFEIT: lambda it, names, _: Forfeit(it.term, names),
+    CallKind.ADVANCE: lambda it, *_: Advance(it.now, it.term, it.number),
+}
 
 
 def line_call(line: bytes) -> Optional[Call]:
@@ -243,20 +253,6 @@ def _call(it: header.relkvanu_call, first: Tuple[int, ...], second: Tuple[int, .
         return OF_A_MOMENT[it.kind](it.now, it.term)
     if it.kind in OF_A_NUMBER:
         return OF_A_NUMBER[it.kind](it.number, it.term)
-    if it.kind == CallKind.ACK:
-        return Ack(it.now, it.number, it.vertex, it.index, first, second, it.term)
-    if it.kind == CallKind.DECLINE:
-        return Decline(it.now, it.number, it.vertex, it.index, it.term)
-    if it.kind == CallKind.RESTORE:
-        return Restore(it.now, it.number or None, first or None, it.term)
-    if it.kind == CallKind.CONFIGURE:
-        return Configure(it.now, settings_of(first), it.term)
-    if it.kind == CallKind.FENCE:
-        return Fence(it.number)
-    if it.kind == CallKind.RESERVE:
-        return Reserve(it.term, it.number)
-    if it.kind == CallKind.FORFEIT:
-        return Forfeit(it.term, first)
-    if it.kind == CallKind.ADVANCE:
-        return Advance(it.now, it.term, it.number)
-    raise Unknown(header.DONE, header.LINE_CALL)
+    if it.kind not in OTHERS:
+        raise Unknown(header.DONE, header.LINE_CALL)
+    return OTHERS[it.kind](it, first, second)

@@ -420,10 +420,7 @@ class Coordinator:
     def advance(self, now: int, term: int, first_name: int) -> Reply:
         """Restores a job that goes on from an older image, from its latest record, in a term above `term`, the greatest that any task was
         told, and with names from `first_name` on, above each that was given out. It is the first call of such a job."""
-        with self._lock:
-            if _u64(now) <= LAST_MOMENT and self._is_ahead(now):
-                raise Refused("MomentTooLarge", None)
-            return self._moved("advance", now, _u64(term), _u64(first_name))
+        return self._timed("advance", now, _u64(term), _u64(first_name))
 
     def ack_in(
         self, term: int, now: int, id: int, vertex: int, index: int, fresh: Sequence[int], reused: Sequence[int] = ()

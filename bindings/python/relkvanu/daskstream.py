@@ -390,10 +390,8 @@ class Checkpoints(Resumable):
 
     def _on_loop(self, work: Any) -> Any:
         assert self._client is not None
-        try:
+        with losses():
             return asyncio.run_coroutine_threadsafe(work, self._client.loop.asyncio_loop).result(self._patience)
-        except LOST as fault:
-            raise _lost(fault) from None
 
     def _emitted_here(self, source: Any, x: Any) -> None:
         try:

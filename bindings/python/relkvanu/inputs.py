@@ -54,14 +54,21 @@ class Inputs:
         BadStep("EndedInput") behind its end."""
         channel = self._channels[input]
         with self._emptied:
-            self._emptied.wait_for(lambda: len(channel) < self._room or self._is_closed)
+            self._emptied.wait_for(lambda: len(channel) < self._room or self._has_room_for(item) or self._is_closed)
             self._check_open()
             if self._ended[input]:
                 raise BadStep("EndedInput")
             self._ended[input] = isinstance(item, _End)
             channel.append(item)
-            if len(channel) == 1:  # otherwise the task waits for no item of this input
-                self._filled.notify()
+            self._was_put(input, item)
+
+    def _has_room_for(self, item: Any) -> bool:
+        """Whether it comes in also where its input is full."""
+        return False
+
+    def _was_put(self, input: int, item: Any) -> None:
+        if len(self._channels[input]) == 1:  # otherwise the task waits for no item of this input
+            self._filled.notify()
 
     def end(self, input: int) -> None:
         """Nothing more comes on this input. Waits while it is full, and raises as put(). If the others have delivered a barrier, take() returns that barrier once
@@ -131,7 +138,10 @@ class Inputs:
         """The input to take from, if there is one: each has its turn."""
         count = len(self._channels)
         turns = ((self._last + it) % count for it in range(1, count + 1))
-        return next(([it] for it in turns if self._channels[it] and it in self._free), [])
+        return next(([it] for it in turns if self._channels[it] and self._may_take(it)), [])
+
+    def _may_take(self, input: int) -> bool:
+        return input in self._free
 
     def _asked(self) -> List[int]:
         """The inputs whose items may be taken. Only barriers, ends and what is given up change that, so the aligner is not asked of each element."""

@@ -1,9 +1,10 @@
 """What the verbs of `python3 -m relkvanu` do with a durable job, whose storage may be in a bucket."""
 import argparse
+import itertools
 import pathlib
 import shutil
 import tempfile
-from typing import Any, Dict, Iterator, List, Optional
+from typing import Any, Dict, List, Optional, Sequence
 
 from relkvanu import manifests
 from relkvanu.coordinator import Settings
@@ -44,34 +45,18 @@ def put_back(given: argparse.Namespace) -> None:
 class Backup:
     """The records of a backup, over the files that are there."""
 
-    def __init__(self, reads: Any, sizes: Dict[int, int]) -> None:
+    def __init__(self, reads: Any, live: Sequence[Live], sizes: Dict[int, int]) -> None:
         self.reads, self.sizes = reads, sizes
-        self.records: List[Live] = [it for it in self._live() if it.done]
+        self.records = [it for it in live if it.done]
 
-    def _live(self) -> Iterator[Live]:
-        it = self.reads.live_from(0)
-        while it is not None:
-            yield it
-            it = self.reads.live_from(it.id + 1)
-
-    def _vertex(self, id: int, vertex: int) -> Optional[List[int]]:
-        """The files of the vertex in a record, which may not have it."""
-        if self.reads.files_of(id, vertex, 0) is None:
-            return None
-        found: List[int] = []
-        index = 0
-        while (files := self.reads.files_of(id, vertex, index)) is not None:
-            found += files
-            index += 1
-        return found
+    def _subtasks(self, id: int, vertex: int) -> List[Sequence[int]]:
+        """The files of each subtask of the vertex in a record, which may not have it."""
+        found = (self.reads.files_of(id, vertex, index) for index in itertools.count())
+        return list(itertools.takewhile(lambda it: it is not None, found))
 
     def files(self, id: int) -> List[int]:
-        found: List[int] = []
-        vertex = 0
-        while (files := self._vertex(id, vertex)) is not None:
-            found += files
-            vertex += 1
-        return found
+        vertices = itertools.takewhile(bool, (self._subtasks(id, vertex) for vertex in itertools.count()))
+        return [file for subtasks in vertices for files in subtasks for file in files]
 
     def missing(self, id: int) -> int:
         return sum(file not in self.sizes for file in self.files(id))
@@ -110,5 +95,7 @@ def show_backup(backup: str, storage: str) -> None:
         shutil.copyfile(backup, copy)
         (state / MARKER).write_bytes(marker)
         # the job keeps its own settings and shape
-        with Store(copy, Settings(interval=1000), [1], storage=state, backup=True) as job, job.read() as reads:
-            Backup(reads, sizes).show()
+        with Store(copy, Settings(interval=1000), [1], storage=state, backup=True) as job:
+            live = job.live()
+            with job.read() as reads:
+                Backup(reads, live, sizes).show()

@@ -7,7 +7,7 @@ import importlib
 import os
 import pathlib
 import re
-from typing import Any, Dict, Iterator, List, NamedTuple, Optional, Union
+from typing import Any, Callable, Dict, Iterator, List, NamedTuple, Optional, Union
 
 from relkvanu.manifest import name_of
 from relkvanu.storage import FileNames, Marker, NotThere, StorageError, bucket_and_prefix
@@ -104,6 +104,11 @@ class InBucket:
         unchecked = importlib.import_module("relkvanu.s3").UncheckedBucket
         self._bucket = unchecked(self.bucket, "any", prefix=self.form.prefix, suffix=form.suffix, s3=s3, keeps_versions=True, marker=Marker(marker, "any"))
         self._tag: Optional[str] = None  # of the marker, as it was seen last
+        self.read: Callable[[str], Optional[bytes]] = self._bucket.read_beside
+        self.write: Callable[[str, bytes], None] = self._bucket.write_beside
+        self.write_once: Callable[[str, bytes], bool] = self._bucket.write_once_beside
+        self.remove: Callable[[str], None] = self._bucket.remove_beside
+        self.drop: Callable[[List[int]], Dict[int, str]] = self._bucket.delete
 
     def owner(self) -> Optional[Owner]:
         text, self._tag = self._bucket.read_marker()
@@ -130,24 +135,10 @@ class InBucket:
         """What tells it from other places."""
         return self.url.rstrip("/") + ("" if self.marker == MARKER else f"/{self.marker}")
 
-    def read(self, name: str) -> Optional[bytes]:
-        found: Optional[bytes] = self._bucket.read_beside(name)
-        return found
-
-    def write(self, name: str, contents: bytes) -> None:
-        self._bucket.write_beside(name, contents)
-
-    def write_once(self, name: str, contents: bytes) -> bool:
-        """Makes what is not there yet. Returns whether it was not."""
-        return bool(self._bucket.write_once_beside(name, contents))
-
     def check_conditions(self, name: str) -> None:
         """Raises StorageError if the server puts this object though it is there: it keeps no other claim out, and no opening that has read the marker."""
         if not self._bucket.heeds_beside(name):
             raise StorageError(errno.ENOSYS, "the server has no conditional writes, which a claim needs: end each process of the job, and import the record", self.url)
-
-    def remove(self, name: str) -> None:
-        self._bucket.remove_beside(name)
 
     def sizes(self) -> Dict[int, int]:
         return {file: size for page in self._bucket.sizes() for file, size in page.items()}
@@ -158,11 +149,6 @@ class InBucket:
 
     def is_empty(self) -> bool:
         return not self._bucket.beside("")
-
-    def drop(self, files: List[int]) -> Dict[int, str]:
-        """Deletes files. Returns those that may be there still, each with the reason."""
-        failed: Dict[int, str] = self._bucket.delete(files)
-        return failed
 
     def copy(self, file: int, source: "InBucket") -> None:
         self._bucket._ask(self.s3.copy_object, Key=self.form.of(file), CopySource={"Bucket": source.bucket, "Key": source.form.of(file)})
@@ -230,7 +216,7 @@ class InFolder:
         sync(path.parent)
 
     def write_once(self, name: str, contents: bytes) -> bool:
-        """Who writes it has the lock."""
+        """Makes what is not there yet. Returns whether it was not. Who writes it has the lock."""
         is_free = not (self.path / name).exists()
         if is_free:
             self.write(name, contents)
@@ -259,6 +245,7 @@ class InFolder:
         return not self.path.exists() or not any(self.path.iterdir())
 
     def drop(self, files: List[int]) -> Dict[int, str]:
+        """Deletes files. Returns those that may be there still, each with the reason."""
         for file in files:
             (self.path / self.form.of(file)).unlink(missing_ok=True)
         return {}

@@ -61,19 +61,14 @@ class UnalignedInputs(Inputs):
         for input, element in recorded:
             self._channels[input].append(element)
 
-    def put(self, input: int, item: Any) -> None:
-        channel, is_barrier = self._channels[input], isinstance(item, Barrier)
-        with self._emptied:
-            self._emptied.wait_for(lambda: len(channel) < self._room or is_barrier or self._is_closed)
-            self._check_open()
-            if self._ended[input]:
-                raise BadStep("EndedInput")
-            self._ended[input] = isinstance(item, _End)
-            channel.append(item)
-            if is_barrier:
-                self._seen.setdefault(item.id, (item, time.monotonic()))
-            self._read_ahead(input)
-            self._filled.notify()
+    def _has_room_for(self, item: Any) -> bool:
+        return isinstance(item, Barrier)
+
+    def _was_put(self, input: int, item: Any) -> None:
+        if isinstance(item, Barrier):
+            self._seen.setdefault(item.id, (item, time.monotonic()))
+        self._read_ahead(input)
+        self._filled.notify()
 
     def give_up(self, id: int) -> bool:
         with self._filled:
@@ -189,16 +184,11 @@ class UnalignedInputs(Inputs):
         self._free = self._asked()
         self._filled.notify()
 
-    def _open(self) -> List[int]:
-        count = len(self._channels)
-        turns = ((self._last + it) % count for it in range(1, count + 1))
-        return next(([it] for it in turns if self._channels[it] and self._may_take(it)), [])
-
     def _may_take(self, input: int) -> bool:
         """While a checkpoint is recorded elements are taken from each input, and the next barrier or end waits."""
         if self._ahead[input]:
             return True
-        return not isinstance(self._channels[input][0], (Barrier, _End)) if self._recording is not None else input in self._free
+        return not isinstance(self._channels[input][0], (Barrier, _End)) if self._recording is not None else super()._may_take(input)
 
     def _asked(self) -> List[int]:
         return [it for it in self._left if it not in self._over and self._aligner.element(it) is Step.PROCESS]
