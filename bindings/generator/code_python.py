@@ -15,10 +15,24 @@ def python_type(node: Any) -> str:
     return f"POINTER({of})" if depth else of
 
 
+def filled(items: List[str]) -> str:
+    """The items of a list, as many in a line as the linter allows."""
+    lines = [""]
+    for it in items:
+        if len(lines[-1]) + len(it) > 150:
+            lines.append("")
+        lines[-1] += f" {it},"
+    return "".join(f"       {line}\n" for line in lines)
+
+
 def entry(front: str, given: List[str]) -> str:
-    """The entry of a function, in more lines if one would be too long for the linter."""
+    """The entry of a function, in more lines if one would be too long."""
     line = f"{front}{', '.join(given)}]),\n"
-    return line if len(line) <= 180 else front + "".join(f"\n        {it}," for it in given) + "\n    ]),\n"
+    return line if len(line) <= 180 else f"{front}\n{filled(given)}    ]),\n"
+
+
+def structure(name: str, fields: List[str]) -> str:
+    return f"\n\nclass {name}(Structure):\n    _fields_ = [\n{filled(fields)}    ]\n"
 
 
 def bindings(structs: Dict[str, Any], functions: Dict[str, Any]) -> str:
@@ -27,8 +41,7 @@ def bindings(structs: Dict[str, Any], functions: Dict[str, Any]) -> str:
     text += "from typing import Any, Dict, List, Tuple\n\n"
     text += "".join(f"{it.name.removeprefix(header.OWN)} = {it.value.rstrip('u')}\n" for it in header.macros())
     for name, fields in structs.items():
-        lines = "".join(f'        ("{it.name}", {python_type(it.type)}),\n' for it in fields)
-        text += f"\n\nclass {name}(Structure):\n    _fields_ = [\n{lines}    ]\n"
+        text += structure(name, [f'("{it.name}", {python_type(it.type)})' for it in fields])
     text += "\n\n# Of each function, its result and its parameters.\nFUNCTIONS: Dict[str, Tuple[Any, List[Any]]] = {\n"
     for name, it in functions.items():
         given = [python_type(kind) for _, kind in parameters(it)]
@@ -107,9 +120,7 @@ def line(call: Call) -> str:
 def value(call: Call) -> str:
     """A call as a value. That of a fence is in calls.py, since it has no term."""
     field = f"    {call.number}: int\n" if call.number else ""
-    number = f"{'now' if call.has_moment() else 'number'}=self.{call.number}, " if call.number else ""
-    text = f"@dataclass(frozen=True)\nclass {camel(call.name)}:\n{field}    term: int = 0\n\n"
-    return text + f"    def line(self) -> str:\n        return _line(CallKind.{call.name.upper()}, {number}term=self.term)\n"
+    return f"@dataclass(frozen=True)\nclass {camel(call.name)}(_OfOneNumber):\n{field}    term: int = 0\n"
 
 
 def values() -> List[Call]:

@@ -6,7 +6,7 @@ from typing import Any, Dict, Iterable, List, NamedTuple
 from pycparser import c_ast
 
 from generator import header
-from generator.code_python import entry
+from generator.code_python import entry, structure
 from generator.code_rust import formatted
 from generator.header import Number, camel
 
@@ -107,8 +107,7 @@ def python() -> str:
     names = [name.removeprefix(prefix) for name in statuses(STORE)]
     text += "\n# The names of the statuses.\nSTATUSES: Dict[int, str] = {\n" + "".join(f'    {name}: "{camel(name)}",\n' for name in names) + "}\n"
     for name, fields in it.structs.items():
-        lines = "".join(f'        ("{field.name}", {python_type(field.type, it.opaque)}),\n' for field in fields)
-        text += f"\n\nclass {name}(Structure):\n    _fields_ = [\n{lines}    ]\n"
+        text += structure(name, [f'("{field.name}", {python_type(field.type, it.opaque)})' for field in fields])
     text += "\n\n"
     for name, function in it.callbacks.items():
         text += f"{name} = CFUNCTYPE({', '.join([python_type(function.type, it.opaque), *python_parameters(function, it.opaque)])})\n"

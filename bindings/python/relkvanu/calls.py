@@ -34,77 +34,61 @@ class CallKind(enum.IntEnum):
 # bindings/generate: end
 
 
+class _OfOneNumber:
+    """Its first field is the moment or the number of the call."""
+
+    def line(self) -> str:
+        name, number = next(iter(vars(self).items()))
+        return _line(CallKind[type(self).__name__.upper()], term=getattr(self, "term"), **{"now" if name == "now" else "number": number})
+
+
 # bindings/generate makes the calls of one number
 @dataclass(frozen=True)
-class Tick:
+class Tick(_OfOneNumber):
     now: int
     term: int = 0
 
-    def line(self) -> str:
-        return _line(CallKind.TICK, now=self.now, term=self.term)
-
 
 @dataclass(frozen=True)
-class Savepoint:
+class Savepoint(_OfOneNumber):
     now: int
     term: int = 0
 
-    def line(self) -> str:
-        return _line(CallKind.SAVEPOINT, now=self.now, term=self.term)
-
 
 @dataclass(frozen=True)
-class Dispose:
+class Dispose(_OfOneNumber):
     id: int
     term: int = 0
 
-    def line(self) -> str:
-        return _line(CallKind.DISPOSE, number=self.id, term=self.term)
-
 
 @dataclass(frozen=True)
-class Cancel:
+class Cancel(_OfOneNumber):
     now: int
     term: int = 0
 
-    def line(self) -> str:
-        return _line(CallKind.CANCEL, now=self.now, term=self.term)
-
 
 @dataclass(frozen=True)
-class Deleted:
+class Deleted(_OfOneNumber):
     file: int
     term: int = 0
 
-    def line(self) -> str:
-        return _line(CallKind.DELETED, number=self.file, term=self.term)
-
 
 @dataclass(frozen=True)
-class Undeleted:
+class Undeleted(_OfOneNumber):
     file: int
     term: int = 0
 
-    def line(self) -> str:
-        return _line(CallKind.UNDELETED, number=self.file, term=self.term)
-
 
 @dataclass(frozen=True)
-class Count:
+class Count(_OfOneNumber):
     file: int
     term: int = 0
 
-    def line(self) -> str:
-        return _line(CallKind.COUNT, number=self.file, term=self.term)
-
 
 @dataclass(frozen=True)
-class Trigger:
+class Trigger(_OfOneNumber):
     now: int
     term: int = 0
-
-    def line(self) -> str:
-        return _line(CallKind.TRIGGER, now=self.now, term=self.term)
 # bindings/generate: end
 
 
@@ -154,18 +138,15 @@ class Configure(_OfFields):
 
 
 @dataclass(frozen=True)
-class Take(_OfFields):
+class Take(_OfOneNumber):
     most: int
     term: int = 0
 
 
 @dataclass(frozen=True)
-class Show:
+class Show(_OfOneNumber):
     id: int
     term: int = 0
-
-    def line(self) -> str:
-        return _line(CallKind.SHOW, number=self.id, term=self.term)
 
 
 @dataclass(frozen=True)

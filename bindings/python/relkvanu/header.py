@@ -165,61 +165,38 @@ class relkvanu(Structure):
 
 class relkvanu_settings(Structure):
     _fields_ = [
-        ("interval", c_uint64),
-        ("pause", c_uint64),
-        ("at_once", c_uint64),
-        ("timeout", c_uint64),
-        ("tolerable", c_uint64),
-        ("retained", c_uint64),
+        ("interval", c_uint64), ("pause", c_uint64), ("at_once", c_uint64), ("timeout", c_uint64), ("tolerable", c_uint64), ("retained", c_uint64),
         ("keep_on_cancel", c_bool),
     ]
 
 
 class relkvanu_answer(Structure):
     _fields_ = [
-        ("code", c_uint32),
-        ("what", c_uint32),
-        ("a", c_uint64),
-        ("b", c_uint64),
+        ("code", c_uint32), ("what", c_uint32), ("a", c_uint64), ("b", c_uint64),
     ]
 
 
 class relkvanu_counts(Structure):
     _fields_ = [
-        ("code", c_uint32),
-        ("in_use", c_uint64),
-        ("waiting", c_uint64),
-        ("taken", c_uint64),
+        ("code", c_uint32), ("in_use", c_uint64), ("waiting", c_uint64), ("taken", c_uint64),
     ]
 
 
 class relkvanu_call(Structure):
     _fields_ = [
-        ("kind", c_uint32),
-        ("vertex", c_uint16),
-        ("index", c_uint16),
-        ("now", c_uint64),
-        ("number", c_uint64),
-        ("term", c_uint64),
+        ("kind", c_uint32), ("vertex", c_uint16), ("index", c_uint16), ("now", c_uint64), ("number", c_uint64), ("term", c_uint64),
     ]
 
 
 class relkvanu_made(Structure):
     _fields_ = [
-        ("written", c_uint64),
-        ("waited", c_uint64),
-        ("in_use", c_uint64),
-        ("waiting", c_uint64),
-        ("taken", c_uint64),
+        ("written", c_uint64), ("waited", c_uint64), ("in_use", c_uint64), ("waiting", c_uint64), ("taken", c_uint64),
     ]
 
 
 class relkvanu_group(Structure):
     _fields_ = [
-        ("waiting", c_uint64),
-        ("told", c_uint64),
-        ("has_failed", c_bool),
-        ("given", c_uint64),
+        ("waiting", c_uint64), ("told", c_uint64), ("has_failed", c_bool), ("given", c_uint64),
     ]
 
 
@@ -231,15 +208,13 @@ class relkvanu_aligner(Structure):
 
 class relkvanu_recorder(Structure):
     _fields_ = [
-        ("latest", c_uint64),
-        ("phase", c_uint32),
+        ("latest", c_uint64), ("phase", c_uint32),
     ]
 
 
 class relkvanu_step(Structure):
     _fields_ = [
-        ("what", c_uint32),
-        ("id", c_uint64),
+        ("what", c_uint32), ("id", c_uint64),
     ]
 
 
@@ -277,34 +252,13 @@ FUNCTIONS: Dict[str, Tuple[Any, List[Any]]] = {
     "relkvanu_line_call": (relkvanu_answer, [POINTER(c_uint8), c_size_t, POINTER(relkvanu_call), POINTER(c_uint64), c_size_t, POINTER(c_uint64), c_size_t]),
     "relkvanu_call_line": (relkvanu_answer, [POINTER(relkvanu_call), POINTER(c_uint64), c_size_t, POINTER(c_uint64), c_size_t, POINTER(c_uint8), c_size_t]),
     "relkvanu_make": (relkvanu_answer, [
-        POINTER(relkvanu),
-        POINTER(relkvanu_call),
-        POINTER(c_uint64),
-        c_size_t,
-        POINTER(c_uint64),
-        c_size_t,
-        POINTER(c_uint64),
-        c_size_t,
-        POINTER(c_uint8),
-        c_size_t,
-        POINTER(relkvanu_made),
+        POINTER(relkvanu), POINTER(relkvanu_call), POINTER(c_uint64), c_size_t, POINTER(c_uint64), c_size_t, POINTER(c_uint64), c_size_t, POINTER(c_uint8),
+        c_size_t, POINTER(relkvanu_made),
     ]),
     "relkvanu_opening_lines": (relkvanu_answer, [POINTER(relkvanu_settings), POINTER(c_uint64), c_size_t, c_uint64, POINTER(c_uint8), c_size_t]),
     "relkvanu_group_make": (relkvanu_answer, [
-        POINTER(relkvanu),
-        POINTER(relkvanu_group),
-        POINTER(relkvanu_answer),
-        c_size_t,
-        POINTER(relkvanu_call),
-        POINTER(c_uint64),
-        c_size_t,
-        POINTER(c_uint64),
-        c_size_t,
-        POINTER(c_uint64),
-        c_size_t,
-        POINTER(c_uint8),
-        c_size_t,
-        POINTER(relkvanu_made),
+        POINTER(relkvanu), POINTER(relkvanu_group), POINTER(relkvanu_answer), c_size_t, POINTER(relkvanu_call), POINTER(c_uint64), c_size_t, POINTER(c_uint64),
+        c_size_t, POINTER(c_uint64), c_size_t, POINTER(c_uint8), c_size_t, POINTER(relkvanu_made),
     ]),
     "relkvanu_group_hold": (relkvanu_answer, [POINTER(relkvanu_group), POINTER(relkvanu_answer), c_size_t, POINTER(relkvanu_answer)]),
     "relkvanu_group_synced": (relkvanu_answer, [POINTER(relkvanu_group)]),

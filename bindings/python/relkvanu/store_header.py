@@ -107,202 +107,97 @@ STATUSES: Dict[int, str] = {
 
 class relkvanu_store_options(Structure):
     _fields_ = [
-        ("flags", c_uint32),
-        ("patience", c_uint32),
-        ("image_calls", c_uint64),
-        ("most_ahead", c_uint64),
-        ("storage", c_char_p),
-        ("settings", relkvanu_settings),
-        ("shape", POINTER(c_uint64)),
-        ("shape_len", c_size_t),
-        ("reserved", c_uint64 * 4),
+        ("flags", c_uint32), ("patience", c_uint32), ("image_calls", c_uint64), ("most_ahead", c_uint64), ("storage", c_char_p),
+        ("settings", relkvanu_settings), ("shape", POINTER(c_uint64)), ("shape_len", c_size_t), ("reserved", c_uint64 * 4),
     ]
 
 
 class relkvanu_store_report(Structure):
     _fields_ = [
-        ("is_recovered", c_bool),
-        ("settings_differ", c_bool),
-        ("steps", c_uint32 * 8),
-        ("steps_len", c_size_t),
-        ("epoch", c_uint64),
-        ("job", c_uint64 * 2),
-        ("image_place", c_uint64),
-        ("replayed", c_uint64),
-        ("taken", c_uint64),
-        ("moment", c_uint64),
-        ("mode", relkvanu_answer),
-        ("choice", relkvanu_answer),
-        ("message", c_char * 512),
-        ("term", c_uint64),
-        ("next_name", c_uint64),
-        ("phase", c_uint32),
-        ("stop_failed", c_uint32),
-        ("savepoint", c_uint64),
+        ("is_recovered", c_bool), ("settings_differ", c_bool), ("steps", c_uint32 * 8), ("steps_len", c_size_t), ("epoch", c_uint64), ("job", c_uint64 * 2),
+        ("image_place", c_uint64), ("replayed", c_uint64), ("taken", c_uint64), ("moment", c_uint64), ("mode", relkvanu_answer), ("choice", relkvanu_answer),
+        ("message", c_char * 512), ("term", c_uint64), ("next_name", c_uint64), ("phase", c_uint32), ("stop_failed", c_uint32), ("savepoint", c_uint64),
     ]
 
 
 class relkvanu_store_more(Structure):
     _fields_ = [
-        ("payload", c_void_p),
-        ("payload_len", c_size_t),
-        ("bytes", c_uint64),
-        ("millis", c_uint64),
-        ("reason", c_char_p),
-        ("reason_len", c_size_t),
-        ("ended", POINTER(c_uint64)),
-        ("ended_room", c_size_t),
-        ("reserved", c_uint64 * 4),
-        ("ended_len", c_size_t),
-        ("kind", c_uint32),
+        ("payload", c_void_p), ("payload_len", c_size_t), ("bytes", c_uint64), ("millis", c_uint64), ("reason", c_char_p), ("reason_len", c_size_t),
+        ("ended", POINTER(c_uint64)), ("ended_room", c_size_t), ("reserved", c_uint64 * 4), ("ended_len", c_size_t), ("kind", c_uint32),
     ]
 
 
 class relkvanu_store_call(Structure):
     _fields_ = [
-        ("call", relkvanu_call),
-        ("first", POINTER(c_uint64)),
-        ("first_len", c_size_t),
-        ("second", POINTER(c_uint64)),
-        ("second_len", c_size_t),
-        ("files", POINTER(c_uint64)),
-        ("files_len", c_size_t),
-        ("more", POINTER(relkvanu_store_more)),
-        ("reserved", c_uint64 * 1),
-        ("answer", relkvanu_answer),
-        ("choice", relkvanu_answer),
-        ("place", c_uint64),
-        ("term", c_uint64),
+        ("call", relkvanu_call), ("first", POINTER(c_uint64)), ("first_len", c_size_t), ("second", POINTER(c_uint64)), ("second_len", c_size_t),
+        ("files", POINTER(c_uint64)), ("files_len", c_size_t), ("more", POINTER(relkvanu_store_more)), ("reserved", c_uint64 * 1), ("answer", relkvanu_answer),
+        ("choice", relkvanu_answer), ("place", c_uint64), ("term", c_uint64),
     ]
 
 
 class relkvanu_store_completion(Structure):
     _fields_ = [
-        ("token", c_uint64),
-        ("status", c_int),
+        ("token", c_uint64), ("status", c_int),
     ]
 
 
 class relkvanu_store_part(Structure):
     _fields_ = [
-        ("vertex", c_uint16),
-        ("index", c_uint16),
-        ("files", POINTER(c_uint64)),
-        ("files_len", c_size_t),
-        ("payload", c_void_p),
-        ("payload_len", c_size_t),
-        ("bytes", c_uint64),
-        ("millis", c_uint64),
+        ("vertex", c_uint16), ("index", c_uint16), ("files", POINTER(c_uint64)), ("files_len", c_size_t), ("payload", c_void_p), ("payload_len", c_size_t),
+        ("bytes", c_uint64), ("millis", c_uint64),
     ]
 
 
 class relkvanu_store_loaded(Structure):
     _fields_ = [
-        ("id", c_uint64),
-        ("kind", c_uint32),
-        ("term", c_uint64),
-        ("lost", c_uint64),
-        ("shape_len", c_size_t),
-        ("shape", c_uint64 * 256),
+        ("id", c_uint64), ("kind", c_uint32), ("term", c_uint64), ("lost", c_uint64), ("shape_len", c_size_t), ("shape", c_uint64 * 256),
     ]
 
 
 class relkvanu_store_past(Structure):
     _fields_ = [
-        ("id", c_uint64),
-        ("kind", c_uint32),
-        ("outcome", c_uint32),
-        ("triggered", c_uint64),
-        ("ended", c_uint64),
-        ("acks", c_uint64),
-        ("first", c_uint64),
-        ("median", c_uint64),
-        ("p99", c_uint64),
-        ("slowest", c_uint64),
-        ("bytes", c_uint64),
-        ("millis", c_uint64),
-        ("reserved", c_uint64 * 2),
+        ("id", c_uint64), ("kind", c_uint32), ("outcome", c_uint32), ("triggered", c_uint64), ("ended", c_uint64), ("acks", c_uint64), ("first", c_uint64),
+        ("median", c_uint64), ("p99", c_uint64), ("slowest", c_uint64), ("bytes", c_uint64), ("millis", c_uint64), ("reserved", c_uint64 * 2),
         ("reason", c_char * 208),
     ]
 
 
 class relkvanu_store_job_phase(Structure):
     _fields_ = [
-        ("phase", c_uint32),
-        ("stop_failed", c_uint32),
-        ("savepoint", c_uint64),
-        ("term", c_uint64),
-        ("reserved", c_uint64 * 2),
+        ("phase", c_uint32), ("stop_failed", c_uint32), ("savepoint", c_uint64), ("term", c_uint64), ("reserved", c_uint64 * 2),
     ]
 
 
 class relkvanu_store_record(Structure):
     _fields_ = [
-        ("id", c_uint64),
-        ("status", c_uint32),
-        ("is_savepoint", c_bool),
-        ("is_of_job", c_bool),
-        ("is_next", c_bool),
-        ("written", c_uint64),
-        ("files", c_uint64),
-        ("bytes", c_uint64),
-        ("missing", c_uint64),
-        ("unknown", c_uint64),
-        ("changed", c_uint64),
-        ("reserved", c_uint64 * 2),
+        ("id", c_uint64), ("status", c_uint32), ("is_savepoint", c_bool), ("is_of_job", c_bool), ("is_next", c_bool), ("written", c_uint64),
+        ("files", c_uint64), ("bytes", c_uint64), ("missing", c_uint64), ("unknown", c_uint64), ("changed", c_uint64), ("reserved", c_uint64 * 2),
     ]
 
 
 class relkvanu_store_recovered(Structure):
     _fields_ = [
-        ("record", c_uint64),
-        ("is_savepoint", c_bool),
-        ("files", c_uint64),
-        ("bytes", c_uint64),
-        ("passed", c_uint64),
-        ("savepoints", c_uint64),
-        ("term", c_uint64),
-        ("next_name", c_uint64),
-        ("next_number", c_uint64),
-        ("reserved", c_uint64 * 4),
-        ("message", c_char * 512),
+        ("record", c_uint64), ("is_savepoint", c_bool), ("files", c_uint64), ("bytes", c_uint64), ("passed", c_uint64), ("savepoints", c_uint64),
+        ("term", c_uint64), ("next_name", c_uint64), ("next_number", c_uint64), ("reserved", c_uint64 * 4), ("message", c_char * 512),
     ]
 
 
 class relkvanu_store_carried(Structure):
     _fields_ = [
-        ("record", c_uint64),
-        ("is_savepoint", c_bool),
-        ("files", c_uint64),
-        ("bytes", c_uint64),
-        ("reserved", c_uint64 * 4),
-        ("message", c_char * 512),
+        ("record", c_uint64), ("is_savepoint", c_bool), ("files", c_uint64), ("bytes", c_uint64), ("reserved", c_uint64 * 4), ("message", c_char * 512),
     ]
 
 
 class relkvanu_store_counts(Structure):
     _fields_ = [
-        ("commits", c_uint64),
-        ("calls", c_uint64),
-        ("largest", c_uint64),
-        ("images", c_uint64),
-        ("failed_images", c_uint64),
-        ("checkpoints", c_uint64),
-        ("failed_checkpoints", c_uint64),
-        ("retries", c_uint64),
-        ("swept", c_uint64),
-        ("unissued", c_uint64),
-        ("reserved", c_uint64 * 2),
+        ("commits", c_uint64), ("calls", c_uint64), ("largest", c_uint64), ("images", c_uint64), ("failed_images", c_uint64), ("checkpoints", c_uint64),
+        ("failed_checkpoints", c_uint64), ("retries", c_uint64), ("swept", c_uint64), ("unissued", c_uint64), ("reserved", c_uint64 * 2),
     ]
 
 
 class relkvanu_store_measures(Structure):
     _fields_ = [
-        ("wal_bytes", c_uint64),
-        ("log_rows", c_uint64),
-        ("last_commit", c_uint64),
-        ("failed_deletions", c_uint64),
-        ("manifests", c_uint64),
+        ("wal_bytes", c_uint64), ("log_rows", c_uint64), ("last_commit", c_uint64), ("failed_deletions", c_uint64), ("manifests", c_uint64),
         ("failed_manifests", c_uint64),
     ]
 
@@ -326,30 +221,10 @@ FUNCTIONS: Dict[str, Tuple[Any, List[Any]]] = {
     "relkvanu_store_close": (None, [c_void_p]),
     "relkvanu_store_calls": (c_int, [c_void_p, POINTER(relkvanu_store_call), c_size_t]),
     "relkvanu_store_ack_in": (c_int, [
-        c_void_p,
-        c_uint64,
-        c_uint64,
-        c_uint64,
-        c_uint16,
-        c_uint16,
-        POINTER(c_uint64),
-        c_size_t,
-        POINTER(c_uint64),
-        c_size_t,
-        POINTER(relkvanu_answer),
+        c_void_p, c_uint64, c_uint64, c_uint64, c_uint16, c_uint16, POINTER(c_uint64), c_size_t, POINTER(c_uint64), c_size_t, POINTER(relkvanu_answer),
     ]),
     "relkvanu_store_ack_with": (c_int, [
-        c_void_p,
-        c_uint64,
-        c_uint64,
-        c_uint64,
-        c_uint16,
-        c_uint16,
-        POINTER(c_uint64),
-        c_size_t,
-        POINTER(c_uint64),
-        c_size_t,
-        POINTER(relkvanu_store_more),
+        c_void_p, c_uint64, c_uint64, c_uint64, c_uint16, c_uint16, POINTER(c_uint64), c_size_t, POINTER(c_uint64), c_size_t, POINTER(relkvanu_store_more),
         POINTER(relkvanu_answer),
     ]),
     "relkvanu_store_decline_with": (c_int, [c_void_p, c_uint64, c_uint64, c_uint64, c_uint16, c_uint16, POINTER(relkvanu_store_more), POINTER(relkvanu_answer)]),
