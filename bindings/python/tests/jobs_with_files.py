@@ -1,9 +1,10 @@
-"""A job with names whose files tests sweep, beside which sweepers run; and the marker of such a job of the service."""
+"""A job with names whose files tests sweep, in a folder (test_sweep.py) and in a bucket (s3.py), beside which sweepers run; and the marker of such a job of the service."""
+import dataclasses
 import threading
 import time
 
 from relkvanu import Coordinator, Settings
-from relkvanu.sweep import sweep
+from relkvanu.sweep import Swept, sweep
 
 MARKER = "relkvanu discard deletes files of the job orders, opened at 1795000000000, from this folder.\n"
 
@@ -16,6 +17,37 @@ def job_with_files() -> Coordinator:
     job.ack_in(1, 10, 1, 0, 0, [5, 6])
     job.forfeit(1, [8])
     return job
+
+
+class SweepsAnyStorage:
+    """Of a test that has the storage `files`, and take_place_away()."""
+
+    def begin(self):
+        self.job = job_with_files()
+        self.addCleanup(self.job.close)
+        for file in range(4, 10):
+            self.files.put(file, b"x" * file)
+
+    def left(self):
+        return sorted(sum(self.files.pages(), []))
+
+    def test_only_garbage_goes(self):
+        """At first it tells what it would delete."""
+        found = Swept(listed=6, garbage=2, garbage_bytes=4 + 8, unissued=1)
+        self.assertEqual((sweep(self.files, self.job.garbage), self.left()), (found, [4, 5, 6, 7, 8, 9]))
+        swept = sweep(self.files, self.job.garbage, delete=True)
+        self.assertEqual((swept, self.left()), (dataclasses.replace(found, deleted=2), [5, 6, 7, 9]))
+        self.job.restore(20)
+        self.assertEqual((sweep(self.files, self.job.garbage, delete=True).deleted, self.left()), (1, [5, 6, 9]))
+
+    def test_the_place_goes_while_it_sweeps(self):
+        """Then nothing counts as deleted."""
+        def ask(files):
+            self.take_place_away()
+            return self.job.garbage(files)
+
+        swept = sweep(self.files, ask, delete=True)
+        self.assertEqual((swept.deleted, sorted(swept.failed)), (0, [4, 8]))
 
 
 def checkpoint(job, files, now, last):

@@ -18,8 +18,8 @@ import relkvanu.sweep
 from relkvanu import Coordinator, Settings
 from relkvanu.s3 import Bucket, KeepsVersions
 from relkvanu.storage import Exists, Marker, NotThere, OtherJob, StorageError
-from relkvanu.sweep import Swept
-from jobs_with_files import MARKER, job_with_files, run_beside_sweepers
+from jobs_with_files import MARKER, SweepsAnyStorage, run_beside_sweepers
+from storages import OfAnyStorage
 
 
 def client(**words):
@@ -59,21 +59,25 @@ class OnAServer(unittest.TestCase):
         return sorted(it["Key"] for it in self.s3.list_objects_v2(Bucket=self.bucket).get("Contents", []) if ".relkvanu" not in it["Key"])
 
 
+class Alike(OnAServer, OfAnyStorage):
+    """Below a prefix, beside objects of others."""
+
+    strangers = (*OfAnyStorage.strangers, "1/2.sst", "../others/99.sst")
+
+    def opened(self, job="orders", is_new=False, prefix="", **words):
+        return super().opened(job, is_new, prefix=f"jobs/{prefix}", **words)
+
+    def names(self):
+        return [os.path.relpath(it, "jobs") for it in self.keys()]
+
+    def plant(self, name, contents=b""):
+        self.s3.put_object(Bucket=self.bucket, Key=os.path.normpath(f"jobs/{name}"), Body=contents)
+
+    def take_away(self, name):
+        self.s3.delete_object(Bucket=self.bucket, Key=f"jobs/{name}")
+
+
 class Opening(OnAServer):
-    def test_marker(self):
-        with self.assertRaises(NotThere):
-            self.opened()
-        self.opened(is_new=True)
-        self.opened(is_new=True)
-        with self.assertRaises(OtherJob):
-            self.opened("payments", is_new=True)
-
-    def test_a_new_job_needs_a_place_without_files(self):
-        self.s3.put_object(Bucket=self.bucket, Key="7", Body=b"")
-        with self.assertRaises(StorageError):
-            self.opened(is_new=True)
-        self.opened(is_new=True, prefix="b/")
-
     def test_no_bucket(self):
         self.s3.delete_bucket(Bucket=self.bucket)
         for is_new in (False, True):
@@ -96,17 +100,6 @@ class Files(OnAServer):
     def setUp(self):
         super().setUp()
         self.files = self.opened(is_new=True, prefix="jobs/orders/", suffix=".sst")
-
-    def test_put_and_get(self):
-        for file, contents in ((0, b""), (18446744073709551615, bytes(range(256)) * 1000)):
-            self.files.put(file, contents)
-            self.assertEqual(self.files.get(file), contents)
-        self.assertEqual(self.keys(), ["jobs/orders/0.sst", "jobs/orders/18446744073709551615.sst"])
-        with self.assertRaises(Exists):
-            self.files.put(0, b"another")
-        self.assertEqual(self.files.get(0), b"")
-        with self.assertRaises(StorageError):
-            self.files.get(1)
 
     def requests(self, *calls):
         """The requests that are made by each of the calls."""
@@ -150,21 +143,6 @@ class Files(OnAServer):
             with self.assertRaises(Exists):
                 self.files.put(2, b"other")
 
-    def test_pages(self):
-        for file in range(25):
-            self.files.put(file, b"")
-        for name in ("jobs/orders/x.sst", "jobs/orders/01.sst", "jobs/orders/1.sst.old", "jobs/orders/1/2.sst", "jobs/others/99.sst"):
-            self.s3.put_object(Bucket=self.bucket, Key=name, Body=b"")
-        pages = list(self.files.pages(10))
-        self.assertEqual(sorted(sum(pages, [])), list(range(25)))
-        self.assertTrue(all(len(page) <= 10 for page in pages))
-
-    def test_present_and_missing(self):
-        for file in range(5):
-            self.files.put(file, b"")
-        self.assertEqual(self.files.delete([1, 3, 77, *range(1000, 2500)]), {})
-        self.assertEqual(sorted(sum(self.files.pages(), [])), [0, 2, 4])
-
     def test_an_error_within_an_answer_that_succeeds(self):
         for file in range(4):
             self.files.put(file, b"")
@@ -187,19 +165,6 @@ class Files(OnAServer):
             self.files.put(3, b"")
         with self.assertRaises(NotThere):
             list(self.files.pages())
-
-    def test_a_bucket_without_the_marker_is_not_the_job_s(self):
-        self.files.put(1, b"")
-        self.s3.delete_object(Bucket=self.bucket, Key="jobs/orders/.relkvanu-storage")
-        self.assertEqual(set(self.files.delete([1, 2])), {1, 2})
-        self.assertEqual(self.keys(), ["jobs/orders/1.sst"])
-
-    def test_objects_of_another_job_stay(self):
-        """That job has got the place since this one opened it."""
-        self.files.put(1, b"")
-        self.s3.put_object(Bucket=self.bucket, Key="jobs/orders/.relkvanu-storage", Body=b"relkvanu: state files of the job payments\n")
-        self.assertEqual(set(self.files.delete([1, 2])), {1, 2})
-        self.assertEqual(self.keys(), ["jobs/orders/1.sst"])
 
     def test_versions_that_are_switched_on_later(self):
         self.files.put(1, b"")
@@ -237,30 +202,22 @@ class Failing(OnAServer):
             self.assertEqual(list(files.delete([1, 2])), [2])
 
 
-class Sweeping(OnAServer):
+class Sweeping(OnAServer, SweepsAnyStorage):
     def setUp(self):
         super().setUp()
-        self.job = job_with_files()
-        self.addCleanup(self.job.close)
         self.files = self.opened(is_new=True, prefix="orders/state-", suffix=".sst", marker=Marker(".relkvanu-orders", MARKER))
-        for file in range(4, 10):
-            self.files.put(file, b"x" * file)
+        self.begin()
+
+    def take_place_away(self):
+        for it in self.s3.list_objects_v2(Bucket=self.bucket)["Contents"]:
+            self.s3.delete_object(Bucket=self.bucket, Key=it["Key"])
+        self.s3.delete_bucket(Bucket=self.bucket)
 
     def test_the_marker_is_beside_the_files(self):
         self.assertEqual(self.s3.get_object(Bucket=self.bucket, Key="orders/.relkvanu-orders")["Body"].read().decode(), MARKER)
-        self.assertEqual(self.files.beside(".relkvanu-"), [".relkvanu-orders"])
+        self.assertEqual((self.files.beside(".relkvanu-"), self.keys()), ([".relkvanu-orders"], [f"orders/state-{file}.sst" for file in range(4, 10)]))
         with self.assertRaises(OtherJob):
             self.opened(prefix="orders/state-", marker=Marker(".relkvanu-orders", "another"))
-
-    def test_only_garbage_goes(self):
-        self.assertEqual(relkvanu.sweep.sweep(self.files, self.job.garbage), Swept(listed=6, garbage=2, garbage_bytes=12, unissued=1))
-        self.assertEqual(len(self.keys()), 6)
-        swept = relkvanu.sweep.sweep(self.files, self.job.garbage, delete=True)
-        self.assertEqual(swept, Swept(listed=6, garbage=2, garbage_bytes=12, deleted=2, unissued=1))
-        self.assertEqual(self.keys(), [f"orders/state-{file}.sst" for file in (5, 6, 7, 9)])
-        self.job.restore(20)
-        self.assertEqual(relkvanu.sweep.sweep(self.files, self.job.garbage, delete=True).deleted, 1)
-        self.assertEqual(self.keys(), [f"orders/state-{file}.sst" for file in (5, 6, 9)])
 
     def test_pages_while_it_deletes(self):
         """Each third file is in use. The listing goes on behind the last key of a page, though files of the page are gone."""
@@ -273,18 +230,7 @@ class Sweeping(OnAServer):
             self.files.put(file, b"")
         found = list(relkvanu.sweep.pages(self.files, self.job.garbage, delete=True, most=50))
         self.assertGreaterEqual(len(found), 7)
-        waiting = [5, 6]  # of checkpoint 1, which a discarder has not fetched
-        self.assertEqual(self.keys(), sorted(f"orders/state-{file}.sst" for file in [*waiting, *names[::3]]))
-
-    def test_a_bucket_that_goes_while_it_sweeps(self):
-        def ask(files):
-            for it in self.s3.list_objects_v2(Bucket=self.bucket)["Contents"]:
-                self.s3.delete_object(Bucket=self.bucket, Key=it["Key"])
-            self.s3.delete_bucket(Bucket=self.bucket)
-            return self.job.garbage(files)
-
-        swept = relkvanu.sweep.sweep(self.files, ask, delete=True)
-        self.assertEqual((swept.deleted, sorted(swept.failed)), (0, [4, 8]))
+        self.assertEqual(self.left(), [5, 6, *names[::3]])  # the first two are of checkpoint 1, which a discarder has not fetched
 
     def test_beside_a_job_that_runs(self):
         files = self.opened(is_new=True, prefix="other/")

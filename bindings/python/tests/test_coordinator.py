@@ -1,26 +1,21 @@
-"""What the package adds to the calls: openings, numbers that do not fit, closing, threads."""
+"""What the package adds to the calls: openings, images, moments, numbers that do not fit, closing, threads."""
 import threading
 import unittest
 
 from relkvanu import (
-    AckPending, BadArgument, Closed, Configured, Coordinator, Refused, Settings, Shown, Triggered, calls,
+    AckCompleted, AckPending, BadArgument, Closed, Configured, Coordinator, Refused, Settings, Shown, Triggered, calls,
 )
 
 SETTINGS = Settings(interval=1000)
 
 
 class Openings(unittest.TestCase):
-    def refused(self, name, *arguments):
-        with self.assertRaises(BadArgument) as raised:
-            Coordinator(*arguments)
-        self.assertEqual(raised.exception.name, name)
-
     def test_what_a_coordinator_is_not_opened_with(self):
-        self.refused("BadConfig", Settings(interval=9), [1], 0)
-        self.refused("BadShape", SETTINGS, [], 0)
-        self.refused("BadShape", SETTINGS, [4097], 0)
-        self.refused("BadMoment", SETTINGS, [1], 1 << 62)
-        self.refused("BadFirst", SETTINGS, [1], 0, 0)
+        for name, *arguments in (
+            ("BadConfig", Settings(interval=9), [1], 0), ("BadShape", SETTINGS, [], 0), ("BadShape", SETTINGS, [4097], 0), ("BadMoment", SETTINGS, [1], 1 << 62),
+            ("BadFirst", SETTINGS, [1], 0, 0),
+        ):
+            self.assertRaisesRegex(BadArgument, f"^{name}$", Coordinator, *arguments)
         Coordinator(SETTINGS, [1], (1 << 62) - 1, (1 << 62) - 1).close()
 
 
@@ -31,9 +26,7 @@ class SettingsOfALiveJob(unittest.TestCase):
         with Coordinator(SETTINGS, [1], 0) as job:
             before = job.save()
             for call in (lambda: job.configure(3000, Settings(interval=9)), lambda: job.line(b"configure 3000 9 0 1 600000 0 1 keep")):
-                with self.assertRaises(BadArgument) as raised:
-                    call()
-                self.assertEqual(raised.exception.name, "BadConfig")
+                self.assertRaisesRegex(BadArgument, "^BadConfig$", call)
             self.assertEqual(job.save(), before)
 
     def test_lines(self):
@@ -62,9 +55,7 @@ class Moments(unittest.TestCase):
                 lambda: job.tick(late), lambda: job.savepoint(late), lambda: job.ack(late, 1, 0, 0, [1]), lambda: job.decline(late, 1, 0, 0),
                 lambda: job.restore(late), lambda: job.cancel(late), lambda: job.tick((1 << 62) - 1), lambda: job.tick(1 << 62),
             ):
-                with self.assertRaises(Refused) as raised:
-                    call()
-                self.assertEqual(raised.exception.name, "MomentTooLarge")
+                self.assertRaisesRegex(Refused, "^MomentTooLarge$", call)
             self.assertEqual(job.save(), image)
             job.ack(late - 1, 1, 0, 0, [1])
             job.most_ahead = 2 * self.DAY
@@ -81,6 +72,37 @@ class Moments(unittest.TestCase):
             job.line(b"tick 1000000000000")
             self.assertEqual(job.moment(), 1000000000000)
             job.tick(1000000000000 + self.DAY)
+
+
+class Terms(unittest.TestCase):
+    def test_calls_in_a_term(self):
+        """One that is far ahead is refused, and one that is made wakes who waits."""
+        with Coordinator.open_fenced(SETTINGS, [1], 0, 1, 5) as job:
+            self.assertEqual((job.term(), job.reserve(1, 3), job.tick(1000)), ((1, 5), range(5, 8), Triggered(expired=0, id=1)))
+            late = 1000 + SETTINGS.timeout + job.most_ahead + 1
+            for call in (lambda: job.ack_in(1, late, 1, 0, 0, [7]), lambda: job.decline_in(1, late, 1, 0, 0)):
+                self.assertRaisesRegex(Refused, "^MomentTooLarge$", call)
+            seen = job.calls()
+            job.reserve(1, 1)
+            self.assertEqual(job.calls(), seen)
+            self.assertEqual((job.ack_in(1, late - 1, 1, 0, 0, [6, 5]), job.calls()), (AckCompleted(dropped=0, released=0), seen + 1))
+
+
+class Images(unittest.TestCase):
+    def test_a_saved_coordinator_goes_on(self):
+        with Coordinator(Settings(interval=1000, at_once=2), [2], 0) as job:
+            job.savepoint(1200)
+            job.ack(1300, 1, 0, 1, [3])
+            with Coordinator.open_saved(job.save()) as again:
+                self.assertEqual(again.save(), job.save())
+                self.assertEqual(again.tick(3000), job.tick(3000))
+                self.assertEqual(again.save(), job.save())
+
+    def test_a_text_that_is_no_image_opens_nothing(self):
+        with Coordinator(SETTINGS, [2], 0) as job:
+            image = job.save().encode()
+        for text in (b"", b"{}", b"\xff", image[:-1], image + b"x"):
+            self.assertRaisesRegex(BadArgument, "^BadImage$", Coordinator.open_saved, text)
 
 
 class Calls(unittest.TestCase):
@@ -104,12 +126,10 @@ class Calls(unittest.TestCase):
     def test_a_refusal_names_itself_and_the_file(self):
         with Coordinator(SETTINGS, [2], 0) as job:
             job.tick(1000)
-            with self.assertRaises(Refused) as raised:
-                job.ack(1000, 1, 0, 0, [], [8, 7])
-            self.assertEqual((raised.exception.name, raised.exception.file), ("FileGone", 7))
-            with self.assertRaises(Refused) as raised:
-                job.deleted(7)
-            self.assertEqual((raised.exception.name, raised.exception.file), ("NotTaken", None))
+            for name, file, call in (("FileGone", 7, lambda: job.ack(1000, 1, 0, 0, [], [8, 7])), ("NotTaken", None, lambda: job.deleted(7))):
+                with self.assertRaises(Refused) as raised:
+                    call()
+                self.assertEqual((raised.exception.name, raised.exception.file), (name, file))
 
     def test_a_savepoint_0_is_not_the_latest(self):
         with Coordinator(SETTINGS, [1], 0) as job:

@@ -4,7 +4,7 @@ import threading
 import time
 import unittest
 
-from relkvanu import Cancelled, Closed, Coordinator, Discarded, Discarder, FileCounts, HeldAtOnce, Patience, Refused, Settings, Triggered, version
+from relkvanu import Cancelled, Closed, Coordinator, Discarded, Discarder, FileCounts, HeldAtOnce, Patience, Refused, Settings, Taken, Triggered, version
 
 SETTINGS = Settings(interval=1000, timeout=5000)
 QUICK = Patience(batch=4, attempts=3, first_wait=0.001, longest_wait=0.004, idle=0.001)
@@ -142,6 +142,48 @@ class Discarding(unittest.TestCase):
     def test_patience_has_limits(self):
         self.assertRaises(ValueError, Patience, attempts=0)
         self.assertRaises(ValueError, Patience, idle=-1)
+
+
+class Box:
+    """Hands out one file, again each time that it is given back."""
+
+    def __init__(self):
+        self.files, self.given_back = [1], 0
+
+    def take(self, most):
+        files, self.files = tuple(self.files[:most]), []
+        return Taken(files)
+
+    def deleted(self, file):
+        raise AssertionError("nothing is deleted")
+
+    def undeleted(self, file):
+        self.files, self.given_back = [file], self.given_back + 1
+
+
+class Retrying(unittest.TestCase):
+    def tries(self, number, patience):
+        """The moments of so many attempts at a file that can't be deleted, each with how often it was given back before."""
+        box, tries = Box(), []
+
+        def delete(_file):
+            tries.append((time.monotonic(), box.given_back))
+            raise PermissionError
+
+        with Discarder(box, delete, patience):
+            wait_for(lambda: len(tries) >= number)
+        return tries[:number]
+
+    def test_waits_double(self):
+        """A busy machine only makes them longer."""
+        moments = [it for it, _ in self.tries(5, Patience(threads=1, first_wait=0.1))]
+        for at, (before, after) in enumerate(zip(moments, moments[1:])):
+            self.assertGreaterEqual(after - before, 0.099 * 2**at)
+
+    def test_a_file_is_given_back_after_its_longest_wait(self):
+        """So it is tried twice also without a wait."""
+        tries = self.tries(4, Patience(threads=1, longest_wait=0, first_wait=0, idle=0.01))
+        self.assertEqual([given_back for _, given_back in tries], [0, 0, 1, 1])
 
 
 class Waiting(unittest.TestCase):

@@ -3,7 +3,7 @@ import os
 import tempfile
 import unittest
 
-from folders import InFolder
+from storages import InFolder
 from relkvanu.manifests import part_folder
 from relkvanu.places import InFolder as Place, make_file
 

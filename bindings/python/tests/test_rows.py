@@ -1,20 +1,21 @@
-"""The rows of examples/rows that are lists of calls, through the package.
-
-The library reads the lines of a row's script; they print what the row's output says.
-"""
+"""The rows of examples/rows that are lists of calls, through the package, whose library reads the lines of a row's script: they print what the row's output says.
+The logs of examples/logs and examples/reads."""
 import contextlib
 import dataclasses
+import itertools
 import pathlib
 import re
 import unittest
 
 from relkvanu import (
-    BadArgument, BadLine, Cancelled, Coordinator, Counted, Failed, FileCounts, Forfeited, HeldAtOnce, HeldInterval, HeldPause, Named, Refused, Reserved, Settings,
-    Shown, Taken, TooShort, Triggered, calls, lines,
+    BadArgument, BadLine, Cancelled, Coordinator, Counted, Failed, Fenced, FileCounts, Forfeited, Garbage, HeldAtOnce, HeldInterval, HeldPause, Live, Mode,
+    Named, Refused, Reserved, RunningTerm, Settings, Shown, Standing, Taken, TooShort, Triggered, calls, lines,
 )
 
-ROWS = pathlib.Path(__file__).resolve().parents[3] / "examples/rows"
+TOP = pathlib.Path(__file__).resolve().parents[3]
+ROWS = TOP / "examples/rows"
 OTHERS = set((ROWS / "OTHERS").read_text().split())
+SETTINGS = Settings(interval=1000)
 
 TEXTS = {
     Triggered: "tick expired {0.expired} triggered {0.id}",
@@ -118,7 +119,7 @@ class Rows(unittest.TestCase):
             self.assertEqual(calls.line_call(" ".join([name, *map(str, given)]).encode()), call)
             if kind != calls.CallKind.COUNT:
                 self.assertEqual(getattr(lines, f"{name}_line")(*given), call.line())
-            with Coordinator(Settings(interval=1000), [1], 0) as job, Coordinator(Settings(interval=1000), [1], 0) as twin:
+            with Coordinator(SETTINGS, [1], 0) as job, Coordinator(SETTINGS, [1], 0) as twin:
                 self.assertEqual(outcome(lambda: getattr(job, name)(*given)), outcome(lambda: twin.line(call.line().encode())), name)
 
     def test_rows(self):
@@ -142,9 +143,7 @@ class Lines(unittest.TestCase):
         self.assertEqual((lines.ack_line(5, 1, 0, 0, [7], term=3), lines.decline_line(5, 1, 0, 0, 3)), ("in 3 ack 5 1 0.0 +7", "in 3 decline 5 1 0.0"))
         self.assertEqual((lines.restore_line(5, None, [1, 2]), lines.restore_line(5, 3)), ("restore 5 latest 1 2", "restore 5 3"))
         self.assertEqual((lines.reserve_line(2, 9), lines.forfeit_line(2, [7, 8]), lines.take_line(9)), ("reserve 2 9", "forfeit 2 7 8", "take 9"))
-        with self.assertRaises(BadLine) as raised:
-            lines.ack_line(5, 1, 0, 0, [(1 << 64) - 1 - place for place in range(9000)])
-        self.assertEqual(raised.exception.name, "TooLong")
+        self.assertRaisesRegex(BadLine, "^TooLong$", lines.ack_line, 5, 1, 0, 0, [(1 << 64) - 1 - place for place in range(9000)])
         self.assertRaises(OverflowError, lines.tick_line, 1 << 64)
         self.assertRaises(BadArgument, lines.restore_line, 5, None, [0])
 
@@ -158,9 +157,7 @@ class Lines(unittest.TestCase):
             if call is not None:
                 self.assertEqual(calls.line_call(call.line().encode()), call)
         for line, kind, name in ((b"start 7", BadLine, "NoCall"), (b"restore 5 latest 0", BadArgument, "BadShape"), (b"restore 5 0", Refused, "NoSuchSavepoint")):
-            with self.assertRaises(kind) as raised:
-                calls.line_call(line)
-            self.assertEqual(raised.exception.name, name)
+            self.assertRaisesRegex(kind, f"^{name}$", calls.line_call, line)
 
     def test_a_log_is_made_again(self):
         settings = Settings(interval=1000, timeout=5000, keep_on_cancel=True)
@@ -179,3 +176,75 @@ class Lines(unittest.TestCase):
             self.assertIsNone(job.line(b"# a comment"))
             with self.assertRaisesRegex(BadLine, "TooLong"):
                 job.line(b"tick" + b" " * (1 << 17))
+
+
+def listed(numbers):
+    return " ".join(map(str, numbers)) or "none"
+
+
+def record(it):
+    return f"{it.kind.value} {it.id} {'done' if it.done else 'pending'}" if it else "none"
+
+
+def live(job):
+    found = list(itertools.takewhile(bool, map(job.live, itertools.count())))
+    return " ".join(map(record, found)) or "none"
+
+
+def read(job, name, *words):
+    """What a line that begins with ? tells: a read with its numbers."""
+    given = [int(word) for word in words]
+    try:
+        told = live(job) if name == "live" else getattr(job, name)(given) if name == "garbage" else getattr(job, name)(*given)
+    except Fenced as error:
+        return f"fenced {error}"
+    if name == "choice":
+        return f"{told.kind.value} {told.id}" if told else "fresh"
+    texts = {
+        Mode: lambda: told.name.lower(), Standing: lambda: told.name.lower().replace("_", " "), Live: lambda: record(told), type(None): lambda: "none",
+        FileCounts: lambda: f"{told.in_use} {told.waiting} {told.taken}", RunningTerm: lambda: f"{told.term} {told.next_name}", tuple: lambda: listed(told),
+        Garbage: lambda: f"garbage {listed(told.garbage)} unissued {listed(told.unissued)}",
+    }
+    return texts.get(type(told), lambda: str(told))()
+
+
+def printed(job, line, make):
+    """What a line of a log prints: a second line has the term that began, if there are names."""
+    if line.startswith("? "):
+        return [read(job, *line.split()[1:])]
+    try:
+        found = told(job, 0, line.encode(), make)
+    except Fenced as error:
+        return [f"refused {error}" if error.name in ("NoNames", "HasNames", "NameInUse") else f"fenced {error}"]
+    if found and found[0].startswith(("restored ", "cancelled ")):
+        with contextlib.suppress(Fenced):
+            found.append(f"term {job.term().term}")
+    return found
+
+
+def replay(test, log, make):
+    """Makes the calls of a log so, and compares what each prints."""
+    calls_of_log = [it for it in log.strip().split("\n") if not it.startswith("#")]
+    settings, shape, start = (lines.line_says(line.encode()) for line in calls_of_log[:3])
+    wanted, found = [], []
+    with Coordinator(settings, shape.shape, start.now) as job:
+        for line, _, answer in (it.partition("->") for it in calls_of_log[3:]):
+            wanted.append(answer.strip())
+            found += printed(job, line.strip(), make) if line.strip() else []
+    test.assertEqual(found, wanted)
+    test.assertGreater(len(found), 5)
+
+
+def logs():
+    """The example of docs/LOGS.md and the logs of examples/logs and examples/reads, whose answers stand beside their lines."""
+    found = {it.stem: it.read_text() for folder in ("logs", "reads") for it in sorted((TOP / "examples" / folder).glob("*.log"))}
+    return {"page": (TOP / "docs/LOGS.md").read_text().partition("## 5. An example")[2].split("```")[1], **found}
+
+
+class Logs(unittest.TestCase):
+    def test_logs(self):
+        self.assertGreater(len(logs()), 14)
+        for name, log in logs().items():
+            for make in (Coordinator.line, by_method):
+                with self.subTest(name):
+                    replay(self, log, make)

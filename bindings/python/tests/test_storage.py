@@ -5,8 +5,8 @@ import os
 import unittest
 from unittest import mock
 
-from folders import InFolder
-from relkvanu.storage import Exists, Folder, NotThere, OtherJob, StorageError, bucket_and_prefix
+from storages import InFolder, OfAnyStorage
+from relkvanu.storage import Exists, Folder, NotThere, StorageError, bucket_and_prefix
 
 
 # What a sync may say, but for EINVAL.
@@ -45,54 +45,20 @@ class AddressesOfBuckets(unittest.TestCase):
                 bucket_and_prefix(url)
 
 
-class Opening(WithStorage):
-    def test_a_folder_without_a_marker_is_refused(self):
-        with self.assertRaises(NotThere):
-            self.opened()
-        self.assertEqual(list(self.path.iterdir()), [], "nothing was made")
-
+class Opening(WithStorage, OfAnyStorage):
     def test_a_missing_folder_is_refused(self):
         self.path.rmdir()
         for is_new in (False, True):
             with self.assertRaises(NotThere):
                 self.opened(is_new=is_new)
 
-    def test_the_storage_of_another_job_is_refused(self):
-        self.opened("orders", is_new=True)
-        for is_new in (False, True):
-            with self.assertRaises(OtherJob):
-                self.opened("payments", is_new)
-        self.opened("orders")
-
-    def test_a_new_job_needs_a_folder_without_state_files(self):
-        for name in ("3", "3.part"):
-            (self.path / name).write_bytes(b"")
-            with self.assertRaises(StorageError) as told:
-                self.opened(is_new=True)
-            self.assertEqual(told.exception.errno, errno.ENOTEMPTY)
-            (self.path / name).unlink()
-        (self.path / "notes.txt").write_bytes(b"")
+    def test_what_is_put_in_part(self):
+        """That of a marker is of a new job that was killed, and that of a file was of a job."""
+        self.plant(".relkvanu-storage.part", b"rel")
+        self.plant("3.part")
+        self.assertRaises(StorageError, self.opened, is_new=True)
+        self.take_away("3.part")
         self.opened(is_new=True)
-
-    def test_no_new_job_beside_the_files_of_one_whose_log_is_missing(self):
-        self.opened(is_new=True).put(1, b"state")
-        with self.assertRaises(StorageError) as told:
-            self.opened(is_new=True)
-        self.assertEqual((told.exception.errno, self.names()), (errno.ENOTEMPTY, ["1"]))
-
-    def test_a_new_job_that_was_killed_begins_again(self):
-        (self.path / ".relkvanu-storage.part").write_bytes(b"rel")
-        self.opened(is_new=True)
-        self.opened(is_new=True)
-
-    def test_two_jobs_in_one_folder_have_two_prefixes(self):
-        one, other = self.opened("a", True, prefix="a-"), self.opened("b", True, prefix="b-", suffix=".bin")
-        one.put(1, b"one")
-        other.put(1, b"other")
-        self.assertEqual(self.names(), ["a-.relkvanu-storage", "a-1", "b-.relkvanu-storage", "b-1.bin"])
-        self.assertEqual((one.get(1), other.get(1)), (b"one", b"other"))
-        self.assertEqual(one.delete([1]), {})
-        self.assertEqual(list(other.pages()), [[1]])
 
     def test_a_symbolic_link_is_no_marker(self):
         elsewhere = self.path.parent / "marker"
@@ -108,24 +74,12 @@ class Putting(WithStorage):
         super().setUp()
         self.folder = self.opened(is_new=True)
 
-    def test_a_file_has_its_contents(self):
-        for file, contents in ((0, b""), (7, b"state"), (18446744073709551615, bytes(1 << 20))):
-            self.folder.put(file, contents)
-            self.assertEqual(self.folder.get(file), contents)
-        self.assertEqual(self.names(), ["0", "18446744073709551615", "7"])
-
     def test_file_and_folder_are_synced_before_it_returns(self):
         done = []
         with mock.patch("os.fsync", lambda fd: done.append(os.readlink(f"/proc/self/fd/{fd}"))), \
                 mock.patch("os.rename", side_effect=lambda *of, **words: done.append("rename")):
             self.folder.put(7, b"state")
         self.assertEqual(done, [f"{self.path}/7.part", "rename", str(self.path)])
-
-    def test_a_number_is_put_once(self):
-        self.folder.put(7, b"first")
-        with self.assertRaises(Exists):
-            self.folder.put(7, b"second")
-        self.assertEqual((self.folder.get(7), self.names()), (b"first", ["7"]))
 
     def test_a_part_of_another_keeps_the_number(self):
         (self.path / "7.part").write_bytes(b"fir")
@@ -150,7 +104,7 @@ class Putting(WithStorage):
     def test_a_file_system_that_syncs_no_folder(self):
         with failing_syncs(f"/{self.path.name}", errno.EINVAL):
             self.folder.put(7, b"state")
-        self.assertEqual(self.folder.get(7), b"state")
+            self.assertEqual((self.folder.get(7), self.folder.delete([7])), (b"state", {}))
 
     def test_a_short_write_goes_on(self):
         real = os.write
@@ -190,16 +144,17 @@ class Deleting(WithStorage):
         self.assertEqual(self.folder.delete([1, 4, 9, 77]), {})
         self.assertEqual(self.names(), ["2", "3", "5"])
 
-    def test_without_the_marker_a_missing_file_is_not_deleted(self):
-        (self.path / ".relkvanu-storage").unlink()
-        self.assertEqual(set(self.folder.delete([1, 77])), {1, 77})
-        self.assertEqual(self.names(), ["1", "2", "3", "4", "5"])
+    def test_a_marker_that_goes_during_deletions(self):
+        """It may be the folder of another storage, so no file counts as deleted."""
+        unlink, marker = os.unlink, self.path / self.folder.marker.name
 
-    def test_files_of_another_job_stay(self):
-        """That job has got the folder since this one opened it. A sweep that is under way asks for all of its pages."""
-        (self.path / ".relkvanu-storage").write_bytes(b"relkvanu: state files of the job payments\n")
-        self.assertEqual(set(self.folder.delete([1, 77])), {1, 77})
-        self.assertEqual(self.names(), ["1", "2", "3", "4", "5"])
+        def unlink_and_move(name, **words):
+            unlink(name, **words)
+            if marker.exists():
+                marker.rename(self.path / "away")
+
+        with mock.patch("os.unlink", unlink_and_move):
+            self.assertEqual(sorted(self.folder.delete([1, 2])), [1, 2])
 
     def test_in_a_folder_that_was_moved_away(self):
         """A path would lead to the other folder, and all files would count as deleted."""
@@ -220,10 +175,6 @@ class Deleting(WithStorage):
             with failing_syncs(f"/{self.path.name}", error):
                 self.assertEqual(set(self.folder.delete([1, 77])), {1, 77}, error)
 
-    def test_a_file_system_that_syncs_no_folder(self):
-        with failing_syncs(f"/{self.path.name}", errno.EINVAL):
-            self.assertEqual(self.folder.delete([1]), {})
-
     def test_a_link_is_deleted_and_its_target_stays(self):
         target = self.path.parent / "target"
         target.write_bytes(b"")
@@ -238,13 +189,6 @@ class Listing(WithStorage):
         super().setUp()
         self.folder = self.opened(is_new=True, suffix=".sst")
 
-    def test_pages(self):
-        for file in range(25):
-            self.folder.put(file, b"")
-        pages = list(self.folder.pages(10))
-        self.assertEqual([len(page) for page in pages], [10, 10, 5])
-        self.assertEqual(sorted(sum(pages, [])), list(range(25)))
-
     def test_two_listings_at_once(self):
         for file in range(25):
             self.folder.put(file, b"")
@@ -253,9 +197,9 @@ class Listing(WithStorage):
         self.assertEqual(sorted(sum(self.folder.pages(10), [])), list(range(25)))
         self.assertEqual(sorted(sum([*pages, *first], [])), list(range(25)))
 
-    def test_only_files_of_the_job(self):
-        for name in ("1.sst", "2.sst.part", "01.sst", "3", "x4.sst", "5.sst.old", "-6.sst", "7.SST", "184467440737095516150.sst"):
-            (self.path / name).write_bytes(b"")
+    def test_only_files_and_their_parts(self):
+        for name in ("1.sst", "2.sst.part"):
+            self.plant(name)
         (self.path / "8.sst").mkdir()
         (self.path / "9.sst").symlink_to("1.sst")
         self.assertEqual(sorted(sum(self.folder.pages(), [])), [1, 2])
