@@ -13,7 +13,7 @@ import struct
 import threading
 import time
 from dataclasses import dataclass
-from typing import Any, Callable, Container, ContextManager, DefaultDict, Dict, Iterable, List, NoReturn, Optional, Protocol, Sequence, Set, Tuple, TypeVar, Union
+from typing import Any, Callable, Container, DefaultDict, Dict, Iterable, List, NoReturn, Optional, Protocol, Sequence, Set, Tuple, TypeVar, Union
 
 from relkvanu import header, store_header
 from relkvanu.coordinator import (
@@ -37,6 +37,8 @@ from relkvanu.whole import KINDS, Part, Past, Restored, Whole, _part, _past, _wh
 LIBRARY = "librelkvanu-store.so.0"
 FOREVER = (1 << 64) - 1
 SAID = ("BadArgument", "NotNow", "FileLost", "Damaged", "NotDone")  # the library has said why to the thread
+READS = ("mode", "moment", "due", "oldest_expiry", "choice", "live", "live_from", "standing", "files_of", "pins_of", "waiting_file", "taken_files", "missing",
+         "file_counts", "show", "save", "count", "term", "garbage")
 SLICE = 100  # ms: the main thread waits so long for a tick, and a discarder for files, before it looks for what has happened
 Path = Union[str, "os.PathLike[str]"]
 T = TypeVar("T")
@@ -136,14 +138,11 @@ class Recovered:
 def _next_of(made: Made) -> Next:
     """The case of a tick, or of what a timer hands over."""
     reply = made.reply
-    if isinstance(reply, Triggered):
-        return NextBarrier(reply.id, Kind.CHECKPOINT, made.choice, made.ended)
-    if isinstance(reply, SavepointTriggered):
-        return NextBarrier(reply.id, Kind.SAVEPOINT, made.choice, made.ended)
-    if isinstance(reply, RestoredCheckpoint):
-        return NextBegun(Chosen(reply.id, Kind.CHECKPOINT), made.term, made.ended)
-    if isinstance(reply, RestoredSavepoint):
-        return NextBegun(Chosen(reply.id, Kind.SAVEPOINT), made.term, made.ended)
+    kind = Kind.CHECKPOINT if isinstance(reply, (Triggered, RestoredCheckpoint)) else Kind.SAVEPOINT
+    if isinstance(reply, (Triggered, SavepointTriggered)):
+        return NextBarrier(reply.id, kind, made.choice, made.ended)
+    if isinstance(reply, (RestoredCheckpoint, RestoredSavepoint)):
+        return NextBegun(Chosen(reply.id, kind), made.term, made.ended)
     if isinstance(reply, RestoredFresh):
         return NextBegun(None, made.term, made.ended)
     return NextFailed(made.ended) if isinstance(reply, Failed) else NextIdle(made.ended)
@@ -310,29 +309,23 @@ class _List:
         return Made(reply, call.place, _chosen(call.choice), call.term, *told)
 
 
-class _Borrowed(Coordinator):
-    """A coordinator over the handle of a store, which closes it."""
-
-    def __del__(self) -> None:
-        pass
-
-
-class Reads:
+class Reads(Coordinator):
     """The reads of a coordinator, between two commits: those of Coordinator that change nothing. For the time of Store.read()."""
 
     def __init__(self, handle: Any) -> None:
-        self._job = Coordinator.__new__(_Borrowed)
-        self._job._begin()
-        self._job._handle = header.relkvanu.from_address(ctypes.addressof(handle.contents))
-        for name in ("mode", "moment", "due", "oldest_expiry", "choice", "live", "live_from", "standing", "files_of", "pins_of",
-                     "waiting_file", "taken_files", "missing", "file_counts", "show", "save", "count", "term", "garbage"):
-            setattr(self, name, getattr(self._job, name))
+        self._begin()
+        self._handle = header.relkvanu.from_address(ctypes.addressof(handle.contents))
 
-    def __getattr__(self, name: str) -> Any:
-        raise AttributeError(f"{name} is no read")
+    def __getattribute__(self, name: str) -> Any:
+        if name[0] != "_" and name not in READS:
+            raise AttributeError(f"{name} is no read")
+        return super().__getattribute__(name)
+
+    def __del__(self) -> None:
+        """The store closes it."""
 
     def _end(self) -> None:
-        self._job._handle = header.relkvanu(None)  # each later read raises Closed
+        self._handle = header.relkvanu(None)  # each later read raises Closed
 
 
 class _Read:
@@ -811,7 +804,7 @@ class Store:
         """A descriptor that can be read (select, asyncio) while there are completions."""
         return int(self._at_once(_library.relkvanu_store_descriptor))
 
-    def read(self) -> ContextManager[Reads]:
+    def read(self) -> _Reading:
         """`with job.read() as reads:` reads what is committed. All callers wait meanwhile, so be quick, and make no call: one of this thread raises
         StoreError("InRead"), but close(), which ends the read, and submit()."""
         return _Reading(self)
@@ -836,17 +829,15 @@ class Store:
 
     def mode(self) -> Mode:
         with self.read() as reads:
-            mode: Mode = reads.mode()
-        return mode
+            return reads.mode()
 
     def choice(self) -> Optional[Chosen]:
         with self.read() as reads:
-            choice: Optional[Chosen] = reads.choice()
-        return choice
+            return reads.choice()
 
     def live(self) -> List[Live]:
         with self.read() as reads:
-            first: Optional[Live] = reads.live_from(0)
+            first = reads.live_from(0)
             found = [first] if first is not None else []
             while found and (it := reads.live_from(found[-1].id + 1)) is not None:
                 found.append(it)
@@ -862,8 +853,7 @@ class Store:
 
     def file_counts(self) -> FileCounts:
         with self.read() as reads:
-            counts: FileCounts = reads.file_counts()
-        return counts
+            return reads.file_counts()
 
     def now(self) -> int:
         """The moment of the store's clock."""
@@ -906,9 +896,7 @@ class Store:
         """Why a tick was refused, or none is due. Nothing is due if that is over by now."""
         if self.phase().phase is Phase.STOPPED:
             return NextStopped()
-        with self.read() as reads:
-            mode: Mode = reads.mode()
-        return STANDSTILLS.get(mode, NextIdle)()
+        return STANDSTILLS.get(self.mode(), NextIdle)()
 
     def _timed(self, longest: int) -> Tuple[int, Outcome]:
         """Waits for a tick, and for what is handed over, in slices if it is the main thread. Returns what C does, and the outcome, if a call was made."""
