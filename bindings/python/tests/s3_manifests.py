@@ -9,14 +9,14 @@ import random
 import subprocess
 import sys
 import tempfile
-import unittest
 import uuid
 import zlib
+from types import SimpleNamespace
 from unittest import mock
 
 import boto3
-from botocore.config import Config
 
+import s3
 from relkvanu import AckCompleted, Settings
 from relkvanu import manifests
 from relkvanu import __main__ as command
@@ -30,11 +30,6 @@ EACH, SEED = int(os.environ.get("EACH", "9")), os.environ.get("SEED", "1")  # of
 KILLED = 9
 SETTINGS = Settings(interval=10, timeout=600_000)
 COMMAND = [sys.executable, "-m", "relkvanu"]
-
-
-def client():
-    how = Config(retries={"max_attempts": 0}, connect_timeout=60, read_timeout=300, s3={"addressing_style": "path"})
-    return boto3.client("s3", endpoint_url=os.environ["S3_ENDPOINT"], region_name=os.environ["S3_REGION"], config=how)
 
 
 def contents_of(file):
@@ -52,20 +47,10 @@ def completes(job, files, term, savepoint=False, reused=()):
     return triggered.id, list(names)
 
 
-class Folder:
-    """The folder of a store, as a storage."""
-
-    def __init__(self, job):
-        self.put = job.put
-
-
-class OnAServer(unittest.TestCase):
+class OnAServer(s3.OnAServer):
     def setUp(self):
-        self.s3, self.bucket = client(), f"b{uuid.uuid4().hex}"
-        self.s3.create_bucket(Bucket=self.bucket)
-        work = tempfile.TemporaryDirectory()
-        self.addCleanup(work.cleanup)
-        self.work = pathlib.Path(work.name)
+        super().setUp()
+        self.work = pathlib.Path(self.enterContext(tempfile.TemporaryDirectory()))
 
     def url(self, prefix):
         return f"s3://{self.bucket}/{prefix}"
@@ -89,7 +74,7 @@ class OnAServer(unittest.TestCase):
     def in_folder(self, name="folder.db", folder="state", create=False):
         (self.work / folder).mkdir(exist_ok=True)
         with Store(self.work / name, SETTINGS, [TASKS], storage=self.work / folder, manifests=True, create=create) as job:
-            yield job, Folder(job)
+            yield job, SimpleNamespace(put=job.put)
 
     def lose(self, name="job.db"):
         for it in self.work.glob(f"{name}*"):
@@ -149,7 +134,7 @@ class AJobOverABucket(OnAServer):
             self.assertEqual([it for it in puts if it.startswith("record-")], [f"record-{record}.manifest"])
             later, names = completes(job, files, job.report.term)
             self.assertEqual([it for it in self.keys("orders/") if it.startswith("record-")], [f"record-{later}.manifest"])
-            (text,) = [it["Body"].read() for it in [self.s3.get_object(Bucket=self.bucket, Key=f"orders/record-{later}.manifest")]]
+            text = self.s3.get_object(Bucket=self.bucket, Key=f"orders/record-{later}.manifest")["Body"].read()
             self.assertEqual({file for it in json.loads(text)["subtasks"] for file in it["files"]}, set(map(str, names)))
 
     def sums(self, record, prefix="orders/"):

@@ -11,9 +11,7 @@ from relkvanu.outputs import Entry, Files, OutputError, SinkFailed, Table
 
 class Sinks(unittest.TestCase):
     def setUp(self):
-        work = tempfile.TemporaryDirectory()
-        self.addCleanup(work.cleanup)
-        self.folder = pathlib.Path(work.name)
+        self.folder = pathlib.Path(self.enterContext(tempfile.TemporaryDirectory()))
         database = sqlite3.connect(self.folder / "out.db")
         database.execute("CREATE TABLE lines (it INTEGER)")
         database.close()

@@ -61,9 +61,7 @@ class Engine:
 
 class Base(unittest.TestCase):
     def setUp(self):
-        work = tempfile.TemporaryDirectory()
-        self.addCleanup(work.cleanup)
-        self.folder = pathlib.Path(work.name)
+        self.folder = pathlib.Path(self.enterContext(tempfile.TemporaryDirectory()))
         (self.folder / "state").mkdir()
 
     def opened(self, is_foreign=False, **settings):
@@ -80,9 +78,19 @@ class Base(unittest.TestCase):
         self.addCleanup(lambda: (engine.runner.close(), run.exception()))
         return engine, lambda: run.exception(300) or run.result()
 
+    def by_hand(self, engine=None, **settings):
+        """A job that triggers nothing by itself."""
+        job = self.opened(interval=1 << 39, **settings)
+        return job, *self.runs(job, engine)
+
     def closed(self, engine, end):
         engine.runner.close()
         self.assertEqual(end(), Ended.CLOSED)
+
+    def checkpoints(self, engine, count):
+        """Takes a checkpoint, which is the nth that is complete."""
+        engine.runner.checkpoint()
+        engine.await_complete(count)
 
     def names(self):
         return sorted(int(it) for it in os.listdir(self.folder / "state") if it.isdigit())
@@ -111,21 +119,17 @@ class Kit(Base):
         self.closed(engine, end)
 
     def test_states_of_any_size(self):
-        job, engine = self.opened(interval=1 << 39), Engine()
-        engine, end = self.runs(job, engine)
-        engine.runner.checkpoint()
-        engine.await_complete(1)
+        job, engine, end = self.by_hand()
+        self.checkpoints(engine, 1)
         self.assertEqual(self.names(), [])
         engine.state = LARGE
-        engine.runner.checkpoint()
-        engine.await_complete(2)
+        self.checkpoints(engine, 2)
         self.closed(engine, end)
         self.assertEqual([engine.runner.state(job.load(), 0, it) for it in (0, 1, 2)], [LARGE, LARGE, None])
         self.assertEqual(self.names(), [1, 2])
 
     def test_a_state_that_can_not_be_put_is_declined(self):
-        job, engine = self.opened(interval=1 << 39, tolerable=1), Engine()
-        engine, end = self.runs(job, engine)
+        job, engine, end = self.by_hand(tolerable=1)
         engine.state = LARGE
         self.assertEqual(job.reserve(1, 1)[0], 1)
         for name in range(1, 9):
@@ -137,8 +141,7 @@ class Kit(Base):
         self.closed(engine, end)
 
     def test_a_full_checkpoint_has_no_base(self):
-        job = self.opened(interval=1 << 39)
-        engine, end = self.runs(job)
+        job, engine, end = self.by_hand()
         for count, full in enumerate((False, False, True, False), 1):
             engine.runner.checkpoint(full)
             engine.await_complete(count)
@@ -147,8 +150,7 @@ class Kit(Base):
 
     def test_a_task_that_has_ended(self):
         """The runner acknowledges its files: new once, then those of the base, and written anew after a record that failed."""
-        job, engine = self.opened(interval=1 << 39, tolerable=9), Engine()
-        engine, end = self.runs(job, engine)
+        job, engine, end = self.by_hand(tolerable=9)
         [name] = engine.runner.reserve(1, 1)
         engine.runner.files.put(name, b"last")
         self.assertRaises(Fenced, engine.runner.finished, 2, 0, 1)
@@ -159,8 +161,7 @@ class Kit(Base):
             time.sleep(0.01)
         engine.takes = lambda it: True
         for count in (1, 2):
-            engine.runner.checkpoint()
-            engine.await_complete(count)
+            self.checkpoints(engine, count)
         engine.runner.checkpoint(full=True)
         engine.await_complete(3)
         self.closed(engine, end)
@@ -208,9 +209,8 @@ class Kit(Base):
 
     def test_a_stop_of_somebody_else_at_the_end(self):
         """Its tasks have not put out what they keep, so it is no end."""
-        job, engine = self.opened(interval=1 << 39), Engine()
+        job, engine, end = self.by_hand()
         engine.takes = lambda it: not it.holds or it.drains
-        engine, end = self.runs(job, engine)
         job.stop_job()
         while not engine.barriers:
             time.sleep(0.01)
@@ -219,21 +219,18 @@ class Kit(Base):
         self.assertEqual((end(), engine.barriers[0].drains), (Ended.STOPPED, False))
         job.begin_job()
         job.close()
-        engine, end = self.runs(self.opened(interval=1 << 39))
+        _, engine, end = self.by_hand()
         engine.runner.finish()
         self.assertEqual((end(), engine.barriers[0].drains), (Ended.FINISHED, True))
 
     def test_a_restore_by_another_thread(self):
-        job = self.opened(interval=1 << 39)
-        engine, end = self.runs(job)
-        engine.runner.checkpoint()
-        engine.await_complete(1)
+        job, engine, end = self.by_hand()
+        self.checkpoints(engine, 1)
         for count, restore in enumerate((job.restore, lambda: job.go_back(job.choice().id, accept_published=True), engine.runner.restore, job.restore), 2):
             restore()
             while len(engine.records) < count:
                 time.sleep(0.01)
-            engine.runner.checkpoint()
-            engine.await_complete(count)
+            self.checkpoints(engine, count)
         self.closed(engine, end)
         self.assertEqual((len(engine.records), [it.term for it in engine.barriers]), (5, sorted({it.term for it in engine.barriers})))
 

@@ -66,13 +66,12 @@ class Engine:
 
 class Overtaking(unittest.TestCase):
     def setUp(self):
-        self.folder = tempfile.TemporaryDirectory()
-        self.addCleanup(self.folder.cleanup)
-        os.mkdir(f"{self.folder.name}/state")
+        self.folder = self.enterContext(tempfile.TemporaryDirectory())
+        os.mkdir(f"{self.folder}/state")
 
     def opened(self, create=False):
         settings = Settings(interval=100 if create else 1000)
-        return Store(f"{self.folder.name}/job.db", settings, [1], storage=f"{self.folder.name}/state", create=create)
+        return Store(f"{self.folder}/job.db", settings, [1], storage=f"{self.folder}/state", create=create)
 
     def with_a_checkpoint(self):
         with self.opened(True) as store:
@@ -133,14 +132,14 @@ class Overtaking(unittest.TestCase):
 
     def test_kills(self):
         """Forty sources, full channels and a slow sink: each element is published once, in order, wherever the process is killed."""
-        os.mkdir(f"{self.folder.name}/target")
+        os.mkdir(f"{self.folder}/target")
         for kill in range(KILLS):
-            words = [self.folder.name, "0", "1000000", *(["new"] if kill == 0 else [])]
+            words = [self.folder, "0", "1000000", *(["new"] if kill == 0 else [])]
             with subprocess.Popen([sys.executable, str(EXAMPLE), *words], stdout=subprocess.PIPE, text=True) as engine:
                 self.assertRegex(engine.stdout.readline(), "^checkpoint ")
                 time.sleep(0.07 * kill)
                 engine.kill()
-        following, published = [0] * 40, pathlib.Path(self.folder.name).glob("target/*.published")
+        following, published = [0] * 40, pathlib.Path(self.folder).glob("target/*.published")
         for path in sorted(published, key=lambda it: int(it.stem)):
             for source, element in map(json.loads, path.read_text().splitlines()):
                 self.assertEqual(element, following[source])

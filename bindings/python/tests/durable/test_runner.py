@@ -40,8 +40,8 @@ runner.run()
 """
 
 
-class Words:
-    """An engine whose tasks acknowledge in the thread of the barrier, with one new file each. It notes what it is asked."""
+class Untold:
+    """An engine whose tasks acknowledge in the thread of the barrier, with one new file each. It notes what it is asked, and has no stopped()."""
 
     def __init__(self):
         self.said, self.changed = [], threading.Condition()
@@ -51,6 +51,10 @@ class Words:
         with self.changed:
             self.said.append(words)
             self.changed.notify_all()
+
+    def all(self, word):
+        """What came with this word, each time."""
+        return [it[1] for it in self.said if it[0] == word]
 
     def await_word(self, *words):
         with self.changed:
@@ -91,10 +95,6 @@ class Words:
     def complete(self, id):
         self.note("complete", id)
 
-    def stopped(self, record):
-        assert isinstance(record, Record)
-        self.note("stopped", record.id, len([it for part in record.parts for it in part.files]))
-
     def go_on(self):
         self.note("go on")
 
@@ -102,13 +102,10 @@ class Words:
         self.note("end")
 
 
-class Untold(Words):
-    """An engine that has no stopped()."""
-
-    def __getattribute__(self, name):
-        if name == "stopped":
-            raise AttributeError(name)
-        return super().__getattribute__(name)
+class Words(Untold):
+    def stopped(self, record):
+        assert isinstance(record, Record)
+        self.note("stopped", record.id, len([it for part in record.parts for it in part.files]))
 
 
 class Failing(Words):
@@ -196,16 +193,14 @@ class Acknowledging(Words):
 
 class Running(unittest.TestCase):
     def setUp(self):
-        self.work = tempfile.TemporaryDirectory()
-        self.addCleanup(self.work.cleanup)
-        self.folder = pathlib.Path(self.work.name)
+        self.folder = pathlib.Path(self.enterContext(tempfile.TemporaryDirectory()))
         (self.folder / "state").mkdir()
 
-    def begin(self, engine=None, sweep_interval=None, **settings):
+    def begin(self, engine=None, sweep_interval=600_000, **settings):
         """Runs an engine in a thread."""
         store = Store(self.folder / "job.db", Settings(**{"interval": 20, "retained": 3, **settings}), [TASKS], storage=self.folder / "state", create=True)
         engine = engine or Words()
-        engine.runner = Runner(store, engine) if sweep_interval is None else Runner(store, engine, sweep_interval=sweep_interval)
+        engine.runner = Runner(store, engine, sweep_interval=sweep_interval)
         run = ThreadPoolExecutor(1).submit(engine.runner.run)
 
         def await_end():
@@ -254,13 +249,6 @@ class Running(unittest.TestCase):
         # the old tasks are told to end, and the tasks start from the record's files; nobody is told by its number that it is complete
         self.assertEqual(engine.said[:2], [("end",), ("start", 2, last, TASKS)])
         self.assertGreater(next(it[1] for it in engine.said if it[0] == "complete"), last)
-
-    def test_a_job_that_fails_is_restarted(self):
-        store, engine, await_end = self.running(tolerable=0)
-        engine.declined = Kind.CHECKPOINT
-        engine.await_count("start", 2)
-        engine.await_more("complete", 2)
-        self.close(engine, await_end)
 
     def test_a_stop_that_fails(self):
         store, engine, await_end = self.running(tolerable=10)
@@ -356,7 +344,7 @@ class Running(unittest.TestCase):
             self.assertLess(time.monotonic(), until)
             time.sleep(0.01)
         self.close(engine, await_end)
-        self.assertEqual(sum(it[0] == "start" for it in engine.said), 1)
+        self.assertEqual(len(engine.all("start")), 1)
 
     def test_a_sweep_before_tasks_start(self):
         engine, sweep = Words(), Store.sweep
@@ -406,10 +394,10 @@ class Running(unittest.TestCase):
         for _ in range(10):
             engine.runner.restart(1)
         engine.await_more("complete", 10)
-        self.assertEqual([it[1] for it in engine.said if it[0] == "start"], [1, 2])
+        self.assertEqual(engine.all("start"), [1, 2])
         engine.runner.restart(2)
         engine.await_count("start", 3)
-        self.assertEqual([it[1] for it in engine.said if it[0] == "start"], [1, 2, 3])
+        self.assertEqual(engine.all("start"), [1, 2, 3])
         self.close(engine, await_end)
 
     def restarts_after(self, command):
@@ -442,7 +430,7 @@ class Running(unittest.TestCase):
             return True
         ended, engine = self.restarts_after(stop)
         self.assertEqual(ended, Ended.STOPPED)
-        self.assertEqual(sum(it[0] == "start" for it in engine.said), 1)
+        self.assertEqual(len(engine.all("start")), 1)
         self.assertEqual([it[0] for it in engine.said[-3:]], ["barrier", "end", "stopped"])
 
     def test_a_stopped_job_that_is_restored_elsewhere(self):
@@ -471,7 +459,7 @@ class Running(unittest.TestCase):
         engine.end = ends
         engine.runner.restart()
         self.assertEqual(await_end(), Ended.CANCELLED)
-        self.assertEqual(sum(it[0] == "start" for it in engine.said), 1)
+        self.assertEqual(len(engine.all("start")), 1)
 
     def test_calls_from_inside_complete_and_aborted(self):
         store, engine, await_end = self.running(Acknowledging(), tolerable=10)
@@ -535,10 +523,9 @@ class Running(unittest.TestCase):
         self.assertEqual(len(engine.tasks), sum(it[0] == "barrier" for it in engine.said))
         self.assertNotIn(("end",), engine.said)
 
-    def test_sinks_that_fail_end_the_run(self):
+    def test_sinks_and_tasks_that_fail_end_the_run(self):
         self.ends_by_what("complete")
-
-    def test_tasks_that_fail_to_drop_a_record_end_the_run(self):
+        self.setUp()
         self.ends_by_what("aborted", Kind.CHECKPOINT)
 
     def test_a_discarder_that_fails_ends_the_run(self):
@@ -613,7 +600,7 @@ class Running(unittest.TestCase):
         store, engine, await_end = self.idle()
         engine.take_part = lambda it: engine.runner.restart()
         self.fails(engine.runner, 1, Ending.DROPPED)
-        self.assertEqual([it[1] for it in engine.said if it[0] == "start"], [1, 2])
+        self.assertEqual(engine.all("start"), [1, 2])
 
     def test_a_savepoint_that_a_stop_drops(self):
         store, engine, await_end = self.idle()
@@ -631,9 +618,7 @@ class Running(unittest.TestCase):
         engine.take_part = lambda it: None
         store.stop_job()
         engine.await_word("barrier", 1, Kind.SAVEPOINT, True)
-        with self.assertRaises(Refused) as caught:
-            engine.runner.savepoint()
-        self.assertEqual(caught.exception.name, "NotRunning")
+        self.assertRaisesRegex(Refused, "^NotRunning", engine.runner.savepoint)
 
     def asked(self, engine):
         """Asks for a savepoint in a thread, and returns once the loop has to do it."""
@@ -659,7 +644,7 @@ class Running(unittest.TestCase):
         engine.await_word("barrier", 2, Kind.SAVEPOINT, False)
         [(thread, found)] = asked
         thread.join(LONGEST)
-        self.assertEqual((found, [it[1] for it in engine.said if it[0] == "start"]), ([2], [1, 2]))
+        self.assertEqual((found, engine.all("start")), ([2], [1, 2]))
 
     def test_a_savepoint_right_after_a_way_back(self):
         """It is triggered in the term of tasks that do not run yet: these get its barrier too."""
@@ -738,11 +723,6 @@ class Running(unittest.TestCase):
         stop = [("barrier", savepoint, Kind.SAVEPOINT, True), ("complete", savepoint), ("end",), ("stopped", savepoint, TASKS)]
         self.assertEqual(engine.said[-4:], stop)
 
-    def test_a_stop_that_is_asked_for(self):
-        store, engine, await_end = self.idle()
-        engine.runner.ask_to_stop()
-        self.stops(engine, await_end(), 1)
-
     def test_a_stop_that_is_asked_for_is_tried_again(self):
         store, engine, await_end = self.idle(tolerable=10)
         engine.declined = Kind.SAVEPOINT
@@ -755,7 +735,7 @@ class Running(unittest.TestCase):
         engine.declined, engine.then = Kind.CHECKPOINT, engine.runner.ask_to_stop
         store.trigger()
         self.stops(engine, await_end(), 2)
-        self.assertEqual([it[1] for it in engine.said if it[0] == "start"], [1, 2])
+        self.assertEqual(engine.all("start"), [1, 2])
 
     def test_a_stop_by_a_signal(self):
         before = signal.getsignal(signal.SIGTERM)
@@ -796,7 +776,7 @@ class Running(unittest.TestCase):
         engine.runner.begin_job()
         id = store.stop_job().reply.id
         self.stops(engine, await_end(), id)
-        self.assertEqual(sum(it[0] == "start" for it in engine.said), 1)
+        self.assertEqual(len(engine.all("start")), 1)
         store, engine = self.last(id + 2)
         engine.runner.begin_job()
         self.assertEqual((store.phase().phase, engine.runner.run()), (Phase.RUNNING, Ended.CLOSED))
@@ -812,7 +792,7 @@ class Running(unittest.TestCase):
         store, engine = self.last(3, create=True)
         self.assertEqual(engine.runner.run(), Ended.CLOSED)
         store.close()
-        self.assertEqual([it[1] for it in engine.said if it[0] == "complete"][:3], [1, 2, 3])
+        self.assertEqual(engine.all("complete")[:3], [1, 2, 3])
         self.assertNotIn(("complete", 5), engine.said)
         _, engine = self.last(3)
         self.assertEqual((engine.runner.run(), [it[0] for it in engine.said]), (Ended.CLOSED, ["end", "start", "end"]))
@@ -954,7 +934,7 @@ class Running(unittest.TestCase):
         engine.runner._tell(engine.runner.term - 1, 1 << 30)
         engine.runner.close()
         await_end()
-        told = [it[1] for it in engine.said if it[0] == "complete"]
+        told = engine.all("complete")
         self.assertEqual(told, sorted(set(told)))
         self.assertLess(told[-1], 1 << 30)
 
@@ -1083,11 +1063,8 @@ class Taking(unittest.TestCase):
         inputs.put(1, "q")
         self.assertEqual(inputs.take(), (1, "q"))  # the end of the other one was taken before
         for put in (lambda: inputs.put(0, "b"), lambda: inputs.put(0, barrier(1)), lambda: inputs.end(0)):
-            with self.assertRaises(BadStep) as caught:
-                put()
-            self.assertEqual(caught.exception.name, "EndedInput")
-        with self.assertRaises(IndexError):
-            inputs.end(2)
+            self.assertRaisesRegex(BadStep, "^EndedInput$", put)
+        self.assertRaises(IndexError, inputs.end, 2)
         inputs.end(1)
         self.assertEqual(self.all_of(inputs), [])
 
