@@ -18,8 +18,8 @@ from typing import TYPE_CHECKING, Any, Callable, Dict, List, Optional, Sequence,
 from urllib.parse import parse_qsl, urlsplit
 
 from relkvanu.errors import BadArgument, Error, Fenced, OutOfMemory, Refused
-from relkvanu.jobs import Made, Phase, StoreError
-from relkvanu.replies import Cancelled, Configured, Disposed, RestoredFresh
+from relkvanu.jobs import ANSWERS, Made, Phase, StoreError
+from relkvanu.replies import Configured
 from relkvanu.whole import Ending, Past
 
 if TYPE_CHECKING:
@@ -61,6 +61,15 @@ def _refusal(why: Error) -> Body:
     word = "fenced" if isinstance(why, Fenced) else "refused"
     file = getattr(why, "file", None)
     return {word: getattr(why, "name", str(why)), **({} if file is None else {"file": str(file)})}
+
+
+def _told(made: Made) -> Body:
+    word, how = ANSWERS[type(made.reply)]
+    return {word: how, **vars(made.reply), "seq": made.place}
+
+
+def _with_term(made: Made) -> Body:
+    return {**_told(made), "term": made.term}
 
 
 class Answers:
@@ -228,11 +237,11 @@ class Answers:
     def stop(self, body: Body) -> Body:
         _only(body)
         made = self._now(self.store.stop_job, lambda: self.store.phase().phase.name.title())
-        return self.placed({"savepoint": "triggered", "id": getattr(made.reply, "id")}, made)
+        return self.placed(_told(made), made)
 
     def begin(self, body: Body) -> Body:
         _only(body)
-        return self.placed(self._restored(self._now(self.store.begin_job, lambda: "NotStopped")))
+        return self.placed(_with_term(self._now(self.store.begin_job, lambda: "NotStopped")))
 
     def _now(self, verb: Callable[[], Made], why: Callable[[], str]) -> Made:
         try:
@@ -241,11 +250,6 @@ class Answers:
             if error.name != "NotNow":
                 raise
             raise Refused(why(), None) from error
-
-    def _restored(self, made: Made) -> Body:
-        kind = "fresh" if isinstance(made.reply, RestoredFresh) else type(made.reply).__name__[len("Restored"):].lower()
-        number = {} if kind == "fresh" else {"id": getattr(made.reply, "id")}
-        return {"restore": kind, **number, "released": getattr(made.reply, "released"), "term": made.term, "seq": made.place}
 
     def calls(self, body: Body) -> Body:
         _only(body, "calls", "term", "ended")
@@ -259,7 +263,10 @@ class Answers:
         verbs: Dict[str, Tuple[Callable[[Body], Body], Sequence[str]]] = {
             "savepoint": (lambda _: {"savepoint": "triggered", "id": self.runner.trigger_savepoint(), "seq": self.seq()}, ()),
             "trigger": (lambda _: {"tick": "triggered", "expired": 0, "id": self.runner.checkpoint(), "seq": self.seq()}, ()),
-            "dispose": (self._disposed, ("id",)), "cancel": (self._cancelled, ()), "restore": (self._restores, ("from", "shape", "accept_published", "stopped"))}
+            "dispose": (lambda it: _told(self.runner.store.dispose(it["id"])), ("id",)),
+            "cancel": (lambda _: _with_term(self.store.cancel()), ()),
+            "restore": (self._restores, ("from", "shape", "accept_published", "stopped")),
+        }
         word = call.get("call")
         if word not in verbs:
             raise Problem(400, f"calls[{place}].call {json.dumps(word)} is no call of a running job: there are {', '.join(verbs)}", field=f"calls[{place}].call")
@@ -281,24 +288,14 @@ class Answers:
         except (Refused, Fenced, BadArgument, OutOfMemory) as why:
             return _refusal(why)
 
-    def _disposed(self, call: Body) -> Body:
-        made = self.runner.store.dispose(call["id"])
-        assert isinstance(made.reply, Disposed)
-        return {"dispose": "disposed", "released": made.reply.released, "seq": made.place}
-
-    def _cancelled(self, call: Body) -> Body:
-        made = self.store.cancel()
-        assert isinstance(made.reply, Cancelled)
-        return {"cancel": "cancelled", "dropped": made.reply.dropped, "released": made.reply.released, "term": made.term, "seq": made.place}
-
     def _restores(self, call: Body) -> Body:
         start, shape, is_stopped = call.get("from"), call.get("shape"), self.store.phase().phase == Phase.STOPPED
         if is_stopped != (call.get("stopped") is True):
             raise Refused("Stopped" if is_stopped else "NotStopped", None)
         if isinstance(start, dict):
-            return self._restored(self.runner.store.go_back(_whole(start.get("checkpoint"), "checkpoint", 1, 1 << 62), call.get("accept_published") is True))
+            return _with_term(self.runner.store.go_back(_whole(start.get("checkpoint"), "checkpoint", 1, 1 << 62), call.get("accept_published") is True))
         restore = self.store.restore if is_stopped else self.runner.restore  # no task starts in a job that stays stopped
-        return self._restored(restore(None if start == "latest" else _whole(start, "from", 1, 1 << 62), shape))
+        return _with_term(restore(None if start == "latest" else _whole(start, "from", 1, 1 << 62), shape))
 
 
 READS = {

@@ -2,6 +2,7 @@
 term of the tasks before, whose calls are refused from then on. It needs no library."""
 import collections
 import contextlib
+import dataclasses
 import importlib
 import itertools
 import threading
@@ -9,13 +10,10 @@ from typing import Any, Callable, Container, Deque, Dict, Iterator, List, Option
 
 from relkvanu import header
 from relkvanu.errors import Error, Fenced, OutOfMemory, Refused
-from relkvanu.jobs import Call, JobPhase, Made, Opening, Outcome, Phase, StopFailed, StoreError, Superseded, lists_of, made_of
+from relkvanu.jobs import ANSWERS, Call, JobPhase, Made, Opening, Outcome, Phase, StopFailed, StoreError, Superseded, lists_of, made_of
 from relkvanu.nexts import Next, NextBarrier, NextCancelled, NextEnded, NextFailed, NextIdle, NextStopped
 from relkvanu.reads import Chosen, FileCounts, Garbage, Kind, Live, Mode, RunningTerm
-from relkvanu.replies import (
-    AckCompleted, AckLate, AckPending, Cancelled, DeclineAborted, DeclineFailed, DeclineLate, Deleted, Disposed, Forfeited, Reply, Reserved,
-    RestoredCheckpoint, RestoredFresh, RestoredSavepoint, SavepointTriggered, Taken, Triggered, Undeleted,
-)
+from relkvanu.replies import Deleted, Forfeited, Reply, Reserved, Taken, Undeleted
 from relkvanu.service_manifests import identity_of
 from relkvanu.storage import Marker
 from relkvanu.whole import Ending, Part, Past, Whole
@@ -69,21 +67,6 @@ def _body(call: Call) -> Answer:
     return body
 
 
-REPLIES: Dict[Tuple[str, str], Callable[[Answer], Reply]] = {
-    ("ack", "pending"): lambda it: AckPending(it["missing"]),
-    ("ack", "completed"): lambda it: AckCompleted(it["dropped"], it["released"]),
-    ("ack", "late"): lambda it: AckLate(it.get("handed_out", 0)),
-    ("decline", "aborted"): lambda it: DeclineAborted(it.get("released", 0)),
-    ("decline", "failed"): lambda it: DeclineFailed(it.get("released", 0)),
-    ("decline", "late"): lambda it: DeclineLate(),
-    ("tick", "triggered"): lambda it: Triggered(it["expired"], it["id"]),
-    ("savepoint", "triggered"): lambda it: SavepointTriggered(it["id"]),
-    ("restore", "checkpoint"): lambda it: RestoredCheckpoint(it["id"], it["released"]),
-    ("restore", "savepoint"): lambda it: RestoredSavepoint(it["id"], it["released"]),
-    ("restore", "fresh"): lambda it: RestoredFresh(it["released"]),
-    ("cancel", "cancelled"): lambda it: Cancelled(it["dropped"], it["released"]),
-    ("dispose", "disposed"): lambda it: Disposed(it["released"]),
-}
 OTHERS: Dict[str, Callable[[Answer], Reply]] = {  # whose answers have a number there
     "first": lambda it: Reserved(int(it["first"]), it["count"]),
     "files": lambda it: Taken(tuple(map(int, it["files"]))),
@@ -93,9 +76,12 @@ OTHERS: Dict[str, Callable[[Answer], Reply]] = {  # whose answers have a number 
 
 
 def _reply(answer: Answer) -> Reply:
-    named = [make for (word, what), make in REPLIES.items() if answer.get(word) == what]
-    others = [make for word, make in OTHERS.items() if word in answer]
-    return next(iter([*named, *others]), lambda _: Forfeited())(answer)
+    for kind, (word, how) in ANSWERS.items():
+        if answer.get(word) == how:
+            members = {"released": 0, "handed_out": 0, **answer}  # declines, and late acknowledgements, need not have these
+            return kind(**{it.name: members[it.name] for it in dataclasses.fields(kind)})
+    make = next((make for word, make in OTHERS.items() if word in answer), lambda _: Forfeited())
+    return make(answer)
 
 
 def _outcome(answer: Answer) -> Outcome:

@@ -3,13 +3,16 @@ relkvanu.job_of_service makes one of a job of the service. It needs no library."
 import dataclasses
 import enum
 from dataclasses import dataclass, field
-from typing import TYPE_CHECKING, Any, Callable, Container, List, Optional, Protocol, Sequence, Tuple, Type, TypeVar, Union
+from typing import TYPE_CHECKING, Any, Callable, Container, Dict, List, Optional, Protocol, Sequence, Tuple, Type, TypeVar, Union
 
 from relkvanu import header
 from relkvanu.errors import Error, check_restore
 from relkvanu.nexts import Next
 from relkvanu.reads import Chosen, FileCounts, Garbage, Kind, Live, Mode, RunningTerm
-from relkvanu.replies import Reply
+from relkvanu.replies import (
+    AckCompleted, AckLate, AckPending, Cancelled, DeclineAborted, DeclineFailed, DeclineLate, Disposed, Reply, RestoredCheckpoint, RestoredFresh, RestoredSavepoint,
+    SavepointTriggered, Triggered,
+)
 from relkvanu.storage import Marker
 from relkvanu.whole import Past, Whole
 
@@ -17,6 +20,13 @@ if TYPE_CHECKING:  # these need the library
     from relkvanu.coordinator import Settings
 
 LONGEST = 1 << 40  # milliseconds, of an interval
+# How an answer of the service has a reply: the word of the call, and how it ended. Its members have the names of the reply's fields.
+ANSWERS: Dict[Type[Reply], Tuple[str, str]] = {
+    AckPending: ("ack", "pending"), AckCompleted: ("ack", "completed"), AckLate: ("ack", "late"), DeclineAborted: ("decline", "aborted"),
+    DeclineFailed: ("decline", "failed"), DeclineLate: ("decline", "late"), Triggered: ("tick", "triggered"), SavepointTriggered: ("savepoint", "triggered"),
+    RestoredCheckpoint: ("restore", "checkpoint"), RestoredSavepoint: ("restore", "savepoint"), RestoredFresh: ("restore", "fresh"),
+    Cancelled: ("cancel", "cancelled"), Disposed: ("dispose", "disposed"),
+}
 T = TypeVar("T")
 
 
