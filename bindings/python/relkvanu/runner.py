@@ -381,19 +381,16 @@ class Runner:
         """Takes a savepoint, and returns its number once it is complete. Its barrier goes the way of a checkpoint's. Any thread may call it but a task: one
         that is to acknowledge would wait for itself. Raises SavepointFailed if it is not completed, and Refused, as Store.savepoint, if it is not triggered, as
         while the job is being stopped. In the thread of run(), and inside complete() and aborted(), it is StoreError("NotNow")."""
-        _, completed = self._ask(Kind.SAVEPOINT)
-        return completed.result()
+        return self._ask(Kind.SAVEPOINT)[1].result()
 
     def checkpoint(self, full: bool = False) -> int:
         """Triggers a checkpoint now, and returns its number. The barrier of a `full` one has no base: all is written anew. Raises as savepoint(), of what is not
         triggered."""
-        triggered, _ = self._ask(Kind.CHECKPOINT, full)
-        return triggered.result()
+        return self._ask(Kind.CHECKPOINT, full)[0].result()
 
     def trigger_savepoint(self) -> int:
         """Triggers a savepoint, and returns its number at once."""
-        triggered, _ = self._ask(Kind.SAVEPOINT)
-        return triggered.result()
+        return self._ask(Kind.SAVEPOINT)[0].result()
 
     def restore(self, savepoint: Optional[int] = None, shape: Optional[Sequence[int]] = None) -> Made:
         """Begins the job again from its last record, or from a savepoint, in another shape if one is given: all tasks end and start. Raises as Store.restore, and
@@ -561,11 +558,8 @@ class Runner:
         """A failed job is restored first. Somebody else may be faster."""
         try:
             _with_memory(self.job.stop_job)
-        except Refused as refused:
-            if refused.name != "NotRunning":
-                raise
-        except StoreError as why:
-            if why.name != "NotNow":
+        except (Refused, StoreError) as why:
+            if (type(why), why.name) not in ((Refused, "NotRunning"), (StoreError, "NotNow")):
                 raise
 
     def _act(self, it: Next) -> Optional[Ended]:

@@ -6,7 +6,7 @@ from typing import Dict, FrozenSet, Iterable, Iterator, List, Optional, Sequence
 
 from relkvanu import lines
 from relkvanu.coordinator import Coordinator, Error, Fenced, Refused, Settings
-from relkvanu.replies import Reply, Taken
+from relkvanu.replies import Reply
 
 Files = Tuple[int, ...]
 
@@ -230,27 +230,19 @@ class World:
 
 def live_files(core: Coordinator, subtasks: Iterable[str]) -> Iterator[Tuple[int, FrozenSet[int]]]:
     """The done records and their files."""
-    place, record = 0, core.live_from(0)
+    places = [(int(vertex), int(index)) for vertex, index in (it.split(".") for it in subtasks)]
+    record = core.live_from(0)
     while record is not None:
         if record.done:
-            files: Set[int] = set()
-            for subtask in subtasks:
-                vertex, index = map(int, subtask.split("."))
-                files |= set(core.files_of(record.id, vertex, index) or ())
-            yield record.id, frozenset(files)
-        place = record.id + 1
-        record = core.live_from(place)
+            yield record.id, frozenset(file for it in places for file in core.files_of(record.id, *it) or ())
+        record = core.live_from(record.id + 1)
 
 
 def drained(core: Coordinator) -> Set[int]:
     """The files that a discarder deletes which runs to its end."""
-    gone = set(core.taken_files())
-    for file in gone:
-        core.deleted(file)
-    while True:
-        taken = core.take(64)
-        if not isinstance(taken, Taken) or not taken.files:
-            return gone
-        for file in taken.files:
-            gone.add(file)
+    gone: Set[int] = set()
+    while files := core.taken_files() or core.take(64).files:
+        gone.update(files)
+        for file in files:
             core.deleted(file)
+    return gone

@@ -3,6 +3,7 @@ import os
 import threading
 import time
 import unittest
+from unittest import mock
 
 from relkvanu import Cancelled, Closed, Coordinator, Discarded, Discarder, FileCounts, HeldAtOnce, Patience, Refused, Settings, Taken, Triggered, version
 
@@ -28,13 +29,6 @@ def wait_for(condition):
 
 def denied(file):
     raise PermissionError
-
-
-def given_up(job, delete):
-    """A discarder that has given up all 20 files."""
-    discarder = Discarder(job, delete, QUICK)
-    wait_for(lambda: len(discarder.told().given_up) == 20)
-    return discarder
 
 
 class Discarding(unittest.TestCase):
@@ -68,24 +62,23 @@ class Discarding(unittest.TestCase):
             if file in (3, 7):
                 raise KeyError(file)
 
-        hook, threading.excepthook = threading.excepthook, lambda fault: None
-        try:
-            with cancelled(self) as job, Discarder(job, fails, QUICK) as discarder:
-                # 1 and 2 of the first four, then 5 and 6 of the next: both threads have ended, and what they had waits
-                wait_for(lambda: discarder.told().deleted == 4 and job.file_counts() == FileCounts(0, 16, 0))
-        finally:
-            threading.excepthook = hook
+        with mock.patch.object(threading, "excepthook"), cancelled(self) as job, Discarder(job, fails, QUICK) as discarder:
+            # 1 and 2 of the first four, then 5 and 6 of the next: both threads have ended, and what they had waits
+            wait_for(lambda: discarder.told().deleted == 4 and job.file_counts() == FileCounts(0, 16, 0))
 
     def test_a_delete_that_fails_for_ever_is_given_up_and_told(self):
+        """Each file waits again, once, but for one that somebody else has reported."""
         with cancelled(self) as job:
-            discarder = given_up(job, denied)
+            discarder = Discarder(job, denied, QUICK)
+            wait_for(lambda: len(discarder.told().given_up) == 20)
             self.assertEqual(job.file_counts(), FileCounts(0, 0, 20))
+            job.deleted(1)  # by hand
             told = discarder.stop()
             self.assertEqual((told.deleted, told.failed, sorted(told.given_up)), (0, 60, [*range(1, 21)]))
             self.assertEqual((discarder.stop(), discarder.told()), (told, told))
-            self.assertEqual(job.file_counts(), FileCounts(0, 20, 0), "each waits again, once")
+            self.assertEqual(job.file_counts(), FileCounts(0, 19, 0))
             with Discarder(job, lambda file: None, QUICK) as discarder:
-                wait_for(lambda: discarder.told() == Discarded(20, 0, ()))
+                wait_for(lambda: discarder.told() == Discarded(19, 0, ()))
             self.assertEqual(job.file_counts(), FileCounts(0, 0, 0))
 
     def test_no_file_is_given_up_by_default(self):
@@ -111,33 +104,20 @@ class Discarding(unittest.TestCase):
             self.assertEqual(job.file_counts(), FileCounts(0, 3, 0))
 
     def test_a_coordinator_that_is_closed_first_ends_the_threads(self):
-        faults = []
-        hook, threading.excepthook = threading.excepthook, faults.append
-        try:
-            job = cancelled(self)
-            is_deleting, is_closed = threading.Event(), threading.Event()
+        is_deleting, is_closed = threading.Event(), threading.Event()
 
-            def delete(file):
-                is_deleting.set()
-                is_closed.wait(300)
-                raise PermissionError
+        def delete(file):
+            is_deleting.set()
+            is_closed.wait(300)
+            raise PermissionError
 
-            discarder = Discarder(job, delete, QUICK)
+        job = cancelled(self)
+        with mock.patch.object(threading, "excepthook") as fault, Discarder(job, delete, QUICK):
             self.assertTrue(is_deleting.wait(300))
             job.close()
             is_closed.set()
-            discarder.stop()
-            self.assertRaises(Closed, job.take, 1)
-        finally:
-            threading.excepthook = hook
-        self.assertEqual(faults, [])
-
-    def test_a_file_that_somebody_else_reports(self):
-        with cancelled(self) as job:
-            discarder = given_up(job, denied)
-            job.deleted(1)  # by hand
-            discarder.stop()
-            self.assertEqual(job.file_counts(), FileCounts(0, 19, 0))
+        self.assertRaises(Closed, job.take, 1)
+        fault.assert_not_called()
 
     def test_patience_has_limits(self):
         self.assertRaises(ValueError, Patience, attempts=0)

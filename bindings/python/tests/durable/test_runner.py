@@ -606,12 +606,11 @@ class Running(unittest.TestCase):
         store, engine, await_end = self.idle()
         take_part = engine.take_part
         engine.take_part = lambda it: take_part(it) if it.holds else None
-        thread, found = self.asked(engine)
+        asked = self.asked(engine)
         engine.await_word("barrier", 1, Kind.SAVEPOINT, False)
         engine.runner.ask_to_stop()
         self.stops(engine, await_end(), 2)
-        thread.join(LONGEST)
-        self.assertEqual(found, [(1, Ending.DROPPED)])
+        self.assertEqual(self.failed(asked), (1, Ending.DROPPED))
 
     def test_a_savepoint_of_a_job_that_is_being_stopped(self):
         store, engine, await_end = self.idle()
@@ -622,18 +621,15 @@ class Running(unittest.TestCase):
 
     def asked(self, engine):
         """Asks for a savepoint in a thread, and returns once the loop has to do it."""
-        found = []
-
-        def ask():
-            try:
-                found.append(engine.runner.savepoint())
-            except SavepointFailed as why:
-                found.append((why.id, why.ending))
-        thread = threading.Thread(target=ask)
-        thread.start()
+        asked = ThreadPoolExecutor(1).submit(engine.runner.savepoint)
         while not engine.runner._asked and not engine.runner._savepoints:
             time.sleep(0.001)
-        return thread, found
+        return asked
+
+    def failed(self, asked):
+        why = asked.exception(LONGEST)
+        self.assertIsInstance(why, SavepointFailed)
+        return why.id, why.ending
 
     def test_a_savepoint_that_waits_for_a_restore(self):
         """It is asked for while the job fails, and taken once the job was restored."""
@@ -642,9 +638,7 @@ class Running(unittest.TestCase):
         engine.then = lambda: asked.append(self.asked(engine))
         store.trigger()
         engine.await_word("barrier", 2, Kind.SAVEPOINT, False)
-        [(thread, found)] = asked
-        thread.join(LONGEST)
-        self.assertEqual((found, engine.all("start")), ([2], [1, 2]))
+        self.assertEqual((asked[0].result(LONGEST), engine.all("start")), (2, [1, 2]))
 
     def test_a_savepoint_right_after_a_way_back(self):
         """It is triggered in the term of tasks that do not run yet: these get its barrier too."""
@@ -667,11 +661,10 @@ class Running(unittest.TestCase):
     def test_savepoints_when_the_run_ends(self):
         store, engine, await_end = self.idle()
         engine.take_part = lambda it: None
-        thread, found = self.asked(engine)
+        asked = self.asked(engine)
         engine.await_word("barrier", 1, Kind.SAVEPOINT, False)
         engine.runner.close()
-        thread.join(LONGEST)
-        self.assertEqual((found, await_end()), ([(1, None)], Ended.CLOSED))
+        self.assertEqual((self.failed(asked), await_end()), ((1, None), Ended.CLOSED))
         self.assertEqual(self.fails(engine.runner, None, None), "run() has ended, and no savepoint was triggered")
 
     def test_a_savepoint_that_is_complete_as_the_run_ends(self):
@@ -684,36 +677,25 @@ class Running(unittest.TestCase):
         engine = Words()
         engine.take_part = lambda it: {}["nothing"]
         store, engine, await_end = self.begin(engine, interval=1 << 39)
-        thread, found = self.asked(engine)
-        thread.join(LONGEST)
+        self.assertEqual(self.failed(self.asked(engine)), (1, None))
         self.assertIsInstance(await_end(), KeyError)
-        self.assertEqual(found, [(1, None)])
 
     def test_a_savepoint_that_would_wait_for_itself(self):
         """In the thread of run(), and inside complete()."""
         faults = []
 
-        class Asking(Words):
-            def ask(self):
+        class Asking(Failing):
+            def asked(self, word):
                 try:
                     self.runner.savepoint()
                 except StoreError as why:
                     faults.append(why.name)
 
             def start(self, term, record):
-                self.ask()
+                self.asked("start")
                 super().start(term, record)
 
-            def barrier(self, it):
-                task = threading.Thread(target=lambda: super(Asking, self).barrier(it))
-                task.start()
-                task.join()
-
-            def complete(self, id):
-                self.ask()
-                super().complete(id)
-
-        store, engine, await_end = self.running(Asking())
+        store, engine, await_end = self.running(Asking(None))
         engine.runner.close()
         await_end()
         self.assertEqual(faults, ["NotNow"] * (1 + sum(it[0] == "complete" for it in engine.said)))
