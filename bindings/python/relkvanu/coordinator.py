@@ -204,15 +204,18 @@ def _told(answer: header.relkvanu_answer, what: int) -> header.relkvanu_answer:
     return answer
 
 
-def _written(write: Callable[[Any, int], Any]) -> str:
-    """What is written into a buffer that is long enough."""
-    length = 256
+def _filled(kind: Any, places: int, write: Callable[[Any, int], Any]) -> Tuple[header.relkvanu_answer, Sequence[int]]:
+    """Lets the library write into a buffer that is long enough. Returns the answer, and what is written."""
     while True:
-        text = (ctypes.c_uint8 * length)()
-        answer = write(text, length)
+        buffer = (kind * places)()
+        answer = write(buffer, places)
         if answer.code != header.TOO_SHORT:
-            return bytes(text[: _done(answer).a]).decode()
-        length = answer.a
+            return _done(answer), buffer[: answer.a]
+        places = answer.a
+
+
+def _written(write: Callable[[Any, int], Any]) -> str:
+    return bytes(_filled(ctypes.c_uint8, 256, write)[1]).decode()
 
 
 def _shown(line: bytes) -> Optional[int]:
@@ -565,13 +568,8 @@ class Coordinator:
         return self._files("taken_files") or ()
 
     def _files(self, name: str, *arguments: Any) -> Optional[Tuple[int, ...]]:
-        places = 64
-        while True:
-            files = (U64 * places)()
-            answer = self._call(name, *arguments, files, places)
-            if answer.code != header.TOO_SHORT:
-                return tuple(files[: answer.a]) if _done(answer).what == header.FILES else None
-            places = answer.a
+        answer, files = _filled(U64, 64, lambda files, places: self._call(name, *arguments, files, places))
+        return tuple(files) if answer.what == header.FILES else None
 
     def missing(self, id: int) -> Optional[int]:
         """How many subtasks of this record have not acknowledged, or None if no such record is pending."""

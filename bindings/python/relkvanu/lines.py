@@ -5,7 +5,7 @@ from dataclasses import dataclass
 from typing import Optional, Sequence, Tuple, Union
 
 from relkvanu import header
-from relkvanu.coordinator import U64, Settings, Unknown, _done, _settings, _shared, _text, _u64, _within, _words, _written
+from relkvanu.coordinator import U64, Settings, Unknown, _filled, _settings, _shared, _text, _u64, _within, _words, _written
 from relkvanu.errors import check_restore
 
 
@@ -46,14 +46,7 @@ def line_says(line: bytes) -> Line:
     """Which line it is, with the numbers of one that makes no call. Raises BadLine. Checks no number against the limits of a
     job."""
     text = _text(line)
-    places = 8
-    while True:
-        numbers = (U64 * places)()
-        answer = _shared().relkvanu_line_says(text, len(line), numbers, places)
-        if answer.code != header.TOO_SHORT:
-            break
-        places = answer.a
-    of = numbers[: _done(answer).a]
+    answer, of = _filled(U64, 8, lambda numbers, places: _shared().relkvanu_line_says(text, len(line), numbers, places))
     if answer.what == header.LINE_CONFIG:
         return settings_of(of)
     if answer.what == header.LINE_JOB:

@@ -165,12 +165,12 @@ def _closes(status: int) -> bool:
     return store_header.FAILED <= status <= store_header.OUT_OF_MEMORY
 
 
-def _check(status: int, message: bytes) -> None:
-    """What a function of the library that needs no store returned."""
+def _check(status: int, message: bytes, closes: bool = False, number: Optional[int] = None) -> None:
+    """What a function of the library returned that tells by itself why it has failed."""
     if status == store_header.NO_MEMORY:
         raise OutOfMemory
     if status != store_header.OK:
-        raise StoreError(store_header.STATUSES[status], message.decode(errors="replace"), False, ctypes.get_errno())
+        raise StoreError(store_header.STATUSES[status], message.decode(errors="replace"), closes, ctypes.get_errno() if number is None else number)
 
 
 def _told_of(kind: Callable[..., T], found: Any, function: Callable[..., int], *words: Any) -> T:
@@ -183,13 +183,13 @@ def _recovered(function: Callable[..., int], *words: Any) -> Recovered:
     return _told_of(Recovered, store_header.relkvanu_store_recovered(), function, *words)
 
 
-def _noting(records: List[Record]) -> Any:
-    """Notes each record that the library tells of."""
-    def note(_: object, found: Any) -> bool:
-        records.append(_record(found.contents))
+def _noting(kind: Callable[[Any], Any], found: List[T], make: Callable[[Any], T]) -> Any:
+    """A function of this kind, which notes each thing that the library tells of."""
+    def note(_: object, it: Any) -> bool:
+        found.append(make(it.contents))
         return True
 
-    return store_header.relkvanu_store_each_record(note)
+    return kind(note)
 
 
 def _record(it: Any) -> Record:
@@ -451,11 +451,7 @@ class Store:
             store_header.NO_IMAGES if image_calls is None else _u64(image_calls), _u64(most_ahead),
             None if storage is None else _bytes(storage), _settings(settings), ctypes.cast(words, ctypes.POINTER(U64)), len(shape))
         status = _library.relkvanu_store_open(ctypes.byref(self._store), _bytes(path), ctypes.byref(options), ctypes.byref(found))
-        if status == store_header.NO_MEMORY:
-            raise OutOfMemory
-        if status != store_header.OK:
-            raise StoreError(
-                store_header.STATUSES[status], found.message.decode(errors="replace"), _closes(status), ctypes.get_errno())
+        _check(status, found.message, _closes(status))
         self.report = Report(
             found.is_recovered, found.settings_differ, tuple(Step(it) for it in found.steps[: found.steps_len]), found.epoch,
             f"{found.job[0]:016x}{found.job[1]:016x}", found.image_place, found.replayed, found.taken, found.moment, Mode(found.mode.what),
@@ -690,13 +686,8 @@ class Store:
         """The complete record with this number, or the one that a restart begins from, with the files and the payload of each subtask, once it has looked
         that the files are in the storage folder. None: the job begins fresh. Raises StoreError "FileLost" (end the process, and sweep nothing),
         "Absent" (there is no such complete record) or "Damaged"."""
-        parts: List[Part] = []
-
-        def note(_: object, found: Any) -> bool:
-            parts.append(_part(found.contents))
-            return True
-
-        found, each = store_header.relkvanu_store_loaded(), store_header.relkvanu_store_each_part(note)
+        found, parts = store_header.relkvanu_store_loaded(), []  # type: Any, List[Part]
+        each = _noting(store_header.relkvanu_store_each_part, parts, _part)
         self._made(_library.relkvanu_store_load, _u64(id or 0), ctypes.byref(found), each, None, says=True)
         origin = (U64 * 2)()
         is_carried = self._at_once(lambda store: _library.relkvanu_store_origin(store, _u64(found.id), origin))
@@ -964,10 +955,7 @@ class Store:
             return _library.relkvanu_store_backup(store, name, message, len(message)), ctypes.get_errno()
 
         status, number = self._waits(work)
-        if status == store_header.NO_MEMORY:
-            raise OutOfMemory
-        if status != store_header.OK:
-            raise StoreError(store_header.STATUSES[status], message.value.decode(errors="replace"), _closes(status), number)
+        _check(status, message.value, _closes(status), number)
 
     def marker(self) -> Marker:
         """What a storage of this opening has as its marker: a folder or a bucket with it takes no deletion of an earlier opening."""
@@ -1047,7 +1035,8 @@ class Store:
     def records(storage: Path) -> List[Record]:
         """The records of a storage folder that have a manifest, in the order of their numbers. It needs no job, and may be called at any time."""
         message, records = ctypes.create_string_buffer(512), []  # type: Any, List[Record]
-        _check(_library.relkvanu_store_records(_bytes(storage), _noting(records), None, message, len(message)), message.value)
+        each = _noting(store_header.relkvanu_store_each_record, records, _record)
+        _check(_library.relkvanu_store_records(_bytes(storage), each, None, message, len(message)), message.value)
         return records
 
     @staticmethod
@@ -1060,8 +1049,8 @@ class Store:
             faults[record][file] = FileFault(fault)
             return True
 
-        each_fault = store_header.relkvanu_store_each_fault(note_fault)
-        _check(_library.relkvanu_store_check_records(_bytes(storage), _noting(records), each_fault, None, message, len(message)), message.value)
+        each = _noting(store_header.relkvanu_store_each_record, records, _record), store_header.relkvanu_store_each_fault(note_fault)
+        _check(_library.relkvanu_store_check_records(_bytes(storage), *each, None, message, len(message)), message.value)
         return [(it, faults.get(it.id, {})) for it in records]
 
     def job(self) -> Tuple[Settings, Tuple[int, ...]]:
