@@ -81,13 +81,11 @@ class Opening(OnAServer):
     def test_no_bucket(self):
         self.s3.delete_bucket(Bucket=self.bucket)
         for is_new in (False, True):
-            with self.assertRaises(NotThere):
-                self.opened(is_new=is_new)
+            self.assertRaises(NotThere, self.opened, is_new=is_new)
 
     def test_a_bucket_with_versions_is_refused(self):
         self.s3.put_bucket_versioning(Bucket=self.bucket, VersioningConfiguration={"Status": "Enabled"})
-        with self.assertRaises(KeepsVersions):
-            self.opened(is_new=True)
+        self.assertRaises(KeepsVersions, self.opened, is_new=True)
         self.assertEqual(self.s3.list_objects_v2(Bucket=self.bucket)["KeyCount"], 0)
         self.opened(is_new=True, keeps_versions=True)
 
@@ -110,8 +108,7 @@ class Files(OnAServer):
     def test_put_is_one_request(self):
         first, *later = self.requests(*(lambda file=file: self.files.put(file, b"state") for file in (1, 2, 3)))
         self.assertEqual((first, later), (["GetObject", "PutObject", "PutObject"], [["PutObject"]] * 2))
-        with self.assertRaises(Exists):
-            self.files.put(2, b"state")
+        self.assertRaises(Exists, self.files.put, 2, b"state")
 
     def test_a_thousand_are_deleted_by_one_request(self):
         self.files.put(1, b"state")
@@ -124,8 +121,7 @@ class Files(OnAServer):
         with mock.patch.object(Bucket, "_put_if", lambda bucket, name, contents, _: put_if(bucket, name, contents, {})):
             self.files.put(1, b"first")
             self.assertEqual(self.requests(lambda: self.files.put(2, b"state")), [["HeadObject", "PutObject"]])
-            with self.assertRaises(Exists):
-                self.files.put(1, b"second")
+            self.assertRaises(Exists, self.files.put, 1, b"second")
         self.assertEqual((self.files.get(1), self.files.check()), (b"first", None))
 
     def test_a_server_that_knows_no_such_condition(self):
@@ -140,8 +136,7 @@ class Files(OnAServer):
         error = ClientError({"Error": {"Code": "PreconditionFailed"}, "ResponseMetadata": {"RetryAttempts": 1}}, "PutObject")
         with mock.patch.object(self.s3, "put_object", side_effect=error):
             self.files.put(2, b"state")
-            with self.assertRaises(Exists):
-                self.files.put(2, b"other")
+            self.assertRaises(Exists, self.files.put, 2, b"other")
 
     def test_an_error_within_an_answer_that_succeeds(self):
         for file in range(4):
@@ -161,8 +156,7 @@ class Files(OnAServer):
             self.s3.delete_object(Bucket=self.bucket, Key=key)
         self.s3.delete_bucket(Bucket=self.bucket)
         self.assertEqual(set(self.files.delete([1, 2])), {1, 2})
-        with self.assertRaises(NotThere):
-            self.files.put(3, b"")
+        self.assertRaises(NotThere, self.files.put, 3, b"")
         with self.assertRaises(NotThere):
             list(self.files.pages())
 
@@ -182,8 +176,7 @@ class Failing(OnAServer):
         # impatient from now on alone: on a busy machine any request may take a second
         with suspended(int(os.environ["S3_OSD"])), mock.patch.object(files, "_s3", client(patience=1)):
             self.assertEqual(set(files.delete([1, 2])), {1, 2})
-            with self.assertRaises(StorageError):
-                files.put(3, b"")
+            self.assertRaises(StorageError, files.put, 3, b"")
             with self.assertRaises(StorageError):
                 list(files.pages())
         self.assertEqual(self.opened().delete([1, 2]), {})
@@ -193,8 +186,7 @@ class Failing(OnAServer):
         with mock.patch.object(files, "_s3", client(endpoint_url="http://127.0.0.1:9")):
             self.assertEqual(set(files.delete([1, 2])), {1, 2})
             for call in (files.check, lambda: files.put(3, b""), lambda: files.get(1), lambda: list(files.pages())):
-                with self.assertRaises(StorageError):
-                    call()
+                self.assertRaises(StorageError, call)
 
     def test_a_key_that_the_server_does_not_name(self):
         files = self.opened()

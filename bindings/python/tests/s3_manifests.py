@@ -259,8 +259,7 @@ class AJobOverABucket(OnAServer):
             for name in (saved[0], names[0]):
                 self.s3.delete_object(Bucket=self.bucket, Key=f"orders/{name}")
             for goes, lost in ((lambda: job.go_back(first, accept_published=True), names[0]), (lambda: job.restore(savepoint), saved[0])):
-                with self.assertRaisesRegex(StoreError, f"FileLost: file {lost} of record"):
-                    goes()
+                self.assertRaisesRegex(StoreError, f"FileLost: file {lost} of record", goes)
             self.assertEqual(job.load().id, record)
             with job.read() as reads:
                 self.assertEqual(reads.file_counts().waiting, 0)
@@ -348,8 +347,7 @@ class Carrying(OnAServer):
             made = manifests.claim(self.at("orders"), self.work / "new.db", self.at("a"))
             self.assertEqual(made.files, TASKS)
             self.assertFalse(set(self.numbers("orders/")) & set(self.of_bucket))
-            with self.assertRaises(OtherJob):
-                files.put(5000, b"x")
+            self.assertRaises(OtherJob, files.put, 5000, b"x")
 
     def test_two_claims_at_once(self):
         """The second one comes to its end before a step of the first one, which is refused then: also where an earlier record is still there."""

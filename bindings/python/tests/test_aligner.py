@@ -63,12 +63,10 @@ class Alignment(unittest.TestCase):
             self.assertEqual(job.ack_cut_in(1, 1100, cut_of(1), 0, 0, [name]), AckCompleted(0, 0))
 
     def test_nobody_else_makes_a_cut(self):
-        with self.assertRaises(TypeError):
-            Cut()
+        self.assertRaises(TypeError, Cut)
         with self.assertRaises(AttributeError):
             cut_of(3).id = 4
 
     def test_numbers_that_do_not_fit_are_told(self):
         for step in (lambda: Aligner(1).element(1 << 32), lambda: Aligner(1).barrier(0, 1 << 64), lambda: Aligner(1).end(-1)):
-            with self.assertRaises(OutOfRange):
-                step()
+            self.assertRaises(OutOfRange, step)

@@ -421,8 +421,7 @@ class Lost(Judging):
     def test_a_log_that_was_not_lost(self):
         lost = [*ONE, *LOST]
         for lines in ([*ONE, "log comes back"], [*ONE, "process 2 recovers 1"], [*lost, *recovered(1, " +1"), "process 9 recovers 1"], [*lost, "process 2 starts"]):
-            with self.assertRaises(NoTrace):
-                check(lines)
+            self.assertRaises(NoTrace, check, lines)
 
     def test_a_sweep_while_no_process_runs(self):
         """What the durable log says is garbage may go, also when the log is lost or made again."""

@@ -49,8 +49,7 @@ class Opening(WithStorage, OfAnyStorage):
     def test_a_missing_folder_is_refused(self):
         self.path.rmdir()
         for is_new in (False, True):
-            with self.assertRaises(NotThere):
-                self.opened(is_new=is_new)
+            self.assertRaises(NotThere, self.opened, is_new=is_new)
 
     def test_what_is_put_in_part(self):
         """That of a marker is of a new job that was killed, and that of a file was of a job."""
@@ -83,8 +82,7 @@ class Putting(WithStorage):
 
     def test_a_part_of_another_keeps_the_number(self):
         (self.path / "7.part").write_bytes(b"fir")
-        with self.assertRaises(Exists):
-            self.folder.put(7, b"second")
+        self.assertRaises(Exists, self.folder.put, 7, b"second")
         self.assertEqual(self.names(), ["7.part"], "it is that of a task that may still write")
 
     def test_each_failure_leaves_no_file(self):
@@ -115,19 +113,15 @@ class Putting(WithStorage):
     def test_a_link_is_not_followed(self):
         target = self.path.parent / "target"
         (self.path / "7.part").symlink_to(target)
-        with self.assertRaises(Exists):
-            self.folder.put(7, b"state")
+        self.assertRaises(Exists, self.folder.put, 7, b"state")
         (self.path / "8").symlink_to(target)
-        with self.assertRaises(Exists):
-            self.folder.put(8, b"state")
-        with self.assertRaises(StorageError):
-            self.folder.get(8)
+        self.assertRaises(Exists, self.folder.put, 8, b"state")
+        self.assertRaises(StorageError, self.folder.get, 8)
         self.assertFalse(target.exists())
 
     def test_nothing_is_put_without_the_marker(self):
         (self.path / ".relkvanu-storage").unlink()
-        with self.assertRaises(NotThere):
-            self.folder.put(7, b"state")
+        self.assertRaises(NotThere, self.folder.put, 7, b"state")
         self.assertEqual(self.names(), [])
 
 

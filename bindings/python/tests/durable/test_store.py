@@ -240,8 +240,7 @@ class Files(Folder):
         job.put(1, b"")
         self.assertEqual(job.sweep(), 0)
         job.close()
-        with self.assertRaises(BadArgument):
-            Store(f"{self.path}\0", SETTINGS, [2])
+        self.assertRaises(BadArgument, Store, f"{self.path}\0", SETTINGS, [2])
 
     def test_what_is_measured(self):
         with self.open() as job:
@@ -459,8 +458,7 @@ class Threads(Folder):
             if file == 2:
                 raise ZeroDivisionError
             return True
-        with self.assertRaises(ZeroDivisionError):
-            job.discard(delete)
+        self.assertRaises(ZeroDivisionError, job.discard, delete)
         with job.read() as reads:
             self.assertEqual((reads.file_counts().waiting, reads.file_counts().taken, reads.waiting_file(0)), (1, 0, 2))
         self.assertEqual(job.measures()["failed_deletions"], 1)
@@ -637,8 +635,7 @@ class Threads(Folder):
         place = Objects()
         with self.open() as job:
             place.fails = OSError("not there")
-            with self.assertRaisesRegex(OSError, "not there"):
-                job.keep_manifests(place)
+            self.assertRaisesRegex(OSError, "not there", job.keep_manifests, place)
             place.fails = None
             place.found["record-9.manifest"] = b"of a record that ended"
             job.keep_manifests(place)
@@ -689,8 +686,7 @@ class Nexts(Folder):
             self.assertEqual((told, told.ended), (NextIdle(), ()))
             self.assertTrue(0.2 < time.monotonic() - began < 30)
             for longest in (-1, 1 << 64):
-                with self.assertRaises(OutOfRange):
-                    job.await_next(longest)
+                self.assertRaises(OutOfRange, job.await_next, longest)
 
     def test_ticks(self):
         """A due checkpoint; then a record that has expired while no other may be triggered."""
