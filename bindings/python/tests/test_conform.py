@@ -131,13 +131,15 @@ REPLACED = [*NAMED, *named(1, 1), *named(2, 2), "reserve 1 1", "log synced", "ta
 class WithNames(Judging):
     """The job gives out the names of files."""
 
-    def test_a_whole_job(self):
-        self.assertEqual(check([*NAMED, *named(1, 1), *named(2, 2), *DISCARD]), [])
-        self.assertEqual(check([*REPLACED, *named(3, 4, 2, 2, " =2")]), [])
-
-    def test_a_sweep_deletes_garbage_at_any_time(self):
-        self.assertEqual(check([*REPLACED, "sweeper lists 1 2 3", "sweeper unlinks 3"]), [])
-        self.assertEqual(check([*NAMED, *named(1, 1), "reserve 1 1", "log synced", "task 0.0 1 writes 2", "forfeit 1 2", "log synced", "sweeper unlinks 2"]), [])
+    def test_what_breaks_no_rule(self):
+        """A sweep deletes garbage at any time, names need not be written, and a process goes on."""
+        ended = [*REPLACED, "reserve 2 1", "process 1 ends", "log cut", "process 2 starts", "restore 20 latest", "log synced", "task 0.0 3 starts"]
+        for lines in (
+            [*NAMED, *named(1, 1), *named(2, 2), *DISCARD], [*REPLACED, *named(3, 4, 2, 2, " =2")], [*REPLACED, "sweeper lists 1 2 3", "sweeper unlinks 3"],
+            [*NAMED, *named(1, 1), "reserve 1 1", "log synced", "task 0.0 1 writes 2", "forfeit 1 2", "log synced", "sweeper unlinks 2"],
+            [*NAMED, "reserve 1 5", "log synced", "tick 10", "task 0.0 1 gives up 1"], [*ended, *named(3, 4, 3, 3, " =2")],
+        ):
+            self.assertEqual(check(lines), [])
 
     def test_8_a_sweep_of_what_is_not_garbage(self):
         held = REPLACED[:REPLACED.index("task 0.0 1 writes 3") + 1]
@@ -233,13 +235,6 @@ class WithNames(Judging):
                  "task 0.0 1 writes 3"]
         self.assertEqual(check([*lines, "task 0.0 1 gives up 2", "forfeit 1 2", "log synced"]), [])
         self.breaks([*lines, "task 0.0 1 gives up 2", "forfeit 1 3", "log synced"], 8, len(lines) + 1, "file 2 is left")
-
-    def test_8_names_that_were_never_written(self):
-        self.assertEqual(check([*NAMED, "reserve 1 5", "log synced", "tick 10", "task 0.0 1 gives up 1"]), [])
-
-    def test_a_process_that_goes_on(self):
-        ended = [*REPLACED, "reserve 2 1", "process 1 ends", "log cut", "process 2 starts", "restore 20 latest", "log synced", "task 0.0 3 starts"]
-        self.assertEqual(check([*ended, *named(3, 4, 3, 3, " =2")]), [])
 
     def test_damaged_lines(self):
         for line in ("reserve 1", "reserve 1 x", "reserve", "fence", "in 1", "in x tick 10", "forfeit", "reserve 1 1 1", "in 1 in 1 tick 10", "fence 9"):
@@ -383,23 +378,16 @@ NAMES = ["fence 3", "advance 0 1 3"]
 class Lost(Judging):
     """Jobs that lost their log and were made again from a manifest."""
 
-    def test_a_whole_job(self):
-        self.assertEqual(check([*TWO, *AGAIN, *told(checkpoint(3, 3, start=2, reused=" =2"), 3)]), [])
-
-    def test_a_whole_job_with_names(self):
-        after = named(2, 3, start=2, term=3, reused=" =1")
-        self.assertEqual(check([*NAMED_ONE, *recovered(1, " +1", NAMES), *told(after, 2)]), [])
-
-    def test_a_record_that_nobody_was_told_of(self):
-        """Its manifest may be missing: the process has ended behind the commit."""
-        untold = [*ONE, *checkpoint(2, 2)[:-1], *LOST, *recovered(1, " +1", ["savepoint 0", "decline 0 2 0.0"], swept=[2])]
-        self.assertEqual(check(untold), [])
-
-    def test_lost_twice(self):
-        third = told(checkpoint(3, 3, start=2, reused=" =2"), 3)
-        lost = ["process 3 ends", "log cut", "log lost"]
+    def test_what_breaks_no_rule(self):
+        """Without names and with; where nobody was told of a record, whose manifest may be missing; and of a log that is lost twice."""
+        third, untold = told(checkpoint(3, 3, start=2, reused=" =2"), 3), ["savepoint 0", "decline 0 2 0.0"]
         again = [line.replace("0.0 2", "0.0 3") for line in recovered(3, " +2 +3", number=4)]
-        self.assertEqual(check([*TWO, *AGAIN, *third, *lost, *again]), [])
+        for lines in (
+            [*TWO, *AGAIN, *third], [*NAMED_ONE, *recovered(1, " +1", NAMES), *told(named(2, 3, start=2, term=3, reused=" =1"), 2)],
+            [*ONE, *checkpoint(2, 2)[:-1], *LOST, *recovered(1, " +1", untold, swept=[2])],
+            [*TWO, *AGAIN, *third, "process 3 ends", "log cut", "log lost", *again],
+        ):
+            self.assertEqual(check(lines), [])
 
     def test_16_a_deletion_before_the_manifest(self):
         taken = ["take 64", "log synced", "discarder unlinks 1", "folder synced"]

@@ -8,6 +8,7 @@ import tempfile
 import threading
 import time
 import unittest
+from unittest import mock
 
 from relkvanu import Settings, unaligned
 from relkvanu.inputs import Barrier
@@ -75,16 +76,17 @@ class Overtaking(unittest.TestCase):
 
     def with_a_checkpoint(self):
         with self.opened(True) as store:
-            engine = Engine(store, [(0, 1), (0, 2), (1, 30)])
-            engine.runner.close_after(1)
-            self.assertEqual(engine.runner.run(), Ended.CLOSED)
+            self.run_to_checkpoint(Engine(store, [(0, 1), (0, 2), (1, 30)]))
+
+    def run_to_checkpoint(self, engine):
+        engine.runner.close_after(1)
+        self.assertEqual(engine.runner.run(), Ended.CLOSED)
 
     def test_what_was_on_the_way_comes_first(self):
         self.with_a_checkpoint()
         with self.opened() as store:
             engine = Engine(store)
-            engine.runner.close_after(1)
-            self.assertEqual(engine.runner.run(), Ended.CLOSED)
+            self.run_to_checkpoint(engine)
             self.assertEqual(engine.recorded, [(0, 1), (0, 2), (1, 30)])
             self.assertEqual(engine.sum, 0)  # its snapshot is of before
             self.assertEqual(engine.runner.state(store.load(), 0, 0), b"0")
@@ -117,18 +119,12 @@ class Overtaking(unittest.TestCase):
 
     def test_a_file_that_cannot_be_put_declines(self):
         with self.opened(True) as store:
-            term, declined = store.report.term, []
-
-            class Failing:
-                files = type("Full", (), {"put": staticmethod(self.no_room)})
-                reserve, forfeit = store.reserve, store.forfeit
-                decline = staticmethod(lambda *words: declined.append(words))
-
-            failing = Failing()
+            term, runner = store.report.term, mock.Mock(reserve=store.reserve, forfeit=store.forfeit)
+            runner.files.put.side_effect = StoreError("NotPut", "the disk is full", False)
             barrier = Barrier(1, None, None, term, False)
             with self.assertRaisesRegex(StoreError, "full"):
-                unaligned.acknowledge(failing, unaligned.Recorded(barrier, [(0, 1)]), 0, 0)
-            self.assertEqual([it[:4] for it in declined], [(term, 1, 0, 0)])
+                unaligned.acknowledge(runner, unaligned.Recorded(barrier, [(0, 1)]), 0, 0)
+            self.assertEqual([it.args[:4] for it in runner.decline.mock_calls], [(term, 1, 0, 0)])
 
     def test_kills(self):
         """Forty sources, full channels and a slow sink: each element is published once, in order, wherever the process is killed."""
@@ -145,10 +141,6 @@ class Overtaking(unittest.TestCase):
                 self.assertEqual(element, following[source])
                 following[source] += 1
         self.assertGreater(sum(following), 0)
-
-    @staticmethod
-    def no_room(*_):
-        raise StoreError("NotPut", "the disk is full", False)
 
 
 if __name__ == "__main__":
