@@ -6,7 +6,7 @@ import pathlib
 import secrets
 import threading
 from dataclasses import dataclass
-from typing import TYPE_CHECKING, Any, Callable, Dict, Iterator, NoReturn, Optional, Sequence, Tuple, TypeVar, Union
+from typing import TYPE_CHECKING, Any, Callable, ContextManager, Dict, Iterator, NoReturn, Optional, Sequence, Tuple, TypeVar, Union
 
 from relkvanu import header
 from relkvanu.errors import (  # also under these names
@@ -238,7 +238,7 @@ def version() -> str:
     return text.decode()
 
 
-class Coordinator:
+class Coordinator(ContextManager["Coordinator"]):
     """The checkpoint coordinator of one job. Threads may share it: its own lock admits one call at a time. To make several
     calls with no other thread's call between them, use `with job.locked():`.
 
@@ -338,9 +338,6 @@ class Coordinator:
         """Closes the coordinator. A closed one stays closed."""
         with self._lock:
             _shared().relkvanu_close(ctypes.byref(self._handle))
-
-    def __enter__(self) -> "Coordinator":
-        return self
 
     def __exit__(self, *_: object) -> None:
         self.close()

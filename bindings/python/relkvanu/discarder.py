@@ -3,7 +3,7 @@ import contextlib
 import threading
 import time
 from dataclasses import dataclass
-from typing import Callable, List, Optional, Protocol, Tuple
+from typing import Callable, ContextManager, List, Optional, Protocol, Tuple
 
 from relkvanu.coordinator import Closed, OutOfMemory, Refused
 from relkvanu.replies import Taken
@@ -58,7 +58,7 @@ class _Fetched:
     due: float = 0.0
 
 
-class Discarder:
+class Discarder(ContextManager["Discarder"]):
     """Threads that fetch files, delete them and report each, until stop().
 
     `delete` deletes the file with a number, or raises OSError. Several threads call it at once, each with another file, and
@@ -100,9 +100,6 @@ class Discarder:
         for file in left:
             self._report(self._coordinator.undeleted, file)
         return self.told()
-
-    def __enter__(self) -> "Discarder":
-        return self
 
     def __exit__(self, *_: object) -> None:
         self.stop()

@@ -5,7 +5,7 @@ import errno
 import itertools
 import os
 import re
-from typing import TYPE_CHECKING, Dict, Iterable, Iterator, List, NamedTuple, Optional, Protocol, Set, Tuple, Union
+from typing import TYPE_CHECKING, ContextManager, Dict, Iterable, Iterator, List, NamedTuple, Optional, Protocol, Set, Tuple, Union
 
 from relkvanu.errors import Error
 from relkvanu.replies import Counted
@@ -137,7 +137,7 @@ def _write_all(to: int, contents: bytes) -> None:
         left = left[os.write(to, left):]
 
 
-class Folder:
+class Folder(ContextManager["Folder"]):
     """A folder. It stays open, so no call reaches a folder that is mounted or renamed to its path later. No symbolic link in it is
     followed. `is_new` makes the marker, in a folder that has no state file; without it a folder without the marker is refused."""
 
@@ -162,9 +162,6 @@ class Folder:
         folder, self._folder = self._folder, -1
         if folder >= 0:
             os.close(folder)
-
-    def __enter__(self) -> "Folder":
-        return self
 
     def __exit__(self, *_: object) -> None:
         self.close()

@@ -13,7 +13,7 @@ import struct
 import threading
 import time
 from dataclasses import dataclass
-from typing import Any, Callable, Container, DefaultDict, Dict, Iterable, List, NoReturn, Optional, Protocol, Sequence, Set, Tuple, TypeVar, Union
+from typing import Any, Callable, Container, ContextManager, DefaultDict, Dict, Iterable, List, NoReturn, Optional, Protocol, Sequence, Set, Tuple, TypeVar, Union
 
 from relkvanu import header, store_header
 from relkvanu.coordinator import (
@@ -398,7 +398,7 @@ class _Reading:
         self._read.end()
 
 
-class Store:
+class Store(ContextManager["Store"]):
     """A durable coordinator. `with Store(..) as job:` closes it. Threads may share it.
 
     Each call raises Refused, OutOfMemory and so on as that of Coordinator does, and StoreError if it was not committed. close() waits for
@@ -556,9 +556,6 @@ class Store:
     def _free(self) -> None:
         _library.relkvanu_store_close(self._store)
         self._store = ctypes.c_void_p()
-
-    def __enter__(self) -> "Store":
-        return self
 
     def __exit__(self, *_: object) -> None:
         self.close()
