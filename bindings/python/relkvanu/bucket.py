@@ -23,44 +23,37 @@ class Place:
         self.bucket = bucket
         self.listing: Iterator[Dict[int, int]] = iter(())
 
-    def beside(self, asked: Request) -> Request:
-        return {"names": self.bucket.beside(asked["start"])}
+    def text(self, name: str) -> Optional[str]:
+        found: Optional[bytes] = self.bucket.read_beside(name)
+        return None if found is None else found.decode(errors="replace")
 
-    def read(self, asked: Request) -> Request:
-        found: Optional[bytes] = self.bucket.read_beside(asked["name"])
-        return {"text": None if found is None else found.decode(errors="replace")}
-
-    def write(self, asked: Request) -> Request:
-        self.bucket.write_beside(asked["name"], asked["text"].encode())
-        return {}
-
-    def remove(self, asked: Request) -> Request:
-        self.bucket.remove_beside(asked["name"])
-        return {}
-
-    def hold(self, _: Request) -> Request:
+    def hold(self) -> None:
         self.bucket.is_held = True
-        return {}
 
-    def is_marked(self, _: Request) -> Request:
+    def is_marked(self) -> bool:
         try:
             self.bucket.check()
         except (NotThere, OtherJob):
-            return {"is": False}
-        return {"is": True}
+            return False
+        return True
 
-    def has_any(self, asked: Request) -> Request:
-        return {"has": any(map(self.bucket.has, asked["files"]))}
-
-    def delete(self, asked: Request) -> Request:
-        return {"failed": self.bucket.delete(asked["files"])}
-
-    def sizes(self, _: Request) -> Request:
+    def begin_list(self) -> None:
         self.listing = self.bucket.sizes()
-        return {}
 
-    def page(self, _: Request) -> Request:
-        return {"files": list(next(self.listing, {}).items())}
+
+# What is asked for, and what is answered.
+WORKS: Dict[str, Callable[[Place, Request], Any]] = {
+    "beside": lambda it, asked: {"names": it.bucket.beside(asked["start"])},
+    "read": lambda it, asked: {"text": it.text(asked["name"])},
+    "write": lambda it, asked: it.bucket.write_beside(asked["name"], asked["text"].encode()),
+    "remove": lambda it, asked: it.bucket.remove_beside(asked["name"]),
+    "hold": lambda it, _: it.hold(),
+    "is marked": lambda it, _: {"is": it.is_marked()},
+    "has any": lambda it, asked: {"has": any(map(it.bucket.has, asked["files"]))},
+    "delete": lambda it, asked: {"failed": it.bucket.delete(asked["files"])},
+    "sizes": lambda it, _: it.begin_list(),
+    "page": lambda it, _: {"files": list(next(it.listing, {}).items())},
+}
 
 
 class Helper:
@@ -104,8 +97,7 @@ class Helper:
         if asked["do"] == "close":
             self._places.pop(asked["place"], None)
             return {}
-        do: Callable[[Request], Request] = getattr(self._places[asked["place"]], asked["do"].replace(" ", "_"))
-        return do(asked)
+        return WORKS[asked["do"]](self._places[asked["place"]], asked) or {}
 
     def answer(self, line: str) -> None:
         asked = json.loads(line)
