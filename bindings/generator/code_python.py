@@ -15,14 +15,14 @@ def python_type(node: Any) -> str:
     return f"POINTER({of})" if depth else of
 
 
-def filled(items: List[str]) -> str:
+def filled(items: List[str], indent: int = 8) -> str:
     """The items of a list, as many in a line as the linter allows."""
     lines = [""]
     for it in items:
         if len(lines[-1]) + len(it) > 150:
             lines.append("")
         lines[-1] += f" {it},"
-    return "".join(f"       {line}\n" for line in lines)
+    return "".join(f"{' ' * indent}{line[1:]}\n" for line in lines)
 
 
 def entry(front: str, given: List[str]) -> str:
@@ -52,8 +52,7 @@ def bindings(structs: Dict[str, Any], functions: Dict[str, Any]) -> str:
 def names(code: Number, of: Optional[Enum]) -> str:
     """The names of what an answer with this code has, by their numbers."""
     assert of is not None
-    lines = "".join(f'        header.{number.name}: "{camel(member)}",\n' for member, number in of.members)
-    return f"    header.{code.name}: {{\n{lines}    }},\n"
+    return f"    header.{code.name}: {{\n" + filled([f'header.{number.name}: "{camel(member)}"' for member, number in of.members]) + "    },\n"
 
 
 def all_names() -> str:

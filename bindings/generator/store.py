@@ -6,7 +6,7 @@ from typing import Any, Dict, Iterable, List, NamedTuple
 from pycparser import c_ast
 
 from generator import header
-from generator.code_python import entry, structure
+from generator.code_python import entry, filled, structure
 from generator.code_rust import formatted
 from generator.header import Number, camel
 
@@ -105,7 +105,7 @@ def python() -> str:
     text += "from typing import Any, Dict, List, Tuple\n\nfrom relkvanu.header import relkvanu, relkvanu_answer, relkvanu_call, relkvanu_settings\n\n"
     text += "".join(f"{number.name.removeprefix(prefix)} = {python_number(number)}\n" for number in it.numbers)
     names = [name.removeprefix(prefix) for name in statuses(STORE)]
-    text += "\n# The names of the statuses.\nSTATUSES: Dict[int, str] = {\n" + "".join(f'    {name}: "{camel(name)}",\n' for name in names) + "}\n"
+    text += "\n# The names of the statuses.\nSTATUSES: Dict[int, str] = {\n" + filled([f'{name}: "{camel(name)}"' for name in names], 4) + "}\n"
     for name, fields in it.structs.items():
         text += structure(name, [f'("{field.name}", {python_type(field.type, it.opaque)})' for field in fields])
     text += "\n\n"

@@ -28,36 +28,18 @@ LAST_MOMENT = (1 << 62) - 1
 # The names of what an answer has, by its code.
 NAMES: Dict[int, Dict[int, str]] = {
     header.BAD_ARGUMENT: {
-        header.ALREADY_OPEN: "AlreadyOpen",
-        header.BAD_CONFIG: "BadConfig",
-        header.BAD_SHAPE: "BadShape",
-        header.BAD_MOMENT: "BadMoment",
-        header.BAD_FIRST: "BadFirst",
-        header.BAD_KIND: "BadKind",
-        header.BAD_IMAGE: "BadImage",
-        header.BAD_NAME: "BadName",
-        header.BAD_GROUP: "BadGroup",
+        header.ALREADY_OPEN: "AlreadyOpen", header.BAD_CONFIG: "BadConfig", header.BAD_SHAPE: "BadShape", header.BAD_MOMENT: "BadMoment",
+        header.BAD_FIRST: "BadFirst", header.BAD_KIND: "BadKind", header.BAD_IMAGE: "BadImage", header.BAD_NAME: "BadName", header.BAD_GROUP: "BadGroup",
         header.BAD_RECEIPT: "BadReceipt",
     },
     header.BAD_LINE: {
-        header.FAULT_TOO_LONG: "TooLong",
-        header.FAULT_WORD: "Word",
-        header.FAULT_MISSING: "Missing",
-        header.FAULT_NUMBER: "Number",
-        header.FAULT_EXTRA: "Extra",
-        header.FAULT_NO_CALL: "NoCall",
+        header.FAULT_TOO_LONG: "TooLong", header.FAULT_WORD: "Word", header.FAULT_MISSING: "Missing", header.FAULT_NUMBER: "Number",
+        header.FAULT_EXTRA: "Extra", header.FAULT_NO_CALL: "NoCall",
     },
     header.FENCED: {
-        header.OLD_TERM: "OldTerm",
-        header.ENDED: "Ended",
-        header.BAD_COUNT: "BadCount",
-        header.NAMES_USED_UP: "NamesUsedUp",
-        header.TERMS_USED_UP: "TermsUsedUp",
-        header.SPENT: "Spent",
-        header.NEVER_RESERVED: "NeverReserved",
-        header.NO_NAMES: "NoNames",
-        header.HAS_NAMES: "HasNames",
-        header.NAME_IN_USE: "NameInUse",
+        header.OLD_TERM: "OldTerm", header.ENDED: "Ended", header.BAD_COUNT: "BadCount", header.NAMES_USED_UP: "NamesUsedUp",
+        header.TERMS_USED_UP: "TermsUsedUp", header.SPENT: "Spent", header.NEVER_RESERVED: "NeverReserved", header.NO_NAMES: "NoNames",
+        header.HAS_NAMES: "HasNames", header.NAME_IN_USE: "NameInUse",
     },
 }
 # bindings/generate: end

@@ -76,32 +76,10 @@ FILE_UNREADABLE = 4
 
 # The names of the statuses.
 STATUSES: Dict[int, str] = {
-    OK: "Ok",
-    BAD_ARGUMENT: "BadArgument",
-    NO_MEMORY: "NoMemory",
-    IN_USE: "InUse",
-    ABSENT: "Absent",
-    PRESENT: "Present",
-    NOT_A_STORE: "NotAStore",
-    DIFFERS: "Differs",
-    DAMAGED: "Damaged",
-    STORAGE: "Storage",
-    CLOSED: "Closed",
-    FORKED: "Forked",
-    TIMED_OUT: "TimedOut",
-    NOT_NOW: "NotNow",
-    STOPPED: "Stopped",
-    NOT_PUT: "NotPut",
-    NOT_RUNNING: "NotRunning",
-    NOT_DONE: "NotDone",
-    JOB_STOPPED: "JobStopped",
-    NOT_STOPPED: "NotStopped",
-    FILE_LOST: "FileLost",
-    FAILED: "Failed",
-    FULL: "Full",
-    READ_ONLY: "ReadOnly",
-    BUSY: "Busy",
-    OUT_OF_MEMORY: "OutOfMemory",
+    OK: "Ok", BAD_ARGUMENT: "BadArgument", NO_MEMORY: "NoMemory", IN_USE: "InUse", ABSENT: "Absent", PRESENT: "Present", NOT_A_STORE: "NotAStore",
+    DIFFERS: "Differs", DAMAGED: "Damaged", STORAGE: "Storage", CLOSED: "Closed", FORKED: "Forked", TIMED_OUT: "TimedOut", NOT_NOW: "NotNow",
+    STOPPED: "Stopped", NOT_PUT: "NotPut", NOT_RUNNING: "NotRunning", NOT_DONE: "NotDone", JOB_STOPPED: "JobStopped", NOT_STOPPED: "NotStopped",
+    FILE_LOST: "FileLost", FAILED: "Failed", FULL: "Full", READ_ONLY: "ReadOnly", BUSY: "Busy", OUT_OF_MEMORY: "OutOfMemory",
 }
 
 
