@@ -767,8 +767,10 @@ class Commands(Folder):
             self.assertIn("not taken back", self.raises("BadArgument", job.go_back, 1))
             made = job.go_back(1, accept_published=True)
             self.assertEqual((made.reply, made.term, job.await_tick(60_000)), (RestoredSavepoint(4, 4), 2, made))
-            back = job.go_back(4, accept_published=True)
-            self.assertEqual(job.await_next(60_000), NextBegun(Chosen(back.reply.id, Kind.SAVEPOINT), back.term))
+            id = job.trigger().reply.id
+            self.acks(job, id, 2)
+            back = job.go_back(id, accept_published=True)
+            self.assertEqual(job.await_next(60_000), NextBegun(Chosen(id, Kind.CHECKPOINT), back.term))  # the last one needs no savepoint
 
     def test_what_is_next_of_a_stop(self):
         """Also of one that fails while a timer waits, and of a tick that is refused since the job was stopped just before it."""
