@@ -72,7 +72,7 @@ class OfAnyStorage:
         for name in self.strangers:
             self.plant(name)
         pages = list(storage.pages(10))
-        self.assertEqual((sorted(sum(pages, [])), max(map(len, pages))), (list(range(25)), 10))
+        self.assertEqual((sorted(sum(pages, [])), max(map(len, pages)) <= 10), (list(range(25)), True))
         self.assertEqual(storage.delete([1, 3, 77, *range(1000, 2500)]), {})  # present and missing
         self.assertEqual(sorted(sum(storage.pages(), [])), [0, 2, *range(4, 25)])
         self.assertLessEqual(set(self.strangers), set(self.names()))
