@@ -402,17 +402,10 @@ class Running(unittest.TestCase):
 
     def restarts_after(self, command):
         """A task that dies by a command of an operator, and reports it before the loop looks."""
-        engine = Words()
-        store, engine, await_end = self.running(engine)
+        store, engine, await_end = self.running()
         take_part = engine.take_part
-
-        def dies(it):
-            if not command(store, it, take_part):
-                return
-            engine.runner.restart(it.term)
-        engine.take_part = dies
-        ended = await_end()
-        return ended, engine
+        engine.take_part = lambda it: command(store, it, take_part) and engine.runner.restart(it.term)
+        return await_end(), engine
 
     def test_a_task_that_died_of_a_cancel(self):
         ended, engine = self.restarts_after(lambda store, it, take_part: store.cancel())
@@ -422,12 +415,10 @@ class Running(unittest.TestCase):
 
     def test_a_task_that_died_of_a_stop(self):
         def stop(store, it, take_part):
-            if it.kind == Kind.CHECKPOINT:
-                take_part(it)
-                store.stop_job()
-                return False
             take_part(it)
-            return True
+            if it.kind == Kind.CHECKPOINT:
+                store.stop_job()
+            return it.kind == Kind.SAVEPOINT
         ended, engine = self.restarts_after(stop)
         self.assertEqual(ended, Ended.STOPPED)
         self.assertEqual(len(engine.all("start")), 1)
