@@ -1,18 +1,25 @@
 """The header, and the kinds, replies, refusals and faults in Python."""
 import textwrap
-from typing import Any, Dict, List, Optional
+from typing import Any, Dict, List, Optional, Sequence
+
+from pycparser import c_ast
 
 from generator import calls, header
 from generator.calls import Call
 from generator.header import Enum, Number, camel, parameters, pointed
 
 
-def python_type(node: Any) -> str:
+def python_type(node: Any, opaque: Sequence[str] = ()) -> str:
+    """A type of C, as ctypes has it. Nobody looks into what an opaque one points to."""
+    if isinstance(node, c_ast.ArrayDecl):
+        return f"{python_type(node.type, opaque)} * {node.dim.value}"
     name, depth, _ = pointed(node)
     if (name, depth) in (("void", 1), ("char", 1)):
         return f"c_{name}_p"
+    if name in opaque:
+        return "c_void_p" if depth == 1 else f"POINTER({'c_void_p' if depth == 2 else name})"
     of = header.SCALARS[name][2] if name in header.SCALARS else name
-    return f"POINTER({of})" if depth else of
+    return "POINTER(" * depth + of + ")" * depth
 
 
 def filled(items: List[str], indent: int = 8) -> str:

@@ -6,7 +6,7 @@ from typing import Any, Dict, Iterable, List, NamedTuple
 from pycparser import c_ast
 
 from generator import header
-from generator.code_python import entry, filled, structure
+from generator.code_python import entry, filled, python_type, structure
 from generator.code_rust import formatted
 from generator.header import Number, camel
 
@@ -68,20 +68,6 @@ def statuses(path: Any) -> List[str]:
     """The names of the statuses: those of the first list of numbers."""
     (_, below) = path.read_text().split("/* Status.", 1)
     return re.findall(r"^#define (RELKVANU_\w+)", below.partition("\n\n")[0], re.M)
-
-
-def python_type(node: Any, opaque: List[str]) -> str:
-    if isinstance(node, c_ast.ArrayDecl):
-        return f"{python_type(node.type, opaque)} * {dimension(node)}"
-    name, depth, _ = header.pointed(node)
-    if (name, depth) in (("void", 1), ("char", 1)):
-        return f"c_{name}_p"
-    if name in opaque:
-        return "c_void_p" if depth == 1 else f"POINTER({'c_void_p' if depth == 2 else name})"
-    of = header.SCALARS[name][2] if name in header.SCALARS else name
-    for _ in range(depth):
-        of = f"POINTER({of})"
-    return of
 
 
 def python_parameters(function: Any, opaque: List[str]) -> List[str]:
