@@ -4,9 +4,7 @@ import os
 import pathlib
 import socket
 import stat
-import tempfile
 import threading
-import time
 import unittest
 from concurrent.futures import ThreadPoolExecutor
 
@@ -16,6 +14,7 @@ from relkvanu.runner import Ack, Ended, FileLost, FilesLeft, Lineage, Runner, St
 from relkvanu.state import Cached, storage_of
 from relkvanu.storage import Folder, StorageError
 from relkvanu.store import Phase, Store, StoreError
+from steps import InFolder, until
 
 TASKS = 2
 LARGE = bytes(5000)
@@ -59,11 +58,7 @@ class Engine:
             assert self.changed.wait_for(lambda: len(self.completed) >= count, 300), self.completed
 
 
-class Base(unittest.TestCase):
-    def setUp(self):
-        self.folder = pathlib.Path(self.enterContext(tempfile.TemporaryDirectory()))
-        (self.folder / "state").mkdir()
-
+class Base(InFolder):
     def opened(self, is_foreign=False, **settings):
         storage = None if is_foreign else self.folder / "state"
         job = Store(self.folder / "job.db", Settings(**{"interval": 20, **settings}), [TASKS], storage=storage, create=True)
@@ -109,8 +104,7 @@ class Kit(Base):
         engine.takes = takes
         engine, end = self.runs(job, engine)
         engine.runner.checkpoint()
-        while len(found) < 2:
-            time.sleep(0.01)
+        until(lambda: len(found) == 2)
         [first, refused, last], commits = found
         self.assertEqual((first.reply.missing, refused.name, last.kind, commits), (1, "UnknownSubtask", Kind.CHECKPOINT, 1))
         old = engine.barriers[0]
@@ -135,9 +129,7 @@ class Kit(Base):
         for name in range(1, 9):
             (self.folder / f"state/{name}").write_text("there")
         engine.runner.checkpoint()
-        while not (past := job.history(1)):
-            time.sleep(0.01)
-        self.assertIn("Present", past[0].reason)
+        self.assertIn("Present", until(lambda: job.history(1))[0].reason)
         self.closed(engine, end)
 
     def test_a_full_checkpoint_has_no_base(self):
@@ -157,8 +149,7 @@ class Kit(Base):
         engine.runner.finished(1, 0, 1, [name], b"ended")
         engine.takes = lambda it: engine.runner.decline(it.term, it.id, 0, 0) is None
         engine.runner.checkpoint()  # its acknowledgement comes too late, and so its file is released
-        while not job.history(1):
-            time.sleep(0.01)
+        until(lambda: job.history(1))
         engine.takes = lambda it: True
         for count in (1, 2):
             self.checkpoints(engine, count)
@@ -202,8 +193,7 @@ class Kit(Base):
         engine, end = self.runs(job, engine)
         engine.await_complete(1)
         engine.runner.ask_to_stop(drain=True)
-        while len(engine.records) < 2:
-            time.sleep(0.01)
+        until(lambda: len(engine.records) == 2)
         engine.takes = lambda it: True
         self.assertEqual((end(), engine.went), (Ended.STOPPED, 0))
 
@@ -212,8 +202,7 @@ class Kit(Base):
         job, engine, end = self.by_hand()
         engine.takes = lambda it: not it.holds or it.drains
         job.stop_job()
-        while not engine.barriers:
-            time.sleep(0.01)
+        until(lambda: engine.barriers)
         engine.runner.finish()
         engine.runner.acks([Ack(engine.barriers[0], 0, it) for it in range(TASKS)])
         self.assertEqual((end(), engine.barriers[0].drains), (Ended.STOPPED, False))
@@ -228,8 +217,7 @@ class Kit(Base):
         self.checkpoints(engine, 1)
         for count, restore in enumerate((job.restore, lambda: job.go_back(job.choice().id, accept_published=True), engine.runner.restore, job.restore), 2):
             restore()
-            while len(engine.records) < count:
-                time.sleep(0.01)
+            until(lambda: len(engine.records) >= count)
             self.checkpoints(engine, count)
         self.closed(engine, end)
         self.assertEqual((len(engine.records), [it.term for it in engine.barriers]), (5, sorted({it.term for it in engine.barriers})))
@@ -360,8 +348,7 @@ class Commands(Base):
         engine, end = self.runs(job, waits=True)
         engine.await_complete(1)
         stop = job.stop_job().reply.id
-        while engine.stops != [stop]:
-            time.sleep(0.01)
+        until(lambda: engine.stops == [stop])
         self.assertEqual(job.begin_job().reply.id, stop)
         count = len(engine.completed)
         engine.await_complete(count + 2)

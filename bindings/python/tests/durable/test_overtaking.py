@@ -4,7 +4,6 @@ import os
 import pathlib
 import subprocess
 import sys
-import tempfile
 import threading
 import time
 import unittest
@@ -14,6 +13,7 @@ from relkvanu import Settings, unaligned
 from relkvanu.inputs import Barrier
 from relkvanu.runner import Ended, Runner
 from relkvanu.store import Store, StoreError
+from steps import InFolder
 
 
 EXAMPLE = pathlib.Path(__file__).resolve().parents[4] / "examples/engine/unaligned.py"
@@ -65,11 +65,7 @@ class Engine:
             self.begun.set()
 
 
-class Overtaking(unittest.TestCase):
-    def setUp(self):
-        self.folder = self.enterContext(tempfile.TemporaryDirectory())
-        os.mkdir(f"{self.folder}/state")
-
+class Overtaking(InFolder):
     def opened(self, create=False):
         settings = Settings(interval=100 if create else 1000)
         return Store(f"{self.folder}/job.db", settings, [1], storage=f"{self.folder}/state", create=create)
@@ -130,7 +126,7 @@ class Overtaking(unittest.TestCase):
         """Forty sources, full channels and a slow sink: each element is published once, in order, wherever the process is killed."""
         os.mkdir(f"{self.folder}/target")
         for kill in range(KILLS):
-            words = [self.folder, "0", "1000000", *(["new"] if kill == 0 else [])]
+            words = [str(self.folder), "0", "1000000", *(["new"] if kill == 0 else [])]
             with subprocess.Popen([sys.executable, str(EXAMPLE), *words], stdout=subprocess.PIPE, text=True) as engine:
                 self.assertRegex(engine.stdout.readline(), "^checkpoint ")
                 time.sleep(0.07 * kill)

@@ -3,11 +3,9 @@ import dataclasses
 import itertools
 import json
 import os
-import pathlib
 import signal
 import subprocess
 import sys
-import tempfile
 import threading
 import time
 import unittest
@@ -17,9 +15,9 @@ from unittest import mock
 from relkvanu import BadStep, Chosen, Fenced, Kind, OutOfMemory, Refused, Settings
 from relkvanu.runner import Barrier, Ended, Ending, FileLost, Inputs, InputsClosed, Record, Runner, SavepointFailed
 from relkvanu.store import Phase, Store, StoreError
+from steps import LONGEST, InFolder, until
 
 TASKS = 2
-LONGEST = float(os.environ.get("RELKVANU_LONGEST", "2400")) / 4  # seconds that a busy machine may take for a step
 HANGS = """
 import sys
 from relkvanu import Settings
@@ -191,11 +189,7 @@ class Acknowledging(Words):
         self.note("aborted", ids)
 
 
-class Running(unittest.TestCase):
-    def setUp(self):
-        self.folder = pathlib.Path(self.enterContext(tempfile.TemporaryDirectory()))
-        (self.folder / "state").mkdir()
-
+class Running(InFolder):
     def begin(self, engine=None, sweep_interval=600_000, **settings):
         """Runs an engine in a thread."""
         store = Store(self.folder / "job.db", Settings(**{"interval": 20, "retained": 3, **settings}), [TASKS], storage=self.folder / "state", create=True)
@@ -274,8 +268,7 @@ class Running(unittest.TestCase):
 
     def triggered(self, store):
         """The number of a checkpoint, once the job runs."""
-        while store.phase().phase != Phase.RUNNING:
-            time.sleep(0.001)
+        until(lambda: store.phase().phase == Phase.RUNNING)
         return store.trigger().reply.id
 
     def test_a_record_that_expires(self):
@@ -287,8 +280,7 @@ class Running(unittest.TestCase):
         engine.await_word("barrier", first, Kind.CHECKPOINT, False)
         settings, _ = store.job()
         store.configure(dataclasses.replace(settings, timeout=1))
-        while not store.history(1):
-            time.sleep(0.001)
+        until(lambda: store.history(1))
         store.configure(settings)
         second = store.trigger().reply.id
         engine.await_word("barrier", second, Kind.CHECKPOINT, False)
@@ -339,10 +331,7 @@ class Running(unittest.TestCase):
     def test_a_sweep_now_and_then(self):
         store, engine, await_end = self.running(sweep_interval=1)
         name = self.forfeited(store)
-        until = time.monotonic() + LONGEST
-        while name in self.files():
-            self.assertLess(time.monotonic(), until)
-            time.sleep(0.01)
+        until(lambda: name not in self.files())
         self.close(engine, await_end)
         self.assertEqual(len(engine.all("start")), 1)
 
@@ -535,8 +524,7 @@ class Running(unittest.TestCase):
 
         def ends():
             is_over.set()
-            while engine.runner._failed is None:
-                time.sleep(0.001)
+            until(lambda: engine.runner._failed)
         with mock.patch.object(Store, "discard", fails):
             store, engine, await_end = self.running(engine)
             engine.end, engine.runner._has_files = ends, iter((True, True, False)).__next__
@@ -613,8 +601,7 @@ class Running(unittest.TestCase):
     def asked(self, engine):
         """Asks for a savepoint in a thread, and returns once the loop has to do it."""
         asked = ThreadPoolExecutor(1).submit(engine.runner.savepoint)
-        while not engine.runner._asked and not engine.runner._savepoints:
-            time.sleep(0.001)
+        until(lambda: engine.runner._asked or engine.runner._savepoints)
         return asked
 
     def failed(self, asked):
@@ -831,8 +818,7 @@ class Running(unittest.TestCase):
         swept, sweep = [], store.sweep
 
         def fails():
-            while not swept:
-                time.sleep(0.001)
+            until(lambda: swept)
             raise LookupError("its file is gone")
 
         task = engine.runner.spawn(fails)
@@ -889,9 +875,7 @@ class Running(unittest.TestCase):
 
     def left(self):
         """How many threads and descriptors there are, once those of tasks that were told to end are gone."""
-        until = time.monotonic() + LONGEST
-        while threading.active_count() > 12 and time.monotonic() < until:
-            time.sleep(0.001)
+        until(lambda: threading.active_count() <= 12)
         return threading.active_count(), len(os.listdir("/proc/self/fd"))
 
     def test_a_barrier_of_a_term_that_has_just_ended(self):
@@ -926,8 +910,7 @@ class Taking(unittest.TestCase):
                 said.append(it)
         thread = threading.Thread(target=put)
         thread.start()
-        while len(said) < 2:
-            time.sleep(0.001)
+        until(lambda: len(said) == 2)
         time.sleep(0.05)
         self.assertEqual(said, [0, 1])
         self.assertEqual([inputs.take() for _ in range(4)], [(0, it) for it in range(4)])
@@ -1018,9 +1001,7 @@ class Taking(unittest.TestCase):
         self.assertEqual((taken, thread.is_alive()), ([(1, barrier(1))], False))
 
     def await_taken(self, taken, expected):
-        until = time.monotonic() + LONGEST
-        while len(taken) < len(expected) and time.monotonic() < until:
-            time.sleep(0.001)
+        until(lambda: len(taken) >= len(expected))
         self.assertEqual(taken, expected)
 
     def test_what_comes_behind_an_end(self):

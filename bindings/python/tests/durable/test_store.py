@@ -3,12 +3,10 @@ import dataclasses
 import errno
 import gc
 import os
-import pathlib
 import queue
 import re
 import resource
 import select
-import tempfile
 import threading
 import time
 import unittest
@@ -25,16 +23,15 @@ from relkvanu.store import (
     StopFailed, Store, StoreError, _List,
 )
 from relkvanu.whole import Ending, Part, Whole
+from steps import LONGEST, InFolder, until
 
 SETTINGS = Settings(interval=10, timeout=1 << 30)
-LONGEST = float(os.environ.get("RELKVANU_LONGEST", "2400")) / 4  # seconds that a busy machine may take for a step
 
 
-class Folder(unittest.TestCase):
+class Folder(InFolder):
     def setUp(self):
-        self.folder = pathlib.Path(self.enterContext(tempfile.TemporaryDirectory()))
+        super().setUp()
         self.path, self.storage = self.folder / "job.db", self.folder / "state"
-        self.storage.mkdir()
 
     def open(self, **more):
         return Store(self.path, SETTINGS, [2], **{"create": True, **more})
@@ -190,8 +187,7 @@ class Files(Folder):
         discarder.start()
         self.complete(job, 1)
         self.complete(job, 3)
-        while (self.storage / "1").exists() or (self.storage / "2").exists():
-            pass
+        until(lambda: not (self.storage / "1").exists() and not (self.storage / "2").exists())
         self.assertTrue((self.storage / "3").exists() and (self.storage / "4").exists())
         job.close()
         discarder.join()
@@ -377,8 +373,7 @@ class Threads(Folder):
                 ends.append(error.name)
         timer = threading.Thread(target=ticks)
         timer.start()
-        while job.counts()["calls"] < 2:
-            pass
+        until(lambda: job.counts()["calls"] >= 2)
         self.assertIsNone(job.await_tick(1))
         job.close()
         timer.join()
@@ -411,8 +406,7 @@ class Threads(Folder):
                 threads = [threading.Thread(target=runs) for _ in range(4)]
                 for it in threads:
                     it.start()
-                while not job._used and not ends:
-                    time.sleep(0.001)
+                until(lambda: job._used or ends)
                 job.close()
                 for it in threads:
                     it.join()
@@ -429,9 +423,7 @@ class Threads(Folder):
                 self.assertEqual(job.now(), job.now())
                 token = job.submit([Call.reserve(1, 5)])
                 self.assertEqual(reads.term().next_name, 1)
-            while not (found := job.completed()):
-                pass
-            self.assertEqual([it for it, _ in found], [token])
+            self.assertEqual([it for it, _ in until(job.completed)], [token])
             self.assertEqual(job.reserve(1, 1), range(6, 7))
             with job.read():
                 job.close()  # ends the read too
@@ -466,8 +458,7 @@ class Threads(Folder):
 
     def test_commands_of_an_event_loop(self):
         def completion(token):
-            while not (found := job.completed()):
-                time.sleep(0.001)
+            found = until(job.completed)
             self.assertEqual([it[0] for it in found], [token])
             return found[0][1]
         with self.open() as job:
@@ -507,8 +498,7 @@ class Threads(Folder):
         discarder.start()
         self.complete(job, 1)
         self.complete(job, 11)
-        while any((self.storage / it).exists() for it in "12"):
-            pass
+        until(lambda: not any((self.storage / it).exists() for it in "12"))
         job.stop()
         discarder.join()
         self.assertEqual(tries.count(2), 3)
@@ -529,8 +519,7 @@ class Threads(Folder):
         self.complete(job, 11)
         discarder = threading.Thread(target=job.discard_lists, args=(delete,))
         discarder.start()
-        while left or self.counts(job) != (2, 0, 0):
-            pass
+        until(lambda: not left and self.counts(job) == (2, 0, 0))
         job.stop()
         discarder.join()
         self.assertEqual([sorted(it) for it in tries], [[1, 2], [1, 2], [2]])
