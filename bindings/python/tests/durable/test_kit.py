@@ -8,12 +8,12 @@ import threading
 import unittest
 from concurrent.futures import ThreadPoolExecutor
 
-from relkvanu import Fenced, Kind, Refused, Settings
+from relkvanu import Fenced, Kind, Settings
 from relkvanu.outputs import Files
 from relkvanu.runner import Ack, Ended, FileLost, FilesLeft, Lineage, Runner, Stuck, Unreadable
 from relkvanu.state import Cached, storage_of
 from relkvanu.storage import Folder, StorageError
-from relkvanu.store import Phase, Store, StoreError
+from relkvanu.store import Phase, Store
 from steps import InFolder, until
 
 TASKS = 2
@@ -377,5 +377,4 @@ class Commands(Base):
 
 
 if __name__ == "__main__":
-    assert issubclass(StoreError, Exception) and issubclass(Refused, Exception)
     unittest.main()

@@ -139,7 +139,8 @@ class Calls(Folder):
         job = self.open()
         job.close()
         job.close()
-        self.raises("Closed", job.tick)
+        for call in (job.tick, lambda: job.await_tick(1), lambda: job.await_next(1)):
+            self.raises("Closed", call)
         self.assertRaises(TypeError, job.__reduce__)
 
     def test_reads(self):
@@ -361,25 +362,6 @@ class Backups(Folder):
 
 
 class Threads(Folder):
-    def test_a_timer_that_close_ends(self):
-        job = self.open()
-        ends = []
-
-        def ticks():
-            try:
-                while True:
-                    job.await_tick(60_000)
-            except StoreError as error:
-                ends.append(error.name)
-        timer = threading.Thread(target=ticks)
-        timer.start()
-        until(lambda: job.counts()["calls"] >= 2)
-        self.assertIsNone(job.await_tick(1))
-        job.close()
-        timer.join()
-        self.assertIn(ends, (["Stopped"], ["Closed"]))
-        self.raises("Closed", job.await_next, 1)
-
     def test_a_close_beside_threads(self):
         """Threads that were told to stop are within the store until they have asked what it says: each is slow there."""
         fault = Store._fault
