@@ -156,9 +156,6 @@ class WithNames(Judging):
         lines = [*NAMED, *named(1, 1)]
         self.breaks([*lines[:at], *lines[at + 1:]], 1, at + 1)
 
-    def test_1_a_name_that_nobody_reserved(self):
-        self.breaks([*NAMED, "task 0.0 1 writes 7"], 1, len(NAMED) + 1)
-
     def test_a_message_of_a_replaced_task_is_refused(self):
         told = ["tick 30", "log synced", "barrier 3 to 0.0 2", "from 0.0 1"]
         for message in ("in 1 ack 30 3 0.0 =2", "in 1 ack 30 3 0.0 +3", "in 1 decline 30 3 0.0", "ack 30 3 0.0 =2"):
