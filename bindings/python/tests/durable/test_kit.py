@@ -14,7 +14,7 @@ from relkvanu.runner import Ack, Ended, FileLost, FilesLeft, Lineage, Runner, St
 from relkvanu.state import Cached, storage_of
 from relkvanu.storage import Folder, StorageError
 from relkvanu.store import Phase, Store
-from steps import InFolder, until
+from steps import LONGEST, InFolder, until
 
 TASKS = 2
 LARGE = bytes(5000)
@@ -55,7 +55,7 @@ class Engine:
 
     def await_complete(self, count):
         with self.changed:
-            assert self.changed.wait_for(lambda: len(self.completed) >= count, 300), self.completed
+            assert self.changed.wait_for(lambda: len(self.completed) >= count, LONGEST), self.completed
 
 
 class Base(InFolder):
@@ -71,7 +71,7 @@ class Base(InFolder):
         engine.runner = Runner(job, engine, files, **more)
         run = ThreadPoolExecutor(1).submit(engine.runner.run)
         self.addCleanup(lambda: (engine.runner.close(), run.exception()))
-        return engine, lambda: run.exception(300) or run.result()
+        return engine, lambda: run.exception(LONGEST) or run.result()
 
     def by_hand(self, engine=None, **settings):
         """A job that triggers nothing by itself."""
