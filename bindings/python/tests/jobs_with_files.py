@@ -1,7 +1,9 @@
 """A job with names whose files tests sweep, in a folder (test_sweep.py) and in a bucket (s3.py), beside which sweepers run; and the marker of such a job of the service."""
+import contextlib
 import dataclasses
 import threading
 import time
+from concurrent.futures import ThreadPoolExecutor
 
 from relkvanu import Coordinator, Settings
 from relkvanu.sweep import Swept, sweep
@@ -88,20 +90,16 @@ def run_beside_sweepers(test, job, files, checkpoints):
         except BaseException as fault:
             faults.append(fault)
 
-    sweepers = [threading.Thread(target=sweeps) for _ in range(2)]
-    for it in sweepers:
-        it.start()
-    try:
+    with ThreadPoolExecutor(2) as sweepers, contextlib.ExitStack() as end:
+        end.callback(over.set)
+        for _ in range(2):
+            sweepers.submit(sweeps)
         for nth in range(1, checkpoints + 1):
             last = checkpoint(job, files, 10 * nth, last)
             test.assertEqual(faults, [])
-        end = time.monotonic() + 300
-        while sum(it.deleted for it in swept) <= checkpoints / 3 and not faults and time.monotonic() < end:  # on a busy machine they may come late
+        until = time.monotonic() + 300
+        while sum(it.deleted for it in swept) <= checkpoints / 3 and not faults and time.monotonic() < until:  # on a busy machine they may come late
             time.sleep(0.01)
-    finally:
-        over.set()
-        for it in sweepers:
-            it.join()
     test.assertEqual(faults, [])
     job.restore(20 * checkpoints)
     test.assertEqual(sweep(files, job.garbage, delete=True).failed, {})

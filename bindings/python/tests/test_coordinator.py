@@ -1,6 +1,6 @@
 """What the package adds to the calls: openings, images, moments, numbers that do not fit, closing, threads; and groups of keys, by the check value of CRC-32."""
-import threading
 import unittest
+from concurrent.futures import ThreadPoolExecutor
 
 from relkvanu import (
     AckCompleted, AckPending, BadArgument, Closed, Configured, Coordinator, Refused, Settings, Shown, Triggered, calls, group_of,
@@ -169,11 +169,8 @@ class Calls(unittest.TestCase):
                 for index in range(first, first + 8):
                     job.ack(1000, 1, 0, index, [index])
 
-            threads = [threading.Thread(target=share, args=(first,)) for first in range(0, 64, 8)]
-            for thread in threads:
-                thread.start()
-            for thread in threads:
-                thread.join()
+            with ThreadPoolExecutor(8) as threads:
+                list(threads.map(share, range(0, 64, 8)))
             self.assertEqual(job.show(1).metadata["state"], "done")
 
 

@@ -11,6 +11,7 @@ import threading
 import time
 import unittest
 import weakref
+from concurrent.futures import ThreadPoolExecutor
 from unittest import mock
 
 from relkvanu import (
@@ -384,14 +385,11 @@ class Threads(Folder):
                         work(job)
                 except (StoreError, Fenced) as why:
                     ends.append(why.name)
-            with mock.patch.object(Store, "_fault", slow):
-                threads = [threading.Thread(target=runs) for _ in range(4)]
-                for it in threads:
-                    it.start()
+            with mock.patch.object(Store, "_fault", slow), ThreadPoolExecutor(4) as threads:
+                for _ in range(4):
+                    threads.submit(runs)
                 until(lambda: job._used or ends)
                 job.close()
-                for it in threads:
-                    it.join()
             self.assertFalse(job._used)
             self.assertEqual(len(ends), 4)
 
