@@ -349,8 +349,7 @@ class Running(InFolder):
         name = self.forfeited(store)
         engine.await_more("complete", 5)
         self.assertIn(name, self.files())
-        engine.runner.close()
-        await_end()
+        self.close(engine, await_end)
 
     def fails_once(self, fault):
         """A sweep that fails the second time: the first one is that of the begin."""
@@ -475,15 +474,13 @@ class Running(InFolder):
                 return call(store, *words)
             with mock.patch.object(Store, name, refuses):
                 store, engine, await_end = self.running()
-                engine.runner.close()
-                self.assertEqual(await_end(), Ended.CLOSED, name)
+                self.close(engine, await_end)
             self.assertGreater(next(times), 1)
 
     def test_a_file_that_is_lost(self):
         store, engine, await_end = self.running(count=2)
         kept = self.forfeited(store)
-        engine.runner.close()
-        await_end()
+        self.close(engine, await_end)
         for it in set(self.files()) - {kept}:
             os.unlink(self.folder / "state" / it)
         with mock.patch.object(Store, "sweep") as swept:
@@ -553,8 +550,7 @@ class Running(InFolder):
         store, engine, await_end = self.begin()
         with ThreadPoolExecutor(5) as threads:
             found = list(threads.map(lambda _: engine.runner.savepoint(), range(5), timeout=LONGEST))
-        engine.runner.close()
-        await_end()
+        self.close(engine, await_end)
         sent = [it[1] for it in engine.said if it[:1] == ("barrier",) and it[2] == Kind.SAVEPOINT]
         self.assertEqual((len(set(found)), sorted(found)), (5, sent))
 
@@ -674,8 +670,7 @@ class Running(InFolder):
                 super().start(term, record)
 
         store, engine, await_end = self.running(Asking(None))
-        engine.runner.close()
-        await_end()
+        self.close(engine, await_end)
         self.assertEqual(faults, ["NotNow"] * (1 + sum(it[0] == "complete" for it in engine.said)))
 
     def stops(self, engine, ended, savepoint):
@@ -889,8 +884,7 @@ class Running(InFolder):
         store, engine, await_end = self.running()
         engine.runner._tell(engine.runner.term, 1)
         engine.runner._tell(engine.runner.term - 1, 1 << 30)
-        engine.runner.close()
-        await_end()
+        self.close(engine, await_end)
         told = engine.all("complete")
         self.assertEqual(told, sorted(set(told)))
         self.assertLess(told[-1], 1 << 30)
