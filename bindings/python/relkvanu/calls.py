@@ -35,11 +35,11 @@ class CallKind(enum.IntEnum):
 
 
 class _OfOneNumber:
-    """Its first field is the moment or the number of the call."""
+    """Its fields are the term, and a moment or another number, if it has one."""
 
     def line(self) -> str:
-        name, number = next(iter(vars(self).items()))
-        return _line(CallKind[type(self).__name__.upper()], term=getattr(self, "term"), **{"now" if name == "now" else "number": number})
+        fields = {name if name in ("now", "term") else "number": it for name, it in vars(self).items()}
+        return _line(CallKind[type(self).__name__.upper()], **fields)
 
 
 # bindings/generate makes the calls of one number
