@@ -1,18 +1,25 @@
 /* cases FOLDER [NAME]: runs each case of the store's tests, or one, in a process and a folder of its own. The last line has the counts. */
 #include "cases.h"
 
-#include <errno.h>
-#include <fcntl.h>
 #include <signal.h>
-#include <stdatomic.h>
 #include <sys/resource.h>
-#include <sys/stat.h>
 #include <sys/syscall.h>
 #include <sys/wait.h>
-#include <unistd.h>
 
+enum { MOST_CASES = 400 };
+
+static struct test {
+    const char *name;
+    void (*run)(void);
+} cases[MOST_CASES];
+static size_t cases_len;
 static char folder[400];
 relkvanu_store_report report;
+
+void add_case(const char *name, void (*run)(void)) {
+    CHECK(cases_len < MOST_CASES, "%s", name);
+    cases[cases_len++] = (struct test){name, run};
+}
 
 const char *in(const char *name) {
     static _Thread_local char names[4][PATHS];
@@ -322,18 +329,13 @@ static bool passes(const char *within, const struct test *test) {
 }
 
 int main(int argc, char **argv) {
-    const struct test *all[] = {open_cases, damage_cases, storage_cases, call_cases, queue_cases, discard_cases, file_cases, folder_cases,
-        name_cases, object_cases, backup_cases, log_cases, answer_cases, look_cases, alone_cases, manifest_cases, keeper_cases,
-        known_file_cases, command_cases, ack_extra_cases, fence_cases};
     unsigned passed = 0, failed = 0;
     CHECK(argc >= 2, "cases FOLDER [NAME]");
-    for (size_t i = 0; i < sizeof all / sizeof *all; i++) {
-        for (const struct test *it = all[i]; it->name != NULL; it++) {
-            if (argc < 3 || strcmp(argv[2], it->name) == 0) {
-                bool is_passed = passes(argv[1], it);
-                passed += is_passed;
-                failed += !is_passed;
-            }
+    for (size_t i = 0; i < cases_len; i++) {
+        if (argc < 3 || strcmp(argv[2], cases[i].name) == 0) {
+            bool is_passed = passes(argv[1], &cases[i]);
+            passed += is_passed;
+            failed += !is_passed;
         }
     }
     printf("%u passed, %u failed\n", passed, failed);

@@ -3,7 +3,11 @@
 #define STORE_TESTS_CASES_H
 #include "common.h"
 
+#include <errno.h>
+#include <fcntl.h>
 #include <pthread.h>
+#include <stdatomic.h>
+#include <sys/stat.h>
 #include <unistd.h>
 
 /* A name in the folder of the case; it stays until the thread has asked for four more. */
@@ -88,15 +92,14 @@ void fail_next_open(const char *name, int error);
 void hold_syncs(const char *end);
 void await_held_sync(void);
 
-struct test {
-    const char *name;
-    void (*run)(void);
-};
-#define CASE(name) \
-    { #name, name }
-extern const struct test open_cases[], damage_cases[], storage_cases[], call_cases[], queue_cases[], discard_cases[], file_cases[],
-    folder_cases[], name_cases[], object_cases[], backup_cases[], log_cases[], answer_cases[], look_cases[], alone_cases[],
-    manifest_cases[], keeper_cases[], known_file_cases[], command_cases[], ack_extra_cases[], fence_cases[];
+/* A case: CASE(name) { .. }. Each is known when the program begins. */
+void add_case(const char *name, void (*run)(void));
+#define CASE(name)                                              \
+    static void name(void);                                     \
+    __attribute__((constructor)) static void add_##name(void) { \
+        add_case(#name, name);                                  \
+    }                                                           \
+    static void name(void)
 
 /* Whether a file of the case has these words. */
 bool has_text(const char *name, const char *words);

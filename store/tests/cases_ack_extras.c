@@ -1,9 +1,6 @@
 /* What records have beside the log: payloads, figures, the order of files, the records that ended, a record as a whole, and the history. */
 #include "cases.h"
 
-#include <errno.h>
-#include <unistd.h>
-
 enum { ENDED = RELKVANU_STORE_MOST_ENDED, BYTES = 10, MILLIS = 3 };
 
 /* A call with more, and what it told. */
@@ -119,7 +116,7 @@ static relkvanu_store *new_job(uint64_t retained) {
     return opens(&options, RELKVANU_STORE_OK);
 }
 
-static void payloads(void) {
+CASE(payloads) {
     relkvanu_store *store = new_job(1);
     loads_as(store, 0, 0, RELKVANU_STORE_OK);
     CHECK(loaded.is.id == 0 && loaded.is.kind == 0 && loaded.parts == 0, "a new job has record %" PRIu64, loaded.is.id);
@@ -148,7 +145,7 @@ static void payloads(void) {
 }
 
 /* Of a list, and of a submit: one row for the parts of a commit. */
-static void payloads_of_lists(void) {
+CASE(payloads_of_lists) {
     relkvanu_store *store = new_job(1);
     static relkvanu_store_more of[SUBTASKS];
     static char texts[SUBTASKS][40];
@@ -180,7 +177,7 @@ static void payloads_of_lists(void) {
 }
 
 /* A payload goes with its record, however that ends. */
-static void payloads_of_ended_records(void) {
+CASE(payloads_of_ended_records) {
     relkvanu_store *store = new_job(2);
     uint64_t kept = completes(store), declined = triggers(store);
     acks(store, declined, 0, "declined");
@@ -209,7 +206,7 @@ static void payloads_of_ended_records(void) {
 }
 
 /* A later checkpoint subsumes an earlier one that is pending; a job that fails drops all. */
-static void payloads_of_dropped_records(void) {
+CASE(payloads_of_dropped_records) {
     relkvanu_store *store = new_job(1);
     uint64_t subsumed = triggers(store), later = triggers(store);
     acks(store, subsumed, 0, "subsumed");
@@ -256,7 +253,7 @@ static uint64_t reserves(relkvanu_store *store, size_t files) {
     return first;
 }
 
-static void the_order_of_files(void) {
+CASE(the_order_of_files) {
     relkvanu_store *store = new_job(1);
     for (uint64_t round = 0, base = 0; round < 2; round++) {
         uint64_t id = triggers(store), names = reserves(store, 3 * SUBTASKS);
@@ -280,7 +277,7 @@ static void the_order_of_files(void) {
     relkvanu_store_close(store);
 }
 
-static void a_lost_file(void) {
+CASE(a_lost_file) {
     relkvanu_store *store = new_job(1);
     uint64_t id = triggers(store), names = reserves(store, SUBTASKS);
     char words[100];
@@ -297,7 +294,7 @@ static void a_lost_file(void) {
 }
 
 /* What is refused changes nothing. */
-static void misuse(void) {
+CASE(misuse_of_more) {
     relkvanu_store *store = new_job(1);
     static char text[RELKVANU_STORE_MOST_PAYLOAD + 1];
     uint64_t id = triggers(store), term = term_of(store);
@@ -340,7 +337,7 @@ static void misuse(void) {
     CHECK(parts_of(0) == 1, "%zu rows", parts_of(0));
 }
 
-static void the_history(void) {
+CASE(the_history) {
     relkvanu_store *store = new_job(1);
     relkvanu_store_past past[3];
     size_t len = 3;
@@ -375,7 +372,7 @@ static void the_history(void) {
 }
 
 /* It has the last thousand. */
-static void a_long_history(void) {
+CASE(a_long_history) {
     relkvanu_store *store = new_job(1);
     relkvanu_store_call *calls = calloc(4000, sizeof *calls);
     static relkvanu_store_past past[RELKVANU_STORE_MOST_HISTORY + 1];
@@ -393,7 +390,7 @@ static void a_long_history(void) {
 }
 
 /* A savepoint of an older checkpoint has its payloads. */
-static void payloads_of_an_older_checkpoint(void) {
+CASE(payloads_of_an_older_checkpoint) {
     relkvanu_store *store = new_job(3);
     relkvanu_store_call call;
     uint64_t first = completes(store);
@@ -411,7 +408,7 @@ static void payloads_of_an_older_checkpoint(void) {
 }
 
 /* A stop's savepoint, to which the job goes back in the same commit. */
-static void payloads_of_a_stop(void) {
+CASE(payloads_of_a_stop) {
     relkvanu_store *store = new_job(1);
     relkvanu_store_call call;
     uint64_t before = completes(store);
@@ -433,7 +430,7 @@ static bool manifest_has(uint64_t id, const char *words) {
 }
 
 /* Manifests have payloads, the order of files, and figures. So do recoveries, exports and imports. */
-static void payloads_of_manifests(void) {
+CASE(payloads_of_manifests) {
     relkvanu_store_options options = storage_options(RELKVANU_STORE_CREATE | RELKVANU_STORE_MANIFESTS, 0);
     relkvanu_store_recovered recovered;
     relkvanu_store_carried carried;
@@ -471,7 +468,7 @@ static void payloads_of_manifests(void) {
 }
 
 /* A backup has them. */
-static void payloads_of_a_backup(void) {
+CASE(payloads_of_a_backup) {
     relkvanu_store *store = new_job(1);
     relkvanu_store_recovered recovered;
     char message[RELKVANU_STORE_MESSAGE];
@@ -487,7 +484,7 @@ static void payloads_of_a_backup(void) {
 }
 
 /* A row that was changed, and rows of records that an earlier version of the library has ended. */
-static void damaged_parts(void) {
+CASE(damaged_parts) {
     relkvanu_store *store = new_job(1);
     relkvanu_store_past past[1];
     char words[RELKVANU_STORE_MESSAGE];
@@ -506,8 +503,3 @@ static void damaged_parts(void) {
     relkvanu_store_close(store);
     CHECK(parts_of(77) == 0 && parts_of(0) == SUBTASKS, "%zu rows", parts_of(0));
 }
-
-const struct test ack_extra_cases[] = {CASE(payloads), CASE(payloads_of_lists), CASE(payloads_of_ended_records),
-    CASE(payloads_of_dropped_records), CASE(the_order_of_files), CASE(a_lost_file), {"misuse_of_more", misuse}, CASE(the_history),
-    CASE(a_long_history), CASE(payloads_of_an_older_checkpoint), CASE(payloads_of_a_stop), CASE(payloads_of_manifests),
-    CASE(payloads_of_a_backup), CASE(damaged_parts), {NULL, NULL}};

@@ -2,14 +2,12 @@
 #include "cases.h"
 
 #include <poll.h>
-#include <sys/stat.h>
 #include <sys/syscall.h>
 #include <time.h>
-#include <unistd.h>
 #include <zlib.h>
 
 /* Who waits by the descriptor alone is told of one completion, too. */
-static void lone_completion(void) {
+CASE(lone_completion) {
     relkvanu_store *store = opens_with(job_options(RELKVANU_STORE_CREATE, 0));
     relkvanu_store_call call = {.call = {.kind = RELKVANU_CALL_SAVEPOINT}};
     relkvanu_store_completion one;
@@ -24,7 +22,7 @@ static void lone_completion(void) {
 }
 
 /* A commit has no more calls than a list may have, however many wait. */
-static void most_calls_of_a_commit(void) {
+CASE(most_calls_of_a_commit) {
     enum { MANY = RELKVANU_STORE_MOST_CALLS + 100 };
     static relkvanu_store_call calls[MANY];
     relkvanu_store *store = opens_with(job_options(RELKVANU_STORE_CREATE, 0));
@@ -56,7 +54,7 @@ static int open_the_earlier(void *with) {
 }
 
 /* A process that began with the earlier image is killed: the next one needs no flag, since the damaged one is gone. */
-static void killed_after_an_earlier_image(void) {
+CASE(killed_after_an_earlier_image) {
     relkvanu_store_options options = job_options(RELKVANU_STORE_CREATE, 5);
     relkvanu_store *store = opens(&options, RELKVANU_STORE_OK);
     for (uint64_t i = 0; i < 18; i++) {
@@ -98,7 +96,7 @@ static void check_unissued(relkvanu_store *store, const char *after) {
 }
 
 /* A sweep that fails changes nothing of what the last whole one counted. */
-static void sweep_that_fails(void) {
+CASE(sweep_that_fails) {
     relkvanu_store *store = opens_with(storage_options(RELKVANU_STORE_CREATE, 0));
     relkvanu_storage storage = {.check = is_storage_there, .list = list_three, .delete_files = delete_none};
     size_t left;
@@ -123,7 +121,7 @@ int clock_gettime(clockid_t clock, struct timespec *now) {
 }
 
 /* The store's time goes on while the machine is suspended. */
-static void suspension(void) {
+CASE(suspension) {
     relkvanu_store *store = opens_with(job_options(RELKVANU_STORE_CREATE, 0));
     uint64_t before = relkvanu_store_now(store);
     suspended = 1000000;
@@ -133,7 +131,7 @@ static void suspension(void) {
 }
 
 /* The name of a storage's marker is no longer than an affix. */
-static void long_marker_names(void) {
+CASE(long_marker_names) {
     char name[300];
     relkvanu_storage_options options = {.flags = RELKVANU_STORAGE_NEW, .path = in("state"), .job = "orders", .marker_name = name};
     relkvanu_storage storage;
@@ -198,7 +196,7 @@ static void change_taken(uint64_t by) {
 }
 
 /* A log that says that other files were taken ends the recovery, and the same row with its own files does not. */
-static void other_files_taken(void) {
+CASE(other_files_taken) {
     relkvanu_store_options options = storage_options(RELKVANU_STORE_CREATE, RELKVANU_STORE_NO_IMAGES);
     relkvanu_store *store = opens(&options, RELKVANU_STORE_OK);
     uint64_t files[TAKEN];
@@ -213,6 +211,3 @@ static void other_files_taken(void) {
     change_taken((uint64_t)-1000);
     relkvanu_store_close(opens(&options, RELKVANU_STORE_OK));
 }
-
-const struct test alone_cases[] = {CASE(lone_completion), CASE(most_calls_of_a_commit), CASE(killed_after_an_earlier_image),
-    CASE(sweep_that_fails), CASE(suspension), CASE(long_marker_names), CASE(other_files_taken), {NULL, NULL}};

@@ -3,18 +3,12 @@
 
 #include "../src/store.h"
 
-#include <errno.h>
-#include <fcntl.h>
-#include <pthread.h>
 #include <signal.h>
 #include <stdarg.h>
-#include <stdatomic.h>
 #include <sys/resource.h>
-#include <sys/stat.h>
 #include <sys/syscall.h>
 #include <sys/wait.h>
 #include <time.h>
-#include <unistd.h>
 
 static const char *unopened = "";
 static int open_error;
@@ -72,7 +66,7 @@ static bool why_says(int error) {
 }
 
 /* The marker can't be read, for each reason: the storage is not gone for it. */
-static void errors_of_a_storage(void) {
+CASE(errors_of_a_storage) {
     static const int errors[] = {EMFILE, EIO, EACCES};
     relkvanu_store *store = opened();
     size_t left;
@@ -96,7 +90,7 @@ static void errors_of_a_storage(void) {
 }
 
 /* So at an opening. Each number of free descriptors is tried: it is never no memory, and no lost storage. */
-static void errors_of_an_opening(void) {
+CASE(errors_of_an_opening) {
     static const int errors[] = {EIO, EMFILE};
     relkvanu_store_options options = storage_options(RELKVANU_STORE_CREATE, 0);
     relkvanu_store_close(opens(&options, RELKVANU_STORE_OK));
@@ -126,7 +120,7 @@ static void errors_of_an_opening(void) {
     relkvanu_store_close(store);
 }
 
-static void measures(void) {
+CASE(measures) {
     relkvanu_store *store = opens_with(job_options(RELKVANU_STORE_CREATE, RELKVANU_STORE_NO_IMAGES));
     CHECK(measures_of(store).last_commit == 0 && measures_of(store).log_rows == 0, "a new job");
     for (uint64_t i = 0; i < 7; i++) {
@@ -179,7 +173,7 @@ static void waits_after_failures(relkvanu_store *store, struct deleting *d) {
     CHECK(status == RELKVANU_STORE_TIMED_OUT, "it waits for nothing");
 }
 
-static void a_discarder_for_a_while(void) {
+CASE(a_discarder_for_a_while) {
     relkvanu_store *store = opens_with(job_options(RELKVANU_STORE_CREATE, 0));
     struct deleting d = {.ends_after = 1};
     CHECK(relkvanu_store_discard_for(store, 4, 20, delete_some, &d) == RELKVANU_STORE_TIMED_OUT && d.batches == 0, "nothing waits");
@@ -207,7 +201,7 @@ static void says_why(relkvanu_store *store, relkvanu_call call, const uint64_t *
 }
 
 /* What was refused names the record, the subtask, the file and both terms; what was made says nothing. */
-static void why_a_call_was_refused(void) {
+CASE(why_a_call_was_refused) {
     const uint64_t file = 77, own = 1;
     relkvanu_store *store = opens_with(job_options(RELKVANU_STORE_CREATE, 0));
     relkvanu_call ack = {.kind = RELKVANU_CALL_ACK, .now = RELKVANU_STORE_NOW, .number = 1, .term = 1};
@@ -232,7 +226,7 @@ static void why_a_call_was_refused(void) {
     relkvanu_store_close(store);
 }
 
-static void the_job_of_an_opening(void) {
+CASE(the_job_of_an_opening) {
     relkvanu_store_options options = job_options(RELKVANU_STORE_CREATE, 0);
     relkvanu_settings settings;
     uint64_t shape[256], other[] = {3, 4};
@@ -275,7 +269,7 @@ static int64_t gives(void *with, void *to, size_t room) {
     return (int64_t)len;
 }
 
-static void put_from_elsewhere(void) {
+CASE(put_from_elsewhere) {
     relkvanu_store *store = opened();
     struct stat found, given;
     struct source source = {.len = 1000003};
@@ -318,7 +312,7 @@ static int writes_in_a_read(void *with) {
     _exit(7);
 }
 
-static void a_write_in_a_read(void) {
+CASE(a_write_in_a_read) {
     CHECK(in_child(writes_in_a_read, NULL) == 7, "a child");
     relkvanu_store_close(opens_with(job_options(RELKVANU_STORE_RECOVER, 0)));
     CHECK(report.next_name == 1, "next name %" PRIu64, report.next_name);
@@ -330,7 +324,7 @@ static void *reserves_beside(void *store) {
 }
 
 /* It would wait for itself. A submit does not wait, and other threads do. */
-static void a_call_in_a_read(void) {
+CASE(a_call_in_a_read) {
     relkvanu_store *store = opened();
     relkvanu *handle;
     relkvanu_answer answer;
@@ -388,7 +382,7 @@ static void *does_all(void *with) {
     return with;
 }
 
-static void the_least_stack(void) {
+CASE(the_least_stack) {
     pthread_t thread;
     pthread_attr_t with;
     CHECK(pthread_attr_init(&with) == 0 && pthread_attr_setstacksize(&with, LEAST_STACK) == 0, "a stack");
@@ -401,7 +395,7 @@ static void *opens_one(void *store) {
 }
 
 /* While a disk does not answer an opening, a fork goes on. The child goes on too, and does not keep the lock of the job. */
-static void a_fork_beside_a_hung_disk(void) {
+CASE(a_fork_beside_a_hung_disk) {
     relkvanu_store *store = NULL;
     int status;
     hangs = true;
@@ -420,7 +414,3 @@ static void a_fork_beside_a_hung_disk(void) {
     relkvanu_store_close(opens_with(job_options(RELKVANU_STORE_RECOVER, 0)));
     CHECK(kill(child, SIGKILL) == 0 && waitpid(child, &status, 0) == child, "the child");
 }
-
-const struct test answer_cases[] = {CASE(errors_of_a_storage), CASE(errors_of_an_opening), CASE(measures), CASE(a_discarder_for_a_while),
-    CASE(the_job_of_an_opening), CASE(why_a_call_was_refused), CASE(put_from_elsewhere), CASE(a_write_in_a_read), CASE(a_call_in_a_read),
-    CASE(the_least_stack), CASE(a_fork_beside_a_hung_disk), {NULL, NULL}};

@@ -1,13 +1,7 @@
 /* Backups: what they have, what they refuse, what is beside them, and what happens when one is put back. */
 #include "cases.h"
 
-#include <errno.h>
-#include <fcntl.h>
-#include <pthread.h>
-#include <stdatomic.h>
 #include <sys/file.h>
-#include <sys/stat.h>
-#include <unistd.h>
 
 enum { CALLERS = 4, BACKUPS = 5, LISTS = 10 };
 
@@ -54,7 +48,7 @@ static uint64_t recovers(const char *name, uint32_t flags) {
     return calls_of(&report);
 }
 
-static void a_backup(void) {
+CASE(a_backup) {
     relkvanu_store_options options = job_options(RELKVANU_STORE_CREATE, RELKVANU_STORE_NO_IMAGES);
     struct stat is;
     umask(0);
@@ -81,7 +75,7 @@ static void a_backup(void) {
 }
 
 /* With images, whose log is cut. */
-static void a_backup_with_images(void) {
+CASE(a_backup_with_images) {
     relkvanu_store *store = opens_with(job_options(RELKVANU_STORE_CREATE, 7));
     for (uint64_t i = 0; i < 40; i++) {
         CHECK(reserved(store, 1, 1) == i + 1, "name %" PRIu64, i + 1);
@@ -94,7 +88,7 @@ static void a_backup_with_images(void) {
 }
 
 /* A file is opened as what it is, and a refusal makes no job and changes none. */
-static void flags_of_a_backup(void) {
+CASE(flags_of_a_backup) {
     relkvanu_store_options options = job_options(RELKVANU_STORE_CREATE | RELKVANU_STORE_BACKUP, 0);
     opens(&options, RELKVANU_STORE_ABSENT);
     CHECK(!exists("x.db"), "a job");
@@ -120,7 +114,7 @@ static void flags_of_a_backup(void) {
 }
 
 /* What else has the target's names, and what fails. Each time the store goes on. */
-static void no_backup(void) {
+CASE(no_backup) {
     relkvanu_store *store = opens_with(job_options(RELKVANU_STORE_CREATE, 0));
     checkpoint(store, 1);
     backs_up(store, "nowhere/b.db", RELKVANU_STORE_NOT_PUT);
@@ -149,7 +143,7 @@ static void no_backup(void) {
 }
 
 /* A job whose file has the name of the part, open or not: it stays as it is. */
-static void a_job_in_the_way(void) {
+CASE(a_job_in_the_way) {
     relkvanu_store_options options = job_options(RELKVANU_STORE_CREATE, 0);
     relkvanu_store *other = opens_at("b.db.part", &options, RELKVANU_STORE_OK);
     checkpoint(other, 1);
@@ -165,7 +159,7 @@ static void a_job_in_the_way(void) {
 }
 
 /* What a process left that was killed is begun anew. */
-static void a_part_that_was_left(void) {
+CASE(a_part_that_was_left) {
     relkvanu_store *store = opens_with(job_options(RELKVANU_STORE_CREATE, 0));
     checkpoint(store, 1);
     write_text("b.db.part", "SQLite format 3 and other bytes that are no part of a backup");
@@ -181,7 +175,7 @@ static void a_part_that_was_left(void) {
 }
 
 /* A failed commit closes the store: there is no backup of it. */
-static void of_a_closed_store(void) {
+CASE(of_a_closed_store) {
     relkvanu_store *store = opens_with(job_options(RELKVANU_STORE_CREATE, 0));
     CHECK(rename(in("x.db"), in("y.db")) == 0, "rename");
     relkvanu_store_call call = {.call = {.kind = RELKVANU_CALL_SAVEPOINT}};
@@ -196,7 +190,7 @@ static int backs_up_forked(void *store) {
     return relkvanu_store_backup(store, in("b.db"), message, sizeof message);
 }
 
-static void in_a_forked_child(void) {
+CASE(in_a_forked_child) {
     relkvanu_store *store = opens_with(job_options(RELKVANU_STORE_CREATE, 0));
     CHECK(in_child(backs_up_forked, store) == RELKVANU_STORE_FORKED && !exists("b.db"), "a child");
     check_no_part();
@@ -232,7 +226,7 @@ static void make_long(relkvanu_store *store) {
 }
 
 /* Each backup has each name that was answered before it began, and none that was not given out before it ended. */
-static void under_load(void) {
+CASE(under_load) {
     relkvanu_store_options options = job_options(RELKVANU_STORE_CREATE, RELKVANU_STORE_NO_IMAGES);
     uint64_t least[BACKUPS], most[BACKUPS], during = 0;
     pthread_t callers[CALLERS];
@@ -275,7 +269,7 @@ static void *backs_up_too(void *with) {
 }
 
 /* Several at once: one of them makes the file. */
-static void at_once(void) {
+CASE(at_once) {
     relkvanu_store_options options = job_options(RELKVANU_STORE_CREATE, RELKVANU_STORE_NO_IMAGES);
     pthread_t threads[CALLERS];
     unsigned made = 0;
@@ -339,7 +333,7 @@ static void discard_all(relkvanu_store *store) {
 
 /* The job went on after the backup, and its files are there: a savepoint of the backup has all its files. The backup gives out no name again, its
  * sweep leaves the files of the savepoint alone, and the store that has gone on puts and deletes nothing more. */
-static void put_back(void) {
+CASE(put_back) {
     relkvanu_store_options options = storage_options(RELKVANU_STORE_CREATE, 0);
     size_t left;
     options.flags = RELKVANU_STORE_CREATE;
@@ -375,7 +369,7 @@ static void put_back(void) {
 }
 
 /* The opening of the backup is later than those that the job has had since. */
-static void put_back_after_openings(void) {
+CASE(put_back_after_openings) {
     relkvanu_store_options options = storage_options(RELKVANU_STORE_CREATE, 0);
     relkvanu_store *store = opens(&options, RELKVANU_STORE_OK);
     backs_up(store, "b.db", RELKVANU_STORE_OK);
@@ -394,7 +388,7 @@ static void put_back_after_openings(void) {
 }
 
 /* Opened several times before its first opening has ended, since the process ended or there was a fault: no name comes twice. */
-static void put_back_again(void) {
+CASE(put_back_again) {
     relkvanu_store_options options = storage_options(RELKVANU_STORE_CREATE, 0);
     relkvanu_store *store = opens(&options, RELKVANU_STORE_OK);
     backs_up(store, "b.db", RELKVANU_STORE_OK);
@@ -418,7 +412,7 @@ static void put_back_again(void) {
 }
 
 /* A storage of another job, or none, is refused for a backup too. */
-static void put_back_elsewhere(void) {
+CASE(put_back_elsewhere) {
     relkvanu_store_options options = storage_options(RELKVANU_STORE_CREATE, 0);
     relkvanu_store *store = opens(&options, RELKVANU_STORE_OK);
     backs_up(store, "b.db", RELKVANU_STORE_OK);
@@ -436,7 +430,7 @@ static void put_back_elsewhere(void) {
 }
 
 /* After a cancel no names are given out. */
-static void of_a_cancelled_job(void) {
+CASE(of_a_cancelled_job) {
     relkvanu_store_options options = storage_options(RELKVANU_STORE_CREATE, 0);
     relkvanu_store *store = opens(&options, RELKVANU_STORE_OK);
     record(store, 1, RELKVANU_CALL_TICK);
@@ -448,7 +442,3 @@ static void of_a_cancelled_job(void) {
     relkvanu_store_close(opens_at("b.db", &options, RELKVANU_STORE_OK));
     CHECK(report.mode.what == RELKVANU_MODE_CANCELLED && report.next_name == SUBTASKS + 1, "next name %" PRIu64, report.next_name);
 }
-
-const struct test backup_cases[] = {CASE(a_backup), CASE(a_backup_with_images), CASE(flags_of_a_backup), CASE(no_backup),
-    CASE(a_job_in_the_way), CASE(a_part_that_was_left), CASE(of_a_closed_store), CASE(in_a_forked_child), CASE(under_load), CASE(at_once),
-    CASE(put_back), CASE(put_back_after_openings), CASE(put_back_again), CASE(put_back_elsewhere), CASE(of_a_cancelled_job), {NULL, NULL}};

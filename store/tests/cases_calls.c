@@ -3,13 +3,11 @@
 
 #include "../src/store.h"
 
-#include <unistd.h>
-
 static relkvanu_store *new_job(uint64_t image_calls) {
     return opens_with(job_options(RELKVANU_STORE_CREATE, image_calls));
 }
 
-static void lists(void) {
+CASE(lists) {
     relkvanu_store *store = new_job(0);
     uint64_t fresh[] = {1, 2}, files[4] = {0};
     CHECK(reserved(store, 1, 2) == 1, "names");
@@ -38,7 +36,7 @@ static void bad(relkvanu_store *store, relkvanu_store_call call, size_t len) {
     CHECK(len != 1 || calls[0].answer.code == RELKVANU_STORE_NOT_MADE, "an answer");
 }
 
-static void bad_arguments(void) {
+CASE(bad_arguments) {
     relkvanu_store *store = new_job(0);
     static relkvanu_store_call many[4097];
     uint64_t places[4];
@@ -69,7 +67,7 @@ static uint32_t tick_code(relkvanu_store *store, uint64_t now) {
 
 static const uint64_t DAY = 86400000;
 
-static void moments(void) {
+CASE(moments) {
     relkvanu_store *store = new_job(0);
     CHECK(relkvanu_store_now(store) < 60000, "a new job begins at 0");
     CHECK(tick_code(store, 10) == RELKVANU_DONE, "due");
@@ -93,7 +91,7 @@ static void moments(void) {
 }
 
 /* A job that triggers each minute, one at once, and fails with the first that fails. */
-static void the_next_tick(void) {
+CASE(the_next_tick) {
     relkvanu_store_options options = job_options(RELKVANU_STORE_CREATE, 0);
     options.settings = (relkvanu_settings){.interval = 60000, .at_once = 1, .timeout = 7200000, .retained = 1};
     relkvanu_store *store = opens(&options, RELKVANU_STORE_OK);
@@ -135,7 +133,7 @@ static void *awaits_a_tick(void *tick) {
     return tick;
 }
 
-static void a_moment_ahead(void) {
+CASE(a_moment_ahead) {
     static const uint64_t AHEAD = 20 * 3600000;
     relkvanu_store_options options = job_options(RELKVANU_STORE_CREATE, 0);
     options.settings.interval = 1000;
@@ -154,7 +152,7 @@ static void a_moment_ahead(void) {
 }
 
 /* A commit wakes timers and discarders only if what they wait for has changed: otherwise the version of it stays. */
-static void quiet_commits(void) {
+CASE(quiet_commits) {
     relkvanu_store *store = opens_with(storage_options(RELKVANU_STORE_CREATE, RELKVANU_STORE_NO_IMAGES));
     checkpoint(store, 1);
     uint64_t version = store->timers.version;
@@ -169,7 +167,7 @@ static void quiet_commits(void) {
     relkvanu_store_close(store);
 }
 
-static void an_awaited_tick(void) {
+CASE(an_awaited_tick) {
     relkvanu_store *store = new_job(0); /* due after 10 ms */
     relkvanu_store_call tick;
     CHECK(relkvanu_store_await_tick(store, 10000, &tick) == RELKVANU_STORE_OK && tick.answer.what == RELKVANU_TICK_TRIGGERED &&
@@ -184,7 +182,7 @@ static void an_awaited_tick(void) {
     relkvanu_store_close(store);
 }
 
-static void images_and_cuts(void) {
+CASE(images_and_cuts) {
     relkvanu_store *store = new_job(100);
     uint64_t calls = 0, file = 1;
     for (; calls < 1800; calls += CHECKPOINT_CALLS, file += 100) {
@@ -203,6 +201,3 @@ static void images_and_cuts(void) {
     checkpoint(store, 1000000);
     relkvanu_store_close(store);
 }
-
-const struct test call_cases[] = {CASE(lists), CASE(bad_arguments), CASE(moments), CASE(the_next_tick), CASE(a_moment_ahead),
-    CASE(quiet_commits), CASE(an_awaited_tick), CASE(images_and_cuts), {NULL, NULL}};

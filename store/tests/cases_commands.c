@@ -1,11 +1,6 @@
 /* What an operator wants of a job: a checkpoint now, other settings, a stop and a new begin, and the way back to an older checkpoint. */
 #include "cases.h"
 
-#include <pthread.h>
-#include <stdatomic.h>
-#include <sys/stat.h>
-#include <unistd.h>
-
 enum { HOUR = 3600000, MINUTE = 60000, LONG = 600000, SHORT = 30 };
 
 /* A job with names that triggers each minute, and keeps three checkpoints. */
@@ -102,7 +97,7 @@ static void is_as_logged(relkvanu_store **store) {
     free(rows);
 }
 
-static void a_checkpoint_now(void) {
+CASE(a_checkpoint_now) {
     relkvanu_store *store = new_job();
     relkvanu_store_call tick, call;
     uint64_t id = triggered(store);
@@ -134,7 +129,7 @@ static void *awaits_long(void *tick) {
 }
 
 /* What another thread has triggered wakes the timer, and so does a shorter interval: within one tick. */
-static void timers_wake(void) {
+CASE(timers_wake) {
     relkvanu_store_call tick = {.place = 0}, call;
     relkvanu_settings settings = options_of(0).settings;
     awaited = new_job();
@@ -177,7 +172,7 @@ static int configures(void *settings) {
     return 7;
 }
 
-static void settings_stay(void) {
+CASE(settings_stay) {
     relkvanu_settings settings = {
         .interval = 700, .pause = 20, .at_once = 1, .timeout = 5000, .tolerable = 2, .retained = 1, .keep_on_cancel = true};
     relkvanu_store_options options = options_of(RELKVANU_STORE_RECOVER);
@@ -195,7 +190,7 @@ static void settings_stay(void) {
     relkvanu_store_close(store);
 }
 
-static void bad_settings(void) {
+CASE(bad_settings) {
     relkvanu_store *store = new_job();
     relkvanu_settings settings = options_of(0).settings, before = settings;
     relkvanu_store_call call;
@@ -220,7 +215,7 @@ static void bad_settings(void) {
 }
 
 /* A timer that is held goes on once more may be pending. */
-static void more_at_once(void) {
+CASE(more_at_once) {
     relkvanu_store *store = new_job();
     relkvanu_settings settings = options_of(0).settings;
     relkvanu_store_call call, tick;
@@ -251,7 +246,7 @@ static void nothing_begins(relkvanu_store *store) {
     CHECK(relkvanu_store_why(why, sizeof why) != 0 && strstr(why, "is stopped") != NULL, "%s", why);
 }
 
-static void a_stop(void) {
+CASE(a_stop) {
     relkvanu_store *store = new_job();
     relkvanu_store_call tick, call;
     relkvanu_store_counts after;
@@ -284,7 +279,7 @@ static void a_stop(void) {
 }
 
 /* A stop of an hour: nothing expires, and the job goes on from its savepoint. */
-static void an_hour(void) {
+CASE(an_hour) {
     relkvanu_store *store = new_job();
     relkvanu_store_call tick, call = {.call = {.kind = RELKVANU_CALL_CONFIGURE, .now = 2 * HOUR}};
     uint64_t numbers[] = {MINUTE, 0, 2, HOUR, 0, 3, 0};
@@ -363,7 +358,7 @@ static void cancels(relkvanu_store *store, uint64_t id) {
     done(store, RELKVANU_CALL_CANCEL, 0, 0);
 }
 
-static void stops_that_fail(void) {
+CASE(stops_that_fail) {
     fails(expires, RELKVANU_STORE_STOP_EXPIRED);
     fails(declines, RELKVANU_STORE_STOP_DECLINED);
     fails(restores, RELKVANU_STORE_STOP_RESTORED);
@@ -371,7 +366,7 @@ static void stops_that_fail(void) {
 }
 
 /* A checkpoint that was pending before the stop fails the job. */
-static void a_stop_of_a_job_that_fails(void) {
+CASE(a_stop_of_a_job_that_fails) {
     relkvanu_store *store = new_job();
     relkvanu_store_call tick, call;
     uint64_t pending = triggered(store), id = stopping(store);
@@ -394,7 +389,7 @@ static int stops_and_ends(void *with) {
     return 7;
 }
 
-static void a_crash_while_it_stops(void) {
+CASE(a_crash_while_it_stops) {
     CHECK(in_child(stops_and_ends, NULL) == 7, "a child");
     relkvanu_store *store = opens_with(options_of(RELKVANU_STORE_RECOVER));
     CHECK(report.phase == RELKVANU_STORE_PHASE_STOPPING && report.savepoint == 2 && report.steps_len == 4, "phase %" PRIu32, report.phase);
@@ -405,7 +400,7 @@ static void a_crash_while_it_stops(void) {
 }
 
 /* Other calls of a job that is stopped leave it so: another savepoint, another shape, a cancel alone ends it. */
-static void calls_while_it_is_stopped(void) {
+CASE(calls_while_it_is_stopped) {
     relkvanu_store *store = new_job();
     uint64_t shape[] = {3}, first, id;
     relkvanu_store_call call = {.call = {.kind = RELKVANU_CALL_RESTORE}, .first = shape, .first_len = 1}, tick;
@@ -431,7 +426,7 @@ static void calls_while_it_is_stopped(void) {
 }
 
 /* The phase is in the row of the file: one that is damaged, one that an earlier version of the library has left behind, and none. */
-static void rows_of_the_phase(void) {
+CASE(rows_of_the_phase) {
     relkvanu_store_options options = options_of(RELKVANU_STORE_RECOVER);
     relkvanu_store *store = new_job();
     completed(store, 1);
@@ -456,7 +451,7 @@ static void goes_back(relkvanu_store *store, uint64_t id, relkvanu_store_call *c
     CHECK(relkvanu_store_go_back(store, id, RELKVANU_STORE_ACCEPT_PUBLISHED, call) == RELKVANU_STORE_OK, "status");
 }
 
-static void an_older_checkpoint(void) {
+CASE(an_older_checkpoint) {
     relkvanu_store *store = new_job();
     relkvanu_store_call call, tick;
     for (int i = 0; i < 3; i++) {
@@ -485,7 +480,7 @@ static void an_older_checkpoint(void) {
     relkvanu_store_close(store);
 }
 
-static void no_way_back(void) {
+CASE(no_way_back) {
     relkvanu_store *store = new_job();
     relkvanu_store_call call;
     uint64_t shape[] = {3};
@@ -541,7 +536,7 @@ static int submitted(relkvanu_store *store, relkvanu_store_call *call) {
 }
 
 /* A checkpoint or a savepoint that lacks a file: the ways back to it drop no other record, and say which file it is. */
-static void a_way_back_looks_first(void) {
+CASE(a_way_back_looks_first) {
     relkvanu_store *store = new_job();
     relkvanu_store_call call, tick, list[2];
     relkvanu_counts files;
@@ -576,7 +571,7 @@ static void a_way_back_looks_first(void) {
 }
 
 /* In the last term the savepoint is made, and the restore to it is refused: so none of the calls is made. */
-static void a_way_back_is_given_up(void) {
+CASE(a_way_back_is_given_up) {
     relkvanu_store *store = new_job();
     relkvanu_store_call call, tick;
     uint64_t last = UINT64_C(1) << 62;
@@ -595,7 +590,7 @@ static void a_way_back_is_given_up(void) {
 }
 
 /* A job that has failed runs again; one that is stopped stays so; a stop under way is dropped; a cancelled one stays cancelled. */
-static void ways_back_in_each_mode(void) {
+CASE(ways_back_in_each_mode) {
     relkvanu_store *store = new_job();
     relkvanu_store_call call, tick;
     completed(store, 1);
@@ -618,7 +613,7 @@ static void ways_back_in_each_mode(void) {
     relkvanu_store_close(store);
 }
 
-static void an_advance(void) {
+CASE(an_advance) {
     relkvanu_store *store = new_job();
     relkvanu_store_call call, tick;
     completed(store, 1);
@@ -682,7 +677,7 @@ static void *operates(void *with) {
     return with;
 }
 
-static void commands_of_a_crowd(void) {
+CASE(commands_of_a_crowd) {
     unsigned done[6] = {0};
     crowd.store = new_job();
     crowd.term = 1;
@@ -706,8 +701,3 @@ static void commands_of_a_crowd(void) {
     is_as_logged(&crowd.store);
     relkvanu_store_close(crowd.store);
 }
-
-const struct test command_cases[] = {CASE(a_checkpoint_now), CASE(timers_wake), CASE(settings_stay), CASE(bad_settings), CASE(more_at_once),
-    CASE(a_stop), CASE(an_hour), CASE(stops_that_fail), CASE(a_stop_of_a_job_that_fails), CASE(a_crash_while_it_stops),
-    CASE(calls_while_it_is_stopped), CASE(rows_of_the_phase), CASE(an_older_checkpoint), CASE(no_way_back), CASE(a_way_back_looks_first),
-    CASE(a_way_back_is_given_up), CASE(ways_back_in_each_mode), CASE(an_advance), CASE(commands_of_a_crowd), {NULL, NULL}};

@@ -3,10 +3,6 @@
 
 #include "../src/store.h"
 
-#include <fcntl.h>
-#include <sys/stat.h>
-#include <unistd.h>
-
 enum { CALLS = 2 * CHECKPOINT_CALLS, LAST = CALLS - 1, LEFT = 45, IMAGE_CALLS = 10 };
 
 /* A job whose log has 20 calls, two checkpoints; closed. */
@@ -25,7 +21,7 @@ static void refuses(int status, const char *words) {
     opens(&options, status);
 }
 
-static void other_files(void) {
+CASE(other_files) {
     static const char text[] =
         "This is no database, but a text of more than a hundred bytes, so that SQLite reads its header and says so. It ends here.";
     int file = open(in("x.db"), O_CREAT | O_WRONLY, 0600);
@@ -73,7 +69,7 @@ static void replace_last(const char *line, uint32_t what, uint64_t a, uint64_t b
     run_sql(in("x.db"), sql);
 }
 
-static void other_answers(void) {
+CASE(other_answers) {
     make_job(RELKVANU_STORE_NO_IMAGES);
     struct told *rows;
     size_t len;
@@ -93,7 +89,7 @@ static void other_answers(void) {
 }
 
 /* A log of 20 reservations of one name: another name, and a term that has not begun, which fences the call. */
-static void other_names(void) {
+CASE(other_names) {
     relkvanu_store_options options = job_options(RELKVANU_STORE_CREATE, RELKVANU_STORE_NO_IMAGES);
     relkvanu_store *store = opens(&options, RELKVANU_STORE_OK);
     for (uint64_t i = 1; i <= CALLS; i++) {
@@ -112,7 +108,7 @@ static void other_names(void) {
     CHECK(report.next_name == CALLS + 1, "next name %" PRIu64, report.next_name);
 }
 
-static void damaged_rows(void) {
+CASE(damaged_rows) {
     static const struct {
         const char *sql, *words, *back;
     } all[] = {
@@ -140,7 +136,7 @@ static void damaged_rows(void) {
     }
 }
 
-static void an_earlier_image(void) {
+CASE(an_earlier_image) {
     relkvanu_store_options options = job_options(RELKVANU_STORE_CREATE, 5);
     struct shadow shadow;
     make_job(5);
@@ -171,7 +167,7 @@ static int leave_open(void *with) {
 }
 
 /* The log is cut behind images, and stays whole behind the earlier one of the last two. */
-static void log_behind_both_images(void) {
+CASE(log_behind_both_images) {
     CHECK(in_child(leave_open, NULL) == 0, "the job");
     run_sql(in("x.db"), "UPDATE image SET sum = sum + 1 WHERE place = (SELECT max(place) FROM image)");
     relkvanu_store *store = opens_with(job_options(RELKVANU_STORE_EARLIER_IMAGE, IMAGE_CALLS));
@@ -209,7 +205,7 @@ static void forfeit_many(relkvanu_store *store) {
 }
 
 /* A large image waits until the log has several times its bytes, however many calls these are. */
-static void large_images(void) {
+CASE(large_images) {
     static relkvanu_store_call calls[RELKVANU_STORE_MOST_CALLS];
     relkvanu_store *store = opens_with(job_options(RELKVANU_STORE_CREATE, IMAGE_CALLS));
     save_many(store);
@@ -245,7 +241,7 @@ static void copy_file(const char *from, const char *to, long flip) {
 }
 
 /* A bit anywhere in the file either does not matter, or an opening stops. */
-static void any_damaged_byte(void) {
+CASE(any_damaged_byte) {
     relkvanu_store_options options = job_options(RELKVANU_STORE_RECOVER, RELKVANU_STORE_NO_IMAGES);
     unsigned opened = 0, stopped = 0;
     struct shadow shadow;
@@ -279,7 +275,7 @@ static void any_damaged_byte(void) {
 }
 
 /* Somebody replaces or deletes a file while the store is open. */
-static void replaced_files(void) {
+CASE(replaced_files) {
     static const char *const names[] = {"x.db", "x.db-wal"};
     for (size_t i = 0; i < 2; i++) {
         relkvanu_store_options options = job_options(RELKVANU_STORE_CREATE, RELKVANU_STORE_NO_IMAGES);
@@ -298,6 +294,3 @@ static void replaced_files(void) {
         relkvanu_store_close(store);
     }
 }
-
-const struct test damage_cases[] = {CASE(other_files), CASE(other_answers), CASE(other_names), CASE(damaged_rows), CASE(an_earlier_image),
-    CASE(log_behind_both_images), CASE(large_images), CASE(any_damaged_byte), CASE(replaced_files), {NULL, NULL}};

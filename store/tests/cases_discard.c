@@ -2,11 +2,6 @@
 #include "cases.h"
 
 #include <dirent.h>
-#include <errno.h>
-#include <fcntl.h>
-#include <pthread.h>
-#include <stdatomic.h>
-#include <unistd.h>
 
 struct discarding {
     pthread_t thread;
@@ -56,7 +51,7 @@ static void checkpoint_with_files(relkvanu_store *store, uint64_t file) {
     checkpoint(store, file);
 }
 
-static void deletes_and_reports(void) {
+CASE(deletes_and_reports) {
     relkvanu_store *store = opens_with(storage_options(RELKVANU_STORE_CREATE, 0));
     struct discarding d = {0}, second = {.store = store, .batch = 5};
     CHECK(relkvanu_store_discard(store, 4096, delete_files, &d) == RELKVANU_STORE_BAD_ARGUMENT, "a large batch");
@@ -74,7 +69,7 @@ static void deletes_and_reports(void) {
     relkvanu_store_close(store);
 }
 
-static void never_gives_up(void) {
+CASE(never_gives_up) {
     relkvanu_store *store = opens_with(storage_options(RELKVANU_STORE_CREATE, 0));
     struct discarding d = {0};
     d.stubborn = 7;
@@ -98,7 +93,7 @@ static void never_gives_up(void) {
 }
 
 /* A process ended between a take and its reports: one file is deleted, the other is not. */
-static void settles(void) {
+CASE(settles) {
     relkvanu_store *store = opens_with(storage_options(RELKVANU_STORE_CREATE, 0));
     uint64_t files[16];
     relkvanu_store_call take = {.call = {.kind = RELKVANU_CALL_TAKE, .number = 16}, .files = files, .files_len = 16};
@@ -118,7 +113,7 @@ static void settles(void) {
 }
 
 /* Without the marker a missing file is not gone. */
-static void without_marker(void) {
+CASE(without_marker) {
     relkvanu_store *store = opens_with(storage_options(RELKVANU_STORE_CREATE, 0));
     struct discarding d = {0};
     CHECK(renameat(relkvanu_store_folder(store), ".relkvanu-job", relkvanu_store_folder(store), "away") == 0, "marker");
@@ -142,7 +137,7 @@ static void write_marker(relkvanu_store *store, uint64_t job, uint64_t epoch) {
 }
 
 /* Another host has opened a copy of the job, or has given the folder to another job: nothing of it is deleted any more. */
-static void another_opening(void) {
+CASE(another_opening) {
     relkvanu_store *store = opens_with(storage_options(RELKVANU_STORE_CREATE, 0));
     struct discarding d = {.store = store, .batch = 16};
     size_t left;
@@ -181,7 +176,7 @@ static bool has_files(relkvanu_store *store, size_t files) {
 
 /* The job ends for a while, without a cancel. Its tasks were killed with names that they had reserved: what they wrote by these is garbage once the term has
  * ended, and not before. Then the folder has the files of the last checkpoint alone. */
-static void an_end_without_a_cancel(void) {
+CASE(an_end_without_a_cancel) {
     relkvanu_store_options options = storage_options(RELKVANU_STORE_CREATE, 0);
     relkvanu_store *store = opens(&options, RELKVANU_STORE_OK);
     size_t left;
@@ -209,7 +204,7 @@ static bool is_never_asked(void *with, const uint64_t *files, size_t len, uint8_
 }
 
 /* Each of these would wait for what only the end of the read can bring: so the first one waits for a second at most. */
-static void in_a_read(void) {
+CASE(in_a_read) {
     relkvanu_store *store = opens_with(storage_options(RELKVANU_STORE_CREATE, 0));
     struct discarding d = {.store = store, .batch = 5};
     relkvanu_store_call tick;
@@ -232,6 +227,3 @@ static void in_a_read(void) {
     CHECK(relkvanu_store_discard_for(store, 0, 1, NULL, NULL) == RELKVANU_STORE_TIMED_OUT, "after the read");
     relkvanu_store_close(store);
 }
-
-const struct test discard_cases[] = {CASE(deletes_and_reports), CASE(never_gives_up), CASE(settles), CASE(without_marker),
-    CASE(another_opening), CASE(an_end_without_a_cancel), CASE(in_a_read), {NULL, NULL}};

@@ -1,10 +1,6 @@
 /* Fences: what a claim, a recovery and an opening do to each other while one of them is under way. */
 #include "cases.h"
 
-#include <pthread.h>
-#include <sys/stat.h>
-#include <unistd.h>
-
 enum { MOMENT = 1000000 }; /* microseconds, in which a call that waits for nothing has ended */
 
 static relkvanu_store_options options_of(uint32_t flags) {
@@ -97,7 +93,7 @@ static void is_refused(struct call *opening) {
     opens(&options, RELKVANU_STORE_STORAGE);
 }
 
-static void a_claim_beside_an_opening(void) {
+CASE(a_claim_beside_an_opening) {
     struct call opening = {.status = 0};
     relkvanu_store_recovered recovered;
     holds_an_opening(&opening, "/a_claim_beside_an_opening");
@@ -107,7 +103,7 @@ static void a_claim_beside_an_opening(void) {
     has_record("apart/y.db", "apart/state", 1);
 }
 
-static void a_recovery_beside_an_opening(void) {
+CASE(a_recovery_beside_an_opening) {
     struct call opening = {.status = 0};
     relkvanu_store_recovered recovered;
     holds_an_opening(&opening, "/a_recovery_beside_an_opening");
@@ -162,7 +158,7 @@ static void goes_back_to_earlier(void) {
 }
 
 /* The second claim waits for the first, and does not take the earlier record then. */
-static void two_claims_at_once(void) {
+CASE(two_claims_at_once) {
     struct call one = {.status = 0}, other = {.status = 0};
     holds_a_claim(&one);
     begins(&other, claims, "apart/other.db", "apart/other");
@@ -180,7 +176,7 @@ static void two_claims_at_once(void) {
 }
 
 /* The recovery that has fenced the folder last has the records. */
-static void two_recoveries_at_once(void) {
+CASE(two_recoveries_at_once) {
     struct call one = {.status = 0};
     relkvanu_store_recovered recovered;
     relkvanu_store_close(new_job());
@@ -233,7 +229,7 @@ static void is_closed(relkvanu_store *store) {
 }
 
 /* Its engine hears of it with the next record, which is complete for nobody. */
-static void a_claim_beside_payloads(void) {
+CASE(a_claim_beside_payloads) {
     relkvanu_answer answer;
     relkvanu_store *store = claimed();
     CHECK(acks(store, 2, 0, &answer) == RELKVANU_STORE_STORAGE && answer.code == RELKVANU_STORE_NOT_MADE, "what %" PRIu32, answer.what);
@@ -255,7 +251,7 @@ static void *acks_last(void *with) {
 }
 
 /* The same of a caller who is not alone: another thread writes the manifest. */
-static void a_claim_beside_a_crowd(void) {
+CASE(a_claim_beside_a_crowd) {
     relkvanu_store *store = claimed();
     struct ack ack = {.store = store};
     begins_read(store);
@@ -268,7 +264,7 @@ static void a_claim_beside_a_crowd(void) {
 }
 
 /* A claim that fences the folder while a manifest is written, and has listed the others before: the record is complete for nobody. */
-static void a_claim_beside_a_manifest(void) {
+CASE(a_claim_beside_a_manifest) {
     relkvanu_store_recovered recovered;
     relkvanu_answer answer;
     struct ack ack = {.store = opens_with(options_of(RELKVANU_STORE_CREATE))};
@@ -307,7 +303,7 @@ static int copies_and_goes_on(void *with) {
 }
 
 /* A copy from the last opening has the number of that opening. The manifest of a later call proves that it is older, and the newer file stays the job. */
-static void a_copy_of_the_last_opening(void) {
+CASE(a_copy_of_the_last_opening) {
     CHECK(in_child(copies_and_goes_on, NULL) == 7, "a child");
     relkvanu_store_options options = options_of(RELKVANU_STORE_RECOVER);
     puts_aside("mv", "x.db", "new.db");
@@ -326,7 +322,7 @@ static void a_copy_of_the_last_opening(void) {
 }
 
 /* One digit of the identity in the marker is another one: the message says whose the records are. */
-static void a_marker_of_another_job(void) {
+CASE(a_marker_of_another_job) {
     char job[40], words[120], marker[200] = "";
     relkvanu_store_recovered recovered;
     relkvanu_store_close(new_job());
@@ -344,7 +340,3 @@ static void a_marker_of_another_job(void) {
               strstr(recovered.message, words) != NULL,
         "%s", recovered.message);
 }
-
-const struct test fence_cases[] = {CASE(a_claim_beside_an_opening), CASE(a_recovery_beside_an_opening), CASE(two_claims_at_once),
-    CASE(two_recoveries_at_once), CASE(a_claim_beside_payloads), CASE(a_claim_beside_a_crowd), CASE(a_claim_beside_a_manifest),
-    CASE(a_copy_of_the_last_opening), CASE(a_marker_of_another_job), {NULL, NULL}};

@@ -1,16 +1,11 @@
 /* State files by their numbers: put, deleted and swept. */
 #include "cases.h"
 
-#include <errno.h>
-#include <fcntl.h>
-#include <sys/stat.h>
-#include <unistd.h>
-
 static relkvanu_store *opened(void) {
     return opens_with(storage_options(RELKVANU_STORE_CREATE, 0));
 }
 
-static void put_and_read(void) {
+CASE(put_and_read) {
     relkvanu_store *store = opened();
     char found[16] = "";
     CHECK(
@@ -23,7 +18,7 @@ static void put_and_read(void) {
     relkvanu_store_close(store);
 }
 
-static void a_number_is_put_once(void) {
+CASE(a_number_is_put_once) {
     relkvanu_store *store = opened();
     struct stat found;
     CHECK(relkvanu_store_put(store, 7, "first", 5) == RELKVANU_STORE_OK, "put");
@@ -37,7 +32,7 @@ static void a_number_is_put_once(void) {
 }
 
 /* A file of more than 1000 bytes can't be written. */
-static void one_that_can_not_be_written(void) {
+CASE(one_that_can_not_be_written) {
     relkvanu_store *store = opened();
     static char contents[2000];
     limit_files(1000);
@@ -49,7 +44,7 @@ static void one_that_can_not_be_written(void) {
     relkvanu_store_close(store);
 }
 
-static void no_marker(void) {
+CASE(puts_without_marker) {
     relkvanu_store *store = opened();
     size_t left = 1;
     CHECK(rename(in("storage/.relkvanu-job"), in("marker")) == 0, "marker");
@@ -58,7 +53,7 @@ static void no_marker(void) {
     relkvanu_store_close(store);
 }
 
-static void no_storage(void) {
+CASE(puts_without_storage) {
     relkvanu_store *store = opens_with(job_options(RELKVANU_STORE_CREATE, 0));
     uint64_t file = 7;
     uint8_t is_gone = 1;
@@ -70,7 +65,7 @@ static void no_storage(void) {
     relkvanu_store_close(store);
 }
 
-static void deletes(void) {
+CASE(deletes) {
     relkvanu_store *store = opened();
     uint64_t files[] = {1, 2, 3, 4};
     uint8_t is_gone[4] = {0};
@@ -84,7 +79,7 @@ static void deletes(void) {
 }
 
 /* A job with files 100 to 115 in use, and 400 files that a task has written and not acknowledged. */
-static void sweeps(void) {
+CASE(sweeps) {
     relkvanu_store *store = opened();
     char name[PATHS];
     size_t left;
@@ -107,6 +102,3 @@ static void sweeps(void) {
     CHECK(exists("storage/notes") && exists("storage/0100") && exists("storage/9"), "other files");
     relkvanu_store_close(store);
 }
-
-const struct test file_cases[] = {CASE(put_and_read), CASE(a_number_is_put_once), CASE(one_that_can_not_be_written),
-    {"puts_without_marker", no_marker}, {"puts_without_storage", no_storage}, CASE(deletes), CASE(sweeps), {NULL, NULL}};

@@ -1,19 +1,14 @@
 /* A folder as a storage: its marker, files with any names, links, pages, and ends in the middle. And storages of an engine. */
 #include "cases.h"
 
-#include <errno.h>
-#include <fcntl.h>
 #include <linux/audit.h>
 #include <linux/filter.h>
 #include <linux/seccomp.h>
-#include <pthread.h>
 #include <signal.h>
 #include <stddef.h>
 #include <sys/prctl.h>
-#include <sys/stat.h>
 #include <sys/syscall.h>
 #include <sys/wait.h>
-#include <unistd.h>
 
 static bool has(const char *name) {
     struct stat found;
@@ -83,7 +78,7 @@ static struct found listed(const relkvanu_storage *it, size_t most) {
     return found;
 }
 
-static void a_marker_names_the_job(void) {
+CASE(a_marker_names_the_job) {
     relkvanu_storage_options new = state_of("orders"), again = new, other = state_of("others");
     char text[80] = "";
     again.flags = RELKVANU_STORAGE_RECOVER;
@@ -104,7 +99,7 @@ static void a_marker_names_the_job(void) {
     opens_as(&again, RELKVANU_STORAGE_NOT_THERE);
 }
 
-static void a_new_job_needs_an_empty_folder(void) {
+CASE(a_new_job_needs_an_empty_folder) {
     relkvanu_storage_options new = state_of("orders");
     write_text("state/notes", "");
     write_text("state/7.part", "");
@@ -117,7 +112,7 @@ static void a_new_job_needs_an_empty_folder(void) {
     CHECK(has("state/.relkvanu-storage") && !has("state/.relkvanu-storage.part"), "no marker");
 }
 
-static void bad_arguments(void) {
+CASE(bad_arguments_of_a_folder) {
     relkvanu_storage_options good = state_of("orders"), bad[12];
     char longest[RELKVANU_STORAGE_MOST_AFFIX + 2] = "";
     memset(longest, 'x', RELKVANU_STORAGE_MOST_AFFIX + 1);
@@ -141,7 +136,7 @@ static void bad_arguments(void) {
     relkvanu_storage_close_folder(&storage);
 }
 
-static void files_of_a_folder(void) {
+CASE(files_of_a_folder) {
     relkvanu_storage it = opened(NULL, NULL);
     uint64_t files[] = {UINT64_MAX, 0, 5, 6, 8}, len = 0;
     uint8_t outcomes[5];
@@ -165,7 +160,7 @@ static void files_of_a_folder(void) {
 }
 
 /* A file of more than 1000 bytes can't be written. */
-static void one_that_can_not_be_put(void) {
+CASE(one_that_can_not_be_put) {
     relkvanu_storage it = opened(NULL, NULL);
     static char contents[2000];
     limit_files(1000);
@@ -198,7 +193,7 @@ static const int SYNC_ERRORS[] = {EIO, ENOSPC, EDQUOT, EROFS, EPERM, EACCES, EBA
 enum { SYNC_ERRORS_LEN = sizeof SYNC_ERRORS / sizeof *SYNC_ERRORS };
 
 /* Of all errors of a sync one is taken: EINVAL, of a folder. A file system that can't sync a folder says so. */
-static void syncs_that_fail(void) {
+CASE(syncs_that_fail) {
     relkvanu_storage it = opened(NULL, NULL);
     uint64_t file = 7;
     uint8_t outcome = 9;
@@ -217,7 +212,7 @@ static void syncs_that_fail(void) {
 }
 
 /* Nor is a storage begun, unless the file system syncs no folder at all. */
-static void a_marker_that_is_not_synced(void) {
+CASE(a_marker_that_is_not_synced) {
     relkvanu_storage_options new = state_of("orders");
     for (int i = 0; i < SYNC_ERRORS_LEN; i++) {
         fail_syncs("/state", SYNC_ERRORS[i]);
@@ -246,7 +241,7 @@ static void die_at_renames(void) {
 }
 
 /* A put that is killed between its write and its rename leaves a file that is listed and deleted, and that no other put overwrites. */
-static void killed_before_the_rename(void) {
+CASE(killed_before_the_rename) {
     relkvanu_storage it = opened("s-", ".bin");
     uint64_t file = 7;
     uint8_t outcome;
@@ -269,7 +264,7 @@ static void killed_before_the_rename(void) {
     relkvanu_storage_close_folder(&it);
 }
 
-static void links_are_not_followed(void) {
+CASE(links_are_not_followed) {
     relkvanu_storage it = opened(NULL, NULL);
     uint64_t file = 7, len;
     uint8_t outcome;
@@ -302,7 +297,7 @@ static void refuses_all(const relkvanu_storage *it, int status) {
         outcomes[1]);
 }
 
-static void the_marker_of_another_job(void) {
+CASE(the_marker_of_another_job) {
     relkvanu_storage it = opened(NULL, NULL);
     puts_file(&it, 7, "state", RELKVANU_STORAGE_OK);
     CHECK(rename(in("state/.relkvanu-storage"), in("marker")) == 0, "the marker");
@@ -315,7 +310,7 @@ static void the_marker_of_another_job(void) {
 }
 
 /* It stays open, so another one at its path is not reached. */
-static void the_folder_is_removed(void) {
+CASE(the_folder_is_removed) {
     relkvanu_storage it = opened(NULL, NULL);
     struct found found = {.pages = 0};
     puts_file(&it, 7, "state", RELKVANU_STORAGE_OK);
@@ -338,7 +333,7 @@ static void the_folder_is_removed(void) {
     relkvanu_storage_close_folder(&it);
 }
 
-static void names_with_unusual_bytes(void) {
+CASE(names_with_unusual_bytes) {
     static const char *const others[] = {"state/a b\n\xff%s-07\x01\"", "state/a b\n\xff%s-+7\x01\"",
         "state/a b\n\xff%s-18446744073709551616\x01\"", "state/a b\n\xff%s-\x01\"", "state/a b\n\xff%s-7\x01\".part.part", "state/7",
         "state/a b\n\xff%s-7", "state/7\x01\"", "state/a b\n\xff%s- 7\x01\""};
@@ -364,7 +359,7 @@ static void names_with_unusual_bytes(void) {
 }
 
 /* A prefix and a suffix of digits: no name has two numbers. */
-static void names_with_digits(void) {
+CASE(names_with_digits) {
     relkvanu_storage it = opened("1", "0");
     puts_file(&it, 7, "", RELKVANU_STORAGE_OK);
     puts_file(&it, 10, "", RELKVANU_STORAGE_OK);
@@ -375,7 +370,7 @@ static void names_with_digits(void) {
     relkvanu_storage_close_folder(&it);
 }
 
-static void pages_of_a_listing(void) {
+CASE(pages_of_a_listing) {
     relkvanu_storage it = opened(NULL, NULL);
     char name[PATHS];
     struct found ended = {.ends_after = 2};
@@ -431,7 +426,7 @@ static void *lists_many(void *with) {
     return NULL;
 }
 
-static void threads_share_a_folder(void) {
+CASE(threads_share_a_folder) {
     relkvanu_storage it = opened(NULL, NULL);
     struct worker workers[] = {{&it, 100}, {&it, 200}, {&it, 0}, {&it, 0}};
     pthread_t threads[4];
@@ -447,9 +442,3 @@ static void threads_share_a_folder(void) {
     CHECK(it.list(it.with, 10, delete_page, &it) == RELKVANU_STORAGE_OK && listed(&it, 0).all == 0, "deletions in a listing");
     relkvanu_storage_close_folder(&it);
 }
-
-const struct test folder_cases[] = {CASE(a_marker_names_the_job), CASE(a_new_job_needs_an_empty_folder),
-    {"bad_arguments_of_a_folder", bad_arguments}, CASE(files_of_a_folder), CASE(one_that_can_not_be_put), CASE(syncs_that_fail),
-    CASE(a_marker_that_is_not_synced), CASE(killed_before_the_rename), CASE(links_are_not_followed), CASE(the_marker_of_another_job),
-    CASE(the_folder_is_removed), CASE(names_with_unusual_bytes), CASE(names_with_digits), CASE(pages_of_a_listing),
-    CASE(threads_share_a_folder), {NULL, NULL}};

@@ -3,11 +3,6 @@
 
 #include "../src/store.h"
 
-#include <errno.h>
-#include <pthread.h>
-#include <stdatomic.h>
-#include <unistd.h>
-
 /* A caller with a thread of its own. Without calls it reads, or it is a timer. */
 struct caller {
     pthread_t thread;
@@ -93,7 +88,7 @@ static relkvanu_store *opens_with_manifests(void) {
 }
 
 /* Acknowledgements of other records and reservations are answered. Who completed the record, who reads and who begins a record is answered behind the manifest. */
-static void others_go_on(void) {
+CASE(others_go_on) {
     relkvanu_store *store = opens_with_manifests();
     uint64_t id = nearly_all(store, trigger(store)), other = savepoint(store);
     struct caller completes = {.store = store, .call = ack(id, SUBTASKS - 1)}, reads = {.store = store, .reads = true},
@@ -122,7 +117,7 @@ static void others_go_on(void) {
 }
 
 /* A checkpoint that somebody asks for by hand: he waits for the manifest, and the timer that is told of it, since both are told of the choice. Nobody else does. */
-static void a_trigger_by_hand(void) {
+CASE(a_trigger_by_hand) {
     relkvanu_store_options options = storage_options(RELKVANU_STORE_CREATE | RELKVANU_STORE_MANIFESTS, 0);
     options.settings.interval = 1 << 30; /* so that no tick is due */
     relkvanu_store *store = opens(&options, RELKVANU_STORE_OK);
@@ -155,7 +150,7 @@ static void a_trigger_by_hand(void) {
 }
 
 /* Submits are answered in their order. A close waits for the manifest. */
-static void submits_keep_their_order(void) {
+CASE(submits_keep_their_order) {
     relkvanu_store *store = opens_with_manifests();
     uint64_t id = nearly_all(store, savepoint(store)), other = savepoint(store);
     relkvanu_store_call last = ack(id, SUBTASKS - 1), more = ack(other, 0), again = ack(other, 1);
@@ -182,7 +177,7 @@ static void submits_keep_their_order(void) {
 }
 
 /* The next completion is committed only behind the manifest of the one before: manifests are at most one record behind the log. */
-static void one_record_behind(void) {
+CASE(one_record_behind) {
     relkvanu_store *store = opens_with_manifests();
     uint64_t id = nearly_all(store, savepoint(store)), other = nearly_all(store, savepoint(store));
     struct caller one = {.store = store, .call = ack(id, SUBTASKS - 1)}, two = {.store = store, .call = ack(other, SUBTASKS - 1)};
@@ -203,7 +198,7 @@ static void one_record_behind(void) {
 }
 
 /* A manifest that can't be written beside others is counted, and written later; one of a record that ended goes then. */
-static void manifests_that_fail_beside(void) {
+CASE(manifests_that_fail_beside) {
     relkvanu_store *store = opens_with_manifests();
     makes(store, ack(nearly_all(store, savepoint(store)), SUBTASKS - 1));
     uint64_t next = nearly_all(store, trigger(store));
@@ -221,7 +216,7 @@ static void manifests_that_fail_beside(void) {
 }
 
 /* The manifest of a checkpoint goes when the next one has its own, which is written beside others. */
-static void ended_manifests_go_beside(void) {
+CASE(ended_manifests_go_beside) {
     relkvanu_store *store = opens_with_manifests();
     for (uint64_t id = 1; id <= 3; id++) {
         CHECK(nearly_all(store, trigger(store)) == id, "the number");
@@ -235,7 +230,7 @@ static void ended_manifests_go_beside(void) {
 }
 
 /* The thread reads the files of a record while others call. */
-static void checksums_beside(void) {
+CASE(checksums_beside) {
     relkvanu_store *store = opens_with_manifests();
     relkvanu_answer names;
     relkvanu_store_close(store);
@@ -258,6 +253,3 @@ static void checksums_beside(void) {
     CHECK(strstr(text, ":9},\"sums\":[\"cbf43926\"]}") != NULL, "%s", text); /* the check value of CRC-32 */
     relkvanu_store_close(store);
 }
-
-const struct test keeper_cases[] = {CASE(others_go_on), CASE(a_trigger_by_hand), CASE(submits_keep_their_order), CASE(one_record_behind),
-    CASE(manifests_that_fail_beside), CASE(ended_manifests_go_beside), CASE(checksums_beside), {NULL, NULL}};

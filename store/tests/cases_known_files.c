@@ -1,11 +1,7 @@
 /* Checksums of files in manifests: how they come there, what they find, and that they go along wherever a record goes. */
 #include "cases.h"
 
-#include <errno.h>
-#include <fcntl.h>
-#include <sys/stat.h>
 #include <sys/syscall.h>
-#include <unistd.h>
 
 /* The check value of CRC-32, as its published descriptions have it: of these nine bytes. */
 static const char CONTENTS[] = "123456789", SUM[] = "cbf43926";
@@ -87,7 +83,7 @@ static void is_fault(size_t nth, uint64_t record, uint64_t file, uint32_t fault)
 }
 
 /* They are in manifests if the engine asks for them, and not without manifests. */
-static void checksums_of_files(void) {
+CASE(checksums_of_files) {
     uint64_t first;
     char words[64];
     relkvanu_store_options options = storage_options(RELKVANU_STORE_CREATE | RELKVANU_STORE_CHECKSUMS, 0);
@@ -103,7 +99,7 @@ static void checksums_of_files(void) {
 }
 
 /* What is wrong with a file is told by its number. Without reading it only another length is seen. */
-static void files_that_changed(void) {
+CASE(files_that_changed) {
     uint64_t first;
     relkvanu_store *store = opens_new();
     completes(store, RELKVANU_CALL_TRIGGER, 0, &first);
@@ -122,7 +118,7 @@ static void files_that_changed(void) {
 }
 
 /* A file is read once: a later record, a later opening, and a job that is made again keep the checksum from before. */
-static void kept_checksums(void) {
+CASE(kept_checksums) {
     uint64_t first, later, saved;
     relkvanu_store_recovered recovered;
     relkvanu_store *store = opens_new();
@@ -161,7 +157,7 @@ static void is_lost(relkvanu_store *store, uint64_t file, const char *words) {
 }
 
 /* A file that was cut, or lost and cut, stays lost: no opening and no later record that reuses it takes its length anew. */
-static void kept_lengths(void) {
+CASE(kept_lengths) {
     uint64_t first, later;
     relkvanu_store_recovered recovered;
     relkvanu_store *store = opens_with(storage_options(RELKVANU_STORE_CREATE | RELKVANU_STORE_MANIFESTS, 0));
@@ -188,7 +184,7 @@ static void kept_lengths(void) {
 }
 
 /* A backup whose choice has a file that was cut since begins from a savepoint that is whole. */
-static void a_backup_of_a_cut_file(void) {
+CASE(a_backup_of_a_cut_file) {
     uint64_t first, saved;
     relkvanu_store_recovered recovered;
     relkvanu_store *store = opens_with(storage_options(RELKVANU_STORE_CREATE | RELKVANU_STORE_MANIFESTS, 0));
@@ -206,7 +202,7 @@ static void a_backup_of_a_cut_file(void) {
 }
 
 /* Manifests from before have none. They get them at the next opening that asks for them. */
-static void manifests_without_checksums(void) {
+CASE(manifests_without_checksums) {
     uint64_t first;
     relkvanu_store *store = opens_with(storage_options(RELKVANU_STORE_CREATE | RELKVANU_STORE_MANIFESTS, 0));
     completes(store, RELKVANU_CALL_SAVEPOINT, 0, &first);
@@ -222,7 +218,7 @@ static void manifests_without_checksums(void) {
 }
 
 /* A file that can't be read has none, and the calls go on. */
-static void a_file_that_is_not_there(void) {
+CASE(a_file_that_is_not_there) {
     uint64_t first;
     relkvanu_store *store = opens_new();
     relkvanu_answer names, answer, triggered = done(store, RELKVANU_CALL_TRIGGER, RELKVANU_STORE_NOW, 0);
@@ -244,7 +240,7 @@ static void a_file_that_is_not_there(void) {
 }
 
 /* A copy is compared, a link is not read. What is made has the checksums. */
-static void carried_checksums(void) {
+CASE(carried_checksums) {
     uint64_t first;
     char words[64];
     relkvanu_store_carried carried;
@@ -274,7 +270,7 @@ static void carried_checksums(void) {
 }
 
 /* More files than are remembered at first, most of which are gone later. */
-static void many_checksums(void) {
+CASE(many_checksums) {
     uint64_t first = 0, kept = 0;
     relkvanu_store *store = opens_new();
     for (int nth = 0; nth < 300; nth++) {
@@ -296,7 +292,7 @@ static bool ends_at_once(void *with, uint64_t record, uint64_t file, uint32_t fa
     return false;
 }
 
-static void a_look_that_ends(void) {
+CASE(a_look_that_ends) {
     uint64_t first;
     relkvanu_store *store = opens_new();
     completes(store, RELKVANU_CALL_TRIGGER, 0, &first);
@@ -308,7 +304,3 @@ static void a_look_that_ends(void) {
         "no folder");
     relkvanu_store_close(store);
 }
-
-const struct test known_file_cases[] = {CASE(checksums_of_files), CASE(files_that_changed), CASE(kept_checksums), CASE(kept_lengths),
-    CASE(a_backup_of_a_cut_file), CASE(manifests_without_checksums), CASE(a_file_that_is_not_there), CASE(carried_checksums),
-    CASE(many_checksums), CASE(a_look_that_ends), {NULL, NULL}};

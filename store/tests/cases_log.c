@@ -2,10 +2,6 @@
  * power has torn is no damage. */
 #include "cases.h"
 
-#include <fcntl.h>
-#include <sys/stat.h>
-#include <unistd.h>
-
 enum { CALLS = 400, LIST = 20, PAGE = 4096, WAL_HEADER = 32, FRAME_HEADER = 24, FRAME = FRAME_HEADER + PAGE, MOST = 1 << 22 };
 
 /* A file of the job as it was. */
@@ -98,7 +94,7 @@ static void free_all(struct kept all[3]) {
 }
 
 /* Some bits of the headers, and of what is in the pages. The 400 calls are in several commits of the last part of the log. */
-static void any_bit_of_the_wal(void) {
+CASE(any_bit_of_the_wal) {
     struct kept all[3];
     struct tried tried = {0};
     CHECK(in_child(reserves, NULL) == 7, "the job");
@@ -121,7 +117,7 @@ static int reopens(void *with) {
     _exit(7);
 }
 
-static void any_bit_of_a_page_header(void) {
+CASE(any_bit_of_a_page_header) {
     struct kept all[3];
     struct tried tried = {0};
     CHECK(in_child(reserves, NULL) == 7 && in_child(reopens, NULL) == 7, "the job");
@@ -170,7 +166,7 @@ static int fills_the_wal(void *with) {
 }
 
 /* A bit of a page that is not the last one's does not lose calls silently, even if nobody knows how many were answered. */
-static void damage_without_a_tail(void) {
+CASE(damage_without_a_tail) {
     struct kept all[3];
     relkvanu_store_options options = job_options(RELKVANU_STORE_RECOVER, RELKVANU_STORE_NO_IMAGES);
     uint64_t made = (uint64_t)in_child(fills_the_wal, NULL);
@@ -218,7 +214,7 @@ static uint64_t calls_of_cut(struct kept all[3], const struct kept *lock, size_t
 }
 
 /* 300 cuts within the last commit, which nobody was told of, and each of its frames lost. None is damage. Once its callers were told, each is. */
-static void torn_last_commits(void) {
+CASE(torn_last_commits) {
     struct kept all[3], before;
     size_t begin, end;
     CHECK(in_child(makes_torn, NULL) == 7, "the job");
@@ -246,7 +242,7 @@ static void torn_last_commits(void) {
 }
 
 /* The tail is of one file: another one in its place, with fewer calls, is no damage. An older state of the same one is. */
-static void an_older_file(void) {
+CASE(an_older_file) {
     relkvanu_store_options options = job_options(RELKVANU_STORE_CREATE, RELKVANU_STORE_NO_IMAGES);
     struct kept older;
     relkvanu_store *store = opens(&options, RELKVANU_STORE_OK);
@@ -268,7 +264,7 @@ static void an_older_file(void) {
 }
 
 /* A tail whose own sum does not fit says nothing. */
-static void a_damaged_tail(void) {
+CASE(a_damaged_tail) {
     struct kept lock;
     relkvanu_store *store = opens_with(job_options(RELKVANU_STORE_CREATE, RELKVANU_STORE_NO_IMAGES));
     reserve_list(store, LIST);
@@ -282,6 +278,3 @@ static void a_damaged_tail(void) {
     CHECK(report.next_name == LIST * 10 + 1, "next name %" PRIu64, report.next_name);
     free(lock.bytes);
 }
-
-const struct test log_cases[] = {CASE(any_bit_of_the_wal), CASE(any_bit_of_a_page_header), CASE(damage_without_a_tail),
-    CASE(torn_last_commits), CASE(an_older_file), CASE(a_damaged_tail), {NULL, NULL}};

@@ -2,13 +2,8 @@
 #include "cases.h"
 
 #include <dlfcn.h>
-#include <errno.h>
-#include <pthread.h>
-#include <stdatomic.h>
-#include <sys/stat.h>
 #include <sys/syscall.h>
 #include <time.h>
-#include <unistd.h>
 
 enum { RELEASED = 2 * SUBTASKS, ASKS = 6 };
 
@@ -60,7 +55,7 @@ static void stop(struct discarding *d) {
 }
 
 /* It waits longer after each failure: 0.1, 0.2, 0.4 and 0.8 seconds. A busy machine only makes that longer. */
-static void waits_grow(void) {
+CASE(waits_grow) {
     struct discarding d = {.is_gone = false};
     start(&d);
     run(&d);
@@ -73,7 +68,7 @@ static void waits_grow(void) {
 }
 
 /* After a sync of the folder that failed no deletion is reported, and all are after one that did not. */
-static void unsynced_deletions(void) {
+CASE(unsynced_deletions) {
     struct discarding d = {.is_gone = true};
     start(&d);
     fail_syncs("/storage", EIO);
@@ -91,7 +86,7 @@ static void take_marker(struct discarding *d) {
 }
 
 /* The marker goes while the files are deleted: it may be another folder, so none is reported, and they wait again. */
-static void marker_goes_during_deletions(void) {
+CASE(marker_goes_during_deletions) {
     struct discarding d = {.is_gone = true, .meanwhile = take_marker};
     start(&d);
     run(&d);
@@ -113,7 +108,7 @@ int unlinkat(int folder, const char *name, int flags) {
 }
 
 /* The same of a storage of a folder. */
-static void marker_of_a_storage_goes(void) {
+CASE(marker_of_a_storage_goes) {
     const char *path = in("state");
     uint64_t files[] = {1, 2, 3};
     uint8_t out[3];
@@ -149,7 +144,7 @@ int sqlite3_exec(sqlite3 *db, const char *sql, int (*row)(void *, int, char **, 
 }
 
 /* A copy that is damaged is no backup, and neither is one that is not synced. */
-static void bad_copies(void) {
+CASE(bad_copies) {
     char words[RELKVANU_STORE_MESSAGE];
     relkvanu_store *store = opens_with(job_options(RELKVANU_STORE_CREATE, 0));
     is_damaged = true;
@@ -182,7 +177,7 @@ static void refuse_opening(const relkvanu_store_options *options, const char *un
 }
 
 /* An opening writes what a killed process left in the -wal again, and opens nothing if that, or the name of a new file, is not synced. */
-static void unsynced_opening(void) {
+CASE(unsynced_opening) {
     relkvanu_store_options options = job_options(RELKVANU_STORE_CREATE, 0);
     refuse_opening(&options, "/unsynced_opening");
     CHECK(in_child(leave_wal, &options) == 7, "a child");
@@ -223,7 +218,7 @@ int fdatasync(int fd) {
 }
 
 /* A commit whose sync failed is not tried again, however patient the store is: the system may have dropped the pages. */
-static void unsynced_commit(void) {
+CASE(unsynced_commit) {
     relkvanu_store_options options = job_options(RELKVANU_STORE_CREATE, 0);
     options.patience = 2000;
     relkvanu_store *store = opens(&options, RELKVANU_STORE_OK);
@@ -238,7 +233,7 @@ static void unsynced_commit(void) {
 }
 
 /* A commit that finds no room is tried again, with all calls of the group: of more rows than one statement has. */
-static void commit_without_room(void) {
+CASE(commit_without_room) {
     enum { CALLS = 70 };
     static relkvanu_store_call calls[CALLS];
     relkvanu_store_options options = job_options(RELKVANU_STORE_CREATE, RELKVANU_STORE_NO_IMAGES);
@@ -256,7 +251,3 @@ static void commit_without_room(void) {
     CHECK(report.replayed == CALLS, "%" PRIu64 " calls", report.replayed);
     relkvanu_store_close(store);
 }
-
-const struct test look_cases[] = {CASE(waits_grow), CASE(unsynced_deletions), CASE(marker_goes_during_deletions),
-    CASE(marker_of_a_storage_goes), CASE(bad_copies), CASE(unsynced_opening), CASE(unsynced_commit), CASE(commit_without_room),
-    {NULL, NULL}};

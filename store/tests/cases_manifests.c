@@ -2,13 +2,7 @@
 #include "cases.h"
 
 #include <dirent.h>
-#include <errno.h>
-#include <fcntl.h>
-#include <pthread.h>
-#include <stdatomic.h>
-#include <sys/stat.h>
 #include <time.h>
-#include <unistd.h>
 
 static char message[RELKVANU_STORE_MESSAGE];
 static relkvanu_store_recovered recovered;
@@ -91,7 +85,7 @@ static void check_manifest(uint64_t id, uint64_t file) {
 }
 
 /* The manifest is there when a record is complete, and goes when it ends. */
-static void manifests_of_records(void) {
+CASE(manifests_of_records) {
     relkvanu_store *store = opens_with(manifests(RELKVANU_STORE_CREATE));
     uint64_t first = 0;
     CHECK(completes(store, 1, RELKVANU_CALL_TRIGGER, &first) == 1, "the number");
@@ -112,7 +106,7 @@ static void manifests_of_records(void) {
 }
 
 /* Without the flag there is none, and a sweep deletes those of earlier openings. */
-static void manifests_are_asked_for(void) {
+CASE(manifests_are_asked_for) {
     relkvanu_store_options options = manifests(RELKVANU_STORE_CREATE);
     size_t left = 1;
     relkvanu_store *store = opens(&options, RELKVANU_STORE_OK);
@@ -132,7 +126,7 @@ static void manifests_are_asked_for(void) {
 }
 
 /* What a sweep takes for manifests of ended records, and what it leaves. */
-static void a_sweep_of_manifests(void) {
+CASE(a_sweep_of_manifests) {
     static const char *const foreign[] = {"record-7", "record-07.manifest", "record-.manifest", "record-7.manifest.old", "manifest"};
     static const char *const stale[] = {"record-7.manifest", "record-7.manifest.part", "record-1.manifest.part"};
     size_t left = 1;
@@ -154,7 +148,7 @@ static void a_sweep_of_manifests(void) {
 }
 
 /* A manifest that can't be written stops no call, and is written later. */
-static void manifests_that_fail(void) {
+CASE(manifests_that_fail) {
     relkvanu_store *store = opens_with(manifests(RELKVANU_STORE_CREATE));
     completes(store, 1, RELKVANU_CALL_TRIGGER, NULL);
     fail_syncs("/record-2.manifest.part", EIO);
@@ -216,7 +210,7 @@ static void goes_on(relkvanu_store *store, uint64_t number, uint64_t term, uint6
 }
 
 /* The file is lost after a checkpoint, beside one that is pending. What comes back later is refused. */
-static void a_lost_job(void) {
+CASE(a_lost_job) {
     relkvanu_store_options options = manifests(RELKVANU_STORE_CREATE);
     relkvanu_store *store = opens(&options, RELKVANU_STORE_OK);
     uint64_t first = 0, id = completes(store, 1, RELKVANU_CALL_TRIGGER, &first);
@@ -250,7 +244,7 @@ static void a_lost_job(void) {
 }
 
 /* It can't be marked before the record is chosen, and is marked once the job is there. */
-static void a_folder_that_was_full(void) {
+CASE(a_folder_that_was_full) {
     relkvanu_store_options options = manifests(RELKVANU_STORE_CREATE);
     relkvanu_store *store = opens(&options, RELKVANU_STORE_OK);
     uint64_t first = 0;
@@ -267,7 +261,7 @@ static void a_folder_that_was_full(void) {
 }
 
 /* A second loss, also before the recovered job was opened. */
-static void lost_again(void) {
+CASE(lost_again) {
     relkvanu_store *store = opens_with(manifests(RELKVANU_STORE_CREATE));
     uint64_t first = 0, id = completes(store, 1, RELKVANU_CALL_TRIGGER, &first);
     lose_job_of(store);
@@ -287,7 +281,7 @@ static void lost_again(void) {
 }
 
 /* Why there is nothing to make a job of. Nothing changes then. */
-static void nothing_to_recover(void) {
+CASE(nothing_to_recover) {
     uint64_t first = 0;
     recovers(0, RELKVANU_STORE_STORAGE); /* no marker */
     relkvanu_store *store = opens_with(manifests(RELKVANU_STORE_CREATE));
@@ -316,7 +310,7 @@ static void nothing_to_recover(void) {
 }
 
 /* Each byte of a manifest is looked at. */
-static void damaged_manifests(void) {
+CASE(damaged_manifests) {
     relkvanu_store *store = opens_with(manifests(RELKVANU_STORE_CREATE));
     struct stat is;
     completes(store, 1, RELKVANU_CALL_SAVEPOINT, NULL);
@@ -348,7 +342,7 @@ static void damaged_manifests(void) {
 }
 
 /* A later version wrote the manifest, far above what the others say was told. One that is earlier than the choice says nothing of it. */
-static void manifests_that_cannot_be_read(void) {
+CASE(manifests_that_cannot_be_read) {
     relkvanu_store *store = opens_with(manifests(RELKVANU_STORE_CREATE));
     uint64_t id = completes(store, 1, RELKVANU_CALL_SAVEPOINT, NULL) + 1;
     CHECK(completes(store, 1, RELKVANU_CALL_TRIGGER, NULL) == id, "the number");
@@ -370,7 +364,7 @@ static void manifests_that_cannot_be_read(void) {
 }
 
 /* What has the name that a new file had in earlier versions may be a job. */
-static void a_job_beside_a_recovery(void) {
+CASE(a_job_beside_a_recovery) {
     relkvanu_store *store = opens_with(manifests(RELKVANU_STORE_CREATE));
     completes(store, 1, RELKVANU_CALL_TRIGGER, NULL);
     lose_job_of(store);
@@ -381,7 +375,7 @@ static void a_job_beside_a_recovery(void) {
 }
 
 /* A process that was told to end may not have ended. It puts nothing more once the record is chosen, also if the recovery then comes to an end. */
-static void a_recovery_fences_first(void) {
+CASE(a_recovery_fences_first) {
     relkvanu_store *store = opens_with(manifests(RELKVANU_STORE_CREATE));
     completes(store, 1, RELKVANU_CALL_TRIGGER, NULL);
     CHECK(relkvanu_store_recover(in("z.db"), in("storage"), 9, &recovered) == RELKVANU_STORE_ABSENT, "%s", recovered.message);
@@ -395,7 +389,7 @@ static void a_recovery_fences_first(void) {
 }
 
 /* No marker is one that is absent, and not one that can't be read: then the record of another job might be taken. */
-static void a_marker_that_cannot_be_read(void) {
+CASE(a_marker_that_cannot_be_read) {
     relkvanu_store *store = opens_with(manifests(RELKVANU_STORE_CREATE));
     relkvanu_store_carried carried;
     completes(store, 1, RELKVANU_CALL_TRIGGER, NULL);
@@ -409,7 +403,7 @@ static void a_marker_that_cannot_be_read(void) {
 }
 
 /* Savepoints live on, with the files that they share, and with another shape. */
-static void savepoints_live_on(void) {
+CASE(savepoints_live_on) {
     const uint64_t shape[] = {2, 3};
     relkvanu_store *store = opens_with(manifests(RELKVANU_STORE_CREATE));
     relkvanu_store_call call = {.call = {.kind = RELKVANU_CALL_RESTORE, .now = RELKVANU_STORE_NOW}, .first = shape, .first_len = 2};
@@ -443,7 +437,7 @@ static void savepoints_live_on(void) {
 }
 
 /* A job that was rolled back begins again from the savepoint, although a checkpoint completed after it. */
-static void a_rolled_back_job(void) {
+CASE(a_rolled_back_job) {
     relkvanu_store *store = opens_with(manifests(RELKVANU_STORE_CREATE));
     uint64_t first = 0, savepoint = completes(store, 1, RELKVANU_CALL_SAVEPOINT, &first);
     completes(store, 1, RELKVANU_CALL_TRIGGER, NULL);
@@ -462,7 +456,7 @@ static void a_rolled_back_job(void) {
 }
 
 /* Numbers of records that failed were told, too. */
-static void numbers_that_failed(void) {
+CASE(numbers_that_failed) {
     relkvanu_store *store = opens_with(manifests(RELKVANU_STORE_CREATE));
     uint64_t id = completes(store, 1, RELKVANU_CALL_TRIGGER, NULL), last = 0;
     for (int i = 0; i < 1100; i++) {
@@ -481,7 +475,7 @@ static void numbers_that_failed(void) {
 }
 
 /* A record of another job in the folder is none of this one's. */
-static void another_jobs_manifest(void) {
+CASE(another_jobs_manifest) {
     relkvanu_store *store = opens_with(manifests(RELKVANU_STORE_CREATE));
     completes(store, 1, RELKVANU_CALL_TRIGGER, NULL);
     relkvanu_store_close(store);
@@ -521,7 +515,7 @@ static bool has_bytes(const char *folder, uint64_t file, off_t len) {
 }
 
 /* The folder that is made has the record, whatever the job deletes then. */
-static void an_export(void) {
+CASE(an_export) {
     size_t left;
     relkvanu_store *store = opens_with(manifests(RELKVANU_STORE_CREATE));
     uint64_t first = 0, savepoint = completes(store, 1, RELKVANU_CALL_SAVEPOINT, NULL),
@@ -575,7 +569,7 @@ static bool exports_in_time(const char *to) {
 }
 
 /* Manifests end while the folder is listed: an export has the last record that was complete when it began, or a later one, and no savepoint before it. */
-static void an_export_beside_a_job(void) {
+CASE(an_export_beside_a_job) {
     relkvanu_store *store = opens_with(manifests(RELKVANU_STORE_CREATE));
     completes(store, 1, RELKVANU_CALL_SAVEPOINT, NULL);
     latest = completes(store, 1, RELKVANU_CALL_TRIGGER, NULL);
@@ -604,7 +598,7 @@ static relkvanu_store *opens_other(void) {
 }
 
 /* Another job of a record, while the first one runs. Each goes its own way. */
-static void an_import(void) {
+CASE(an_import) {
     relkvanu_store *store = opens_with(manifests(RELKVANU_STORE_CREATE));
     uint64_t first = 0, job[2], id = completes(store, 1, RELKVANU_CALL_TRIGGER, &first);
     memcpy(job, report.job, sizeof job);
@@ -627,7 +621,7 @@ static void an_import(void) {
 }
 
 /* An import that ended between its two halves goes on; the folder of another job is left alone. */
-static void an_import_that_goes_on(void) {
+CASE(an_import_that_goes_on) {
     relkvanu_store *store = opens_with(manifests(RELKVANU_STORE_CREATE));
     uint64_t first = 0, id = completes(store, 1, RELKVANU_CALL_TRIGGER, &first);
     exports(0, "out", RELKVANU_STORE_OK);
@@ -652,7 +646,7 @@ static void claims(const char *from, uint64_t record, const char *folder, int st
 }
 
 /* The files leave, but for those of another record, and a process that still has the old job puts nothing more. */
-static void a_claim(void) {
+CASE(a_claim) {
     relkvanu_store_options options = manifests(RELKVANU_STORE_CREATE);
     relkvanu_store *store = opens(&options, RELKVANU_STORE_OK);
     uint64_t first = 0, shared = 0, savepoint = completes(store, 1, RELKVANU_CALL_SAVEPOINT, &shared);
@@ -684,7 +678,7 @@ static void a_claim(void) {
 }
 
 /* A manifest that can't be read may be of the latest record, so nothing is made of an earlier one, unless it is given by its number. */
-static void a_latest_manifest_that_is_damaged(void) {
+CASE(a_latest_manifest_that_is_damaged) {
     relkvanu_store *store = opens_with(manifests(RELKVANU_STORE_CREATE));
     uint64_t savepoint = completes(store, 1, RELKVANU_CALL_SAVEPOINT, NULL);
     completes(store, 1, RELKVANU_CALL_TRIGGER, NULL);
@@ -716,20 +710,20 @@ static uint64_t lacks_a_file_of_the_latest(void) {
 }
 
 /* A claim or an import that passes over such a record says so, as a recovery does. */
-static void a_latest_record_that_lacks_a_file(void) {
+CASE(a_latest_record_that_lacks_a_file) {
     uint64_t savepoint = lacks_a_file_of_the_latest();
     claims("storage", 0, "elsewhere", RELKVANU_STORE_OK);
     CHECK(recovered.record == savepoint && recovered.passed == 1, "%" PRIu64 " passed", recovered.passed);
 }
 
-static void an_import_that_passes_a_record(void) {
+CASE(an_import_that_passes_a_record) {
     uint64_t savepoint = lacks_a_file_of_the_latest();
     imports("storage", 0, RELKVANU_STORE_OK);
     CHECK(recovered.record == savepoint && recovered.passed == 1, "%" PRIu64 " passed", recovered.passed);
 }
 
 /* A record keeps what it shares with the one that leaves. */
-static void a_claim_of_shared_files(void) {
+CASE(a_claim_of_shared_files) {
     relkvanu_store *store = opens_with(manifests(RELKVANU_STORE_CREATE));
     uint64_t first = 0;
     completes(store, 1, RELKVANU_CALL_TRIGGER, &first);
@@ -744,7 +738,7 @@ static void a_claim_of_shared_files(void) {
 }
 
 /* The same call goes on where one ended: after the job was made, and before anything has left. An exported folder goes with its last file. */
-static void a_claim_that_goes_on(void) {
+CASE(a_claim_that_goes_on) {
     relkvanu_store *store = opens_with(manifests(RELKVANU_STORE_CREATE));
     uint64_t first = 0, id = completes(store, 1, RELKVANU_CALL_TRIGGER, &first);
     exports(0, "out", RELKVANU_STORE_OK);
@@ -758,7 +752,7 @@ static void a_claim_that_goes_on(void) {
 }
 
 /* An import, and then a claim of the same record: the old job runs meanwhile, so it is fenced before its files leave. */
-static void a_claim_after_an_import(void) {
+CASE(a_claim_after_an_import) {
     relkvanu_store *store = opens_with(manifests(RELKVANU_STORE_CREATE));
     uint64_t first = 0, id = completes(store, 1, RELKVANU_CALL_TRIGGER, &first);
     imports("storage", 0, RELKVANU_STORE_OK);
@@ -770,7 +764,7 @@ static void a_claim_after_an_import(void) {
 }
 
 /* An import that did not end has left an earlier record than the one that is there by now. */
-static void a_claim_over_an_earlier_record(void) {
+CASE(a_claim_over_an_earlier_record) {
     relkvanu_store *store = opens_with(manifests(RELKVANU_STORE_CREATE));
     uint64_t savepoint = completes(store, 1, RELKVANU_CALL_SAVEPOINT, NULL);
     int status = relkvanu_store_import(in("storage"), 0, in("none/y.db"), in("elsewhere"), &recovered);
@@ -785,7 +779,7 @@ static void a_claim_over_an_earlier_record(void) {
 }
 
 /* The part of a folder may be the folder to carry from. */
-static void an_export_over_itself(void) {
+CASE(an_export_over_itself) {
     relkvanu_store *store = opens_with(manifests(RELKVANU_STORE_CREATE));
     relkvanu_store_carried carried;
     uint64_t first = 0;
@@ -797,7 +791,7 @@ static void an_export_over_itself(void) {
 }
 
 /* In place: the job of a storage folder keeps its identity, that of an exported one gets its own. */
-static void a_claim_in_place(void) {
+CASE(a_claim_in_place) {
     relkvanu_store_options options = manifests(RELKVANU_STORE_CREATE);
     relkvanu_store *store = opens(&options, RELKVANU_STORE_OK);
     uint64_t first = 0, job[2], id = completes(store, 1, RELKVANU_CALL_TRIGGER, &first);
@@ -921,7 +915,7 @@ static const struct object *manifest_elsewhere(uint64_t id) {
 }
 
 /* One put for each record, before it is answered. One that fails is counted, and made again. */
-static void manifests_elsewhere(void) {
+CASE(manifests_elsewhere) {
     relkvanu_store *store = opens_without_folder(RELKVANU_STORE_CREATE);
     CHECK(put_object(objects, "record-7.manifest", "of a record that ended", 1) == RELKVANU_STORAGE_OK, "an old one");
     place_status = RELKVANU_STORAGE_NOT_THERE;
@@ -971,7 +965,7 @@ static void is_taken_behind(int checks, int puts, int last) {
     check_status = RELKVANU_STORAGE_OK;
 }
 
-static void a_place_that_is_taken(void) {
+CASE(a_place_that_is_taken) {
     is_taken_behind(2, 1, RELKVANU_STORE_STORAGE); /* those before the work and before the put */
     is_taken_behind(1, 0, RELKVANU_STORE_STORAGE);
     is_taken_behind(3, 1, RELKVANU_STORE_OK); /* and before it is told; that of the earlier record is not removed */
@@ -998,7 +992,7 @@ static void list_place(uint64_t epoch, uint64_t first, uint64_t lacking) {
 }
 
 /* A job whose manifests are elsewhere is made again of them, and is opened without a folder. */
-static void a_lost_job_elsewhere(void) {
+CASE(a_lost_job_elsewhere) {
     relkvanu_store *store = opens_without_folder(RELKVANU_STORE_CREATE);
     CHECK(keeps(store) == RELKVANU_STORE_OK, "it keeps none");
     uint64_t id = completes_elsewhere(store, 1), epoch = report.epoch;
@@ -1013,13 +1007,3 @@ static void a_lost_job_elsewhere(void) {
     CHECK(keeps(store) == RELKVANU_STORE_OK && completes_elsewhere(store, report.term) > id, "it goes on");
     relkvanu_store_close(store);
 }
-
-const struct test manifest_cases[] = {CASE(manifests_of_records), CASE(manifests_are_asked_for), CASE(a_sweep_of_manifests),
-    CASE(manifests_that_fail), CASE(a_lost_job), CASE(a_folder_that_was_full), CASE(lost_again), CASE(nothing_to_recover),
-    CASE(damaged_manifests), CASE(manifests_that_cannot_be_read), CASE(a_job_beside_a_recovery), CASE(a_recovery_fences_first),
-    CASE(a_marker_that_cannot_be_read), CASE(a_claim_after_an_import), CASE(an_export_over_itself), CASE(a_place_that_is_taken),
-    CASE(savepoints_live_on), CASE(a_rolled_back_job), CASE(numbers_that_failed), CASE(another_jobs_manifest), CASE(an_export),
-    CASE(an_export_beside_a_job), CASE(an_import), CASE(an_import_that_goes_on), CASE(a_claim), CASE(a_latest_manifest_that_is_damaged),
-    CASE(a_claim_of_shared_files), CASE(a_claim_that_goes_on), CASE(a_latest_record_that_lacks_a_file),
-    CASE(an_import_that_passes_a_record), CASE(a_claim_over_an_earlier_record), CASE(a_claim_in_place), CASE(manifests_elsewhere),
-    CASE(a_lost_job_elsewhere), {NULL, NULL}};

@@ -2,12 +2,6 @@
 #include "cases.h"
 
 #include <dirent.h>
-#include <errno.h>
-#include <fcntl.h>
-#include <pthread.h>
-#include <stdatomic.h>
-#include <sys/stat.h>
-#include <unistd.h>
 
 static relkvanu_store *named_job(void) {
     return opens_with(storage_options(RELKVANU_STORE_CREATE, 0));
@@ -41,7 +35,7 @@ static uint64_t complete(relkvanu_store *store, uint64_t term, uint64_t name) {
 }
 
 /* The worked example of docs/LOGS.md, as far as a store has it; then the recovery has all of it. */
-static void terms_and_names(void) {
+CASE(terms_and_names) {
     relkvanu_store *store = named_job();
     CHECK(report.term == 1 && report.next_name == 1 && !report.is_recovered, "term %" PRIu64 ", next name %" PRIu64, report.term,
         report.next_name);
@@ -89,7 +83,7 @@ static int reserves_and_is_killed(void *with) {
     return (int)(last * 10 + term); /* no close */
 }
 
-static void reserved_and_killed(void) {
+CASE(reserved_and_killed) {
     for (uint64_t images = 3; images <= 1000; images += 997) {
         uint64_t told = (uint64_t)in_child(reserves_and_is_killed, &images);
         CHECK(told == 36 * 10 % 256 + 6, "%" PRIu64, told);
@@ -105,7 +99,7 @@ static void reserved_and_killed(void) {
 }
 
 /* The last image is damaged: by the one before it and the log the names are those of the last call. */
-static void by_an_earlier_image(void) {
+CASE(by_an_earlier_image) {
     relkvanu_store_options options = storage_options(RELKVANU_STORE_CREATE, 5);
     relkvanu_store *store = opens(&options, RELKVANU_STORE_OK);
     uint64_t term = 1;
@@ -127,7 +121,7 @@ static void by_an_earlier_image(void) {
     relkvanu_store_close(store);
 }
 
-static void forfeits(void) {
+CASE(forfeits) {
     relkvanu_store *store = named_job();
     relkvanu_answer answer;
     static uint64_t names[65537], garbage[65537], others[65537];
@@ -151,7 +145,7 @@ static void forfeits(void) {
 }
 
 /* A sweep while a task has names that it has not used yet, after its term, of files that are in use, and of some that were not given out. */
-static void sweeps_at_any_time(void) {
+CASE(sweeps_at_any_time) {
     relkvanu_store *store = named_job();
     size_t left;
     CHECK(reserved(store, 1, 30) == 1, "the names");
@@ -185,7 +179,7 @@ static void sweeps_at_any_time(void) {
 }
 
 /* The job's own file is in the folder, and its name is a number: no sweep deletes it. */
-static void its_own_file(void) {
+CASE(its_own_file) {
     relkvanu_store_options options = storage_options(RELKVANU_STORE_CREATE, 0);
     relkvanu_store *store = opens_at("storage/7", &options, RELKVANU_STORE_OK);
     size_t left;
@@ -199,7 +193,7 @@ static void its_own_file(void) {
 }
 
 /* Another process has opened a copy of the job over the folder: this one deletes and puts nothing more. */
-static void a_later_opening(void) {
+CASE(a_later_opening) {
     relkvanu_store *store = named_job();
     size_t left;
     CHECK(reserved(store, 1, 3) == 1, "the names");
@@ -220,7 +214,7 @@ static void a_later_opening(void) {
 }
 
 /* Adopted files are below the first name, and are garbage; one that leaves no name is refused. */
-static void adopts(void) {
+CASE(adopts) {
     relkvanu_store_options options = storage_options(RELKVANU_STORE_CREATE, 0);
     size_t left;
     make_empty(stored(UINT64_C(1) << 62));
@@ -241,7 +235,7 @@ static void adopts(void) {
 }
 
 /* A new job over a storage of the engine's own that has files, with numbers up to 300. */
-static void above_the_files_of_a_storage(void) {
+CASE(above_the_files_of_a_storage) {
     relkvanu_store *store = opens_with(job_options(RELKVANU_STORE_CREATE, 0));
     relkvanu_store_call call;
     relkvanu_answer answer;
@@ -404,7 +398,7 @@ static unsigned files_there(void) {
     return found;
 }
 
-static void a_sweeper_beside_tasks(void) {
+CASE(a_sweeper_beside_tasks) {
     static struct fleet fleet;
     size_t left;
     fleet.store = named_job();
@@ -428,7 +422,3 @@ static void a_sweeper_beside_tasks(void) {
         (unsigned)fleet.late, counts.swept);
     relkvanu_store_close(fleet.store);
 }
-
-const struct test name_cases[] = {CASE(terms_and_names), CASE(reserved_and_killed), CASE(by_an_earlier_image), CASE(forfeits),
-    CASE(sweeps_at_any_time), CASE(its_own_file), CASE(a_later_opening), CASE(adopts), CASE(above_the_files_of_a_storage),
-    CASE(a_sweeper_beside_tasks), {NULL, NULL}};

@@ -1,12 +1,6 @@
 /* A store over a storage of the engine's own, objects in memory, and its own folder as a storage. */
 #include "cases.h"
 
-#include <errno.h>
-#include <pthread.h>
-#include <stdatomic.h>
-#include <sys/stat.h>
-#include <unistd.h>
-
 enum { MOST_OBJECTS = 4000 };
 
 /* Objects by their numbers. A fault is a status that each function returns. */
@@ -77,7 +71,7 @@ static size_t sweeps_as(relkvanu_store *store, const relkvanu_storage *storage, 
 }
 
 /* Files 100 to 115 are in use. */
-static void a_sweep_of_objects(void) {
+CASE(a_sweep_of_objects) {
     static struct objects objects;
     relkvanu_storage storage = storage_of(&objects);
     relkvanu_store *store = opened();
@@ -108,7 +102,7 @@ static void a_sweep_of_objects(void) {
     relkvanu_store_close(store);
 }
 
-static void pages_that_are_too_large(void) {
+CASE(pages_that_are_too_large) {
     static struct objects objects;
     relkvanu_storage storage = storage_of(&objects);
     relkvanu_store *store = opened();
@@ -121,7 +115,7 @@ static void pages_that_are_too_large(void) {
     relkvanu_store_close(store);
 }
 
-static void storages_that_are_not_whole(void) {
+CASE(storages_that_are_not_whole) {
     static struct objects objects;
     const relkvanu_storage good = storage_of(&objects);
     relkvanu_storage bad[] = {good, good, good, good};
@@ -167,7 +161,7 @@ static void set_fault(struct objects *objects, int fault) {
 }
 
 /* The files of the first checkpoint are deleted once the storage is back; one of them is missing there. Those of the second are in use. */
-static void a_discarder_of_objects(void) {
+CASE(a_discarder_of_objects) {
     static struct objects objects;
     relkvanu_storage storage = storage_of(&objects);
     relkvanu_store *store = opened();
@@ -192,7 +186,7 @@ static void a_discarder_of_objects(void) {
     relkvanu_store_close(store);
 }
 
-static void a_discarder_of_another_job(void) {
+CASE(a_discarder_of_another_job) {
     static struct objects objects;
     relkvanu_storage storage = storage_of(&objects);
     relkvanu_store *store = opened();
@@ -236,7 +230,7 @@ static int in_a_child(void *with) {
     return is_refused ? 0 : 1;
 }
 
-static void the_own_folder(void) {
+CASE(the_own_folder) {
     relkvanu_store_options options = storage_options(RELKVANU_STORE_CREATE, 0);
     relkvanu_store *store = opens(&options, RELKVANU_STORE_OK);
     relkvanu_storage own;
@@ -282,7 +276,7 @@ static void put_and_complete(relkvanu_store *store, uint64_t file) {
 }
 
 /* The store's own storage is taken as any other one, and by NULL. What its folder has not synced is not reported. */
-static void the_own_storage_discards(void) {
+CASE(the_own_storage_discards) {
     relkvanu_store_options options = storage_options(RELKVANU_STORE_CREATE, 0);
     relkvanu_store *store = opens(&options, RELKVANU_STORE_OK);
     put_and_complete(store, 1);
@@ -319,6 +313,3 @@ static void the_own_storage_discards(void) {
     CHECK(access(in("storage/50"), F_OK) != 0 && access(in("storage/201"), F_OK) == 0, "the files");
     relkvanu_store_close(store);
 }
-
-const struct test object_cases[] = {CASE(a_sweep_of_objects), CASE(pages_that_are_too_large), CASE(storages_that_are_not_whole),
-    CASE(a_discarder_of_objects), CASE(a_discarder_of_another_job), CASE(the_own_folder), CASE(the_own_storage_discards), {NULL, NULL}};

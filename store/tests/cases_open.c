@@ -1,18 +1,15 @@
 /* Openings: new jobs, recoveries, who may open, and what the files are. */
 #include "cases.h"
 
-#include <fcntl.h>
 #include <signal.h>
-#include <sys/stat.h>
 #include <sys/syscall.h>
 #include <sys/wait.h>
-#include <unistd.h>
 
 static void check_steps(const uint32_t *steps, size_t len) {
     CHECK(report.steps_len == len && memcmp(report.steps, steps, len * sizeof *steps) == 0, "%zu steps", report.steps_len);
 }
 
-static void makes_and_recovers(void) {
+CASE(makes_and_recovers) {
     static const uint32_t fresh[] = {RELKVANU_STORE_START_TASKS};
     static const uint32_t again[] = {RELKVANU_STORE_END_TASKS, RELKVANU_STORE_RESTORE, RELKVANU_STORE_SWEEP, RELKVANU_STORE_START_TASKS};
     static const uint32_t ended[] = {RELKVANU_STORE_END_TASKS, RELKVANU_STORE_SWEEP, RELKVANU_STORE_DISCARD};
@@ -43,7 +40,7 @@ static void makes_and_recovers(void) {
     relkvanu_store_close(store);
 }
 
-static void needs_a_flag(void) {
+CASE(needs_a_flag) {
     relkvanu_store_options options = job_options(RELKVANU_STORE_RECOVER, 0);
     opens(&options, RELKVANU_STORE_ABSENT);
     CHECK(!exists("x.db") && !exists("x.db.lock") && says("x.db"), "%s", report.message);
@@ -86,7 +83,7 @@ static void accepts(const relkvanu_store_options *options) {
 }
 
 /* Each setting at its limits, which are accepted, and outside of them. */
-static void checks_each_setting(void) {
+CASE(checks_each_setting) {
     const uint64_t long_time = UINT64_C(1) << 40;
     relkvanu_store_options options = job_options(RELKVANU_STORE_CREATE, 0);
     relkvanu_settings *given = &options.settings;
@@ -122,7 +119,7 @@ static void refuses_shape(uint64_t *shape, size_t len, const char *words) {
     CHECK(says(words), "%s, and not %s", report.message, words);
 }
 
-static void checks_the_shape(void) {
+CASE(checks_the_shape) {
     uint64_t shape[257];
     relkvanu_store_options options = job_options(RELKVANU_STORE_CREATE, 0);
     for (size_t i = 0; i < 257; i++) {
@@ -141,7 +138,7 @@ static void checks_the_shape(void) {
     refuses_shape(shape, 2, "the shape has 18446744073709551615 subtasks, and has to have at most 4096");
 }
 
-static void checks_the_settings(void) {
+CASE(checks_the_settings) {
     relkvanu_store_options options = job_options(RELKVANU_STORE_CREATE, 0);
     options.settings.interval = 9;
     options.shape_len = 0;
@@ -152,7 +149,7 @@ static void checks_the_settings(void) {
     CHECK(!report.is_recovered, "it was made by a refused opening");
 }
 
-static void makes_private_files(void) {
+CASE(makes_private_files) {
     static const char *const names[] = {"x.db", "x.db-wal", "x.db-shm", "x.db.lock"};
     umask(0);
     relkvanu_store *store = opens_with(job_options(RELKVANU_STORE_CREATE, 0));
@@ -205,7 +202,7 @@ static int reads_by_sqlite(void *with) {
     return code == SQLITE_OK;
 }
 
-static void one_at_a_time(void) {
+CASE(one_at_a_time) {
     relkvanu_store *store = opens_with(job_options(RELKVANU_STORE_CREATE, 0));
     CHECK(symlink("x.db", in("link")) == 0, "a link");
     check_refused("at first");
@@ -237,7 +234,7 @@ static int calls_in_child(void *with) {
     return is_told ? status_of("x.db") : 99;
 }
 
-static void a_forked_child(void) {
+CASE(a_forked_child) {
     relkvanu_store *store = opens_with(job_options(RELKVANU_STORE_CREATE, RELKVANU_STORE_NO_IMAGES));
     checkpoint(store, 1);
     CHECK(in_child(calls_in_child, store) == RELKVANU_STORE_IN_USE, "a child");
@@ -259,7 +256,7 @@ static int ends_with_child(void *with) {
     return 0;
 }
 
-static void a_child_that_outlives(void) {
+CASE(a_child_that_outlives) {
     int ends[2];
     pid_t child;
     CHECK(pipe(ends) == 0, "pipe");
@@ -272,7 +269,7 @@ static void a_child_that_outlives(void) {
 }
 
 /* A thread is starting a program: until its exec a child has the files of this process, and no handler of forks runs in it. */
-static void a_program_that_is_starting(void) {
+CASE(a_program_that_is_starting) {
     relkvanu_store_options options = job_options(RELKVANU_STORE_CREATE, RELKVANU_STORE_NO_IMAGES);
     relkvanu_store *store = opens(&options, RELKVANU_STORE_OK);
     checkpoint(store, 1);
@@ -288,7 +285,7 @@ static void a_program_that_is_starting(void) {
     relkvanu_store_close(store);
 }
 
-static void a_reader_of_another_program(void) {
+CASE(a_reader_of_another_program) {
     sqlite3 *db;
     relkvanu_store_options options = job_options(RELKVANU_STORE_CREATE, 0);
     relkvanu_store_close(opens(&options, RELKVANU_STORE_OK));
@@ -308,7 +305,7 @@ static int lacks_rights(void *with) {
     return 0;
 }
 
-static void a_read_only_file(void) {
+CASE(a_read_only_file) {
     relkvanu_store_options options = job_options(RELKVANU_STORE_CREATE, 0);
     relkvanu_store_close(opens(&options, RELKVANU_STORE_OK));
     CHECK(chmod(in("x.db"), 0444) == 0 && chmod(in("x.db.lock"), 0666) == 0 && chmod(in("x.db-shm"), 0666) == 0 &&
@@ -320,7 +317,3 @@ static void a_read_only_file(void) {
         opens(&options, RELKVANU_STORE_READ_ONLY);
     }
 }
-
-const struct test open_cases[] = {CASE(makes_and_recovers), CASE(needs_a_flag), CASE(checks_the_settings), CASE(checks_each_setting),
-    CASE(checks_the_shape), CASE(makes_private_files), CASE(one_at_a_time), CASE(a_forked_child), CASE(a_child_that_outlives),
-    CASE(a_program_that_is_starting), CASE(a_reader_of_another_program), CASE(a_read_only_file), {NULL, NULL}};

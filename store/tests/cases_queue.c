@@ -2,15 +2,13 @@
 #include "cases.h"
 
 #include <poll.h>
-#include <pthread.h>
-#include <unistd.h>
 
 static bool is_readable(relkvanu_store *store, int wait) {
     struct pollfd it = {.fd = relkvanu_store_descriptor(store), .events = POLLIN};
     return poll(&it, 1, wait) == 1 && it.revents == POLLIN;
 }
 
-static void submits(void) {
+CASE(submits) {
     enum { MANY = 500 };
     static relkvanu_store_call calls[MANY];
     static bool is_seen[MANY];
@@ -118,7 +116,7 @@ static void submits_two_begins(relkvanu_store *store, uint64_t savepoint) {
         "it is handed over");
 }
 
-static void submitted_commands(void) {
+CASE(submitted_commands) {
     relkvanu_store_options options = job_options(RELKVANU_STORE_CREATE, 0);
     options.settings.interval = 1 << 30;
     relkvanu_store *store = opens(&options, RELKVANU_STORE_OK);
@@ -167,7 +165,7 @@ static void *makes_lists(void *with) {
     return NULL;
 }
 
-static void callers_and_readers(void) {
+CASE(callers_and_readers) {
     struct caller callers[CALLERS];
     relkvanu_store_options options = job_options(RELKVANU_STORE_CREATE, 50);
     relkvanu_store *store = opens(&options, RELKVANU_STORE_OK);
@@ -199,7 +197,7 @@ static void *awaits(void *with) {
 }
 
 /* A commit wakes a timer that waits for an expiry, and a stop ends it. */
-static void a_woken_timer(void) {
+CASE(a_woken_timer) {
     relkvanu_store *store = opens_with(job_options(RELKVANU_STORE_CREATE, 0));
     struct caller timer = {.store = store};
     timer.thread = starts(awaits, &timer);
@@ -221,5 +219,3 @@ static void a_woken_timer(void) {
     CHECK(counts.calls < 40 + asked, "the timer spins: %" PRIu64 " calls", counts.calls);
     relkvanu_store_close(store);
 }
-
-const struct test queue_cases[] = {CASE(submits), CASE(submitted_commands), CASE(callers_and_readers), CASE(a_woken_timer), {NULL, NULL}};

@@ -1,12 +1,7 @@
 /* The storage folder: whose it is, and what a sweep may delete. */
 #include "cases.h"
 
-#include <errno.h>
-#include <fcntl.h>
-#include <sys/stat.h>
-#include <unistd.h>
-
-static void a_folder_with_files(void) {
+CASE(a_folder_with_files) {
     relkvanu_store_options options = storage_options(RELKVANU_STORE_CREATE, 0);
     make_empty("storage/17");
     opens(&options, RELKVANU_STORE_STORAGE);
@@ -18,7 +13,7 @@ static void a_folder_with_files(void) {
     relkvanu_store_close(opens(&options, RELKVANU_STORE_OK));
 }
 
-static void not_mounted(void) {
+CASE(not_mounted) {
     relkvanu_store_options options = storage_options(RELKVANU_STORE_CREATE, 0);
     relkvanu_store_close(opens(&options, RELKVANU_STORE_OK));
     CHECK(rename(in("storage"), in("away")) == 0, "storage");
@@ -30,7 +25,7 @@ static void not_mounted(void) {
     relkvanu_store_close(opens(&options, RELKVANU_STORE_OK));
 }
 
-static void of_another_job(void) {
+CASE(of_another_job) {
     relkvanu_store_options options = storage_options(RELKVANU_STORE_CREATE, 0);
     relkvanu_store_close(opens(&options, RELKVANU_STORE_OK));
     CHECK(rename(in("x.db"), in("first.db")) == 0 && unlink(in("x.db-wal")) == 0, "x.db");
@@ -43,7 +38,7 @@ static void of_another_job(void) {
     CHECK(says("another job"), "%s", report.message);
 }
 
-static void named_or_not(void) {
+CASE(named_or_not) {
     relkvanu_store_options with = storage_options(RELKVANU_STORE_CREATE, 0), without = job_options(RELKVANU_STORE_CREATE, 0);
     relkvanu_store_close(opens(&with, RELKVANU_STORE_OK));
     opens(&without, RELKVANU_STORE_STORAGE);
@@ -58,7 +53,7 @@ static void named_or_not(void) {
 }
 
 /* The files of the job itself are no files of the storage. */
-static void one_folder_for_all(void) {
+CASE(one_folder_for_all) {
     char folder[PATHS];
     relkvanu_store_options options = job_options(RELKVANU_STORE_CREATE, 0);
     snprintf(folder, sizeof folder, "%s", in("."));
@@ -73,7 +68,7 @@ static void one_folder_for_all(void) {
 }
 
 /* A process ended between the first commit of a job and its marker. */
-static void before_the_marker(void) {
+CASE(before_the_marker) {
     relkvanu_store_options options = storage_options(RELKVANU_STORE_CREATE, 0);
     relkvanu_store_close(opens(&options, RELKVANU_STORE_OK));
     run_sql(in("x.db"), "UPDATE job SET storage = 1");
@@ -95,7 +90,7 @@ static void copy_file(const char *from, const char *to) {
 }
 
 /* A sweep of an older copy would delete the files of the calls that it lacks. */
-static void an_older_copy(void) {
+CASE(an_older_copy) {
     relkvanu_store_options options = storage_options(RELKVANU_STORE_CREATE, 0);
     relkvanu_store_close(opens(&options, RELKVANU_STORE_OK));
     copy_file("x.db", "first.db");
@@ -112,7 +107,7 @@ static void an_older_copy(void) {
 }
 
 /* On a full disk a job is recovered, so that its discarder can make room, and a new one is not made. */
-static void a_full_storage(void) {
+CASE(a_full_storage) {
     relkvanu_store_options options = storage_options(RELKVANU_STORE_CREATE, 0);
     fail_syncs("/storage/.relkvanu-job.new", ENOSPC);
     opens(&options, RELKVANU_STORE_FULL);
@@ -125,7 +120,7 @@ static void a_full_storage(void) {
 }
 
 /* A file system that can't sync a folder keeps no files of a job. */
-static void a_folder_that_is_not_synced(void) {
+CASE(a_folder_that_is_not_synced) {
     relkvanu_store_options options = storage_options(RELKVANU_STORE_CREATE, 0);
     fail_syncs("/storage", EINVAL);
     opens(&options, RELKVANU_STORE_FAILED);
@@ -144,7 +139,7 @@ static void a_folder_that_is_not_synced(void) {
 }
 
 /* It might lead to the folder of another job, or to a file that is no marker. */
-static void a_marker_that_is_a_link(void) {
+CASE(a_marker_that_is_a_link) {
     relkvanu_store_options options = storage_options(RELKVANU_STORE_CREATE, 0);
     struct stat found;
     make_empty("elsewhere");
@@ -173,7 +168,7 @@ static void a_marker_that_is_a_link(void) {
 }
 
 /* Earlier versions wrote the first line alone. */
-static void a_marker_without_an_epoch(void) {
+CASE(a_marker_without_an_epoch) {
     relkvanu_store_close(opens_with(storage_options(RELKVANU_STORE_CREATE, 0)));
     FILE *marker = fopen(in("storage/.relkvanu-job"), "w");
     CHECK(marker != NULL && fprintf(marker, "relkvanu job %016" PRIx64 "%016" PRIx64 "\n", report.job[0], report.job[1]) > 0 &&
@@ -193,7 +188,7 @@ static int opens_task(const char *folder, const uint64_t job[2], uint64_t epoch)
 }
 
 /* A task in another process puts files into the store's folder until another opening has it, or the marker is away. */
-static void a_task_of_another_process(void) {
+CASE(a_task_of_another_process) {
     relkvanu_store *store = opens_with(storage_options(RELKVANU_STORE_CREATE, 0));
     uint64_t other[2] = {report.job[0], report.job[1] + 1}, epoch = report.epoch, len = 0;
     char read[8] = "";
@@ -223,7 +218,3 @@ static void a_task_of_another_process(void) {
     CHECK(opens_task(in("storage"), report.job, report.epoch) == RELKVANU_STORAGE_OK, "the task of the later opening");
     relkvanu_store_close(store);
 }
-
-const struct test storage_cases[] = {CASE(a_folder_with_files), CASE(not_mounted), CASE(of_another_job), CASE(named_or_not),
-    CASE(one_folder_for_all), CASE(before_the_marker), CASE(an_older_copy), CASE(a_full_storage), CASE(a_folder_that_is_not_synced),
-    CASE(a_marker_that_is_a_link), CASE(a_marker_without_an_epoch), CASE(a_task_of_another_process), {NULL, NULL}};
