@@ -241,8 +241,7 @@ CASE(the_job_of_an_opening) {
     CHECK(report.settings_differ, "other settings");
     len = 256;
     CHECK(relkvanu_store_job(store, &settings, shape, &len) == RELKVANU_STORE_OK && settings.interval == 1234 && settings.keep_on_cancel &&
-              settings.at_once == 1 && settings.timeout == UINT64_C(1) << 30 && settings.tolerable == 1000 && settings.retained == 1,
-        "the settings of the job");
+          settings.at_once == 1 && settings.timeout == UINT64_C(1) << 30 && settings.tolerable == 1000 && settings.retained == 1);
     relkvanu_store_call restore = {.call = {.kind = RELKVANU_CALL_RESTORE, .now = 5}, .first = other, .first_len = 2};
     CHECK(relkvanu_store_calls(store, &restore, 1) == RELKVANU_STORE_OK && restore.answer.code == RELKVANU_DONE, "another shape");
     len = 1;
@@ -371,8 +370,7 @@ static void *does_all(void *with) {
     }
     CHECK(relkvanu_store_calls(store, calls, RELKVANU_STORE_MOST_CALLS) == RELKVANU_STORE_OK, "a list");
     CHECK(
-        relkvanu_store_put(store, 1, "a", 1) == RELKVANU_STORE_OK && relkvanu_store_reserve(store, 1, 65536, &answer) == RELKVANU_STORE_OK,
-        "a put");
+        relkvanu_store_put(store, 1, "a", 1) == RELKVANU_STORE_OK && relkvanu_store_reserve(store, 1, 65536, &answer) == RELKVANU_STORE_OK);
     done(store, RELKVANU_CALL_RESTORE, 5, 0);
     CHECK(relkvanu_store_sweep(store, &left) == RELKVANU_STORE_OK && left == 0 && !exists("storage/1"), "a sweep");
     CHECK(relkvanu_store_discard_for(store, 0, 1, NULL, NULL) == RELKVANU_STORE_TIMED_OUT, "a discarder");

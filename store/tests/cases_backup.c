@@ -25,8 +25,7 @@ static void backs_up(relkvanu_store *store, const char *name, int status) {
 
 static void check_no_part(void) {
     CHECK(
-        !exists("b.db.part") && !exists("b.db.part-wal") && !exists("b.db.part-journal") && !exists("b.db-wal") && !exists("b.db-journal"),
-        "a part is left");
+        !exists("b.db.part") && !exists("b.db.part-wal") && !exists("b.db.part-journal") && !exists("b.db-wal") && !exists("b.db-journal"));
 }
 
 static uint64_t calls_of(const relkvanu_store_report *it) {
@@ -350,9 +349,8 @@ CASE(put_back) {
     relkvanu_store *back = opens_at("b.db", &options, RELKVANU_STORE_OK);
     CHECK(report.epoch == 2 && report.term == 1 && report.next_name == 25, "opening %" PRIu64 ", next name %" PRIu64, report.epoch,
         report.next_name);
-    CHECK(
-        relkvanu_store_put(store, 25, "state", 5) == RELKVANU_STORE_STORAGE && relkvanu_store_sweep(store, &left) == RELKVANU_STORE_STORAGE,
-        "the other store");
+    CHECK(relkvanu_store_put(store, 25, "state", 5) == RELKVANU_STORE_STORAGE &&
+          relkvanu_store_sweep(store, &left) == RELKVANU_STORE_STORAGE);
     CHECK(done(back, RELKVANU_CALL_RESTORE, RELKVANU_STORE_NOW, savepoint).what == RELKVANU_RESTORED_SAVEPOINT, "a restore");
     CHECK(relkvanu_store_sweep(back, &left) == RELKVANU_STORE_OK && left == 0, "a sweep");
     CHECK(has_files(1) && !has_files(17), "the files after the sweep");

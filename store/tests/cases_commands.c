@@ -102,8 +102,7 @@ CASE(a_checkpoint_now) {
     relkvanu_store_call tick, call;
     uint64_t id = triggered(store);
     CHECK(awaits(store, 0, &tick) == RELKVANU_STORE_OK && tick.answer.what == RELKVANU_TICK_TRIGGERED && tick.answer.b == id &&
-              tick.choice.what == RELKVANU_CHOICE_FRESH && tick.place == 1,
-        "it is handed over");
+          tick.choice.what == RELKVANU_CHOICE_FRESH && tick.place == 1);
     CHECK(awaits(store, SHORT, &tick) == RELKVANU_STORE_TIMED_OUT, "twice");
     uint64_t wait = wait_of(store);
     CHECK(wait > MINUTE / 2 && wait <= MINUTE, "the next one is due after %" PRIu64, wait);
@@ -255,8 +254,7 @@ CASE(a_stop) {
     uint64_t id = stopping(store), wait = wait_of(store);
     CHECK(wait > HOUR / 2 && wait <= HOUR, "the next tick is that of the expiry, and not after %" PRIu64, wait);
     CHECK(awaits(store, LONG, &tick) == RELKVANU_STORE_OK && tick.answer.what == RELKVANU_SAVEPOINT_TRIGGERED && tick.answer.a == id &&
-              tick.choice.what == RELKVANU_CHOICE_CHECKPOINT,
-        "its barrier is handed over");
+          tick.choice.what == RELKVANU_CHOICE_CHECKPOINT);
     nothing_begins(store);
     CHECK(relkvanu_store_begin_job(store, &call) == RELKVANU_STORE_NOT_NOW, "a job that is being stopped can't begin");
     acks(store, 1, id, SUBTASKS - 1);
@@ -465,8 +463,7 @@ CASE(an_older_checkpoint) {
         call.answer.what, call.answer.b);
     CHECK(after.commits == before.commits + 1 && after.calls == before.calls + SUBTASKS + 2, "one commit");
     CHECK(counts_of(store).in_use == SUBTASKS, "%" PRIu64 " files", counts_of(store).in_use);
-    CHECK(awaits(store, LONG, &tick) == RELKVANU_STORE_OK && tick.answer.what == RELKVANU_RESTORED_SAVEPOINT && tick.term == 2,
-        "it is handed over");
+    CHECK(awaits(store, LONG, &tick) == RELKVANU_STORE_OK && tick.answer.what == RELKVANU_RESTORED_SAVEPOINT && tick.term == 2);
     CHECK(acked_at_0(store, 1, 4, 0, 1).code == RELKVANU_FENCED, "the term has ended");
     is_as_logged(&store);
     CHECK(report.choice.what == RELKVANU_CHOICE_SAVEPOINT && report.choice.a == 5, "the choice");
@@ -488,8 +485,7 @@ CASE(no_way_back) {
     completed(store, 1);
     completed(store, 1);
     uint64_t pending = triggered(store), ids[] = {0, pending, pending + 1, UINT64_MAX};
-    CHECK(
-        relkvanu_store_go_back(store, 1, 0, &call) == RELKVANU_STORE_BAD_ARGUMENT && call.answer.code == RELKVANU_STORE_NOT_MADE, "flags");
+    CHECK(relkvanu_store_go_back(store, 1, 0, &call) == RELKVANU_STORE_BAD_ARGUMENT && call.answer.code == RELKVANU_STORE_NOT_MADE);
     CHECK(relkvanu_store_why(why, sizeof why) != 0 && strstr(why, "RELKVANU_STORE_ACCEPT_PUBLISHED") != NULL, "%s", why);
     relkvanu_store_counts before = totals_of(store);
     for (size_t i = 0; i < 4; i++) {
@@ -559,8 +555,7 @@ CASE(a_way_back_looks_first) {
     call = (relkvanu_store_call){.call = {.kind = RELKVANU_CALL_RESTORE, .number = savepoint}};
     CHECK(submitted(store, &call) == RELKVANU_STORE_FILE_LOST && call.answer.code == RELKVANU_STORE_NOT_MADE, "a submit");
     relkvanu_store_counts after = totals_of(store);
-    CHECK(before.commits == after.commits && live_of(store).records == 4 && counts_of(store).in_use == files.in_use && files.waiting == 0,
-        "something has changed");
+    CHECK(before.commits == after.commits && live_of(store).records == 4 && counts_of(store).in_use == files.in_use && files.waiting == 0);
     CHECK(awaits(store, 0, &tick) == RELKVANU_STORE_TIMED_OUT, "something is handed over");
     is_as_logged(&store);
     make_empty("storage/1");

@@ -56,9 +56,7 @@ static void replace_last(const char *line, uint32_t what, uint64_t a, uint64_t b
     sqlite3 *db;
     sqlite3_stmt *it;
     CHECK(sqlite3_open(in("x.db"), &db) == SQLITE_OK &&
-              sqlite3_prepare_v2(db, "SELECT chain FROM log WHERE place = 19", -1, &it, NULL) == SQLITE_OK &&
-              sqlite3_step(it) == SQLITE_ROW,
-        "the call before");
+          sqlite3_prepare_v2(db, "SELECT chain FROM log WHERE place = 19", -1, &it, NULL) == SQLITE_OK && sqlite3_step(it) == SQLITE_ROW);
     struct rks_row row = {{(const uint8_t *)line, strlen(line)}, {.what = what, .a = a, .b = b}, NULL, CALLS, 0};
     uint32_t chain = rks_chain((uint32_t)sqlite3_column_int64(it, 0), &row);
     sqlite3_finalize(it);

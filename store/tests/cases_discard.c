@@ -132,8 +132,7 @@ CASE(without_marker) {
 static void write_marker(relkvanu_store *store, uint64_t job, uint64_t epoch) {
     int file = openat(relkvanu_store_folder(store), ".relkvanu-job", O_WRONLY | O_TRUNC);
     CHECK(file >= 0 && dprintf(file, "relkvanu job %016" PRIx64 "%016" PRIx64 "\nepoch %" PRIu64 "\n", job, report.job[1], epoch) > 0 &&
-              close(file) == 0,
-        "marker");
+          close(file) == 0);
 }
 
 /* Another host has opened a copy of the job, or has given the folder to another job: nothing of it is deleted any more. */
@@ -218,8 +217,7 @@ CASE(in_a_read) {
     CHECK(strstr(words, "this thread reads") != NULL, "%s", words);
     CHECK(relkvanu_store_discard_storage(store, 0, NULL) == RELKVANU_STORE_BAD_ARGUMENT, "of the folder");
     CHECK(relkvanu_store_discard(store, 5, delete_files, &d) == RELKVANU_STORE_BAD_ARGUMENT, "with a function");
-    CHECK(
-        relkvanu_store_discard_for(store, 0, UINT64_MAX, is_never_asked, NULL) == RELKVANU_STORE_BAD_ARGUMENT, "with one that may end it");
+    CHECK(relkvanu_store_discard_for(store, 0, UINT64_MAX, is_never_asked, NULL) == RELKVANU_STORE_BAD_ARGUMENT);
     CHECK(relkvanu_store_await_tick(store, UINT64_MAX, &tick) == RELKVANU_STORE_BAD_ARGUMENT, "a timer");
     CHECK(tick.answer.code == RELKVANU_STORE_NOT_MADE, "its answer");
     CHECK(relkvanu_store_sweep(store, &left) == RELKVANU_STORE_BAD_ARGUMENT && left == 0, "a sweep of a folder without files");

@@ -9,8 +9,7 @@ CASE(put_and_read) {
     relkvanu_store *store = opened();
     char found[16] = "";
     CHECK(
-        relkvanu_store_put(store, UINT64_MAX, "state", 5) == RELKVANU_STORE_OK && relkvanu_store_put(store, 0, "", 0) == RELKVANU_STORE_OK,
-        "put");
+        relkvanu_store_put(store, UINT64_MAX, "state", 5) == RELKVANU_STORE_OK && relkvanu_store_put(store, 0, "", 0) == RELKVANU_STORE_OK);
     int file = openat(relkvanu_store_folder(store), "18446744073709551615", O_RDONLY);
     CHECK(read(file, found, sizeof found) == 5 && memcmp(found, "state", 5) == 0, "%s", found);
     close(file);

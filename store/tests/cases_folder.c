@@ -151,8 +151,7 @@ CASE(files_of_a_folder) {
     puts_file(&it, 5, "state", RELKVANU_STORAGE_PRESENT);
     CHECK(mkdir(in("state/6"), 0700) == 0 && listed(&it, 0).all == 3, "%zu files", listed(&it, 0).all);
     CHECK(it.delete_files(it.with, files, 5, outcomes) == RELKVANU_STORAGE_OK, "no deletion");
-    CHECK(outcomes[0] == RELKVANU_STORAGE_DELETED && outcomes[1] == RELKVANU_STORAGE_DELETED && outcomes[2] == RELKVANU_STORAGE_DELETED,
-        "deleted");
+    CHECK(outcomes[0] == RELKVANU_STORAGE_DELETED && outcomes[1] == RELKVANU_STORAGE_DELETED && outcomes[2] == RELKVANU_STORAGE_DELETED);
     CHECK(outcomes[3] == RELKVANU_STORAGE_UNDELETED && outcomes[4] == RELKVANU_STORAGE_MISSING && has("state/6"), "%d %d", outcomes[3],
         outcomes[4]);
     CHECK(listed(&it, 0).all == 0 && it.delete_files(it.with, NULL, 0, NULL) == RELKVANU_STORAGE_OK, "files are left");
@@ -279,8 +278,7 @@ CASE(links_are_not_followed) {
     CHECK(
         it.delete_files(it.with, &file, 1, &outcome) == RELKVANU_STORAGE_OK && outcome == RELKVANU_STORAGE_DELETED, "outcome %d", outcome);
     CHECK(!has("state/7") && has("elsewhere"), "a deletion");
-    CHECK(
-        rename(in("state/.relkvanu-storage"), in("marker")) == 0 && symlink("../marker", in("state/.relkvanu-storage")) == 0, "the marker");
+    CHECK(rename(in("state/.relkvanu-storage"), in("marker")) == 0 && symlink("../marker", in("state/.relkvanu-storage")) == 0);
     CHECK(it.check(it.with) == RELKVANU_STORAGE_FAILED && errno == ELOOP, "errno %d", errno);
     puts_file(&it, 9, "state", RELKVANU_STORAGE_FAILED);
     CHECK(!has("state/9") && !has("state/9.part"), "a put");
@@ -319,8 +317,7 @@ CASE(the_folder_is_removed) {
     write_text("state/8", "");
     puts_file(&it, 9, "state", RELKVANU_STORAGE_OK);
     CHECK(has("away/9") && !has("state/9") && listed(&it, 0).all == 2, "the folder");
-    CHECK(unlink(in("away/7")) == 0 && unlink(in("away/9")) == 0 && unlink(in("away/.relkvanu-storage")) == 0 && rmdir(in("away")) == 0,
-        "the folder");
+    CHECK(unlink(in("away/7")) == 0 && unlink(in("away/9")) == 0 && unlink(in("away/.relkvanu-storage")) == 0 && rmdir(in("away")) == 0);
     refuses_all(&it, RELKVANU_STORAGE_NOT_THERE);
     int status = it.list(it.with, 0, note, &found); /* a removed folder is an empty one, where it can be read */
     CHECK((status == RELKVANU_STORAGE_OK || status == RELKVANU_STORAGE_NOT_THERE) && found.pages == 0, "status %d", status);
@@ -350,8 +347,7 @@ CASE(names_with_unusual_bytes) {
     struct found found = listed(&it, 0);
     CHECK(found.all == 2 && found.counts[7] == 1 && found.counts[8] == 1, "%zu files", found.all);
     CHECK(it.delete_files(it.with, files, 2, outcomes) == RELKVANU_STORAGE_OK && outcomes[0] == 1 && outcomes[1] == 1 &&
-              listed(&it, 0).all == 0,
-        "deletions");
+          listed(&it, 0).all == 0);
     for (size_t i = 0; i < sizeof others / sizeof *others; i++) {
         CHECK(has(others[i]), "%s", others[i]);
     }

@@ -157,8 +157,7 @@ CASE(submits_keep_their_order) {
     relkvanu_store_completion some[3];
     hold_syncs("/record-1.manifest.part");
     begins_read(store);
-    CHECK(relkvanu_store_submit(store, &last, 1, 1) == RELKVANU_STORE_OK && relkvanu_store_submit(store, &more, 1, 2) == RELKVANU_STORE_OK,
-        "submits");
+    CHECK(relkvanu_store_submit(store, &last, 1, 1) == RELKVANU_STORE_OK && relkvanu_store_submit(store, &more, 1, 2) == RELKVANU_STORE_OK);
     relkvanu_store_read_end(store);
     await_held_sync();
     CHECK(relkvanu_store_submit(store, &again, 1, 3) == RELKVANU_STORE_OK, "a submit");

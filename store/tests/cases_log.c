@@ -235,8 +235,7 @@ CASE(torn_last_commits) {
         CHECK(calls_of_cut(all, &before, all[1].len) == LIST, "a frame at %zu", at);
         memcpy(all[1].bytes + at, frame, FRAME);
     }
-    CHECK(calls_of_cut(all, &before, all[1].len) == LIST + LAST_LIST && calls_of_cut(all, &all[2], all[1].len) == LIST + LAST_LIST,
-        "all of it");
+    CHECK(calls_of_cut(all, &before, all[1].len) == LIST + LAST_LIST && calls_of_cut(all, &all[2], all[1].len) == LIST + LAST_LIST);
     free_all(all);
     free(before.bytes);
 }

@@ -12,8 +12,7 @@ static void recovers(uint64_t record, int status) {
     CHECK(got == status, "status %d, not %d: %s", got, status, recovered.message);
     CHECK((recovered.message[0] == 0) == (status == RELKVANU_STORE_OK), "%s", recovered.message);
     CHECK(!exists(".x.db.relkvanu-new") && !exists(".x.db.relkvanu-new-wal") && !exists(".x.db.relkvanu-new-shm") &&
-              !exists(".x.db.relkvanu-new.lock"),
-        "a new file is left");
+          !exists(".x.db.relkvanu-new.lock"));
 }
 
 /* A job over the storage folder, which has manifests. */
@@ -76,8 +75,7 @@ static void check_manifest(uint64_t id, uint64_t file) {
     CHECK(says_of(id, "json_extract(?1,'$.kind')='checkpoint'") == 1 && says_of(id, "json_extract(?1,'$.chosen')") == 1, "the kind");
     CHECK(says_of(id, "json_extract(?1,'$.shape')='[8]'") == 1, "the shape");
     CHECK(says_of(id, "json_extract(?1,'$.settings')='{\"interval\":10,\"pause\":0,\"at_once\":1,\"timeout\":1073741824,\"tolerable\":1000,"
-                      "\"retained\":1,\"keep_on_cancel\":false}'") == 1,
-        "the settings");
+                      "\"retained\":1,\"keep_on_cancel\":false}'") == 1);
     CHECK(says_of(id, "json_extract(?1,'$.files')") == 8 && says_of(id, "json_extract(?1,'$.bytes')") == 36, "the sums");
     snprintf(files, sizeof files, "json_extract(?1,'$.subtasks[2]')='{\"vertex\":0,\"index\":2,\"files\":{\"%" PRIu64 "\":3}}'", file + 2);
     CHECK(says_of(id, files) == 1, "a subtask");
@@ -93,8 +91,7 @@ CASE(manifests_of_records) {
     CHECK(completes(store, 1, RELKVANU_CALL_SAVEPOINT, &first) == 2, "the number");
     CHECK(says_of(2, "json_extract(?1,'$.kind')='savepoint'") == 1 && says_of(2, "json_extract(?1,'$.chosen')") == 0, "the savepoint");
     CHECK(completes(store, 1, RELKVANU_CALL_TRIGGER, &first) == 3, "the number");
-    CHECK(!exists("storage/record-1.manifest") && exists("storage/record-2.manifest") && exists("storage/record-3.manifest"),
-        "the manifests");
+    CHECK(!exists("storage/record-1.manifest") && exists("storage/record-2.manifest") && exists("storage/record-3.manifest"));
     CHECK(list_records("storage") == 2 && records[0].id == 2 && records[1].id == 3, "%zu records", records_len);
     CHECK(records[0].is_savepoint && !records[1].is_savepoint && !records[0].is_next && records[1].is_next, "what they are");
     CHECK(records[0].is_of_job && records[0].missing == 0 && records[0].files == 8 && records[1].bytes == 36, "their files");
@@ -155,8 +152,7 @@ CASE(manifests_that_fail) {
     completes(store, 1, RELKVANU_CALL_TRIGGER, NULL);
     relkvanu_store_measures measures = measures_of(store);
     CHECK(measures.manifests == 1 && measures.failed_manifests >= 1, "%" PRIu64 " failed", measures.failed_manifests);
-    CHECK(exists("storage/record-1.manifest") && !exists("storage/record-2.manifest") && !exists("storage/record-2.manifest.part"),
-        "the manifests");
+    CHECK(exists("storage/record-1.manifest") && !exists("storage/record-2.manifest") && !exists("storage/record-2.manifest.part"));
     fail_syncs("", 0);
     AWAIT(reserved(store, 1, 1) != 0 && exists("storage/record-2.manifest")); /* once a commit comes a second later */
     CHECK(!exists("storage/record-1.manifest"), "one that ended is left");
@@ -449,8 +445,7 @@ CASE(a_rolled_back_job) {
     recovers(0, RELKVANU_STORE_OK);
     CHECK(recovered.record == savepoint && recovered.is_savepoint && recovered.savepoints == 0, "record %" PRIu64, recovered.record);
     store = opens_with(manifests(RELKVANU_STORE_CREATE));
-    CHECK(report.choice.what == RELKVANU_CHOICE_SAVEPOINT && report.choice.a == savepoint && has_files(store, savepoint, first),
-        "the choice");
+    CHECK(report.choice.what == RELKVANU_CHOICE_SAVEPOINT && report.choice.a == savepoint && has_files(store, savepoint, first));
     goes_on(store, 2, term + 1, first + 16);
     relkvanu_store_close(store);
 }
@@ -608,8 +603,7 @@ CASE(an_import) {
     CHECK(recovered.record == id && recovered.files == 8 && recovered.term > 1, "record %" PRIu64, recovered.record);
     imports("storage", 0, RELKVANU_STORE_PRESENT);
     relkvanu_store *other = opens_other();
-    CHECK(memcmp(job, report.job, sizeof job) != 0 && report.is_recovered && choice_of(other) == id && has_files(other, id, first),
-        "the job");
+    CHECK(memcmp(job, report.job, sizeof job) != 0 && report.is_recovered && choice_of(other) == id && has_files(other, id, first));
     uint64_t term = report.term;
     goes_on(other, id, 1, first + 8);
     completes(store, 1, RELKVANU_CALL_TRIGGER, NULL); /* its term was not ended */
@@ -921,8 +915,7 @@ CASE(manifests_elsewhere) {
     place_status = RELKVANU_STORAGE_NOT_THERE;
     CHECK(keeps(store) == RELKVANU_STORE_STORAGE, "a place that is not there");
     place_status = RELKVANU_STORAGE_OK;
-    CHECK(relkvanu_store_keep_manifests(store, check_place, NULL, remove_object, list_objects, objects) == RELKVANU_STORE_BAD_ARGUMENT,
-        "a function is missing");
+    CHECK(relkvanu_store_keep_manifests(store, check_place, NULL, remove_object, list_objects, objects) == RELKVANU_STORE_BAD_ARGUMENT);
     CHECK(keeps(store) == RELKVANU_STORE_OK && keeps(store) == RELKVANU_STORE_BAD_ARGUMENT && count_objects() == 0, "%zu objects",
         count_objects());
     puts_made = 0;
@@ -957,10 +950,8 @@ static void is_taken_behind(int checks, int puts, int last) {
     checks_left = checks;
     puts_made = 0;
     uint64_t next = acknowledges_elsewhere(store, report.term, last);
-    CHECK(puts_made == puts && (manifest_elsewhere(next) != NULL) == (puts == 1) && manifest_elsewhere(id) != NULL,
-        "it puts over, or removes, what another opening has");
-    CHECK(last == RELKVANU_STORE_OK || relkvanu_store_stop_job(store, &(relkvanu_store_call){.answer = {0}}) == RELKVANU_STORE_CLOSED,
-        "it goes on");
+    CHECK(puts_made == puts && (manifest_elsewhere(next) != NULL) == (puts == 1) && manifest_elsewhere(id) != NULL);
+    CHECK(last == RELKVANU_STORE_OK || relkvanu_store_stop_job(store, &(relkvanu_store_call){.answer = {0}}) == RELKVANU_STORE_CLOSED);
     relkvanu_store_close(store);
     check_status = RELKVANU_STORAGE_OK;
 }

@@ -129,14 +129,11 @@ CASE(forfeits) {
     for (size_t i = 0; i < 65537; i++) {
         names[i] = i + 1;
     }
-    CHECK(relkvanu_store_forfeit(store, 1, names, 65537, &answer) == RELKVANU_STORE_BAD_ARGUMENT && answer.code == RELKVANU_STORE_NOT_MADE,
-        "too many");
-    CHECK(relkvanu_store_garbage(store, names, 65537, garbage, others, &answer) == RELKVANU_STORE_OK && answer.what == RELKVANU_GARBAGE,
-        "garbage");
+    CHECK(relkvanu_store_forfeit(store, 1, names, 65537, &answer) == RELKVANU_STORE_BAD_ARGUMENT && answer.code == RELKVANU_STORE_NOT_MADE);
+    CHECK(relkvanu_store_garbage(store, names, 65537, garbage, others, &answer) == RELKVANU_STORE_OK && answer.what == RELKVANU_GARBAGE);
     CHECK(answer.a == 0 && answer.b == 1 && others[0] == 65537, "%" PRIu64 " garbage, %" PRIu64 " others", answer.a, answer.b);
     CHECK(relkvanu_store_forfeit(store, 1, names, 65536, &answer) == RELKVANU_STORE_OK && answer.what == RELKVANU_FORFEITED, "all names");
-    CHECK(relkvanu_store_garbage(store, names, 65537, garbage, others, &answer) == RELKVANU_STORE_OK && answer.a == 65536 && answer.b == 1,
-        "garbage");
+    CHECK(relkvanu_store_garbage(store, names, 65537, garbage, others, &answer) == RELKVANU_STORE_OK && answer.a == 65536 && answer.b == 1);
     CHECK(garbage[0] == 1 && garbage[65535] == 65536, "in their order");
     CHECK(relkvanu_store_forfeit(store, 1, names, 0, &answer) == RELKVANU_STORE_OK && answer.what == RELKVANU_FORFEITED, "none");
     CHECK(relkvanu_store_forfeit(store, 9, names, 5000, &answer) == RELKVANU_STORE_OK, "another term");
@@ -173,8 +170,7 @@ CASE(sweeps_at_any_time) {
     make_empty(stored(20)); /* a task of the ended term writes on */
     CHECK(relkvanu_store_put(store, 21, "state", 5) == RELKVANU_STORE_OK && exists(stored(21)), "so does its put");
     CHECK(relkvanu_store_sweep(store, &left) == RELKVANU_STORE_OK && left == 0 && !exists(stored(20)) && !exists(stored(21)) &&
-              exists(stored(31)),
-        "the next sweep");
+          exists(stored(31)));
     relkvanu_store_close(store);
 }
 
@@ -184,9 +180,8 @@ CASE(its_own_file) {
     relkvanu_store *store = opens_at("storage/7", &options, RELKVANU_STORE_OK);
     size_t left;
     CHECK(reserved(store, 1, 10) == 1, "the names");
-    CHECK(
-        relkvanu_store_put(store, 7, "state", 5) == RELKVANU_STORE_PRESENT && relkvanu_store_put(store, 8, "state", 5) == RELKVANU_STORE_OK,
-        "put");
+    CHECK(relkvanu_store_put(store, 7, "state", 5) == RELKVANU_STORE_PRESENT &&
+          relkvanu_store_put(store, 8, "state", 5) == RELKVANU_STORE_OK);
     made(store, (relkvanu_call){.kind = RELKVANU_CALL_RESTORE, .now = RELKVANU_STORE_NOW});
     CHECK(relkvanu_store_sweep(store, &left) == RELKVANU_STORE_OK && left == 0 && exists(stored(7)) && !exists(stored(8)), "a sweep");
     relkvanu_store_close(store);
@@ -203,8 +198,7 @@ CASE(a_later_opening) {
     made(store, (relkvanu_call){.kind = RELKVANU_CALL_RESTORE, .now = RELKVANU_STORE_NOW});
     FILE *marker = fopen(in("storage/.relkvanu-job"), "w");
     CHECK(marker != NULL && fprintf(marker, "relkvanu job %016" PRIx64 "%016" PRIx64 "\nepoch 2\n", report.job[0], report.job[1]) > 0 &&
-              fclose(marker) == 0,
-        "marker");
+          fclose(marker) == 0);
     CHECK(relkvanu_store_sweep(store, &left) == RELKVANU_STORE_STORAGE && exists(stored(1)) && exists(stored(3)), "a sweep");
     CHECK(relkvanu_store_put(store, 4, "state", 5) == RELKVANU_STORE_STORAGE && !exists(stored(4)), "a put");
     relkvanu_store_close(store);
@@ -229,8 +223,7 @@ CASE(adopts) {
     CHECK(report.next_name == 701, "next name %" PRIu64, report.next_name);
     CHECK(reserved(store, 1, 1) == 701 && relkvanu_store_put(store, 701, "state", 5) == RELKVANU_STORE_OK, "a name");
     CHECK(relkvanu_store_sweep(store, &left) == RELKVANU_STORE_OK && left == 0 && !exists(stored(700)) && !exists(stored(3)) &&
-              exists(stored(701)),
-        "a sweep");
+          exists(stored(701)));
     relkvanu_store_close(store);
 }
 
@@ -295,8 +288,7 @@ static bool takes_part(struct task *t, uint64_t id, unsigned *seed) {
     bool is_late = answer.code == RELKVANU_FENCED;
     t->fleet->late += is_late;
     CHECK(!is_late || answer.what == RELKVANU_OLD_TERM, "what %" PRIu32, answer.what);
-    CHECK(relkvanu_store_forfeit(store, t->term, names, 3, &answer) == RELKVANU_STORE_OK,
-        "forfeit"); /* what was acknowledged is not held any more */
+    CHECK(relkvanu_store_forfeit(store, t->term, names, 3, &answer) == RELKVANU_STORE_OK); /* what was acknowledged is not held any more */
     return !is_late;
 }
 

@@ -243,8 +243,7 @@ CASE(the_own_folder) {
     CHECK(own.list(own.with, 0, note_sum, sums) == RELKVANU_STORAGE_OK && sums[0] == 7 && sums[1] == 5, "%" PRIu64 " bytes", sums[1]);
     CHECK(in_child(in_a_child, &(struct store_and_own){store, own}) == 0, "a child");
     CHECK(rename(in("storage/.relkvanu-job"), in("marker")) == 0 && own.check(own.with) == RELKVANU_STORAGE_NOT_THERE, "the marker");
-    CHECK(
-        own.delete_files(own.with, files, 2, outcomes) == RELKVANU_STORAGE_NOT_THERE && outcomes[0] == 0 && outcomes[1] == 0, "deletions");
+    CHECK(own.delete_files(own.with, files, 2, outcomes) == RELKVANU_STORAGE_NOT_THERE && outcomes[0] == 0 && outcomes[1] == 0);
     CHECK(rename(in("marker"), in("storage/.relkvanu-job")) == 0, "the marker");
     CHECK(own.delete_files(own.with, files, 2, outcomes) == RELKVANU_STORAGE_OK && outcomes[0] == 1 && outcomes[1] == 2, "%d %d",
         outcomes[0], outcomes[1]);

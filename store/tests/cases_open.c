@@ -23,19 +23,16 @@ CASE(makes_and_recovers) {
     options.settings.interval = 11;
     store = opens(&options, RELKVANU_STORE_OK);
     CHECK(report.is_recovered && report.settings_differ && report.epoch == 2 && report.replayed == CHECKPOINT_CALLS &&
-              report.image_place == 0,
-        "the report");
+          report.image_place == 0);
     CHECK(report.job[0] == job[0] && report.job[1] == job[1] && (job[0] | job[1]) != 0, "another job");
-    CHECK(report.choice.what == RELKVANU_CHOICE_CHECKPOINT && report.choice.a == id && report.mode.what == RELKVANU_MODE_RUNNING,
-        "the report");
+    CHECK(report.choice.what == RELKVANU_CHOICE_CHECKPOINT && report.choice.a == id && report.mode.what == RELKVANU_MODE_RUNNING);
     check_steps(again, 4);
     done(store, RELKVANU_CALL_CANCEL, 1000, 0);
     relkvanu_store_close(store);
     options = job_options(RELKVANU_STORE_CREATE, 5);
     store = opens(&options, RELKVANU_STORE_OK);
     CHECK(!report.settings_differ && report.epoch == 3 && report.replayed == CHECKPOINT_CALLS + 1 && report.moment == 1000 &&
-              report.mode.what == RELKVANU_MODE_CANCELLED,
-        "the report");
+          report.mode.what == RELKVANU_MODE_CANCELLED);
     check_steps(ended, 3);
     relkvanu_store_close(store);
 }
@@ -289,8 +286,7 @@ CASE(a_reader_of_another_program) {
     sqlite3 *db;
     relkvanu_store_options options = job_options(RELKVANU_STORE_CREATE, 0);
     relkvanu_store_close(opens(&options, RELKVANU_STORE_OK));
-    CHECK(sqlite3_open(in("x.db"), &db) == SQLITE_OK && sqlite3_exec(db, "BEGIN; SELECT * FROM job", NULL, NULL, NULL) == SQLITE_OK,
-        "a reader");
+    CHECK(sqlite3_open(in("x.db"), &db) == SQLITE_OK && sqlite3_exec(db, "BEGIN; SELECT * FROM job", NULL, NULL, NULL) == SQLITE_OK);
     opens(&options, RELKVANU_STORE_IN_USE);
     CHECK(says("in use by another program") || says("locked"), "%s", report.message);
     sqlite3_close(db);
@@ -309,8 +305,7 @@ CASE(a_read_only_file) {
     relkvanu_store_options options = job_options(RELKVANU_STORE_CREATE, 0);
     relkvanu_store_close(opens(&options, RELKVANU_STORE_OK));
     CHECK(chmod(in("x.db"), 0444) == 0 && chmod(in("x.db.lock"), 0666) == 0 && chmod(in("x.db-shm"), 0666) == 0 &&
-              chmod(in("x.db-wal"), 0666) == 0 && chmod(in("."), 0777) == 0,
-        "modes");
+          chmod(in("x.db-wal"), 0666) == 0 && chmod(in("."), 0777) == 0);
     if (geteuid() == 0) {
         CHECK(in_child(lacks_rights, NULL) == 0, "a read-only file");
     } else {

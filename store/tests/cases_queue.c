@@ -15,8 +15,7 @@ CASE(submits) {
     relkvanu_store_completion some[7];
     relkvanu_store *store = opens_with(job_options(RELKVANU_STORE_CREATE, 0));
     CHECK(!is_readable(store, 0) && relkvanu_store_completed(store, some, 7) == 0, "a completion of nothing");
-    CHECK(relkvanu_store_submit(store, calls, 1, 1) == RELKVANU_STORE_BAD_ARGUMENT && calls[0].answer.code == RELKVANU_STORE_NOT_MADE,
-        "a bad call");
+    CHECK(relkvanu_store_submit(store, calls, 1, 1) == RELKVANU_STORE_BAD_ARGUMENT && calls[0].answer.code == RELKVANU_STORE_NOT_MADE);
     CHECK(relkvanu_store_submit(store, calls, 0, 1) == RELKVANU_STORE_BAD_ARGUMENT, "no call");
     relkvanu *handle; /* all wait behind this read, and are one group */
     CHECK(relkvanu_store_read(store, &handle) == RELKVANU_STORE_OK, "read");
@@ -81,11 +80,9 @@ static uint64_t submits_a_stop(relkvanu_store *store, uint64_t token) {
         "code %" PRIu32 ", what %" PRIu32, call.answer.code, call.answer.what);
     CHECK(phase_of(store).phase == RELKVANU_STORE_PHASE_STOPPING && phase_of(store).savepoint == call.answer.a, "the phase");
     CHECK(relkvanu_store_submit_stop_job(store, &again, token + 1) == RELKVANU_STORE_OK &&
-              completes(store, token + 1) == RELKVANU_STORE_NOT_NOW && again.answer.code == RELKVANU_STORE_NOT_MADE,
-        "a second stop");
+          completes(store, token + 1) == RELKVANU_STORE_NOT_NOW && again.answer.code == RELKVANU_STORE_NOT_MADE);
     CHECK(relkvanu_store_await_tick(store, 60000, &tick) == RELKVANU_STORE_OK && tick.answer.what == RELKVANU_SAVEPOINT_TRIGGERED &&
-              tick.answer.a == call.answer.a,
-        "it is handed over");
+          tick.answer.a == call.answer.a);
     return call.answer.a;
 }
 
@@ -112,8 +109,7 @@ static void submits_two_begins(relkvanu_store *store, uint64_t savepoint) {
         calls[0].answer.what);
     CHECK(calls[1].answer.code == RELKVANU_STORE_NOT_MADE && calls[1].place == 0, "code %" PRIu32, calls[1].answer.code);
     CHECK(phase_of(store).phase == RELKVANU_STORE_PHASE_RUNNING, "the phase");
-    CHECK(relkvanu_store_await_tick(store, 60000, &tick) == RELKVANU_STORE_OK && tick.answer.what == RELKVANU_RESTORED_SAVEPOINT,
-        "it is handed over");
+    CHECK(relkvanu_store_await_tick(store, 60000, &tick) == RELKVANU_STORE_OK && tick.answer.what == RELKVANU_RESTORED_SAVEPOINT);
 }
 
 CASE(submitted_commands) {
@@ -121,8 +117,7 @@ CASE(submitted_commands) {
     options.settings.interval = 1 << 30;
     relkvanu_store *store = opens(&options, RELKVANU_STORE_OK);
     relkvanu_store_call call;
-    CHECK(relkvanu_store_submit_begin_job(store, &call, 1) == RELKVANU_STORE_OK && completes(store, 1) == RELKVANU_STORE_NOT_NOW,
-        "a job that runs can't begin");
+    CHECK(relkvanu_store_submit_begin_job(store, &call, 1) == RELKVANU_STORE_OK && completes(store, 1) == RELKVANU_STORE_NOT_NOW);
     CHECK(call.answer.code == RELKVANU_STORE_NOT_MADE && call.place == 0, "code %" PRIu32, call.answer.code);
     submits_a_list(store);
     uint64_t savepoint = submits_a_stop(store, 10);

@@ -172,8 +172,7 @@ CASE(a_marker_without_an_epoch) {
     relkvanu_store_close(opens_with(storage_options(RELKVANU_STORE_CREATE, 0)));
     FILE *marker = fopen(in("storage/.relkvanu-job"), "w");
     CHECK(marker != NULL && fprintf(marker, "relkvanu job %016" PRIx64 "%016" PRIx64 "\n", report.job[0], report.job[1]) > 0 &&
-              fclose(marker) == 0,
-        "marker");
+          fclose(marker) == 0);
     relkvanu_store_close(opens_with(storage_options(RELKVANU_STORE_CREATE, 0)));
     CHECK(report.epoch == 2, "epoch %" PRIu64, report.epoch);
 }
@@ -204,15 +203,13 @@ CASE(a_task_of_another_process) {
     CHECK(task.get(task.with, 7, read, sizeof read, &len) == RELKVANU_STORAGE_OK && len == 5 && strcmp(read, "state") == 0, "%s", read);
     CHECK(task.get(task.with, 8, read, sizeof read, &len) == RELKVANU_STORAGE_ABSENT, "no file 8");
     fail_syncs("/storage", EINVAL);
-    CHECK(
-        task.put(task.with, 9, "state", 5) == RELKVANU_STORAGE_FAILED && errno == EINVAL && !exists("storage/9"), "a folder without syncs");
+    CHECK(task.put(task.with, 9, "state", 5) == RELKVANU_STORAGE_FAILED && errno == EINVAL && !exists("storage/9"));
     fail_syncs("/storage", 0);
     CHECK(rename(in("storage/.relkvanu-job"), in("marker")) == 0 && task.put(task.with, 10, "a", 1) == RELKVANU_STORAGE_NOT_THERE, "away");
     CHECK(rename(in("marker"), in("storage/.relkvanu-job")) == 0 && task.put(task.with, 10, "a", 1) == RELKVANU_STORAGE_OK, "back");
     relkvanu_store_close(store);
     store = opens_with(storage_options(RELKVANU_STORE_CREATE, 0));
-    CHECK(task.put(task.with, 11, "a", 1) == RELKVANU_STORAGE_OTHER_JOB && !exists("storage/11") && !exists("storage/11.part"),
-        "a later opening");
+    CHECK(task.put(task.with, 11, "a", 1) == RELKVANU_STORAGE_OTHER_JOB && !exists("storage/11") && !exists("storage/11.part"));
     CHECK(task.check(task.with) == RELKVANU_STORAGE_OTHER_JOB, "a later opening");
     relkvanu_storage_close_task(&task);
     CHECK(opens_task(in("storage"), report.job, report.epoch) == RELKVANU_STORAGE_OK, "the task of the later opening");

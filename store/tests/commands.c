@@ -89,8 +89,7 @@ static void print_state(void) {
     size_t len = 4;
     relkvanu *handle;
     CHECK(
-        relkvanu_store_phase(store, &phase) == RELKVANU_STORE_OK && relkvanu_store_job(store, &settings, shape, &len) == RELKVANU_STORE_OK,
-        "the job");
+        relkvanu_store_phase(store, &phase) == RELKVANU_STORE_OK && relkvanu_store_job(store, &settings, shape, &len) == RELKVANU_STORE_OK);
     CHECK(relkvanu_store_read(store, &handle) == RELKVANU_STORE_OK, "a read");
     relkvanu_answer choice = relkvanu_choice(handle);
     relkvanu_counts counts = relkvanu_file_counts(handle);

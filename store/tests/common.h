@@ -14,15 +14,16 @@
 
 enum { SUBTASKS = 8, LINE = 400, PATHS = 600, MOST_FILES = 64 };
 
-#define CHECK(condition, ...)                                               \
-    do {                                                                    \
-        if (!(condition)) {                                                 \
-            fprintf(stderr, "%s:%d: %s: ", __FILE__, __LINE__, #condition); \
-            fprintf(stderr, __VA_ARGS__);                                   \
-            fputc('\n', stderr);                                            \
-            fflush(stderr);                                                 \
-            abort();                                                        \
-        }                                                                   \
+/* What has to hold, and what is told beside it if it does not: the words of a printf, if there are any. */
+#define CHECK(condition, ...)                                             \
+    do {                                                                  \
+        if (!(condition)) {                                               \
+            fprintf(stderr, "%s:%d: %s", __FILE__, __LINE__, #condition); \
+            fprintf(stderr, ": " __VA_ARGS__);                            \
+            fputc('\n', stderr);                                          \
+            fflush(stderr);                                               \
+            abort();                                                      \
+        }                                                                 \
     } while (0)
 
 /* What a caller was told, or what the log has. */

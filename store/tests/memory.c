@@ -81,8 +81,7 @@ static void watch_sqlite(void) {
     sqlite3_mem_methods mine = lite;
     mine.xMalloc = lite_malloc;
     mine.xRealloc = lite_realloc;
-    CHECK(sqlite3_config(SQLITE_CONFIG_MALLOC, &mine) == SQLITE_OK && sqlite3_config(SQLITE_CONFIG_LOOKASIDE, 0, 0) == SQLITE_OK,
-        "SQLite's allocator");
+    CHECK(sqlite3_config(SQLITE_CONFIG_MALLOC, &mine) == SQLITE_OK && sqlite3_config(SQLITE_CONFIG_LOOKASIDE, 0, 0) == SQLITE_OK);
 }
 
 static char path[PATHS], storage[PATHS];
@@ -196,8 +195,7 @@ static int work(relkvanu_store *store) {
     }
     bool is_complete = calls[SUBTASKS - 1].answer.what == RELKVANU_ACK_COMPLETED; /* otherwise a list before this one had no memory */
     CHECK(past_len != 0 &&
-              (!is_complete || (past[0].id == id && past[0].outcome == RELKVANU_STORE_COMPLETED && past[0].bytes == 7 * SUBTASKS)),
-        "the history");
+          (!is_complete || (past[0].id == id && past[0].outcome == RELKVANU_STORE_COMPLETED && past[0].bytes == 7 * SUBTASKS)));
     uint64_t list[] = {1, file}, garbage[2], others[2];
     relkvanu_answer answer;
     status = relkvanu_store_garbage(store, list, 2, garbage, others, &answer);
@@ -565,8 +563,7 @@ static int use_folder(const relkvanu_storage_options *options) {
     CHECK((it.with != NULL) == (status == RELKVANU_STORAGE_OK), "status %d", status);
     if (status == RELKVANU_STORAGE_OK) {
         status = it.put(it.with, 7, "state", 5);
-        CHECK(
-            status == RELKVANU_STORAGE_OK && it.list(it.with, 0, no_page, NULL) == RELKVANU_STORAGE_OK, "only the opening asks for memory");
+        CHECK(status == RELKVANU_STORAGE_OK && it.list(it.with, 0, no_page, NULL) == RELKVANU_STORAGE_OK);
         CHECK(it.delete_files(it.with, &file, 1, &outcome) == RELKVANU_STORAGE_OK && outcome == RELKVANU_STORAGE_DELETED, "outcome %d",
             outcome);
     }
@@ -615,8 +612,7 @@ static void rests_without_memory(void) {
 static uint64_t given_up(relkvanu_store *store, const uint64_t *names, size_t len) {
     static uint64_t garbage[5000], unissued[5000];
     relkvanu_answer answer;
-    CHECK(relkvanu_store_garbage(store, names, len, garbage, unissued, &answer) == RELKVANU_STORE_OK && answer.what == RELKVANU_GARBAGE,
-        "garbage");
+    CHECK(relkvanu_store_garbage(store, names, len, garbage, unissued, &answer) == RELKVANU_STORE_OK && answer.what == RELKVANU_GARBAGE);
     return answer.a;
 }
 
