@@ -45,6 +45,28 @@ relkvanu_store *opens_with(relkvanu_store_options options) {
     return opens(&options, RELKVANU_STORE_OK);
 }
 
+relkvanu_store *opens_as(relkvanu_store_options *options, uint32_t flags, int status) {
+    options->flags = flags;
+    return opens(options, status);
+}
+
+void opens_not_at(const char *name, const relkvanu_store_options *options, int status, const char *words) {
+    opens_at(name, options, status);
+    CHECK(says(words), "%s, and not %s", report.message, words);
+}
+
+void opens_not(const relkvanu_store_options *options, int status, const char *words) {
+    opens_not_at("x.db", options, status, words);
+}
+
+relkvanu_store *new_job(void) {
+    return opens_with(storage_options(RELKVANU_STORE_CREATE, 0));
+}
+
+relkvanu_store *new_job_alone(uint64_t image_calls) {
+    return opens_with(job_options(RELKVANU_STORE_CREATE, image_calls));
+}
+
 relkvanu_store_options storage_options(uint32_t flags, uint64_t image_calls) {
     static char storage[PATHS];
     relkvanu_store_options options = job_options(flags, image_calls);
@@ -175,6 +197,30 @@ relkvanu_answer done(relkvanu_store *store, uint32_t kind, uint64_t now, uint64_
     return answer;
 }
 
+uint64_t begins(relkvanu_store *store, uint32_t kind) {
+    relkvanu_answer begun = done(store, kind, RELKVANU_STORE_NOW, 0);
+    return kind == RELKVANU_CALL_SAVEPOINT ? begun.a : begun.b;
+}
+
+relkvanu_answer takes_part(relkvanu_store *store, uint64_t term, uint64_t id, uint16_t index, uint64_t file, size_t len, uint64_t reused) {
+    relkvanu_answer answer;
+    CHECK(relkvanu_store_put(store, file, "the state of a task", len) == RELKVANU_STORE_OK, "file %" PRIu64, file);
+    int status = relkvanu_store_ack_in(store, term, RELKVANU_STORE_NOW, id, 0, index, &file, 1, &reused, reused != 0, &answer);
+    CHECK(status == RELKVANU_STORE_OK && answer.code == RELKVANU_DONE, "status %d, what %" PRIu32, status, answer.what);
+    return answer;
+}
+
+uint64_t completes(relkvanu_store *store, uint32_t kind, uint64_t *first) {
+    uint64_t id = begins(store, kind), term = term_of(store), file = reserved(store, term, SUBTASKS);
+    for (uint16_t i = 0; i < SUBTASKS; i++) {
+        takes_part(store, term, id, i, file + i, i + 1u, 0);
+    }
+    if (first != NULL) {
+        *first = file;
+    }
+    return id;
+}
+
 /* Reserves the names that were not given out up to this one. Returns the term. */
 static uint64_t reserve_to(relkvanu_store *store, uint64_t last) {
     relkvanu_answer running, made;
@@ -211,7 +257,6 @@ bool note_record(void *with, const relkvanu_store_record *record) {
 }
 
 size_t list_records(const char *folder) {
-    char message[RELKVANU_STORE_MESSAGE];
     records_len = 0;
     int status = relkvanu_store_records(in(folder), note_record, records, message, sizeof message);
     CHECK(status == RELKVANU_STORE_OK && message[0] == 0, "status %d: %s", status, message);
@@ -238,6 +283,71 @@ int in_child(int (*run)(void *with), void *with) {
 
 bool says(const char *words) {
     return strstr(report.message, words) != NULL;
+}
+
+void why_says(const char *words) {
+    char found[RELKVANU_STORE_MESSAGE] = "";
+    size_t len = relkvanu_store_why(found, sizeof found);
+    CHECK(len == strlen(found) && strstr(found, words) != NULL, "%s, and not %s", found, words);
+}
+
+relkvanu_store_recovered recovered;
+relkvanu_store_carried carried;
+char message[RELKVANU_STORE_MESSAGE];
+
+/* What a command has left beside the file or folder that it makes. */
+static void leaves_nothing(const char *path) {
+    static const char *const ends[] = {".part", ".part-wal", ".part-journal", "-journal"}, *const new_ends[] = {
+                                                                                               "", "-wal", "-shm", ".lock"};
+    const char *slash = strrchr(path, '/'), *name = slash == NULL ? path : slash + 1;
+    char part[PATHS];
+    for (size_t i = 0; i < 4; i++) {
+        snprintf(part, sizeof part, "%s%s", path, ends[i]);
+        CHECK(!exists(part), "%s is left", part);
+        snprintf(part, sizeof part, "%.*s.%s.relkvanu-new%s", (int)(name - path), path, name, new_ends[i]);
+        CHECK(!exists(part), "%s is left", part);
+    }
+}
+
+static void ended(int got, int status, const char *told, const char *path) {
+    CHECK(got == status, "status %d, not %d: %s", got, status, told);
+    CHECK((told[0] == 0) == (status == RELKVANU_STORE_OK), "%s", told);
+    leaves_nothing(path);
+}
+
+void recovers(const char *path, const char *storage, uint64_t record, int status) {
+    ended(relkvanu_store_recover(in(path), in(storage), record, &recovered), status, recovered.message, path);
+}
+
+void claims(const char *from, uint64_t record, const char *path, const char *storage, int status) {
+    ended(relkvanu_store_claim(in(from), record, in(path), in(storage), &recovered), status, recovered.message, path);
+    leaves_nothing(storage);
+}
+
+void imports(const char *from, uint64_t record, const char *path, const char *storage, int status) {
+    ended(relkvanu_store_import(in(from), record, in(path), in(storage), &recovered), status, recovered.message, path);
+    leaves_nothing(storage);
+}
+
+void exports(const char *from, uint64_t record, const char *to, int status) {
+    ended(relkvanu_store_export(in(from), record, in(to), &carried), status, carried.message, to);
+}
+
+void backs_up(relkvanu_store *store, const char *name, int status) {
+    int got = relkvanu_store_backup(store, in(name), message, sizeof message);
+    CHECK(got == status, "status %d, not %d: %s", got, status, message);
+    CHECK((message[0] == 0) == (status == RELKVANU_STORE_OK), "%s", message);
+}
+
+void puts_file(relkvanu_store *store, uint64_t file, int status) {
+    int got = relkvanu_store_put(store, file, "state", 5);
+    CHECK(got == status, "file %" PRIu64 ": status %d, not %d", file, got, status);
+}
+
+void is_swept(relkvanu_store *store, int status, size_t left) {
+    size_t found = 99;
+    int got = relkvanu_store_sweep(store, &found);
+    CHECK(got == status && found == left, "status %d, not %d; %zu are left, not %zu", got, status, found, left);
 }
 
 static const char *unsynced = "";

@@ -17,9 +17,14 @@ const char *in(const char *name);
 relkvanu_store *opens(const relkvanu_store_options *options, int status);
 relkvanu_store *opens_at(const char *name, const relkvanu_store_options *options, int status);
 relkvanu_store *opens_with(relkvanu_store_options options);
+relkvanu_store *opens_as(relkvanu_store_options *options, uint32_t flags, int status); /* with these flags from now on */
+void opens_not(const relkvanu_store_options *options, int status, const char *words);  /* the report's message has the words */
+void opens_not_at(const char *name, const relkvanu_store_options *options, int status, const char *words);
 extern relkvanu_store_report report; /* of the last opening */
 
 relkvanu_store_options storage_options(uint32_t flags, uint64_t image_calls);
+relkvanu_store *new_job(void); /* over the folder FOLDER/storage */
+relkvanu_store *new_job_alone(uint64_t image_calls);
 
 bool exists(const char *name);     /* in the folder of the case */
 void make_empty(const char *name); /* a file, which is not there yet */
@@ -61,6 +66,15 @@ relkvanu_store_call made(relkvanu_store *store, relkvanu_call call);
 /* A call of one kind with a number, and its answer, which has to be RELKVANU_DONE. */
 relkvanu_answer done(relkvanu_store *store, uint32_t kind, uint64_t now, uint64_t number);
 
+/* The number of a record that is triggered now: a checkpoint, or with RELKVANU_CALL_SAVEPOINT a savepoint. */
+uint64_t begins(relkvanu_store *store, uint32_t kind);
+
+/* Subtask 0.index puts a file of so many bytes, and acknowledges the record now with it and a file from before, unless that is 0. */
+relkvanu_answer takes_part(relkvanu_store *store, uint64_t term, uint64_t id, uint16_t index, uint64_t file, size_t len, uint64_t reused);
+
+/* A record in which each subtask takes part with a new file, of 1 to 8 bytes. Returns its number. *first is the first file. */
+uint64_t completes(relkvanu_store *store, uint32_t kind, uint64_t *first);
+
 /* Triggers a checkpoint and acknowledges it for each subtask, with files from the number on, 2 each, which no one has reserved before: all names up to
  * the last of them are reserved first, mostly in one call. Returns its number. */
 uint64_t checkpoint(relkvanu_store *store, uint64_t file);
@@ -79,7 +93,21 @@ int in_child(int (*run)(void *with), void *with);
 /* A write behind so many bytes of any file fails with EFBIG, and none does after 0. */
 void limit_files(size_t bytes);
 
-bool says(const char *words); /* whether the report's message has the words */
+bool says(const char *words);     /* whether the report's message has the words */
+void why_says(const char *words); /* what is told of the last call of this thread that was not made, or was refused */
+
+/* Recoveries, claims, exports and imports by names in the folder of the case, which have to have this status, and leave no part of a file or folder. */
+extern relkvanu_store_recovered recovered;
+extern relkvanu_store_carried carried;
+void recovers(const char *path, const char *storage, uint64_t record, int status);
+void claims(const char *from, uint64_t record, const char *path, const char *storage, int status);
+void imports(const char *from, uint64_t record, const char *path, const char *storage, int status);
+void exports(const char *from, uint64_t record, const char *to, int status);
+void backs_up(relkvanu_store *store, const char *name, int status); /* what it says is in message */
+extern char message[RELKVANU_STORE_MESSAGE];
+
+void puts_file(relkvanu_store *store, uint64_t file, int status); /* with the bytes "state" */
+void is_swept(relkvanu_store *store, int status, size_t left);    /* and so many files are left that can't be deleted */
 
 /* From now on the sync of a file or folder whose path ends so fails with this errno; 0: none fails. */
 void fail_syncs(const char *end, int error);

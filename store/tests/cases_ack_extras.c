@@ -42,7 +42,7 @@ static void acks_all(relkvanu_store *store, uint64_t id) {
     CHECK(answer.what == RELKVANU_ACK_COMPLETED, "what %" PRIu32, answer.what);
 }
 
-static uint64_t completes(relkvanu_store *store) {
+static uint64_t completes_all(relkvanu_store *store) {
     uint64_t id = triggers(store);
     acks_all(store, id);
     return id;
@@ -107,7 +107,7 @@ static relkvanu_store *reopens(relkvanu_store *store) {
     return opens_with(storage_options(RELKVANU_STORE_RECOVER, 0));
 }
 
-static relkvanu_store *new_job(uint64_t retained) {
+static relkvanu_store *job_of(uint64_t retained) {
     relkvanu_store_options options = storage_options(RELKVANU_STORE_CREATE, 0);
     options.settings.retained = retained;
     options.settings.at_once = 4;
@@ -117,13 +117,13 @@ static relkvanu_store *new_job(uint64_t retained) {
 }
 
 CASE(payloads) {
-    relkvanu_store *store = new_job(1);
+    relkvanu_store *store = job_of(1);
     loads_as(store, 0, 0, RELKVANU_STORE_OK);
     CHECK(loaded.is.id == 0 && loaded.is.kind == 0 && loaded.parts == 0, "a new job has record %" PRIu64, loaded.is.id);
-    uint64_t first = completes(store);
+    uint64_t first = completes_all(store);
     CHECK(more.kind == RELKVANU_STORE_CHECKPOINT && more.ended_len == 0, "%zu ended", more.ended_len);
     loads(store, first);
-    uint64_t second = completes(store);
+    uint64_t second = completes_all(store);
     CHECK(more.ended_len == 1 && ended[0] == first, "%zu ended, the first %" PRIu64, more.ended_len, ended[0]);
     loads_as(store, first, 0, RELKVANU_STORE_ABSENT);
     uint64_t pending = triggers(store);
@@ -146,7 +146,7 @@ CASE(payloads) {
 
 /* Of a list, and of a submit: one row for the parts of a commit. */
 CASE(payloads_of_lists) {
-    relkvanu_store *store = new_job(1);
+    relkvanu_store *store = job_of(1);
     static relkvanu_store_more of[SUBTASKS];
     static char texts[SUBTASKS][40];
     for (int is_submit = 0; is_submit < 2; is_submit++) {
@@ -178,8 +178,8 @@ CASE(payloads_of_lists) {
 
 /* A payload goes with its record, however that ends. */
 CASE(payloads_of_ended_records) {
-    relkvanu_store *store = new_job(2);
-    uint64_t kept = completes(store), declined = triggers(store);
+    relkvanu_store *store = job_of(2);
+    uint64_t kept = completes_all(store), declined = triggers(store);
     acks(store, declined, 0, "declined");
     more = (relkvanu_store_more){.reason = "no disk", .reason_len = 7, .ended = ended, .ended_room = ENDED};
     int status = relkvanu_store_decline_with(store, term_of(store), RELKVANU_STORE_NOW, declined, 0, 1, &more, &answer);
@@ -207,7 +207,7 @@ CASE(payloads_of_ended_records) {
 
 /* A later checkpoint subsumes an earlier one that is pending; a job that fails drops all. */
 CASE(payloads_of_dropped_records) {
-    relkvanu_store *store = new_job(1);
+    relkvanu_store *store = job_of(1);
     uint64_t subsumed = triggers(store), later = triggers(store);
     acks(store, subsumed, 0, "subsumed");
     acks_all(store, later);
@@ -248,13 +248,13 @@ static void acks_files(relkvanu_store *store, uint64_t id, uint16_t index, const
 static uint64_t reserves(relkvanu_store *store, size_t files) {
     uint64_t first = reserved(store, term_of(store), files);
     for (uint64_t name = first; name < first + files; name++) {
-        CHECK(relkvanu_store_put(store, name, "x", 1) == RELKVANU_STORE_OK, "no file");
+        puts_file(store, name, RELKVANU_STORE_OK);
     }
     return first;
 }
 
 CASE(the_order_of_files) {
-    relkvanu_store *store = new_job(1);
+    relkvanu_store *store = job_of(1);
     for (uint64_t round = 0, base = 0; round < 2; round++) {
         uint64_t id = triggers(store), names = reserves(store, 3 * SUBTASKS);
         for (uint16_t i = 0; i < SUBTASKS; i++) {
@@ -278,7 +278,7 @@ CASE(the_order_of_files) {
 }
 
 CASE(a_lost_file) {
-    relkvanu_store *store = new_job(1);
+    relkvanu_store *store = job_of(1);
     uint64_t id = triggers(store), names = reserves(store, SUBTASKS);
     char words[100];
     for (uint16_t i = 0; i < SUBTASKS; i++) {
@@ -295,7 +295,7 @@ CASE(a_lost_file) {
 
 /* What is refused changes nothing. */
 CASE(misuse_of_more) {
-    relkvanu_store *store = new_job(1);
+    relkvanu_store *store = job_of(1);
     static char text[RELKVANU_STORE_MOST_PAYLOAD + 1];
     uint64_t id = triggers(store), term = term_of(store);
     memset(text, 'x', sizeof text);
@@ -338,7 +338,7 @@ CASE(misuse_of_more) {
 }
 
 CASE(the_history) {
-    relkvanu_store *store = new_job(1);
+    relkvanu_store *store = job_of(1);
     relkvanu_store_past past[3];
     size_t len = 3;
     CHECK(relkvanu_store_history(store, past, &len) == RELKVANU_STORE_OK && len == 0, "%zu records of a new job", len);
@@ -373,7 +373,7 @@ CASE(the_history) {
 
 /* It has the last thousand. */
 CASE(a_long_history) {
-    relkvanu_store *store = new_job(1);
+    relkvanu_store *store = job_of(1);
     relkvanu_store_call *calls = calloc(4000, sizeof *calls);
     static relkvanu_store_past past[RELKVANU_STORE_MOST_HISTORY + 1];
     size_t len = RELKVANU_STORE_MOST_HISTORY + 1;
@@ -391,10 +391,10 @@ CASE(a_long_history) {
 
 /* A savepoint of an older checkpoint has its payloads. */
 CASE(payloads_of_an_older_checkpoint) {
-    relkvanu_store *store = new_job(3);
+    relkvanu_store *store = job_of(3);
     relkvanu_store_call call;
-    uint64_t first = completes(store);
-    completes(store);
+    uint64_t first = completes_all(store);
+    completes_all(store);
     CHECK(relkvanu_store_go_back(store, first, RELKVANU_STORE_ACCEPT_PUBLISHED, &call) == RELKVANU_STORE_OK, "no way back");
     CHECK(call.answer.what == RELKVANU_RESTORED_SAVEPOINT, "what %" PRIu32, call.answer.what);
     uint64_t savepoint = call.answer.b;
@@ -409,9 +409,9 @@ CASE(payloads_of_an_older_checkpoint) {
 
 /* A stop's savepoint, to which the job goes back in the same commit. */
 CASE(payloads_of_a_stop) {
-    relkvanu_store *store = new_job(1);
+    relkvanu_store *store = job_of(1);
     relkvanu_store_call call;
-    uint64_t before = completes(store);
+    uint64_t before = completes_all(store);
     CHECK(relkvanu_store_stop_job(store, &call) == RELKVANU_STORE_OK, "no stop");
     acks_all(store, call.answer.a);
     CHECK(more.kind == RELKVANU_STORE_SAVEPOINT, "kind %" PRIu32, more.kind);
@@ -469,12 +469,12 @@ CASE(payloads_of_manifests) {
 
 /* A backup has them. */
 CASE(payloads_of_a_backup) {
-    relkvanu_store *store = new_job(1);
+    relkvanu_store *store = job_of(1);
     relkvanu_store_recovered recovered;
     char message[RELKVANU_STORE_MESSAGE];
-    uint64_t id = completes(store);
+    uint64_t id = completes_all(store);
     CHECK(relkvanu_store_backup(store, in("backup"), message, sizeof message) == RELKVANU_STORE_OK, "%s", message);
-    completes(store);
+    completes_all(store);
     relkvanu_store_close(store);
     int status = relkvanu_store_put_back(in("backup"), in("x.db"), in("storage"), &recovered);
     CHECK(status == RELKVANU_STORE_OK && recovered.record == id, "status %d: %s", status, recovered.message);
@@ -485,20 +485,18 @@ CASE(payloads_of_a_backup) {
 
 /* A row that was changed, and rows of records that an earlier version of the library has ended. */
 CASE(damaged_parts) {
-    relkvanu_store *store = new_job(1);
+    relkvanu_store *store = job_of(1);
     relkvanu_store_past past[1];
-    char words[RELKVANU_STORE_MESSAGE];
     size_t len = 1;
-    uint64_t id = completes(store);
+    uint64_t id = completes_all(store);
     relkvanu_store_close(store);
     run_sql(in("x.db"), "INSERT INTO part VALUES(77, 1, 1, x'00'); UPDATE part SET parts = zeroblob(40) WHERE record <> 77;"
                         " UPDATE past SET acks = 5");
     store = reopens(NULL);
     loads_as(store, id, 0, RELKVANU_STORE_DAMAGED);
-    relkvanu_store_why(words, sizeof words);
-    CHECK(strstr(words, "checksum") != NULL, "%s", words);
+    why_says("checksum");
     CHECK(relkvanu_store_history(store, past, &len) == RELKVANU_STORE_DAMAGED && len == 0, "a row that was changed");
-    uint64_t next = completes(store);
+    uint64_t next = completes_all(store);
     loads(store, next);
     relkvanu_store_close(store);
     CHECK(parts_of(77) == 0 && parts_of(0) == SUBTASKS, "%zu rows", parts_of(0));

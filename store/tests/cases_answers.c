@@ -60,7 +60,7 @@ static relkvanu_store *opened(void) {
     return opens_with(storage_options(RELKVANU_STORE_CREATE, 0));
 }
 
-static bool why_says(int error) {
+static bool why_has(int error) {
     char words[RELKVANU_STORE_MESSAGE];
     return relkvanu_store_why(words, sizeof words) == strlen(words) && strstr(words, strerror(error)) != NULL;
 }
@@ -69,23 +69,22 @@ static bool why_says(int error) {
 CASE(errors_of_a_storage) {
     static const int errors[] = {EMFILE, EIO, EACCES};
     relkvanu_store *store = opened();
-    size_t left;
     for (size_t i = 0; i < sizeof errors / sizeof *errors; i++) {
         fail_opens(".relkvanu-job", errors[i]);
-        CHECK(relkvanu_store_put(store, 1, "a", 1) == RELKVANU_STORE_NOT_PUT && errno == errors[i] && why_says(errors[i]), "put %d", errno);
-        CHECK(
-            relkvanu_store_sweep(store, &left) == RELKVANU_STORE_NOT_DONE && errno == errors[i] && why_says(errors[i]), "sweep %d", errno);
+        CHECK(relkvanu_store_put(store, 1, "a", 1) == RELKVANU_STORE_NOT_PUT && errno == errors[i] && why_has(errors[i]), "put %d", errno);
+        is_swept(store, RELKVANU_STORE_NOT_DONE, 0);
+        CHECK(errno == errors[i] && why_has(errors[i]), "sweep %d", errno);
         fail_opens(".", errors[i]);
-        CHECK(relkvanu_store_sweep(store, &left) == RELKVANU_STORE_NOT_DONE && errno == errors[i] && why_says(errors[i]), "list %d", errno);
+        is_swept(store, RELKVANU_STORE_NOT_DONE, 0);
+        CHECK(errno == errors[i] && why_has(errors[i]), "list %d", errno);
         fail_opens("1.part", errors[i]);
-        CHECK(
-            relkvanu_store_put(store, 1, "a", 1) == RELKVANU_STORE_NOT_PUT && errno == errors[i] && why_says(errors[i]), "part %d", errno);
+        CHECK(relkvanu_store_put(store, 1, "a", 1) == RELKVANU_STORE_NOT_PUT && errno == errors[i] && why_has(errors[i]), "part %d", errno);
         fail_opens("", 0);
     }
     CHECK(relkvanu_store_put(store, 1, "a", 1) == RELKVANU_STORE_OK && relkvanu_store_why(NULL, 0) == 0, "a put");
     CHECK(renameat(relkvanu_store_folder(store), ".relkvanu-job", relkvanu_store_folder(store), "away") == 0, "the marker");
     CHECK(relkvanu_store_put(store, 2, "a", 1) == RELKVANU_STORE_STORAGE && relkvanu_store_why(NULL, 0) != 0, "it is gone");
-    CHECK(relkvanu_store_sweep(store, &left) == RELKVANU_STORE_STORAGE, "it is gone");
+    is_swept(store, RELKVANU_STORE_STORAGE, 0);
     relkvanu_store_close(store);
 }
 
@@ -275,7 +274,7 @@ CASE(put_from_elsewhere) {
     CHECK(relkvanu_store_put_from(store, 1, gives, &source) == RELKVANU_STORE_OK, "a source");
     CHECK(stat(in("storage/1"), &found) == 0 && found.st_size == 1000003 && !exists("storage/1.part"), "%ld bytes", (long)found.st_size);
     source = (struct source){.len = 1000003, .fails_at = 500000};
-    CHECK(relkvanu_store_put_from(store, 2, gives, &source) == RELKVANU_STORE_NOT_PUT && errno == EPIPE && why_says(EPIPE), "it fails");
+    CHECK(relkvanu_store_put_from(store, 2, gives, &source) == RELKVANU_STORE_NOT_PUT && errno == EPIPE && why_has(EPIPE), "it fails");
     CHECK(!exists("storage/2") && !exists("storage/2.part"), "a part is left");
     source = (struct source){.len = 5};
     CHECK(relkvanu_store_put_from(store, 1, gives, &source) == RELKVANU_STORE_PRESENT, "there is one");
@@ -329,13 +328,11 @@ CASE(a_call_in_a_read) {
     relkvanu_answer answer;
     relkvanu_store_completion done_of[2];
     relkvanu_store_call call = {.call = {.kind = RELKVANU_CALL_RESERVE, .number = 1, .term = 1}}, tick;
-    char words[RELKVANU_STORE_MESSAGE];
     size_t completed = 0;
     CHECK(relkvanu_store_read(store, &handle) == RELKVANU_STORE_OK, "a read");
     pthread_t thread = starts(reserves_beside, store);
     CHECK(relkvanu_store_reserve(store, 1, 5, &answer) == RELKVANU_STORE_BAD_ARGUMENT && answer.code == RELKVANU_STORE_NOT_MADE, "a call");
-    relkvanu_store_why(words, sizeof words);
-    CHECK(strstr(words, "this thread reads") != NULL, "%s", words);
+    why_says("this thread reads");
     CHECK(relkvanu_store_read(store, &handle) == RELKVANU_STORE_BAD_ARGUMENT, "another read");
     CHECK(relkvanu_store_term(store, &answer) == RELKVANU_STORE_BAD_ARGUMENT, "a read of the term");
     CHECK(relkvanu_store_stop_job(store, &tick) == RELKVANU_STORE_BAD_ARGUMENT && tick.answer.code == RELKVANU_STORE_NOT_MADE, "a stop");
@@ -363,7 +360,6 @@ static void *does_all(void *with) {
     static relkvanu_store_call calls[RELKVANU_STORE_MOST_CALLS];
     char words[RELKVANU_STORE_MESSAGE];
     relkvanu_store *store = opened();
-    size_t left;
     relkvanu_answer answer;
     for (size_t i = 0; i < RELKVANU_STORE_MOST_CALLS; i++) {
         calls[i] = (relkvanu_store_call){.call = {.kind = RELKVANU_CALL_RESERVE, .number = 1, .term = 1}};
@@ -372,7 +368,8 @@ static void *does_all(void *with) {
     CHECK(
         relkvanu_store_put(store, 1, "a", 1) == RELKVANU_STORE_OK && relkvanu_store_reserve(store, 1, 65536, &answer) == RELKVANU_STORE_OK);
     done(store, RELKVANU_CALL_RESTORE, 5, 0);
-    CHECK(relkvanu_store_sweep(store, &left) == RELKVANU_STORE_OK && left == 0 && !exists("storage/1"), "a sweep");
+    is_swept(store, RELKVANU_STORE_OK, 0);
+    CHECK(!exists("storage/1"), "a sweep");
     CHECK(relkvanu_store_discard_for(store, 0, 1, NULL, NULL) == RELKVANU_STORE_TIMED_OUT, "a discarder");
     CHECK(relkvanu_store_backup(store, in("b.db"), words, sizeof words) == RELKVANU_STORE_OK, "%s", words);
     relkvanu_store_close(store);

@@ -5,8 +5,6 @@
 
 enum { CALLERS = 4, BACKUPS = 5, LISTS = 10 };
 
-static char message[RELKVANU_STORE_MESSAGE];
-
 static bool contains(const char *name, const char *text) {
     char found[64] = "";
     FILE *from = fopen(in(name), "r");
@@ -14,13 +12,6 @@ static bool contains(const char *name, const char *text) {
     size_t len = fread(found, 1, sizeof found - 1, from);
     fclose(from);
     return len == strlen(text) && strcmp(found, text) == 0;
-}
-
-/* Makes a backup beside the job, and expects the status. Without one nothing of it is there. */
-static void backs_up(relkvanu_store *store, const char *name, int status) {
-    int got = relkvanu_store_backup(store, in(name), message, sizeof message);
-    CHECK(got == status, "status %d, not %d: %s", got, status, message);
-    CHECK((message[0] == 0) == (status == RELKVANU_STORE_OK), "%s", message);
 }
 
 static void check_no_part(void) {
@@ -40,7 +31,7 @@ static bool has_same_state(relkvanu_store *one, relkvanu_store *other) {
 }
 
 /* Recovers a file, and closes it. Returns how many calls it has. */
-static uint64_t recovers(const char *name, uint32_t flags) {
+static uint64_t calls_in(const char *name, uint32_t flags) {
     relkvanu_store_options options = job_options(flags, RELKVANU_STORE_NO_IMAGES);
     relkvanu_store_close(opens_at(name, &options, RELKVANU_STORE_OK));
     CHECK(report.is_recovered, "a new job");
@@ -61,9 +52,9 @@ CASE(a_backup) {
     backs_up(store, "x.db", RELKVANU_STORE_PRESENT);
     backs_up(store, "c.db", RELKVANU_STORE_OK);
     relkvanu_store_close(store);
-    CHECK(recovers("x.db", RELKVANU_STORE_RECOVER) == 2 * CHECKPOINT_CALLS, "%" PRIu64 " calls", calls_of(&report));
-    CHECK(recovers("b.db", RELKVANU_STORE_BACKUP) == CHECKPOINT_CALLS && report.epoch == 2, "%" PRIu64 " calls", calls_of(&report));
-    CHECK(recovers("c.db", RELKVANU_STORE_BACKUP) == 2 * CHECKPOINT_CALLS, "%" PRIu64 " calls", calls_of(&report));
+    CHECK(calls_in("x.db", RELKVANU_STORE_RECOVER) == 2 * CHECKPOINT_CALLS, "%" PRIu64 " calls", calls_of(&report));
+    CHECK(calls_in("b.db", RELKVANU_STORE_BACKUP) == CHECKPOINT_CALLS && report.epoch == 2, "%" PRIu64 " calls", calls_of(&report));
+    CHECK(calls_in("c.db", RELKVANU_STORE_BACKUP) == 2 * CHECKPOINT_CALLS, "%" PRIu64 " calls", calls_of(&report));
     options.flags = RELKVANU_STORE_RECOVER;
     store = opens_at("b.db", &options, RELKVANU_STORE_OK); /* from then on it is a job */
     checkpoint(store, 101);
@@ -82,7 +73,7 @@ CASE(a_backup_with_images) {
     backs_up(store, "b.db", RELKVANU_STORE_OK);
     reserved(store, 1, 1);
     relkvanu_store_close(store);
-    CHECK(recovers("b.db", RELKVANU_STORE_BACKUP) == 40 && report.next_name == 41 && report.term == 1 && report.image_place >= 33,
+    CHECK(calls_in("b.db", RELKVANU_STORE_BACKUP) == 40 && report.next_name == 41 && report.term == 1 && report.image_place >= 33,
         "next name %" PRIu64 ", image of call %" PRIu64, report.next_name, report.image_place);
 }
 
@@ -96,17 +87,16 @@ CASE(flags_of_a_backup) {
     backs_up(store, "b.db", RELKVANU_STORE_OK);
     relkvanu_store_close(store);
     options.flags = RELKVANU_STORE_BACKUP;
-    opens(&options, RELKVANU_STORE_BAD_ARGUMENT);
-    CHECK(says("no backup"), "%s", report.message);
+    opens_not(&options, RELKVANU_STORE_BAD_ARGUMENT, "no backup");
     for (uint32_t times = 0; times < 2; times++) {
         options.flags = times == 0 ? RELKVANU_STORE_RECOVER : RELKVANU_STORE_CREATE;
         opens_at("b.db", &options, RELKVANU_STORE_STORAGE);
         CHECK(says("backup") && says("RELKVANU_STORE_BACKUP"), "%s", report.message);
     }
-    recovers("b.db", RELKVANU_STORE_BACKUP);
+    calls_in("b.db", RELKVANU_STORE_BACKUP);
     options.flags = RELKVANU_STORE_BACKUP;
     opens_at("b.db", &options, RELKVANU_STORE_BAD_ARGUMENT);
-    recovers("b.db", RELKVANU_STORE_RECOVER);
+    calls_in("b.db", RELKVANU_STORE_RECOVER);
     run_sql(in("b.db"), "PRAGMA user_version=5");
     options.flags = RELKVANU_STORE_RECOVER;
     opens_at("b.db", &options, RELKVANU_STORE_NOT_A_STORE);
@@ -138,7 +128,7 @@ CASE(no_backup) {
     close(file);
     checkpoint(store, 101);
     relkvanu_store_close(store);
-    CHECK(recovers("x.db", RELKVANU_STORE_RECOVER) == 2 * CHECKPOINT_CALLS, "%" PRIu64 " calls", calls_of(&report));
+    CHECK(calls_in("x.db", RELKVANU_STORE_RECOVER) == 2 * CHECKPOINT_CALLS, "%" PRIu64 " calls", calls_of(&report));
 }
 
 /* A job whose file has the name of the part, open or not: it stays as it is. */
@@ -154,7 +144,7 @@ CASE(a_job_in_the_way) {
     backs_up(store, "b.db", RELKVANU_STORE_PRESENT);
     CHECK(!exists("b.db"), "a backup");
     relkvanu_store_close(store);
-    CHECK(recovers("b.db.part", RELKVANU_STORE_RECOVER) == 2 * CHECKPOINT_CALLS, "%" PRIu64 " calls", calls_of(&report));
+    CHECK(calls_in("b.db.part", RELKVANU_STORE_RECOVER) == 2 * CHECKPOINT_CALLS, "%" PRIu64 " calls", calls_of(&report));
 }
 
 /* What a process left that was killed is begun anew. */
@@ -170,7 +160,7 @@ CASE(a_part_that_was_left) {
     CHECK(stat(in("b.db"), &is) == 0 && (is.st_mode & 0777) == 0600, "mode %o", is.st_mode);
     check_no_part();
     relkvanu_store_close(store);
-    CHECK(recovers("b.db", RELKVANU_STORE_BACKUP) == CHECKPOINT_CALLS, "%" PRIu64 " calls", calls_of(&report));
+    CHECK(calls_in("b.db", RELKVANU_STORE_BACKUP) == CHECKPOINT_CALLS, "%" PRIu64 " calls", calls_of(&report));
 }
 
 /* A failed commit closes the store: there is no backup of it. */
@@ -252,7 +242,7 @@ CASE(under_load) {
     for (size_t i = 0; i < BACKUPS; i++) {
         char name[20];
         snprintf(name, sizeof name, "b%zu.db", i);
-        uint64_t calls = recovers(name, RELKVANU_STORE_BACKUP);
+        uint64_t calls = calls_in(name, RELKVANU_STORE_BACKUP);
         CHECK(calls + 1 == report.next_name && calls >= least[i] && calls <= most[i], "%" PRIu64 " calls, and not %" PRIu64 " to %" PRIu64,
             calls, least[i], most[i]);
     }
@@ -286,26 +276,7 @@ CASE(at_once) {
     relkvanu_store_close(load.store);
     CHECK(made == 1, "%u were made", made);
     check_no_part();
-    CHECK(recovers("b.db", RELKVANU_STORE_BACKUP) == LISTS * RELKVANU_STORE_MOST_CALLS, "%" PRIu64 " calls", calls_of(&report));
-}
-
-static void acked(relkvanu_store *store, uint64_t term, uint64_t id, uint16_t index, uint64_t file) {
-    relkvanu_answer answer;
-    CHECK(relkvanu_store_put(store, file, "state", 5) == RELKVANU_STORE_OK, "file %" PRIu64, file);
-    CHECK(relkvanu_store_ack_in(store, term, RELKVANU_STORE_NOW, id, 0, index, &file, 1, NULL, 0, &answer) == RELKVANU_STORE_OK &&
-              answer.code == RELKVANU_DONE,
-        "an acknowledgement: %" PRIu32 " %" PRIu32, answer.code, answer.what);
-}
-
-/* A record of this kind, whose files have names that are reserved for it. Returns its number. */
-static uint64_t record(relkvanu_store *store, uint64_t term, uint32_t kind) {
-    uint64_t file = reserved(store, term, SUBTASKS);
-    relkvanu_answer begun = done(store, kind, due_of(store), 0);
-    uint64_t id = kind == RELKVANU_CALL_TICK ? begun.b : begun.a;
-    for (uint16_t i = 0; i < SUBTASKS; i++) {
-        acked(store, term, id, i, file + i);
-    }
-    return id;
+    CHECK(calls_in("b.db", RELKVANU_STORE_BACKUP) == LISTS * RELKVANU_STORE_MOST_CALLS, "%" PRIu64 " calls", calls_of(&report));
 }
 
 static bool has_files(uint64_t first) {
@@ -337,10 +308,10 @@ CASE(put_back) {
     size_t left;
     options.flags = RELKVANU_STORE_CREATE;
     relkvanu_store *store = opens(&options, RELKVANU_STORE_OK);
-    uint64_t savepoint = record(store, 1, RELKVANU_CALL_SAVEPOINT); /* files 1 to 8 */
-    record(store, 1, RELKVANU_CALL_TICK);                           /* 9 to 16 */
+    uint64_t savepoint = completes(store, RELKVANU_CALL_SAVEPOINT, NULL); /* files 1 to 8 */
+    completes(store, RELKVANU_CALL_TRIGGER, NULL);                        /* 9 to 16 */
     backs_up(store, "b.db", RELKVANU_STORE_OK);
-    record(store, 1, RELKVANU_CALL_TICK); /* 17 to 24 */
+    completes(store, RELKVANU_CALL_TRIGGER, NULL); /* 17 to 24 */
     discard_all(store);
     CHECK(has_files(1) && !has_files(9) && has_files(17), "the files");
     options.flags = RELKVANU_STORE_RECOVER;
@@ -352,16 +323,15 @@ CASE(put_back) {
     CHECK(relkvanu_store_put(store, 25, "state", 5) == RELKVANU_STORE_STORAGE &&
           relkvanu_store_sweep(store, &left) == RELKVANU_STORE_STORAGE);
     CHECK(done(back, RELKVANU_CALL_RESTORE, RELKVANU_STORE_NOW, savepoint).what == RELKVANU_RESTORED_SAVEPOINT, "a restore");
-    CHECK(relkvanu_store_sweep(back, &left) == RELKVANU_STORE_OK && left == 0, "a sweep");
+    is_swept(back, RELKVANU_STORE_OK, 0);
     CHECK(has_files(1) && !has_files(17), "the files after the sweep");
-    record(back, 2, RELKVANU_CALL_TICK); /* 25 to 32 */
+    completes(back, RELKVANU_CALL_TRIGGER, NULL); /* 25 to 32 */
     CHECK(has_files(1) && has_files(25), "the files of the next record");
     relkvanu_store_close(back);
     relkvanu_store_close(store);
     opens(&options, RELKVANU_STORE_BAD_ARGUMENT);
     options.flags = RELKVANU_STORE_RECOVER;
-    opens(&options, RELKVANU_STORE_STORAGE);
-    CHECK(says("an older copy"), "%s", report.message);
+    opens_not(&options, RELKVANU_STORE_STORAGE, "an older copy");
     relkvanu_store_close(opens_at("b.db", &options, RELKVANU_STORE_OK));
     CHECK(report.epoch == 3 && report.term == 2, "opening %" PRIu64, report.epoch);
 }
@@ -380,7 +350,7 @@ CASE(put_back_after_openings) {
     options.flags = RELKVANU_STORE_BACKUP;
     relkvanu_store *back = opens_at("b.db", &options, RELKVANU_STORE_OK);
     CHECK(report.epoch > last, "opening %" PRIu64 " after %" PRIu64, report.epoch, last);
-    CHECK(relkvanu_store_put(store, 25, "state", 5) == RELKVANU_STORE_STORAGE, "the other store");
+    puts_file(store, 25, RELKVANU_STORE_STORAGE);
     relkvanu_store_close(back);
     relkvanu_store_close(store);
 }
@@ -390,12 +360,11 @@ CASE(put_back_again) {
     relkvanu_store_options options = storage_options(RELKVANU_STORE_CREATE, 0);
     relkvanu_store *store = opens(&options, RELKVANU_STORE_OK);
     backs_up(store, "b.db", RELKVANU_STORE_OK);
-    record(store, 1, RELKVANU_CALL_TICK);
+    completes(store, RELKVANU_CALL_TRIGGER, NULL);
     relkvanu_store_close(store);
     options.flags = RELKVANU_STORE_BACKUP;
     write_text("storage/16777217", "");
-    opens_at("b.db", &options, RELKVANU_STORE_STORAGE);
-    CHECK(says("2^24"), "%s", report.message);
+    opens_not_at("b.db", &options, RELKVANU_STORE_STORAGE, "2^24");
     unlink(in("storage/16777217"));
     write_text("storage/200000", "");
     run_sql(in("b.db"), "CREATE TRIGGER no BEFORE UPDATE OF epoch ON job BEGIN SELECT RAISE(ABORT, 'no'); END");
@@ -417,21 +386,18 @@ CASE(put_back_elsewhere) {
     relkvanu_store_close(store);
     options.flags = RELKVANU_STORE_BACKUP;
     CHECK(rename(in("storage/.relkvanu-job"), in("marker")) == 0, "the marker");
-    opens_at("b.db", &options, RELKVANU_STORE_STORAGE);
-    CHECK(says("no marker"), "%s", report.message);
+    opens_not_at("b.db", &options, RELKVANU_STORE_STORAGE, "no marker");
     write_text("storage/.relkvanu-job", "relkvanu job 00000000000000000000000000000001\nepoch 1\n");
-    opens_at("b.db", &options, RELKVANU_STORE_STORAGE);
-    CHECK(says("another job"), "%s", report.message);
+    opens_not_at("b.db", &options, RELKVANU_STORE_STORAGE, "another job");
     options.storage = NULL;
-    opens_at("b.db", &options, RELKVANU_STORE_STORAGE);
-    CHECK(says("the options name none"), "%s", report.message);
+    opens_not_at("b.db", &options, RELKVANU_STORE_STORAGE, "the options name none");
 }
 
 /* After a cancel no names are given out. */
 CASE(of_a_cancelled_job) {
     relkvanu_store_options options = storage_options(RELKVANU_STORE_CREATE, 0);
     relkvanu_store *store = opens(&options, RELKVANU_STORE_OK);
-    record(store, 1, RELKVANU_CALL_TICK);
+    completes(store, RELKVANU_CALL_TRIGGER, NULL);
     done(store, RELKVANU_CALL_CANCEL, RELKVANU_STORE_NOW, 0);
     backs_up(store, "b.db", RELKVANU_STORE_OK);
     relkvanu_store_close(store);

@@ -3,12 +3,8 @@
 
 #include "../src/store.h"
 
-static relkvanu_store *new_job(uint64_t image_calls) {
-    return opens_with(job_options(RELKVANU_STORE_CREATE, image_calls));
-}
-
 CASE(lists) {
-    relkvanu_store *store = new_job(0);
+    relkvanu_store *store = new_job_alone(0);
     uint64_t fresh[] = {1, 2}, files[4] = {0};
     CHECK(reserved(store, 1, 2) == 1, "names");
     relkvanu_store_call calls[] = {{.call = {.kind = RELKVANU_CALL_TICK, .now = 10}},
@@ -34,7 +30,7 @@ static void bad(relkvanu_store *store, relkvanu_store_call call, size_t len) {
 }
 
 CASE(bad_arguments) {
-    relkvanu_store *store = new_job(0);
+    relkvanu_store *store = new_job_alone(0);
     static relkvanu_store_call many[4097];
     uint64_t places[4];
     static uint64_t files[20000];
@@ -65,7 +61,7 @@ static uint32_t tick_code(relkvanu_store *store, uint64_t now) {
 static const uint64_t DAY = 86400000;
 
 CASE(moments) {
-    relkvanu_store *store = new_job(0);
+    relkvanu_store *store = new_job_alone(0);
     CHECK(relkvanu_store_now(store) < 60000, "a new job begins at 0");
     CHECK(tick_code(store, 10) == RELKVANU_DONE, "due");
     uint64_t expiry = 10 + (UINT64_C(1) << 30);
@@ -165,7 +161,7 @@ CASE(quiet_commits) {
 }
 
 CASE(an_awaited_tick) {
-    relkvanu_store *store = new_job(0); /* due after 10 ms */
+    relkvanu_store *store = new_job_alone(0); /* due after 10 ms */
     relkvanu_store_call tick;
     CHECK(relkvanu_store_await_tick(store, 10000, &tick) == RELKVANU_STORE_OK && tick.answer.what == RELKVANU_TICK_TRIGGERED &&
               tick.answer.b == 1,
@@ -180,7 +176,7 @@ CASE(an_awaited_tick) {
 }
 
 CASE(images_and_cuts) {
-    relkvanu_store *store = new_job(100);
+    relkvanu_store *store = new_job_alone(100);
     uint64_t calls = 0, file = 1;
     for (; calls < 1800; calls += CHECKPOINT_CALLS, file += 100) {
         checkpoint(store, file);

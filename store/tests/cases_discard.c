@@ -139,7 +139,6 @@ static void write_marker(relkvanu_store *store, uint64_t job, uint64_t epoch) {
 CASE(another_opening) {
     relkvanu_store *store = opens_with(storage_options(RELKVANU_STORE_CREATE, 0));
     struct discarding d = {.store = store, .batch = 16};
-    size_t left;
     checkpoint_with_files(store, 1);
     checkpoint_with_files(store, 101); /* releases 1 to 16 */
     done(store, RELKVANU_CALL_RESTORE, RELKVANU_STORE_NOW, 0);
@@ -150,7 +149,7 @@ CASE(another_opening) {
             CHECK(d.status == RELKVANU_STORE_STORAGE && d.asked == 0 && exists(stored(1)), "status %d, %u asked", d.status, d.asked);
         }
         CHECK(relkvanu_store_put(store, 999, "x", 1) == RELKVANU_STORE_STORAGE && !exists(stored(999)), "a put");
-        CHECK(relkvanu_store_sweep(store, &left) == RELKVANU_STORE_STORAGE, "a sweep");
+        is_swept(store, RELKVANU_STORE_STORAGE, 0);
     }
     write_marker(store, report.job[0], report.epoch);
     start(&d, store, 16);
@@ -178,15 +177,16 @@ static bool has_files(relkvanu_store *store, size_t files) {
 CASE(an_end_without_a_cancel) {
     relkvanu_store_options options = storage_options(RELKVANU_STORE_CREATE, 0);
     relkvanu_store *store = opens(&options, RELKVANU_STORE_OK);
-    size_t left;
     checkpoint_with_files(store, 1);
     checkpoint_with_files(store, 101); /* releases 1 to 16 */
-    CHECK(relkvanu_store_put(store, 50, "state", 5) == RELKVANU_STORE_OK, "a put");
+    puts_file(store, 50, RELKVANU_STORE_OK);
     CHECK(renameat(relkvanu_store_folder(store), "50", relkvanu_store_folder(store), "60.part") == 0, "a part");
-    CHECK(relkvanu_store_put(store, 50, "state", 5) == RELKVANU_STORE_OK, "a put");
-    CHECK(relkvanu_store_sweep(store, &left) == RELKVANU_STORE_OK && left == 0 && has_files(store, 34), "a sweep alone leaves them");
+    puts_file(store, 50, RELKVANU_STORE_OK);
+    is_swept(store, RELKVANU_STORE_OK, 0);
+    CHECK(has_files(store, 34), "a sweep alone leaves them");
     done(store, RELKVANU_CALL_RESTORE, RELKVANU_STORE_NOW, 0);
-    CHECK(relkvanu_store_sweep(store, &left) == RELKVANU_STORE_OK && left == 0 && has_files(store, 32), "a sweep after the restore");
+    is_swept(store, RELKVANU_STORE_OK, 0);
+    CHECK(has_files(store, 32), "a sweep after the restore");
     while (unreported(store) != 0) {
         CHECK(relkvanu_store_discard_for(store, 0, 10, NULL, NULL) == RELKVANU_STORE_TIMED_OUT, "the discarder");
     }
@@ -207,20 +207,17 @@ CASE(in_a_read) {
     relkvanu_store *store = opens_with(storage_options(RELKVANU_STORE_CREATE, 0));
     struct discarding d = {.store = store, .batch = 5};
     relkvanu_store_call tick;
-    size_t left;
-    char words[RELKVANU_STORE_MESSAGE];
     CHECK(relkvanu_store_discard_for(store, 0, 1, NULL, NULL) == RELKVANU_STORE_TIMED_OUT, "one that has nothing to settle");
     done(store, RELKVANU_CALL_CANCEL, RELKVANU_STORE_NOW, 0); /* no tick is due any more */
     begins_read(store);
     CHECK(relkvanu_store_discard_for(store, 0, 1000, NULL, NULL) == RELKVANU_STORE_BAD_ARGUMENT, "for a while");
-    relkvanu_store_why(words, sizeof words);
-    CHECK(strstr(words, "this thread reads") != NULL, "%s", words);
+    why_says("this thread reads");
     CHECK(relkvanu_store_discard_storage(store, 0, NULL) == RELKVANU_STORE_BAD_ARGUMENT, "of the folder");
     CHECK(relkvanu_store_discard(store, 5, delete_files, &d) == RELKVANU_STORE_BAD_ARGUMENT, "with a function");
     CHECK(relkvanu_store_discard_for(store, 0, UINT64_MAX, is_never_asked, NULL) == RELKVANU_STORE_BAD_ARGUMENT);
     CHECK(relkvanu_store_await_tick(store, UINT64_MAX, &tick) == RELKVANU_STORE_BAD_ARGUMENT, "a timer");
     CHECK(tick.answer.code == RELKVANU_STORE_NOT_MADE, "its answer");
-    CHECK(relkvanu_store_sweep(store, &left) == RELKVANU_STORE_BAD_ARGUMENT && left == 0, "a sweep of a folder without files");
+    is_swept(store, RELKVANU_STORE_BAD_ARGUMENT, 0);
     relkvanu_store_read_end(store);
     CHECK(relkvanu_store_discard_for(store, 0, 1, NULL, NULL) == RELKVANU_STORE_TIMED_OUT, "after the read");
     relkvanu_store_close(store);

@@ -9,12 +9,12 @@ static relkvanu_store_options options_of(uint32_t flags) {
 
 static void fill_in(relkvanu_store *store, uint64_t first) {
     for (uint64_t file = first; file < first + 2 * SUBTASKS; file++) {
-        CHECK(relkvanu_store_put(store, file, "state", 5) == RELKVANU_STORE_OK, "file %" PRIu64, file);
+        puts_file(store, file, RELKVANU_STORE_OK);
     }
 }
 
 /* A job with one record, whose files are there. */
-static relkvanu_store *new_job(void) {
+static relkvanu_store *job_with_a_record(void) {
     relkvanu_store_options options = options_of(RELKVANU_STORE_CREATE);
     options.settings.retained = 2;
     relkvanu_store *store = opens(&options, RELKVANU_STORE_OK);
@@ -42,19 +42,19 @@ static void *opens_it(void *with) {
     return NULL;
 }
 
-static void *claims(void *with) {
+static void *claims_it(void *with) {
     struct call *call = with;
     call->status = relkvanu_store_claim(call->storage, 0, call->path, call->folder, &call->recovered);
     return NULL;
 }
 
-static void *recovers(void *with) {
+static void *recovers_it(void *with) {
     struct call *call = with;
     call->status = relkvanu_store_recover(call->path, call->storage, 0, &call->recovered);
     return NULL;
 }
 
-static void begins(struct call *call, void *(*run)(void *), const char *path, const char *folder) {
+static void begins_call(struct call *call, void *(*run)(void *), const char *path, const char *folder) {
     call->options = options_of(RELKVANU_STORE_RECOVER);
     snprintf(call->storage, sizeof call->storage, "%s", in("storage"));
     snprintf(call->path, sizeof call->path, "%s", in(path));
@@ -79,10 +79,10 @@ static void has_record(const char *path, const char *folder, uint64_t record) {
 
 /* An opening that has looked at the marker, and not written it yet, when a claim or a recovery fences the folder. */
 static void holds_an_opening(struct call *opening, const char *name) {
-    relkvanu_store_close(new_job());
+    relkvanu_store_close(job_with_a_record());
     CHECK(mkdir(in("apart"), 0700) == 0, "a folder");
     hold_syncs(name); /* that of the folder of x.db */
-    begins(opening, opens_it, "x.db", "storage");
+    begins_call(opening, opens_it, "x.db", "storage");
     await_held_sync();
 }
 
@@ -115,12 +115,12 @@ CASE(a_recovery_beside_an_opening) {
 
 /* A claim in a thread of its own, when its folder has the record and there is no job of it yet. */
 static void holds_a_claim(struct call *claim) {
-    relkvanu_store *store = new_job();
+    relkvanu_store *store = job_with_a_record();
     fill_in(store, 17);
     CHECK(checkpoint(store, 17) == 2 && mkdir(in("apart"), 0700) == 0, "an earlier record, and a later one");
     relkvanu_store_close(store);
     hold_syncs("/apart/one.part");
-    begins(claim, claims, "apart/one.db", "apart/one");
+    begins_call(claim, claims_it, "apart/one.db", "apart/one");
     await_held_sync();
 }
 
@@ -161,7 +161,7 @@ static void goes_back_to_earlier(void) {
 CASE(two_claims_at_once) {
     struct call one = {.status = 0}, other = {.status = 0};
     holds_a_claim(&one);
-    begins(&other, claims, "apart/other.db", "apart/other");
+    begins_call(&other, claims_it, "apart/other.db", "apart/other");
     usleep(MOMENT);
     hold_syncs(NULL);
     ends_with(&one, RELKVANU_STORE_OK, "");
@@ -179,10 +179,10 @@ CASE(two_claims_at_once) {
 CASE(two_recoveries_at_once) {
     struct call one = {.status = 0};
     relkvanu_store_recovered recovered;
-    relkvanu_store_close(new_job());
+    relkvanu_store_close(job_with_a_record());
     CHECK(mkdir(in("one"), 0700) == 0 && mkdir(in("other"), 0700) == 0, "folders");
     hold_syncs("/one");
-    begins(&one, recovers, "one/x.db", "storage");
+    begins_call(&one, recovers_it, "one/x.db", "storage");
     await_held_sync();
     int status = relkvanu_store_recover(in("other/x.db"), in("storage"), 0, &recovered);
     CHECK(status == RELKVANU_STORE_OK && recovered.record == 1, "status %d: %s", status, recovered.message);
@@ -296,7 +296,7 @@ static void puts_aside(const char *command, const char *from, const char *to) {
 /* Takes a copy of the file while the job is open, and completes one more record. */
 static int copies_and_goes_on(void *with) {
     (void)with;
-    relkvanu_store *store = new_job();
+    relkvanu_store *store = job_with_a_record();
     puts_aside("cp", "x.db", "old.db");
     fill_in(store, 17);
     return checkpoint(store, 17) == 2 ? 7 : 1; /* it is killed */
@@ -325,7 +325,7 @@ CASE(a_copy_of_the_last_opening) {
 CASE(a_marker_of_another_job) {
     char job[40], words[120], marker[200] = "";
     relkvanu_store_recovered recovered;
-    relkvanu_store_close(new_job());
+    relkvanu_store_close(job_with_a_record());
     snprintf(job, sizeof job, "%016" PRIx64 "%016" PRIx64, report.job[0], report.job[1]);
     lose_job();
     FILE *file = fopen(in("storage/.relkvanu-job"), "r+");

@@ -45,10 +45,9 @@ CASE(one_that_can_not_be_written) {
 
 CASE(puts_without_marker) {
     relkvanu_store *store = opened();
-    size_t left = 1;
     CHECK(rename(in("storage/.relkvanu-job"), in("marker")) == 0, "marker");
     CHECK(relkvanu_store_put(store, 7, "state", 5) == RELKVANU_STORE_STORAGE && !exists("storage/7"), "put");
-    CHECK(relkvanu_store_sweep(store, &left) == RELKVANU_STORE_STORAGE && left == 0, "sweep");
+    is_swept(store, RELKVANU_STORE_STORAGE, 0);
     relkvanu_store_close(store);
 }
 
@@ -56,9 +55,8 @@ CASE(puts_without_storage) {
     relkvanu_store *store = opens_with(job_options(RELKVANU_STORE_CREATE, 0));
     uint64_t file = 7;
     uint8_t is_gone = 1;
-    size_t left;
-    CHECK(relkvanu_store_put(store, 7, "state", 5) == RELKVANU_STORE_BAD_ARGUMENT, "put");
-    CHECK(relkvanu_store_sweep(store, &left) == RELKVANU_STORE_BAD_ARGUMENT, "sweep");
+    puts_file(store, 7, RELKVANU_STORE_BAD_ARGUMENT);
+    is_swept(store, RELKVANU_STORE_BAD_ARGUMENT, 0);
     relkvanu_store_delete_files(store, &file, 1, &is_gone);
     CHECK(is_gone == 0, "deleted");
     relkvanu_store_close(store);
@@ -81,7 +79,6 @@ CASE(deletes) {
 CASE(sweeps) {
     relkvanu_store *store = opened();
     char name[PATHS];
-    size_t left;
     CHECK(reserved(store, 1, 600) == 1, "names");
     checkpoint(store, 100);
     for (uint64_t file = 100; file < 500 + 2 * SUBTASKS; file++) {
@@ -90,10 +87,11 @@ CASE(sweeps) {
     }
     make_empty("storage/notes");
     make_empty("storage/0100");
-    CHECK(relkvanu_store_sweep(store, &left) == RELKVANU_STORE_OK && left == 0 && exists("storage/200"), "a sweep while tasks run");
+    is_swept(store, RELKVANU_STORE_OK, 0);
+    CHECK(exists("storage/200"), "a sweep while tasks run");
     done(store, RELKVANU_CALL_RESTORE, RELKVANU_STORE_NOW, 0);
     CHECK(mkdir(in("storage/9"), 0700) == 0, "a folder");
-    CHECK(relkvanu_store_sweep(store, &left) == RELKVANU_STORE_OK && left == 1, "%zu are left", left);
+    is_swept(store, RELKVANU_STORE_OK, 1);
     for (uint64_t file = 100; file < 500 + 2 * SUBTASKS; file++) {
         snprintf(name, sizeof name, "storage/%" PRIu64 "%s", file, file % 2 == 0 || file < 100 + 2 * SUBTASKS ? "" : ".part");
         CHECK(exists(name) == (file < 100 + 2 * SUBTASKS), "%s", name);

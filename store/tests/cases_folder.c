@@ -22,7 +22,7 @@ static relkvanu_storage_options state_of(const char *job) {
     return (relkvanu_storage_options){.flags = RELKVANU_STORAGE_NEW, .path = path, .job = job};
 }
 
-static void opens_as(const relkvanu_storage_options *options, int status) {
+static void folder_opens(const relkvanu_storage_options *options, int status) {
     relkvanu_storage storage;
     int got = relkvanu_storage_open_folder(&storage, options);
     CHECK(got == status && (storage.with != NULL) == (got == RELKVANU_STORAGE_OK), "status %d, not %d", got, status);
@@ -40,7 +40,7 @@ static relkvanu_storage opened(const char *prefix, const char *suffix) {
     return storage;
 }
 
-static void puts_file(const relkvanu_storage *it, uint64_t file, const char *text, int status) {
+static void puts_into(const relkvanu_storage *it, uint64_t file, const char *text, int status) {
     int got = it->put(it->with, file, text, strlen(text));
     CHECK(got == status, "file %" PRIu64 ": status %d, not %d", file, got, status);
 }
@@ -82,33 +82,33 @@ CASE(a_marker_names_the_job) {
     relkvanu_storage_options new = state_of("orders"), again = new, other = state_of("others");
     char text[80] = "";
     again.flags = RELKVANU_STORAGE_RECOVER;
-    opens_as(&again, RELKVANU_STORAGE_NOT_THERE);
-    opens_as(&new, RELKVANU_STORAGE_OK);
-    opens_as(&new, RELKVANU_STORAGE_OK);
-    opens_as(&again, RELKVANU_STORAGE_OK);
+    folder_opens(&again, RELKVANU_STORAGE_NOT_THERE);
+    folder_opens(&new, RELKVANU_STORAGE_OK);
+    folder_opens(&new, RELKVANU_STORAGE_OK);
+    folder_opens(&again, RELKVANU_STORAGE_OK);
     FILE *marker = fopen(in("state/.relkvanu-storage"), "r"); /* as Python writes it */
     CHECK(fread(text, 1, sizeof text - 1, marker) != 0 && strcmp(text, "relkvanu: state files of the job orders\n") == 0, "%s", text);
     fclose(marker);
-    opens_as(&other, RELKVANU_STORAGE_OTHER_JOB);
+    folder_opens(&other, RELKVANU_STORAGE_OTHER_JOB);
     again.marker_text = "relkvanu: state files of the job orders"; /* shorter */
-    opens_as(&again, RELKVANU_STORAGE_OTHER_JOB);
+    folder_opens(&again, RELKVANU_STORAGE_OTHER_JOB);
     again.marker_text = "relkvanu: state files of the job orders\n\n";
-    opens_as(&again, RELKVANU_STORAGE_OTHER_JOB);
+    folder_opens(&again, RELKVANU_STORAGE_OTHER_JOB);
     again.marker_text = NULL;
     again.path = in("none");
-    opens_as(&again, RELKVANU_STORAGE_NOT_THERE);
+    folder_opens(&again, RELKVANU_STORAGE_NOT_THERE);
 }
 
 CASE(a_new_job_needs_an_empty_folder) {
     relkvanu_storage_options new = state_of("orders");
     write_text("state/notes", "");
     write_text("state/7.part", "");
-    opens_as(&new, RELKVANU_STORAGE_NOT_EMPTY);
+    folder_opens(&new, RELKVANU_STORAGE_NOT_EMPTY);
     CHECK(!has("state/.relkvanu-storage") && rename(in("state/7.part"), in("state/7")) == 0, "a marker");
-    opens_as(&new, RELKVANU_STORAGE_NOT_EMPTY);
+    folder_opens(&new, RELKVANU_STORAGE_NOT_EMPTY);
     unlink(in("state/7"));
     write_text("state/.relkvanu-storage.part", "relk"); /* one that was killed */
-    opens_as(&new, RELKVANU_STORAGE_OK);
+    folder_opens(&new, RELKVANU_STORAGE_OK);
     CHECK(has("state/.relkvanu-storage") && !has("state/.relkvanu-storage.part"), "no marker");
 }
 
@@ -123,7 +123,7 @@ CASE(bad_arguments_of_a_folder) {
     bad[6].prefix = longest, bad[7].flags = 2, bad[8].reserved[3] = 1, bad[9].marker_name = "..", bad[10].marker_name = "a/b";
     bad[11].marker_name = "7";
     for (size_t i = 0; i < 12; i++) {
-        opens_as(&bad[i], RELKVANU_STORAGE_BAD_ARGUMENT);
+        folder_opens(&bad[i], RELKVANU_STORAGE_BAD_ARGUMENT);
     }
     CHECK(rmdir(in("state")) == 0, "something was made");
     good = state_of("orders");
@@ -131,7 +131,7 @@ CASE(bad_arguments_of_a_folder) {
     good.suffix = longest;
     relkvanu_storage storage;
     CHECK(relkvanu_storage_open_folder(&storage, &good) == RELKVANU_STORAGE_OK, "the longest");
-    puts_file(&storage, UINT64_MAX, "x", RELKVANU_STORAGE_OK);
+    puts_into(&storage, UINT64_MAX, "x", RELKVANU_STORAGE_OK);
     reads(&storage, UINT64_MAX, "x");
     relkvanu_storage_close_folder(&storage);
 }
@@ -141,14 +141,14 @@ CASE(files_of_a_folder) {
     uint64_t files[] = {UINT64_MAX, 0, 5, 6, 8}, len = 0;
     uint8_t outcomes[5];
     char found[4] = "";
-    puts_file(&it, UINT64_MAX, "state", RELKVANU_STORAGE_OK);
-    puts_file(&it, 0, "", RELKVANU_STORAGE_OK);
-    puts_file(&it, 0, "other", RELKVANU_STORAGE_PRESENT);
+    puts_into(&it, UINT64_MAX, "state", RELKVANU_STORAGE_OK);
+    puts_into(&it, 0, "", RELKVANU_STORAGE_OK);
+    puts_into(&it, 0, "other", RELKVANU_STORAGE_PRESENT);
     reads(&it, 0, "");
     CHECK(it.get(it.with, UINT64_MAX, found, 3, &len) == RELKVANU_STORAGE_OK && len == 5 && memcmp(found, "sta", 4) == 0, "%s", found);
     CHECK(it.get(it.with, 7, found, 3, &len) == RELKVANU_STORAGE_ABSENT, "file 7");
     write_text("state/5.part", "");
-    puts_file(&it, 5, "state", RELKVANU_STORAGE_PRESENT);
+    puts_into(&it, 5, "state", RELKVANU_STORAGE_PRESENT);
     CHECK(mkdir(in("state/6"), 0700) == 0 && listed(&it, 0).all == 3, "%zu files", listed(&it, 0).all);
     CHECK(it.delete_files(it.with, files, 5, outcomes) == RELKVANU_STORAGE_OK, "no deletion");
     CHECK(outcomes[0] == RELKVANU_STORAGE_DELETED && outcomes[1] == RELKVANU_STORAGE_DELETED && outcomes[2] == RELKVANU_STORAGE_DELETED);
@@ -173,7 +173,7 @@ CASE(one_that_can_not_be_put) {
 /* A put and a deletion while the sync of a file or of the folder fails with this errno. */
 static void fails_to_sync(const relkvanu_storage *it, const char *end, int error) {
     fail_syncs(end, error);
-    puts_file(it, 7, "state", RELKVANU_STORAGE_FAILED);
+    puts_into(it, 7, "state", RELKVANU_STORAGE_FAILED);
     CHECK(errno == error && !has("state/7") && !has("state/7.part"), "errno %d, not %d", errno, error);
     fail_syncs("", 0);
 }
@@ -181,7 +181,7 @@ static void fails_to_sync(const relkvanu_storage *it, const char *end, int error
 static void fails_to_delete(const relkvanu_storage *it, int error) {
     uint64_t file = 8;
     uint8_t outcome = 9;
-    puts_file(it, file, "state", RELKVANU_STORAGE_OK);
+    puts_into(it, file, "state", RELKVANU_STORAGE_OK);
     fail_syncs("/state", error);
     CHECK(it->delete_files(it->with, &file, 1, &outcome) == RELKVANU_STORAGE_FAILED && errno == error, "errno %d, not %d", errno, error);
     CHECK(outcome == RELKVANU_STORAGE_UNDELETED, "outcome %d", outcome);
@@ -203,7 +203,7 @@ CASE(syncs_that_fail) {
     }
     fails_to_sync(&it, "/state/7.part", EINVAL);
     fail_syncs("/state", EINVAL);
-    puts_file(&it, file, "state", RELKVANU_STORAGE_OK);
+    puts_into(&it, file, "state", RELKVANU_STORAGE_OK);
     reads(&it, file, "state");
     CHECK(
         it.delete_files(it.with, &file, 1, &outcome) == RELKVANU_STORAGE_OK && outcome == RELKVANU_STORAGE_DELETED, "outcome %d", outcome);
@@ -215,15 +215,15 @@ CASE(a_marker_that_is_not_synced) {
     relkvanu_storage_options new = state_of("orders");
     for (int i = 0; i < SYNC_ERRORS_LEN; i++) {
         fail_syncs("/state", SYNC_ERRORS[i]);
-        opens_as(&new, RELKVANU_STORAGE_FAILED);
+        folder_opens(&new, RELKVANU_STORAGE_FAILED);
         fail_syncs("/state/.relkvanu-storage.part", SYNC_ERRORS[i]);
-        opens_as(&new, RELKVANU_STORAGE_FAILED);
+        folder_opens(&new, RELKVANU_STORAGE_FAILED);
         CHECK(!has("state/.relkvanu-storage") && !has("state/.relkvanu-storage.part"), "a marker after errno %d", SYNC_ERRORS[i]);
     }
     fail_syncs("/state/.relkvanu-storage.part", EINVAL);
-    opens_as(&new, RELKVANU_STORAGE_FAILED);
+    folder_opens(&new, RELKVANU_STORAGE_FAILED);
     fail_syncs("/state", EINVAL);
-    opens_as(&new, RELKVANU_STORAGE_OK);
+    folder_opens(&new, RELKVANU_STORAGE_OK);
 }
 
 /* From now on the process is killed when it gives a file another name. */
@@ -256,7 +256,7 @@ CASE(killed_before_the_rename) {
     CHECK(has("state/s-7.bin.part") && !has("state/s-7.bin"), "the folder");
     struct found found = listed(&it, 0);
     CHECK(found.all == 1 && found.counts[7] == 1 && found.bytes == 5, "%zu files", found.all);
-    puts_file(&it, 7, "other", RELKVANU_STORAGE_PRESENT);
+    puts_into(&it, 7, "other", RELKVANU_STORAGE_PRESENT);
     CHECK(
         it.delete_files(it.with, &file, 1, &outcome) == RELKVANU_STORAGE_OK && outcome == RELKVANU_STORAGE_DELETED, "outcome %d", outcome);
     CHECK(!has("state/s-7.bin.part") && listed(&it, 0).all == 0, "a part is left");
@@ -272,15 +272,15 @@ CASE(links_are_not_followed) {
     CHECK(symlink("../elsewhere", in("state/7")) == 0 && symlink("../made", in("state/8.part")) == 0, "links");
     CHECK(listed(&it, 0).all == 0, "a link is listed");
     CHECK(it.get(it.with, 7, found, sizeof found, &len) == RELKVANU_STORAGE_FAILED && errno == ELOOP, "errno %d", errno);
-    puts_file(&it, 7, "other", RELKVANU_STORAGE_PRESENT);
-    puts_file(&it, 8, "other", RELKVANU_STORAGE_PRESENT);
+    puts_into(&it, 7, "other", RELKVANU_STORAGE_PRESENT);
+    puts_into(&it, 8, "other", RELKVANU_STORAGE_PRESENT);
     CHECK(!has("state/7.part") && !has("made"), "a put");
     CHECK(
         it.delete_files(it.with, &file, 1, &outcome) == RELKVANU_STORAGE_OK && outcome == RELKVANU_STORAGE_DELETED, "outcome %d", outcome);
     CHECK(!has("state/7") && has("elsewhere"), "a deletion");
     CHECK(rename(in("state/.relkvanu-storage"), in("marker")) == 0 && symlink("../marker", in("state/.relkvanu-storage")) == 0);
     CHECK(it.check(it.with) == RELKVANU_STORAGE_FAILED && errno == ELOOP, "errno %d", errno);
-    puts_file(&it, 9, "state", RELKVANU_STORAGE_FAILED);
+    puts_into(&it, 9, "state", RELKVANU_STORAGE_FAILED);
     CHECK(!has("state/9") && !has("state/9.part"), "a put");
     relkvanu_storage_close_folder(&it);
 }
@@ -290,14 +290,14 @@ static void refuses_all(const relkvanu_storage *it, int status) {
     uint64_t files[] = {7, 8};
     uint8_t outcomes[] = {9, 9};
     CHECK(it->check(it->with) == status, "check");
-    puts_file(it, 9, "state", status);
+    puts_into(it, 9, "state", status);
     CHECK(it->delete_files(it->with, files, 2, outcomes) == status && outcomes[0] == 0 && outcomes[1] == 0, "%d %d", outcomes[0],
         outcomes[1]);
 }
 
 CASE(the_marker_of_another_job) {
     relkvanu_storage it = opened(NULL, NULL);
-    puts_file(&it, 7, "state", RELKVANU_STORAGE_OK);
+    puts_into(&it, 7, "state", RELKVANU_STORAGE_OK);
     CHECK(rename(in("state/.relkvanu-storage"), in("marker")) == 0, "the marker");
     refuses_all(&it, RELKVANU_STORAGE_NOT_THERE);
     write_text("state/.relkvanu-storage", "relkvanu: state files of the job others\n");
@@ -311,11 +311,11 @@ CASE(the_marker_of_another_job) {
 CASE(the_folder_is_removed) {
     relkvanu_storage it = opened(NULL, NULL);
     struct found found = {.pages = 0};
-    puts_file(&it, 7, "state", RELKVANU_STORAGE_OK);
+    puts_into(&it, 7, "state", RELKVANU_STORAGE_OK);
     CHECK(rename(in("state"), in("away")) == 0 && mkdir(in("state"), 0700) == 0, "the folder");
     write_text("state/7", "");
     write_text("state/8", "");
-    puts_file(&it, 9, "state", RELKVANU_STORAGE_OK);
+    puts_into(&it, 9, "state", RELKVANU_STORAGE_OK);
     CHECK(has("away/9") && !has("state/9") && listed(&it, 0).all == 2, "the folder");
     CHECK(unlink(in("away/7")) == 0 && unlink(in("away/9")) == 0 && unlink(in("away/.relkvanu-storage")) == 0 && rmdir(in("away")) == 0);
     refuses_all(&it, RELKVANU_STORAGE_NOT_THERE);
@@ -341,7 +341,7 @@ CASE(names_with_unusual_bytes) {
         write_text(others[i], "");
     }
     CHECK(listed(&it, 0).all == 0, "%zu files", listed(&it, 0).all);
-    puts_file(&it, 7, "state", RELKVANU_STORAGE_OK);
+    puts_into(&it, 7, "state", RELKVANU_STORAGE_OK);
     write_text("state/a b\n\xff%s-8\x01\".part", "");
     CHECK(has("state/a b\n\xff%s-7\x01\"") && has("state/a b\n\xff%s-.relkvanu-storage"), "the names");
     struct found found = listed(&it, 0);
@@ -357,8 +357,8 @@ CASE(names_with_unusual_bytes) {
 /* A prefix and a suffix of digits: no name has two numbers. */
 CASE(names_with_digits) {
     relkvanu_storage it = opened("1", "0");
-    puts_file(&it, 7, "", RELKVANU_STORAGE_OK);
-    puts_file(&it, 10, "", RELKVANU_STORAGE_OK);
+    puts_into(&it, 7, "", RELKVANU_STORAGE_OK);
+    puts_into(&it, 10, "", RELKVANU_STORAGE_OK);
     write_text("state/10", "");
     write_text("state/1070", "");
     struct found found = listed(&it, 0);
@@ -408,7 +408,7 @@ struct worker {
 static void *puts_many(void *with) {
     struct worker *worker = with;
     for (uint64_t file = worker->first; file < worker->first + 50; file++) {
-        puts_file(worker->it, file, "state", RELKVANU_STORAGE_OK);
+        puts_into(worker->it, file, "state", RELKVANU_STORAGE_OK);
     }
     return NULL;
 }
@@ -426,8 +426,8 @@ CASE(threads_share_a_folder) {
     relkvanu_storage it = opened(NULL, NULL);
     struct worker workers[] = {{&it, 100}, {&it, 200}, {&it, 0}, {&it, 0}};
     pthread_t threads[4];
-    puts_file(&it, 1, "", RELKVANU_STORAGE_OK);
-    puts_file(&it, 2, "", RELKVANU_STORAGE_OK);
+    puts_into(&it, 1, "", RELKVANU_STORAGE_OK);
+    puts_into(&it, 2, "", RELKVANU_STORAGE_OK);
     for (int i = 0; i < 4; i++) {
         threads[i] = starts(i < 2 ? puts_many : lists_many, &workers[i]);
     }

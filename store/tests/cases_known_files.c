@@ -7,7 +7,6 @@
 static const char CONTENTS[] = "123456789", SUM[] = "cbf43926";
 enum { LENGTH = 9, MOST_FAULTS = 32 };
 
-static char message[RELKVANU_STORE_MESSAGE];
 static struct fault {
     uint64_t record, file;
     uint32_t fault;
@@ -48,7 +47,7 @@ static relkvanu_store *opens_again(void) {
 }
 
 /* A record in which each subtask has a fresh file, and the first one also a file from before, unless that is 0. *first is the first fresh file. */
-static uint64_t completes(relkvanu_store *store, uint32_t kind, uint64_t reused, uint64_t *first) {
+static uint64_t completes_with(relkvanu_store *store, uint32_t kind, uint64_t reused, uint64_t *first) {
     relkvanu_answer answer = done(store, kind, RELKVANU_STORE_NOW, 0);
     uint64_t id = kind == RELKVANU_CALL_SAVEPOINT ? answer.a : answer.b, term = term_of(store);
     *first = reserved(store, term, SUBTASKS);
@@ -87,10 +86,9 @@ CASE(checksums_of_files) {
     uint64_t first;
     char words[64];
     relkvanu_store_options options = storage_options(RELKVANU_STORE_CREATE | RELKVANU_STORE_CHECKSUMS, 0);
-    opens(&options, RELKVANU_STORE_BAD_ARGUMENT);
-    CHECK(says("RELKVANU_STORE_MANIFESTS"), "%s", report.message);
+    opens_not(&options, RELKVANU_STORE_BAD_ARGUMENT, "RELKVANU_STORE_MANIFESTS");
     relkvanu_store *store = opens_new();
-    CHECK(completes(store, RELKVANU_CALL_TRIGGER, 0, &first) == 1, "the number");
+    CHECK(completes_with(store, RELKVANU_CALL_TRIGGER, 0, &first) == 1, "the number");
     snprintf(words, sizeof words, "\"files\":{\"%" PRIu64 "\":9},\"sums\":[\"%s\"]}", first + 3, SUM);
     CHECK(has_text("storage/record-1.manifest", words), "%s", words);
     CHECK(checks("storage") == 0 && records_len == 1 && records[0].unknown == 0 && records[0].is_next && records[0].files == 8);
@@ -101,7 +99,7 @@ CASE(checksums_of_files) {
 CASE(files_that_changed) {
     uint64_t first;
     relkvanu_store *store = opens_new();
-    completes(store, RELKVANU_CALL_TRIGGER, 0, &first);
+    completes_with(store, RELKVANU_CALL_TRIGGER, 0, &first);
     flips("storage", first + 1);
     CHECK(list_records("storage") == 1 && records[0].missing == 0 && records[0].is_next, "it was not read");
     CHECK(checks("storage") == 1 && records[0].missing == 0 && records[0].changed == 1, "%zu faults", faults_len);
@@ -121,11 +119,11 @@ CASE(kept_checksums) {
     uint64_t first, later, saved;
     relkvanu_store_recovered recovered;
     relkvanu_store *store = opens_new();
-    completes(store, RELKVANU_CALL_TRIGGER, 0, &first);
-    uint64_t savepoint = completes(store, RELKVANU_CALL_SAVEPOINT, 0, &saved);
+    completes_with(store, RELKVANU_CALL_TRIGGER, 0, &first);
+    uint64_t savepoint = completes_with(store, RELKVANU_CALL_SAVEPOINT, 0, &saved);
     flips("storage", first);
     flips("storage", saved);
-    uint64_t id = completes(store, RELKVANU_CALL_TRIGGER, first, &later);
+    uint64_t id = completes_with(store, RELKVANU_CALL_TRIGGER, first, &later);
     for (int opening = 0; opening < 2; opening++) {
         CHECK(checks("storage") == 2 && records_len == 2, "%zu faults", faults_len);
         is_fault(0, savepoint, saved, RELKVANU_STORE_FILE_CHANGED);
@@ -160,14 +158,14 @@ CASE(kept_lengths) {
     uint64_t first, later;
     relkvanu_store_recovered recovered;
     relkvanu_store *store = opens_with(storage_options(RELKVANU_STORE_CREATE | RELKVANU_STORE_MANIFESTS, 0));
-    completes(store, RELKVANU_CALL_TRIGGER, 0, &first);
+    completes_with(store, RELKVANU_CALL_TRIGGER, 0, &first);
     CHECK(truncate(file_in("storage", first), 4) == 0, "it is cut");
     for (int opening = 0; opening < 2; opening++) {
         is_lost(store, first, "has 4 bytes, and its manifest says 9");
         relkvanu_store_close(store);
         store = opens_with(storage_options(RELKVANU_STORE_MANIFESTS, 0));
     }
-    completes(store, RELKVANU_CALL_TRIGGER, first, &later);
+    completes_with(store, RELKVANU_CALL_TRIGGER, first, &later);
     is_lost(store, first, "has 4 bytes");
     CHECK(unlink(file_in("storage", first)) == 0, "it is lost");
     relkvanu_store_close(store);
@@ -187,8 +185,8 @@ CASE(a_backup_of_a_cut_file) {
     uint64_t first, saved;
     relkvanu_store_recovered recovered;
     relkvanu_store *store = opens_with(storage_options(RELKVANU_STORE_CREATE | RELKVANU_STORE_MANIFESTS, 0));
-    uint64_t savepoint = completes(store, RELKVANU_CALL_SAVEPOINT, 0, &saved);
-    completes(store, RELKVANU_CALL_TRIGGER, 0, &first);
+    uint64_t savepoint = completes_with(store, RELKVANU_CALL_SAVEPOINT, 0, &saved);
+    completes_with(store, RELKVANU_CALL_TRIGGER, 0, &first);
     CHECK(relkvanu_store_backup(store, in("b.db"), message, sizeof message) == RELKVANU_STORE_OK, "%s", message);
     relkvanu_store_close(store);
     CHECK(truncate(file_in("storage", first + 3), 4) == 0, "it is cut");
@@ -204,8 +202,8 @@ CASE(a_backup_of_a_cut_file) {
 CASE(manifests_without_checksums) {
     uint64_t first;
     relkvanu_store *store = opens_with(storage_options(RELKVANU_STORE_CREATE | RELKVANU_STORE_MANIFESTS, 0));
-    completes(store, RELKVANU_CALL_SAVEPOINT, 0, &first);
-    completes(store, RELKVANU_CALL_TRIGGER, 0, &first);
+    completes_with(store, RELKVANU_CALL_SAVEPOINT, 0, &first);
+    completes_with(store, RELKVANU_CALL_TRIGGER, 0, &first);
     relkvanu_store_close(store);
     flips("storage", first);
     CHECK(checks("storage") == 0 && records_len == 2 && records[0].unknown == 8 && records[1].unknown == 8, "they are not known");
@@ -232,7 +230,7 @@ CASE(a_file_that_is_not_there) {
     CHECK(measures.manifests == 1 && measures.failed_manifests == 0, "%" PRIu64 " manifests", measures.manifests);
     CHECK(!has_text("storage/record-1.manifest", "sums\":[\"") && has_text("storage/record-1.manifest", "\"sums\":[null]"));
     CHECK(list_records("storage") == 1 && records[0].missing == 8 && records[0].unknown == 8, "the record");
-    completes(store, RELKVANU_CALL_TRIGGER, 0, &first);
+    completes_with(store, RELKVANU_CALL_TRIGGER, 0, &first);
     relkvanu_store_close(store);
 }
 
@@ -243,7 +241,7 @@ CASE(carried_checksums) {
     relkvanu_store_carried carried;
     relkvanu_store_recovered recovered;
     relkvanu_store *store = opens_new();
-    uint64_t id = completes(store, RELKVANU_CALL_TRIGGER, 0, &first);
+    uint64_t id = completes_with(store, RELKVANU_CALL_TRIGGER, 0, &first);
     link_error = EXDEV;
     CHECK(relkvanu_store_export(in("storage"), 0, in("copied"), &carried) == RELKVANU_STORE_OK, "%s", carried.message);
     CHECK(checks("copied") == 0 && records[0].unknown == 0 && records[0].files == 8, "the copy");
@@ -271,13 +269,13 @@ CASE(many_checksums) {
     uint64_t first = 0, kept = 0;
     relkvanu_store *store = opens_new();
     for (int nth = 0; nth < 300; nth++) {
-        completes(store, RELKVANU_CALL_TRIGGER, kept, &first);
+        completes_with(store, RELKVANU_CALL_TRIGGER, kept, &first);
         CHECK(relkvanu_store_discard_for(store, 0, 1, NULL, NULL) == RELKVANU_STORE_TIMED_OUT, "a discarder");
         kept = kept == 0 ? first : kept;
     }
     flips("storage", kept);
     flips("storage", first + 1);
-    uint64_t id = completes(store, RELKVANU_CALL_TRIGGER, kept, &first);
+    uint64_t id = completes_with(store, RELKVANU_CALL_TRIGGER, kept, &first);
     CHECK(checks("storage") == 1 && records_len == 1 && records[0].unknown == 0 && records[0].files == 9, "%zu faults", faults_len);
     is_fault(0, id, kept, RELKVANU_STORE_FILE_CHANGED);
     relkvanu_store_close(store);
@@ -292,7 +290,7 @@ static bool ends_at_once(void *with, uint64_t record, uint64_t file, uint32_t fa
 CASE(a_look_that_ends) {
     uint64_t first;
     relkvanu_store *store = opens_new();
-    completes(store, RELKVANU_CALL_TRIGGER, 0, &first);
+    completes_with(store, RELKVANU_CALL_TRIGGER, 0, &first);
     flips("storage", first);
     flips("storage", first + 1);
     int status = relkvanu_store_check_records(in("storage"), note_record, ends_at_once, records, message, sizeof message);

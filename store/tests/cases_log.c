@@ -253,8 +253,7 @@ CASE(an_older_file) {
     relkvanu_store_close(store);
     put_back(&older, older.len);
     CHECK(truncate(in("x.db-wal"), 0) == 0, "-wal");
-    opens(&options, RELKVANU_STORE_DAMAGED);
-    CHECK(says("call 40 was answered"), "%s", report.message);
+    opens_not(&options, RELKVANU_STORE_DAMAGED, "call 40 was answered");
     CHECK(rename(in("x.db"), in("away")) == 0, "away");
     put_back(&older, older.len);
     relkvanu_store_close(opens(&options, RELKVANU_STORE_OK));

@@ -4,45 +4,20 @@
 #include <dirent.h>
 #include <time.h>
 
-static char message[RELKVANU_STORE_MESSAGE];
-static relkvanu_store_recovered recovered;
-
-static void recovers(uint64_t record, int status) {
-    int got = relkvanu_store_recover(in("x.db"), in("storage"), record, &recovered);
-    CHECK(got == status, "status %d, not %d: %s", got, status, recovered.message);
-    CHECK((recovered.message[0] == 0) == (status == RELKVANU_STORE_OK), "%s", recovered.message);
-    CHECK(!exists(".x.db.relkvanu-new") && !exists(".x.db.relkvanu-new-wal") && !exists(".x.db.relkvanu-new-shm") &&
-          !exists(".x.db.relkvanu-new.lock"));
-}
-
 /* A job over the storage folder, which has manifests. */
 static relkvanu_store_options manifests(uint32_t flags) {
     return storage_options(flags | RELKVANU_STORE_MANIFESTS, 0);
 }
 
-static relkvanu_answer trigger(relkvanu_store *store, uint32_t kind) {
-    return done(store, kind, RELKVANU_STORE_NOW, 0);
+static relkvanu_store *opens_with_manifests(void) {
+    return opens_with(manifests(RELKVANU_STORE_CREATE));
 }
 
-/* A task reserves a name, puts a file of so many bytes, and acknowledges it and a reused one, if there is one. */
-static uint64_t takes_part(relkvanu_store *store, uint64_t term, uint64_t id, uint16_t index, size_t len, uint64_t reused) {
-    relkvanu_answer answer;
-    uint64_t file = reserved(store, term, 1);
-    CHECK(relkvanu_store_put(store, file, "the state of a task", len) == RELKVANU_STORE_OK, "no file");
-    int status = relkvanu_store_ack_in(store, term, RELKVANU_STORE_NOW, id, 0, index, &file, 1, &reused, reused != 0, &answer);
-    CHECK(status == RELKVANU_STORE_OK && answer.code == RELKVANU_DONE, "status %d, what %" PRIu32, status, answer.what);
-    return file;
-}
-
-/* A record of 8 files, of 1 to 8 bytes. Returns its number. *first is the file of the first task. */
-static uint64_t completes(relkvanu_store *store, uint64_t term, uint32_t kind, uint64_t *first) {
-    relkvanu_answer triggered = trigger(store, kind);
-    uint64_t id = kind == RELKVANU_CALL_SAVEPOINT ? triggered.a : triggered.b;
+/* Another record, in which each subtask has a new file, and the first one also a file from before. */
+static uint64_t completes_with(relkvanu_store *store, uint32_t kind, uint64_t reused) {
+    uint64_t id = begins(store, kind), file = reserved(store, 1, SUBTASKS);
     for (uint16_t i = 0; i < SUBTASKS; i++) {
-        uint64_t file = takes_part(store, term, id, i, i + 1u, 0);
-        if (i == 0 && first != NULL) {
-            *first = file;
-        }
+        takes_part(store, 1, id, i, file + i, i + 1u, i == 0 ? reused : 0);
     }
     return id;
 }
@@ -84,13 +59,13 @@ static void check_manifest(uint64_t id, uint64_t file) {
 
 /* The manifest is there when a record is complete, and goes when it ends. */
 CASE(manifests_of_records) {
-    relkvanu_store *store = opens_with(manifests(RELKVANU_STORE_CREATE));
+    relkvanu_store *store = opens_with_manifests();
     uint64_t first = 0;
-    CHECK(completes(store, 1, RELKVANU_CALL_TRIGGER, &first) == 1, "the number");
+    CHECK(completes(store, RELKVANU_CALL_TRIGGER, &first) == 1, "the number");
     check_manifest(1, first);
-    CHECK(completes(store, 1, RELKVANU_CALL_SAVEPOINT, &first) == 2, "the number");
+    CHECK(completes(store, RELKVANU_CALL_SAVEPOINT, &first) == 2, "the number");
     CHECK(says_of(2, "json_extract(?1,'$.kind')='savepoint'") == 1 && says_of(2, "json_extract(?1,'$.chosen')") == 0, "the savepoint");
-    CHECK(completes(store, 1, RELKVANU_CALL_TRIGGER, &first) == 3, "the number");
+    CHECK(completes(store, RELKVANU_CALL_TRIGGER, &first) == 3, "the number");
     CHECK(!exists("storage/record-1.manifest") && exists("storage/record-2.manifest") && exists("storage/record-3.manifest"));
     CHECK(list_records("storage") == 2 && records[0].id == 2 && records[1].id == 3, "%zu records", records_len);
     CHECK(records[0].is_savepoint && !records[1].is_savepoint && !records[0].is_next && records[1].is_next, "what they are");
@@ -105,15 +80,14 @@ CASE(manifests_of_records) {
 /* Without the flag there is none, and a sweep deletes those of earlier openings. */
 CASE(manifests_are_asked_for) {
     relkvanu_store_options options = manifests(RELKVANU_STORE_CREATE);
-    size_t left = 1;
     relkvanu_store *store = opens(&options, RELKVANU_STORE_OK);
-    completes(store, 1, RELKVANU_CALL_TRIGGER, NULL);
+    completes(store, RELKVANU_CALL_TRIGGER, NULL);
     relkvanu_store_close(store);
     options.flags &= ~RELKVANU_STORE_MANIFESTS;
     store = opens(&options, RELKVANU_STORE_OK);
-    completes(store, 1, RELKVANU_CALL_TRIGGER, NULL);
+    completes(store, RELKVANU_CALL_TRIGGER, NULL);
     CHECK(!exists("storage/record-2.manifest") && exists("storage/record-1.manifest"), "the manifests");
-    CHECK(relkvanu_store_sweep(store, &left) == RELKVANU_STORE_OK && left == 0, "a sweep");
+    is_swept(store, RELKVANU_STORE_OK, 0);
     CHECK(!exists("storage/record-1.manifest") && list_records("storage") == 0, "a manifest is left");
     relkvanu_store_close(store);
     options.flags |= RELKVANU_STORE_MANIFESTS; /* what should be there is written at an opening */
@@ -126,15 +100,14 @@ CASE(manifests_are_asked_for) {
 CASE(a_sweep_of_manifests) {
     static const char *const foreign[] = {"record-7", "record-07.manifest", "record-.manifest", "record-7.manifest.old", "manifest"};
     static const char *const stale[] = {"record-7.manifest", "record-7.manifest.part", "record-1.manifest.part"};
-    size_t left = 1;
-    relkvanu_store *store = opens_with(manifests(RELKVANU_STORE_CREATE));
-    completes(store, 1, RELKVANU_CALL_TRIGGER, NULL);
+    relkvanu_store *store = opens_with_manifests();
+    completes(store, RELKVANU_CALL_TRIGGER, NULL);
     for (size_t i = 0; i < 8; i++) {
         char name[PATHS];
         snprintf(name, sizeof name, "storage/%s", i < 5 ? foreign[i] : stale[i - 5]);
         make_empty(name);
     }
-    CHECK(relkvanu_store_sweep(store, &left) == RELKVANU_STORE_OK && left == 0, "a sweep");
+    is_swept(store, RELKVANU_STORE_OK, 0);
     for (size_t i = 0; i < 8; i++) {
         char name[PATHS];
         snprintf(name, sizeof name, "storage/%s", i < 5 ? foreign[i] : stale[i - 5]);
@@ -146,20 +119,20 @@ CASE(a_sweep_of_manifests) {
 
 /* A manifest that can't be written stops no call, and is written later. */
 CASE(manifests_that_fail) {
-    relkvanu_store *store = opens_with(manifests(RELKVANU_STORE_CREATE));
-    completes(store, 1, RELKVANU_CALL_TRIGGER, NULL);
+    relkvanu_store *store = opens_with_manifests();
+    completes(store, RELKVANU_CALL_TRIGGER, NULL);
     fail_syncs("/record-2.manifest.part", EIO);
-    completes(store, 1, RELKVANU_CALL_TRIGGER, NULL);
+    completes(store, RELKVANU_CALL_TRIGGER, NULL);
     relkvanu_store_measures measures = measures_of(store);
     CHECK(measures.manifests == 1 && measures.failed_manifests >= 1, "%" PRIu64 " failed", measures.failed_manifests);
     CHECK(exists("storage/record-1.manifest") && !exists("storage/record-2.manifest") && !exists("storage/record-2.manifest.part"));
     fail_syncs("", 0);
     AWAIT(reserved(store, 1, 1) != 0 && exists("storage/record-2.manifest")); /* once a commit comes a second later */
     CHECK(!exists("storage/record-1.manifest"), "one that ended is left");
-    uint64_t failed = measures.failed_manifests, id = trigger(store, RELKVANU_CALL_TRIGGER).b, file = 0;
+    uint64_t failed = measures.failed_manifests, id = begins(store, RELKVANU_CALL_TRIGGER), file = reserved(store, 1, SUBTASKS);
     relkvanu_answer answer;
     for (uint16_t i = 0; i + 1 < SUBTASKS; i++) {
-        file = takes_part(store, 1, id, i, 4, 0);
+        takes_part(store, 1, id, i, file + i, 4, 0);
     }
     fail_syncs("/storage", EIO); /* the folder's */
     int status = relkvanu_store_ack_in(store, 1, RELKVANU_STORE_NOW, id, 0, SUBTASKS - 1, NULL, 0, &file, 1, &answer);
@@ -193,24 +166,21 @@ static bool has_files(relkvanu_store *store, uint64_t id, uint64_t first) {
 static void goes_on(relkvanu_store *store, uint64_t number, uint64_t term, uint64_t name) {
     relkvanu_store_call call = made(store, (relkvanu_call){.kind = RELKVANU_CALL_RESTORE, .now = RELKVANU_STORE_NOW});
     relkvanu_answer answer;
-    size_t left;
     CHECK(call.answer.code == RELKVANU_DONE && call.term > term, "code %" PRIu32 ", term %" PRIu64, call.answer.code, call.term);
-    uint64_t next = trigger(store, RELKVANU_CALL_TRIGGER).b;
-    CHECK(next > number, "record %" PRIu64, next);
-    for (uint16_t i = 0; i < SUBTASKS; i++) {
-        CHECK(takes_part(store, call.term, next, i, 4, 0) >= name, "a name is given again");
-    }
+    uint64_t first, next = completes(store, RELKVANU_CALL_TRIGGER, &first);
+    CHECK(next > number && first >= name, "record %" PRIu64 ", name %" PRIu64, next, first);
     int status = relkvanu_store_reserve(store, term, 1, &answer);
     CHECK(status == RELKVANU_STORE_OK && answer.code == RELKVANU_FENCED && answer.what == RELKVANU_OLD_TERM, "an old task");
-    CHECK(relkvanu_store_sweep(store, &left) == RELKVANU_STORE_OK && left == 0, "a sweep");
+    is_swept(store, RELKVANU_STORE_OK, 0);
 }
 
 /* The file is lost after a checkpoint, beside one that is pending. What comes back later is refused. */
 CASE(a_lost_job) {
     relkvanu_store_options options = manifests(RELKVANU_STORE_CREATE);
     relkvanu_store *store = opens(&options, RELKVANU_STORE_OK);
-    uint64_t first = 0, id = completes(store, 1, RELKVANU_CALL_TRIGGER, &first);
-    uint64_t pending = trigger(store, RELKVANU_CALL_TRIGGER).b, late = takes_part(store, 1, pending, 0, 4, 0);
+    uint64_t first = 0, id = completes(store, RELKVANU_CALL_TRIGGER, &first);
+    uint64_t pending = begins(store, RELKVANU_CALL_TRIGGER), late = reserved(store, 1, 1);
+    takes_part(store, 1, pending, 0, late, 4, 0);
     relkvanu_store_close(store);
     CHECK(rename(in("x.db"), in("old.db")) == 0, "the old file");
     lose_job();
@@ -218,12 +188,12 @@ CASE(a_lost_job) {
     opens(&options, RELKVANU_STORE_ABSENT);
     options.flags |= RELKVANU_STORE_CREATE;
     opens(&options, RELKVANU_STORE_STORAGE);
-    recovers(0, RELKVANU_STORE_OK);
+    recovers("x.db", "storage", 0, RELKVANU_STORE_OK);
     CHECK(recovered.record == id && !recovered.is_savepoint && recovered.files == 8 && recovered.bytes == 36, "record %" PRIu64,
         recovered.record);
     CHECK(recovered.next_name > late && recovered.next_number > pending && recovered.term > 1, "what is next");
     uint64_t term = recovered.term, name = recovered.next_name;
-    recovers(0, RELKVANU_STORE_PRESENT);
+    recovers("x.db", "storage", 0, RELKVANU_STORE_PRESENT);
     CHECK(rename(in("x.db"), in("new.db")) == 0 && rename(in("old.db"), in("x.db")) == 0, "the old file, before an opening");
     opens(&options, RELKVANU_STORE_STORAGE);
     CHECK(says("a later opening") && rename(in("x.db"), in("old.db")) == 0 && rename(in("new.db"), in("x.db")) == 0, "%s", report.message);
@@ -235,8 +205,7 @@ CASE(a_lost_job) {
     lose_job_of(store);
     CHECK(rename(in("old.db"), in("x.db")) == 0, "the old file");
     options.flags = RELKVANU_STORE_MANIFESTS;
-    opens(&options, RELKVANU_STORE_STORAGE);
-    CHECK(says("a later opening"), "%s", report.message);
+    opens_not(&options, RELKVANU_STORE_STORAGE, "a later opening");
 }
 
 /* It can't be marked before the record is chosen, and is marked once the job is there. */
@@ -244,33 +213,32 @@ CASE(a_folder_that_was_full) {
     relkvanu_store_options options = manifests(RELKVANU_STORE_CREATE);
     relkvanu_store *store = opens(&options, RELKVANU_STORE_OK);
     uint64_t first = 0;
-    completes(store, 1, RELKVANU_CALL_TRIGGER, &first);
+    completes(store, RELKVANU_CALL_TRIGGER, &first);
     relkvanu_store_close(store);
     CHECK(rename(in("x.db"), in("old.db")) == 0, "the old file");
     lose_job();
     fail_next_open(".relkvanu-job.new", ENOSPC);
-    recovers(0, RELKVANU_STORE_OK);
+    recovers("x.db", "storage", 0, RELKVANU_STORE_OK);
     CHECK(rename(in("old.db"), in("x.db")) == 0, "the old file, in the place of the new one");
     options.flags = RELKVANU_STORE_MANIFESTS;
-    opens(&options, RELKVANU_STORE_STORAGE);
-    CHECK(says("a later opening"), "%s", report.message);
+    opens_not(&options, RELKVANU_STORE_STORAGE, "a later opening");
 }
 
 /* A second loss, also before the recovered job was opened. */
 CASE(lost_again) {
-    relkvanu_store *store = opens_with(manifests(RELKVANU_STORE_CREATE));
-    uint64_t first = 0, id = completes(store, 1, RELKVANU_CALL_TRIGGER, &first);
+    relkvanu_store *store = opens_with_manifests();
+    uint64_t first = 0, id = completes(store, RELKVANU_CALL_TRIGGER, &first);
     lose_job_of(store);
-    recovers(0, RELKVANU_STORE_OK);
+    recovers("x.db", "storage", 0, RELKVANU_STORE_OK);
     lose_job();
-    recovers(0, RELKVANU_STORE_OK);
-    store = opens_with(manifests(RELKVANU_STORE_CREATE));
+    recovers("x.db", "storage", 0, RELKVANU_STORE_OK);
+    store = opens_with_manifests();
     CHECK(choice_of(store) == id && has_files(store, id, first), "the choice");
-    uint64_t term = report.term, name = report.next_name, next = completes(store, term, RELKVANU_CALL_TRIGGER, &first);
+    uint64_t term = report.term, name = report.next_name, next = completes(store, RELKVANU_CALL_TRIGGER, &first);
     lose_job_of(store);
-    recovers(0, RELKVANU_STORE_OK);
+    recovers("x.db", "storage", 0, RELKVANU_STORE_OK);
     CHECK(recovered.record == next && recovered.term > term && recovered.next_name > name + 7, "what is next");
-    store = opens_with(manifests(RELKVANU_STORE_CREATE));
+    store = opens_with_manifests();
     CHECK(choice_of(store) == next && has_files(store, next, first), "the choice");
     goes_on(store, next, term, name + 8);
     relkvanu_store_close(store);
@@ -279,38 +247,38 @@ CASE(lost_again) {
 /* Why there is nothing to make a job of. Nothing changes then. */
 CASE(nothing_to_recover) {
     uint64_t first = 0;
-    recovers(0, RELKVANU_STORE_STORAGE); /* no marker */
-    relkvanu_store *store = opens_with(manifests(RELKVANU_STORE_CREATE));
-    recovers(0, RELKVANU_STORE_IN_USE);
+    recovers("x.db", "storage", 0, RELKVANU_STORE_STORAGE); /* no marker */
+    relkvanu_store *store = opens_with_manifests();
+    recovers("x.db", "storage", 0, RELKVANU_STORE_IN_USE);
     relkvanu_store_close(store);
-    recovers(0, RELKVANU_STORE_PRESENT);
+    recovers("x.db", "storage", 0, RELKVANU_STORE_PRESENT);
     lose_job();
-    recovers(0, RELKVANU_STORE_ABSENT); /* no record was complete */
+    recovers("x.db", "storage", 0, RELKVANU_STORE_ABSENT); /* no record was complete */
     CHECK(unlink(in("storage/.relkvanu-job")) == 0, "the marker");
-    store = opens_with(manifests(RELKVANU_STORE_CREATE));
-    completes(store, 1, RELKVANU_CALL_TRIGGER, &first);
+    store = opens_with_manifests();
+    completes(store, RELKVANU_CALL_TRIGGER, &first);
     lose_job_of(store);
-    recovers(9, RELKVANU_STORE_ABSENT);
+    recovers("x.db", "storage", 9, RELKVANU_STORE_ABSENT);
     const char *name = stored(first + 3);
     CHECK(truncate(in(name), 3) == 0, "%s", name); /* it had 4 bytes */
     CHECK(list_records("storage") == 1 && records[0].missing == 1 && !records[0].is_next, "a file is short");
-    recovers(0, RELKVANU_STORE_ABSENT);
+    recovers("x.db", "storage", 0, RELKVANU_STORE_ABSENT);
     CHECK(unlink(in(name)) == 0, "%s", name);
     CHECK(list_records("storage") == 1 && records[0].missing == 1, "a file is missing");
-    recovers(0, RELKVANU_STORE_ABSENT);
+    recovers("x.db", "storage", 0, RELKVANU_STORE_ABSENT);
     write_text(name, "four");
     write_text("x.db-wal", "calls");
-    recovers(0, RELKVANU_STORE_PRESENT);
+    recovers("x.db", "storage", 0, RELKVANU_STORE_PRESENT);
     CHECK(unlink(in("x.db-wal")) == 0, "the -wal");
-    recovers(1, RELKVANU_STORE_OK);
+    recovers("x.db", "storage", 1, RELKVANU_STORE_OK);
 }
 
 /* Each byte of a manifest is looked at. */
 CASE(damaged_manifests) {
-    relkvanu_store *store = opens_with(manifests(RELKVANU_STORE_CREATE));
+    relkvanu_store *store = opens_with_manifests();
     struct stat is;
-    completes(store, 1, RELKVANU_CALL_SAVEPOINT, NULL);
-    completes(store, 1, RELKVANU_CALL_TRIGGER, NULL);
+    completes(store, RELKVANU_CALL_SAVEPOINT, NULL);
+    completes(store, RELKVANU_CALL_TRIGGER, NULL);
     lose_job_of(store);
     int file = open(in("storage/record-2.manifest"), O_RDWR);
     CHECK(file >= 0 && fstat(file, &is) == 0 && is.st_size > 600, "the manifest");
@@ -328,72 +296,71 @@ CASE(damaged_manifests) {
             (long)len);
     }
     close(file);
-    recovers(0, RELKVANU_STORE_DAMAGED);
+    recovers("x.db", "storage", 0, RELKVANU_STORE_DAMAGED);
     CHECK(strstr(recovered.message, "record-2.manifest") != NULL && strstr(recovered.message, "number of a record") != NULL &&
               !exists("x.db"),
         "%s", recovered.message);
-    recovers(1, RELKVANU_STORE_OK);
+    recovers("x.db", "storage", 1, RELKVANU_STORE_OK);
     CHECK(recovered.record == 1 && recovered.is_savepoint && recovered.passed == 1, "record %" PRIu64, recovered.record);
     CHECK(recovered.next_number > 2 + 1024, "number %" PRIu64 " may be told again", recovered.next_number);
 }
 
 /* A later version wrote the manifest, far above what the others say was told. One that is earlier than the choice says nothing of it. */
 CASE(manifests_that_cannot_be_read) {
-    relkvanu_store *store = opens_with(manifests(RELKVANU_STORE_CREATE));
-    uint64_t id = completes(store, 1, RELKVANU_CALL_SAVEPOINT, NULL) + 1;
-    CHECK(completes(store, 1, RELKVANU_CALL_TRIGGER, NULL) == id, "the number");
+    relkvanu_store *store = opens_with_manifests();
+    uint64_t id = completes(store, RELKVANU_CALL_SAVEPOINT, NULL) + 1;
+    CHECK(completes(store, RELKVANU_CALL_TRIGGER, NULL) == id, "the number");
     lose_job_of(store);
     CHECK(truncate(in("storage/record-1.manifest"), 7) == 0, "an earlier one");
     write_text("storage/record-5000.manifest", "written by a later version");
-    recovers(0, RELKVANU_STORE_DAMAGED);
+    recovers("x.db", "storage", 0, RELKVANU_STORE_DAMAGED);
     CHECK(strstr(recovered.message, "record-5000.manifest") != NULL, "%s", recovered.message);
     CHECK(rename(in("storage/record-5000.manifest"), in("storage/record-18446744073709551615.manifest")) == 0, "the greatest number");
-    recovers(id, RELKVANU_STORE_DAMAGED);
+    recovers("x.db", "storage", id, RELKVANU_STORE_DAMAGED);
     CHECK(strstr(recovered.message, "far above") != NULL, "%s", recovered.message);
     CHECK(rename(in("storage/record-18446744073709551615.manifest"), in("storage/record-5000.manifest")) == 0, "it again");
-    recovers(id, RELKVANU_STORE_OK);
+    recovers("x.db", "storage", id, RELKVANU_STORE_OK);
     CHECK(recovered.passed == 2 && recovered.next_number > 5000 + 1024, "number %" PRIu64, recovered.next_number);
     lose_job();
     CHECK(unlink(in("storage/record-5000.manifest")) == 0, "the later one");
-    recovers(0, RELKVANU_STORE_OK);
+    recovers("x.db", "storage", 0, RELKVANU_STORE_OK);
     CHECK(recovered.record == id && recovered.passed == 1, "record %" PRIu64, recovered.record);
 }
 
 /* What has the name that a new file had in earlier versions may be a job. */
 CASE(a_job_beside_a_recovery) {
-    relkvanu_store *store = opens_with(manifests(RELKVANU_STORE_CREATE));
-    completes(store, 1, RELKVANU_CALL_TRIGGER, NULL);
+    relkvanu_store *store = opens_with_manifests();
+    completes(store, RELKVANU_CALL_TRIGGER, NULL);
     lose_job_of(store);
     relkvanu_store_options beside = job_options(RELKVANU_STORE_CREATE, 0);
     relkvanu_store_close(opens_at("x.db.new", &beside, RELKVANU_STORE_OK));
-    recovers(0, RELKVANU_STORE_OK);
+    recovers("x.db", "storage", 0, RELKVANU_STORE_OK);
     CHECK(exists("x.db.new"), "the job beside it is gone");
 }
 
 /* A process that was told to end may not have ended. It puts nothing more once the record is chosen, also if the recovery then comes to an end. */
 CASE(a_recovery_fences_first) {
-    relkvanu_store *store = opens_with(manifests(RELKVANU_STORE_CREATE));
-    completes(store, 1, RELKVANU_CALL_TRIGGER, NULL);
-    CHECK(relkvanu_store_recover(in("z.db"), in("storage"), 9, &recovered) == RELKVANU_STORE_ABSENT, "%s", recovered.message);
-    CHECK(relkvanu_store_put(store, 5000, "x", 1) == RELKVANU_STORE_OK, "a recovery that was refused has fenced it");
+    relkvanu_store *store = opens_with_manifests();
+    completes(store, RELKVANU_CALL_TRIGGER, NULL);
+    recovers("z.db", "storage", 9, RELKVANU_STORE_ABSENT);
+    puts_file(store, 5000, RELKVANU_STORE_OK);
     fail_syncs("/.z.db.relkvanu-new", EIO);
     CHECK(relkvanu_store_recover(in("z.db"), in("storage"), 0, &recovered) != RELKVANU_STORE_OK && !exists("z.db"), "no sync fails");
     fail_syncs("", 0);
-    CHECK(relkvanu_store_put(store, 5001, "x", 1) == RELKVANU_STORE_STORAGE, "the old job puts a file");
+    puts_file(store, 5001, RELKVANU_STORE_STORAGE);
     relkvanu_store_close(store);
-    CHECK(relkvanu_store_recover(in("z.db"), in("storage"), 0, &recovered) == RELKVANU_STORE_OK, "%s", recovered.message);
+    recovers("z.db", "storage", 0, RELKVANU_STORE_OK);
 }
 
 /* No marker is one that is absent, and not one that can't be read: then the record of another job might be taken. */
 CASE(a_marker_that_cannot_be_read) {
-    relkvanu_store *store = opens_with(manifests(RELKVANU_STORE_CREATE));
-    relkvanu_store_carried carried;
-    completes(store, 1, RELKVANU_CALL_TRIGGER, NULL);
+    relkvanu_store *store = opens_with_manifests();
+    completes(store, RELKVANU_CALL_TRIGGER, NULL);
     relkvanu_store_close(store);
     CHECK(rename(in("storage/.relkvanu-job"), in("storage/kept")) == 0 && symlink("kept", in("storage/.relkvanu-job")) == 0, "a link");
-    CHECK(relkvanu_store_export(in("storage"), 0, in("out"), &carried) == RELKVANU_STORE_STORAGE && !exists("out"), "%s", carried.message);
-    CHECK(
-        relkvanu_store_claim(in("storage"), 0, in("y.db"), in("elsewhere"), &recovered) == RELKVANU_STORE_STORAGE, "%s", recovered.message);
+    exports("storage", 0, "out", RELKVANU_STORE_STORAGE);
+    CHECK(!exists("out"), "a folder");
+    claims("storage", 0, "y.db", "elsewhere", RELKVANU_STORE_STORAGE);
     CHECK(relkvanu_store_records(in("storage"), note_record, records, message, sizeof message) == RELKVANU_STORE_STORAGE, "%s", message);
     CHECK(unlink(in("storage/.relkvanu-job")) == 0 && list_records("storage") == 1 && records[0].missing == 0, "what is left");
 }
@@ -401,12 +368,12 @@ CASE(a_marker_that_cannot_be_read) {
 /* Savepoints live on, with the files that they share, and with another shape. */
 CASE(savepoints_live_on) {
     const uint64_t shape[] = {2, 3};
-    relkvanu_store *store = opens_with(manifests(RELKVANU_STORE_CREATE));
+    relkvanu_store *store = opens_with_manifests();
     relkvanu_store_call call = {.call = {.kind = RELKVANU_CALL_RESTORE, .now = RELKVANU_STORE_NOW}, .first = shape, .first_len = 2};
-    uint64_t first = 0, savepoint = completes(store, 1, RELKVANU_CALL_SAVEPOINT, &first);
+    uint64_t first = 0, savepoint = completes(store, RELKVANU_CALL_SAVEPOINT, &first);
     relkvanu_answer answer;
     CHECK(relkvanu_store_calls(store, &call, 1) == RELKVANU_STORE_OK && call.term == 2, "another shape");
-    uint64_t id = trigger(store, RELKVANU_CALL_TRIGGER).b;
+    uint64_t id = begins(store, RELKVANU_CALL_TRIGGER);
     for (uint16_t i = 0; i < 5; i++) { /* some reuse a file of the savepoint, and one has none */
         const uint64_t files[] = {first + 3};
         uint16_t vertex = i < 2 ? 0 : 1, index = i < 2 ? i : i - 2;
@@ -415,9 +382,9 @@ CASE(savepoints_live_on) {
     }
     CHECK(answer.what == RELKVANU_ACK_COMPLETED, "what %" PRIu32, answer.what);
     lose_job_of(store);
-    recovers(0, RELKVANU_STORE_OK);
+    recovers("x.db", "storage", 0, RELKVANU_STORE_OK);
     CHECK(recovered.record == id && recovered.savepoints == 1 && recovered.passed == 0, "record %" PRIu64, recovered.record);
-    store = opens_with(manifests(RELKVANU_STORE_CREATE));
+    store = opens_with_manifests();
     CHECK(choice_of(store) == id && list_records("storage") == 3 && records[0].id == savepoint && records[1].id == id, "%zu records",
         records_len);
     uint64_t again = records[2].id;
@@ -426,7 +393,7 @@ CASE(savepoints_live_on) {
     CHECK(relkvanu_count(handle, first + 3).b == 5 && relkvanu_count(handle, first).b == 1, "uses: %" PRIu64,
         relkvanu_count(handle, first + 3).b);
     relkvanu_store_read_end(store);
-    CHECK(trigger(store, RELKVANU_CALL_TRIGGER).b > again, "the next number");
+    CHECK(begins(store, RELKVANU_CALL_TRIGGER) > again, "the next number");
     answer = done(store, RELKVANU_CALL_DISPOSE, 0, again);
     CHECK(answer.a == 7, "%" PRIu64 " files", answer.a); /* the eighth is the checkpoint's */
     relkvanu_store_close(store);
@@ -434,17 +401,17 @@ CASE(savepoints_live_on) {
 
 /* A job that was rolled back begins again from the savepoint, although a checkpoint completed after it. */
 CASE(a_rolled_back_job) {
-    relkvanu_store *store = opens_with(manifests(RELKVANU_STORE_CREATE));
-    uint64_t first = 0, savepoint = completes(store, 1, RELKVANU_CALL_SAVEPOINT, &first);
-    completes(store, 1, RELKVANU_CALL_TRIGGER, NULL);
+    relkvanu_store *store = opens_with_manifests();
+    uint64_t first = 0, savepoint = completes(store, RELKVANU_CALL_SAVEPOINT, &first);
+    completes(store, RELKVANU_CALL_TRIGGER, NULL);
     CHECK(list_records("storage") == 2 && records[1].is_next, "the checkpoint is the choice");
     done(store, RELKVANU_CALL_RESTORE, RELKVANU_STORE_NOW, savepoint);
     CHECK(list_records("storage") == 1 && records[0].is_next, "the savepoint is the choice");
     uint64_t term = report.term;
     lose_job_of(store);
-    recovers(0, RELKVANU_STORE_OK);
+    recovers("x.db", "storage", 0, RELKVANU_STORE_OK);
     CHECK(recovered.record == savepoint && recovered.is_savepoint && recovered.savepoints == 0, "record %" PRIu64, recovered.record);
-    store = opens_with(manifests(RELKVANU_STORE_CREATE));
+    store = opens_with_manifests();
     CHECK(report.choice.what == RELKVANU_CHOICE_SAVEPOINT && report.choice.a == savepoint && has_files(store, savepoint, first));
     goes_on(store, 2, term + 1, first + 16);
     relkvanu_store_close(store);
@@ -452,8 +419,8 @@ CASE(a_rolled_back_job) {
 
 /* Numbers of records that failed were told, too. */
 CASE(numbers_that_failed) {
-    relkvanu_store *store = opens_with(manifests(RELKVANU_STORE_CREATE));
-    uint64_t id = completes(store, 1, RELKVANU_CALL_TRIGGER, NULL), last = 0;
+    relkvanu_store *store = opens_with_manifests();
+    uint64_t id = completes(store, RELKVANU_CALL_TRIGGER, NULL), last = 0;
     for (int i = 0; i < 1100; i++) {
         relkvanu_store_call calls[] = {{.call = {.kind = RELKVANU_CALL_SAVEPOINT, .now = RELKVANU_STORE_NOW}},
             {.call = {.kind = RELKVANU_CALL_DECLINE, .now = RELKVANU_STORE_NOW, .number = id + 1 + (uint64_t)i, .term = 1}}};
@@ -463,31 +430,23 @@ CASE(numbers_that_failed) {
     CHECK(last == id + 1100 && says_of(id, "json_extract(?1,'$.below.number')") > (int64_t)last, "the manifest is behind record %" PRIu64,
         last);
     lose_job_of(store);
-    recovers(0, RELKVANU_STORE_OK);
-    store = opens_with(manifests(RELKVANU_STORE_CREATE));
+    recovers("x.db", "storage", 0, RELKVANU_STORE_OK);
+    store = opens_with_manifests();
     goes_on(store, last, 1, 1);
     relkvanu_store_close(store);
 }
 
 /* A record of another job in the folder is none of this one's. */
 CASE(another_jobs_manifest) {
-    relkvanu_store *store = opens_with(manifests(RELKVANU_STORE_CREATE));
-    completes(store, 1, RELKVANU_CALL_TRIGGER, NULL);
+    relkvanu_store *store = opens_with_manifests();
+    completes(store, RELKVANU_CALL_TRIGGER, NULL);
     relkvanu_store_close(store);
     write_text("storage/.relkvanu-job", "relkvanu job 0123456789abcdef0123456789abcdef\nepoch 7\n");
     lose_job();
     CHECK(list_records("storage") == 1 && !records[0].is_of_job && !records[0].is_next && records[0].missing == 0, "whose it is");
-    recovers(0, RELKVANU_STORE_ABSENT);
+    recovers("x.db", "storage", 0, RELKVANU_STORE_ABSENT);
     CHECK(relkvanu_store_records(in("nowhere"), note_record, records, message, sizeof message) == RELKVANU_STORE_STORAGE, "a folder");
     CHECK(message[0] != 0, "no message");
-}
-
-static relkvanu_store_carried carried;
-
-static void exports(uint64_t record, const char *to, int status) {
-    int got = relkvanu_store_export(in("storage"), record, in(to), &carried);
-    CHECK(got == status, "status %d, not %d: %s", got, status, carried.message);
-    CHECK((carried.message[0] == 0) == (status == RELKVANU_STORE_OK) && !exists("out.part"), "%s", carried.message);
 }
 
 /* How many names a folder has, and whether it has a file of so many bytes. */
@@ -511,24 +470,22 @@ static bool has_bytes(const char *folder, uint64_t file, off_t len) {
 
 /* The folder that is made has the record, whatever the job deletes then. */
 CASE(an_export) {
-    size_t left;
-    relkvanu_store *store = opens_with(manifests(RELKVANU_STORE_CREATE));
-    uint64_t first = 0, savepoint = completes(store, 1, RELKVANU_CALL_SAVEPOINT, NULL),
-             id = completes(store, 1, RELKVANU_CALL_TRIGGER, &first);
-    exports(0, "out", RELKVANU_STORE_OK);
+    relkvanu_store *store = opens_with_manifests();
+    uint64_t first = 0, savepoint = completes(store, RELKVANU_CALL_SAVEPOINT, NULL), id = completes(store, RELKVANU_CALL_TRIGGER, &first);
+    exports("storage", 0, "out", RELKVANU_STORE_OK);
     CHECK(carried.record == id && !carried.is_savepoint && carried.files == 8 && carried.bytes == 36, "record %" PRIu64, carried.record);
-    exports(0, "out", RELKVANU_STORE_PRESENT);
-    exports(savepoint, "other/", RELKVANU_STORE_OK);
+    exports("storage", 0, "out", RELKVANU_STORE_PRESENT);
+    exports("storage", savepoint, "other/", RELKVANU_STORE_OK);
     CHECK(carried.record == savepoint && carried.is_savepoint, "record %" PRIu64, carried.record);
-    exports(9, "none", RELKVANU_STORE_ABSENT);
+    exports("storage", 9, "none", RELKVANU_STORE_ABSENT);
     CHECK(!exists("none") && mkdir(in("empty"), 0700) == 0, "a folder");
-    exports(id, "empty", RELKVANU_STORE_OK);
-    completes(store, 1, RELKVANU_CALL_TRIGGER, NULL);
+    exports("storage", id, "empty", RELKVANU_STORE_OK);
+    completes(store, RELKVANU_CALL_TRIGGER, NULL);
     done(store, RELKVANU_CALL_RESTORE, RELKVANU_STORE_NOW, 0);
     while (has_bytes("storage", first, 1)) {
         CHECK(relkvanu_store_discard_for(store, 0, 50, NULL, NULL) == RELKVANU_STORE_TIMED_OUT, "a discarder");
     }
-    CHECK(relkvanu_store_sweep(store, &left) == RELKVANU_STORE_OK, "a sweep");
+    is_swept(store, RELKVANU_STORE_OK, 0);
     relkvanu_store_close(store);
     CHECK(count_names("out") == 9 && count_names("other") == 9 && count_names("empty") == 9, "%zu names", count_names("out"));
     for (uint64_t i = 0; i < SUBTASKS; i++) {
@@ -543,7 +500,7 @@ static atomic_uint rest; /* in us, of the job after each record */
 
 static void *completes_more(void *store) {
     while (!is_enough) {
-        latest = completes(store, 1, RELKVANU_CALL_TRIGGER, NULL);
+        latest = completes(store, RELKVANU_CALL_TRIGGER, NULL);
         usleep(rest);
     }
     return NULL;
@@ -565,9 +522,9 @@ static bool exports_in_time(const char *to) {
 
 /* Manifests end while the folder is listed: an export has the last record that was complete when it began, or a later one, and no savepoint before it. */
 CASE(an_export_beside_a_job) {
-    relkvanu_store *store = opens_with(manifests(RELKVANU_STORE_CREATE));
-    completes(store, 1, RELKVANU_CALL_SAVEPOINT, NULL);
-    latest = completes(store, 1, RELKVANU_CALL_TRIGGER, NULL);
+    relkvanu_store *store = opens_with_manifests();
+    completes(store, RELKVANU_CALL_SAVEPOINT, NULL);
+    latest = completes(store, RELKVANU_CALL_TRIGGER, NULL);
     pthread_t job = starts(completes_more, store);
     for (unsigned i = 0; i < 30; i++) {
         char name[PATHS];
@@ -579,13 +536,6 @@ CASE(an_export_beside_a_job) {
     relkvanu_store_close(store);
 }
 
-static void imports(const char *from, uint64_t record, int status) {
-    int got = relkvanu_store_import(in(from), record, in("y.db"), in("elsewhere"), &recovered);
-    CHECK(got == status, "status %d, not %d: %s", got, status, recovered.message);
-    CHECK(!exists("elsewhere.part") && !exists(".y.db.relkvanu-new") && (recovered.message[0] == 0) == (status == RELKVANU_STORE_OK), "%s",
-        recovered.message);
-}
-
 static relkvanu_store *opens_other(void) {
     relkvanu_store_options options = manifests(RELKVANU_STORE_RECOVER);
     options.storage = in("elsewhere");
@@ -594,109 +544,98 @@ static relkvanu_store *opens_other(void) {
 
 /* Another job of a record, while the first one runs. Each goes its own way. */
 CASE(an_import) {
-    relkvanu_store *store = opens_with(manifests(RELKVANU_STORE_CREATE));
-    uint64_t first = 0, job[2], id = completes(store, 1, RELKVANU_CALL_TRIGGER, &first);
+    relkvanu_store *store = opens_with_manifests();
+    uint64_t first = 0, job[2], id = completes(store, RELKVANU_CALL_TRIGGER, &first);
     memcpy(job, report.job, sizeof job);
-    imports("storage", 9, RELKVANU_STORE_ABSENT);
+    imports("storage", 9, "y.db", "elsewhere", RELKVANU_STORE_ABSENT);
     CHECK(!exists("elsewhere") && !exists("y.db"), "something is left");
-    imports("storage", 0, RELKVANU_STORE_OK);
+    imports("storage", 0, "y.db", "elsewhere", RELKVANU_STORE_OK);
     CHECK(recovered.record == id && recovered.files == 8 && recovered.term > 1, "record %" PRIu64, recovered.record);
-    imports("storage", 0, RELKVANU_STORE_PRESENT);
+    imports("storage", 0, "y.db", "elsewhere", RELKVANU_STORE_PRESENT);
     relkvanu_store *other = opens_other();
     CHECK(memcmp(job, report.job, sizeof job) != 0 && report.is_recovered && choice_of(other) == id && has_files(other, id, first));
     uint64_t term = report.term;
     goes_on(other, id, 1, first + 8);
-    completes(store, 1, RELKVANU_CALL_TRIGGER, NULL); /* its term was not ended */
+    completes(store, RELKVANU_CALL_TRIGGER, NULL); /* its term was not ended */
     relkvanu_store_close(other);
     relkvanu_store_close(store);
-    CHECK(unlink(in("y.db")) == 0 && relkvanu_store_recover(in("y.db"), in("elsewhere"), 0, &recovered) == RELKVANU_STORE_OK, "%s",
-        recovered.message);
+    CHECK(unlink(in("y.db")) == 0, "the job");
+    recovers("y.db", "elsewhere", 0, RELKVANU_STORE_OK);
     CHECK(recovered.term > term && recovered.record > id, "record %" PRIu64, recovered.record);
 }
 
 /* An import that ended between its two halves goes on; the folder of another job is left alone. */
 CASE(an_import_that_goes_on) {
-    relkvanu_store *store = opens_with(manifests(RELKVANU_STORE_CREATE));
-    uint64_t first = 0, id = completes(store, 1, RELKVANU_CALL_TRIGGER, &first);
-    exports(0, "out", RELKVANU_STORE_OK);
-    imports("out", 0, RELKVANU_STORE_OK);
+    relkvanu_store *store = opens_with_manifests();
+    uint64_t first = 0, id = completes(store, RELKVANU_CALL_TRIGGER, &first);
+    exports("storage", 0, "out", RELKVANU_STORE_OK);
+    imports("out", 0, "y.db", "elsewhere", RELKVANU_STORE_OK);
     CHECK(unlink(in("y.db")) == 0 && unlink(in("y.db.lock")) == 0 && unlink(in("y.db-shm")) == 0, "the job");
-    imports("out", 0, RELKVANU_STORE_OK);
+    imports("out", 0, "y.db", "elsewhere", RELKVANU_STORE_OK);
     CHECK(recovered.record == id, "record %" PRIu64, recovered.record);
     relkvanu_store *other = opens_other();
     CHECK(has_files(other, id, first), "its files");
     relkvanu_store_close(other);
     relkvanu_store_close(store);
     CHECK(unlink(in("y.db")) == 0 && rename(in("elsewhere"), in("its")) == 0 && rename(in("storage"), in("elsewhere")) == 0, "the folders");
-    imports("its", 0, RELKVANU_STORE_PRESENT);
+    imports("its", 0, "y.db", "elsewhere", RELKVANU_STORE_PRESENT);
     CHECK(!exists("y.db") && has_bytes("elsewhere", first, 1), "the folder of another job");
-}
-
-static void claims(const char *from, uint64_t record, const char *folder, int status) {
-    int got = relkvanu_store_claim(in(from), record, in("y.db"), in(folder), &recovered);
-    CHECK(got == status, "status %d, not %d: %s", got, status, recovered.message);
-    CHECK(!exists("elsewhere.part") && !exists(".y.db.relkvanu-new") && (recovered.message[0] == 0) == (status == RELKVANU_STORE_OK), "%s",
-        recovered.message);
 }
 
 /* The files leave, but for those of another record, and a process that still has the old job puts nothing more. */
 CASE(a_claim) {
     relkvanu_store_options options = manifests(RELKVANU_STORE_CREATE);
     relkvanu_store *store = opens(&options, RELKVANU_STORE_OK);
-    uint64_t first = 0, shared = 0, savepoint = completes(store, 1, RELKVANU_CALL_SAVEPOINT, &shared);
-    completes(store, 1, RELKVANU_CALL_TRIGGER, &first);
-    relkvanu_answer last = trigger(store, RELKVANU_CALL_TRIGGER);
-    for (uint16_t i = 0; i < SUBTASKS; i++) { /* the first file of the savepoint is also one of this record */
-        takes_part(store, 1, last.b, i, i + 1u, i == 0 ? first : 0);
-    }
-    claims("storage", 99, "elsewhere", RELKVANU_STORE_ABSENT);
+    uint64_t first = 0, shared = 0, savepoint = completes(store, RELKVANU_CALL_SAVEPOINT, &shared);
+    completes(store, RELKVANU_CALL_TRIGGER, &first);
+    uint64_t last = completes_with(store, RELKVANU_CALL_TRIGGER, first);
+    claims("storage", 99, "y.db", "elsewhere", RELKVANU_STORE_ABSENT);
     int wal = open(in("y.db-wal"), O_WRONLY | O_CREAT | O_CLOEXEC, 0600);
     CHECK(wal >= 0 && write(wal, "x", 1) == 1 && close(wal) == 0, "a -wal");
-    claims("storage", 0, "elsewhere", RELKVANU_STORE_PRESENT);
+    claims("storage", 0, "y.db", "elsewhere", RELKVANU_STORE_PRESENT);
     CHECK(unlink(in("y.db-wal")) == 0 && !exists("elsewhere"), "a claim that was refused has made a folder");
-    CHECK(relkvanu_store_put(store, 5000, "x", 1) == RELKVANU_STORE_OK, "it was fenced by a claim that was refused");
-    claims("storage", 0, "elsewhere", RELKVANU_STORE_OK);
-    CHECK(recovered.record == last.b && recovered.files == 9, "record %" PRIu64 ", %" PRIu64 " files", recovered.record, recovered.files);
+    puts_file(store, 5000, RELKVANU_STORE_OK);
+    claims("storage", 0, "y.db", "elsewhere", RELKVANU_STORE_OK);
+    CHECK(recovered.record == last && recovered.files == 9, "record %" PRIu64 ", %" PRIu64 " files", recovered.record, recovered.files);
     CHECK(has_bytes("elsewhere", first, 1) && !has_bytes("storage", first, 1) && has_bytes("storage", shared, 1), "the files");
-    CHECK(relkvanu_store_put(store, 5001, "x", 1) == RELKVANU_STORE_STORAGE, "the old job puts a file");
+    puts_file(store, 5001, RELKVANU_STORE_STORAGE);
     relkvanu_store_close(store);
     options = manifests(RELKVANU_STORE_RECOVER);
-    opens(&options, RELKVANU_STORE_STORAGE);
-    CHECK(says("later opening"), "%s", report.message);
+    opens_not(&options, RELKVANU_STORE_STORAGE, "later opening");
     CHECK(list_records("storage") == 1 && records[0].id == savepoint && records[0].missing == 0, "%zu records", records_len);
     relkvanu_store *other = opens_other();
-    CHECK(choice_of(other) == last.b, "the choice");
+    CHECK(choice_of(other) == last, "the choice");
     relkvanu_store_close(other);
-    claims("storage", 0, "elsewhere", RELKVANU_STORE_PRESENT);
+    claims("storage", 0, "y.db", "elsewhere", RELKVANU_STORE_PRESENT);
     CHECK(list_records("storage") == 1, "a claim over a job took another record");
 }
 
 /* A manifest that can't be read may be of the latest record, so nothing is made of an earlier one, unless it is given by its number. */
 CASE(a_latest_manifest_that_is_damaged) {
-    relkvanu_store *store = opens_with(manifests(RELKVANU_STORE_CREATE));
-    uint64_t savepoint = completes(store, 1, RELKVANU_CALL_SAVEPOINT, NULL);
-    completes(store, 1, RELKVANU_CALL_TRIGGER, NULL);
+    relkvanu_store *store = opens_with_manifests();
+    uint64_t savepoint = completes(store, RELKVANU_CALL_SAVEPOINT, NULL);
+    completes(store, RELKVANU_CALL_TRIGGER, NULL);
     int file = open(in("storage/record-2.manifest"), O_WRONLY | O_CLOEXEC);
     CHECK(file >= 0 && pwrite(file, "x", 1, 40) == 1 && close(file) == 0, "the manifest");
-    exports(0, "out", RELKVANU_STORE_DAMAGED);
+    exports("storage", 0, "out", RELKVANU_STORE_DAMAGED);
     CHECK(strstr(carried.message, "record-2.manifest") != NULL && !exists("out"), "%s", carried.message);
-    imports("storage", 0, RELKVANU_STORE_DAMAGED);
+    imports("storage", 0, "y.db", "elsewhere", RELKVANU_STORE_DAMAGED);
     CHECK(strstr(recovered.message, "record-2.manifest") != NULL && !exists("elsewhere") && !exists("y.db"), "%s", recovered.message);
-    claims("storage", 0, "elsewhere", RELKVANU_STORE_DAMAGED);
+    claims("storage", 0, "y.db", "elsewhere", RELKVANU_STORE_DAMAGED);
     CHECK(strstr(recovered.message, "record-2.manifest") != NULL && !exists("elsewhere") && !exists("y.db"), "%s", recovered.message);
-    CHECK(relkvanu_store_put(store, 5000, "x", 1) == RELKVANU_STORE_OK, "it was fenced by a claim that was refused");
-    exports(savepoint, "out", RELKVANU_STORE_OK);
-    imports("storage", savepoint, RELKVANU_STORE_OK);
+    puts_file(store, 5000, RELKVANU_STORE_OK);
+    exports("storage", savepoint, "out", RELKVANU_STORE_OK);
+    imports("storage", savepoint, "y.db", "elsewhere", RELKVANU_STORE_OK);
     CHECK(carried.record == savepoint && recovered.record == savepoint, "record %" PRIu64, recovered.record);
     relkvanu_store_close(store);
 }
 
 /* A job whose latest record lacks a file. Returns the savepoint before that. */
 static uint64_t lacks_a_file_of_the_latest(void) {
-    relkvanu_store *store = opens_with(manifests(RELKVANU_STORE_CREATE));
-    uint64_t first = 0, savepoint = completes(store, 1, RELKVANU_CALL_SAVEPOINT, NULL);
+    relkvanu_store *store = opens_with_manifests();
+    uint64_t first = 0, savepoint = completes(store, RELKVANU_CALL_SAVEPOINT, NULL);
     char name[PATHS];
-    completes(store, 1, RELKVANU_CALL_TRIGGER, &first);
+    completes(store, RELKVANU_CALL_TRIGGER, &first);
     relkvanu_store_close(store);
     snprintf(name, sizeof name, "storage/%" PRIu64, first);
     CHECK(unlink(in(name)) == 0, "%s", name);
@@ -706,39 +645,36 @@ static uint64_t lacks_a_file_of_the_latest(void) {
 /* A claim or an import that passes over such a record says so, as a recovery does. */
 CASE(a_latest_record_that_lacks_a_file) {
     uint64_t savepoint = lacks_a_file_of_the_latest();
-    claims("storage", 0, "elsewhere", RELKVANU_STORE_OK);
+    claims("storage", 0, "y.db", "elsewhere", RELKVANU_STORE_OK);
     CHECK(recovered.record == savepoint && recovered.passed == 1, "%" PRIu64 " passed", recovered.passed);
 }
 
 CASE(an_import_that_passes_a_record) {
     uint64_t savepoint = lacks_a_file_of_the_latest();
-    imports("storage", 0, RELKVANU_STORE_OK);
+    imports("storage", 0, "y.db", "elsewhere", RELKVANU_STORE_OK);
     CHECK(recovered.record == savepoint && recovered.passed == 1, "%" PRIu64 " passed", recovered.passed);
 }
 
 /* A record keeps what it shares with the one that leaves. */
 CASE(a_claim_of_shared_files) {
-    relkvanu_store *store = opens_with(manifests(RELKVANU_STORE_CREATE));
+    relkvanu_store *store = opens_with_manifests();
     uint64_t first = 0;
-    completes(store, 1, RELKVANU_CALL_TRIGGER, &first);
-    relkvanu_answer savepoint = trigger(store, RELKVANU_CALL_SAVEPOINT);
-    for (uint16_t i = 0; i < SUBTASKS; i++) {
-        takes_part(store, 1, savepoint.a, i, i + 1u, i == 0 ? first : 0);
-    }
+    completes(store, RELKVANU_CALL_TRIGGER, &first);
+    uint64_t savepoint = completes_with(store, RELKVANU_CALL_SAVEPOINT, first);
     relkvanu_store_close(store);
-    claims("storage", savepoint.a - 1, "elsewhere", RELKVANU_STORE_OK);
+    claims("storage", savepoint - 1, "y.db", "elsewhere", RELKVANU_STORE_OK);
     CHECK(has_bytes("elsewhere", first, 1) && has_bytes("storage", first, 1) && !has_bytes("storage", first + 1, 2), "the files");
-    CHECK(list_records("storage") == 1 && records[0].id == savepoint.a && records[0].missing == 0, "%zu records", records_len);
+    CHECK(list_records("storage") == 1 && records[0].id == savepoint && records[0].missing == 0, "%zu records", records_len);
 }
 
 /* The same call goes on where one ended: after the job was made, and before anything has left. An exported folder goes with its last file. */
 CASE(a_claim_that_goes_on) {
-    relkvanu_store *store = opens_with(manifests(RELKVANU_STORE_CREATE));
-    uint64_t first = 0, id = completes(store, 1, RELKVANU_CALL_TRIGGER, &first);
-    exports(0, "out", RELKVANU_STORE_OK);
+    relkvanu_store *store = opens_with_manifests();
+    uint64_t first = 0, id = completes(store, RELKVANU_CALL_TRIGGER, &first);
+    exports("storage", 0, "out", RELKVANU_STORE_OK);
     relkvanu_store_close(store);
-    imports("out", 0, RELKVANU_STORE_OK);
-    claims("out", 0, "elsewhere", RELKVANU_STORE_OK);
+    imports("out", 0, "y.db", "elsewhere", RELKVANU_STORE_OK);
+    claims("out", 0, "y.db", "elsewhere", RELKVANU_STORE_OK);
     CHECK(recovered.record == id && recovered.files == 8 && !exists("out"), "record %" PRIu64, recovered.record);
     relkvanu_store *other = opens_other();
     CHECK(has_files(other, id, first), "its files");
@@ -747,37 +683,37 @@ CASE(a_claim_that_goes_on) {
 
 /* An import, and then a claim of the same record: the old job runs meanwhile, so it is fenced before its files leave. */
 CASE(a_claim_after_an_import) {
-    relkvanu_store *store = opens_with(manifests(RELKVANU_STORE_CREATE));
-    uint64_t first = 0, id = completes(store, 1, RELKVANU_CALL_TRIGGER, &first);
-    imports("storage", 0, RELKVANU_STORE_OK);
-    CHECK(relkvanu_store_put(store, 5000, "x", 1) == RELKVANU_STORE_OK, "an import fences it");
-    claims("storage", 0, "elsewhere", RELKVANU_STORE_OK);
+    relkvanu_store *store = opens_with_manifests();
+    uint64_t first = 0, id = completes(store, RELKVANU_CALL_TRIGGER, &first);
+    imports("storage", 0, "y.db", "elsewhere", RELKVANU_STORE_OK);
+    puts_file(store, 5000, RELKVANU_STORE_OK);
+    claims("storage", 0, "y.db", "elsewhere", RELKVANU_STORE_OK);
     CHECK(recovered.record == id && !has_bytes("storage", first, 1) && has_bytes("elsewhere", first, 1), "the files");
-    CHECK(relkvanu_store_put(store, 5001, "x", 1) == RELKVANU_STORE_STORAGE, "a job without its files puts more");
+    puts_file(store, 5001, RELKVANU_STORE_STORAGE);
     relkvanu_store_close(store);
 }
 
 /* An import that did not end has left an earlier record than the one that is there by now. */
 CASE(a_claim_over_an_earlier_record) {
-    relkvanu_store *store = opens_with(manifests(RELKVANU_STORE_CREATE));
-    uint64_t savepoint = completes(store, 1, RELKVANU_CALL_SAVEPOINT, NULL);
-    int status = relkvanu_store_import(in("storage"), 0, in("none/y.db"), in("elsewhere"), &recovered);
-    CHECK(status == RELKVANU_STORE_FAILED && exists("elsewhere"), "status %d: %s", status, recovered.message);
-    completes(store, 1, RELKVANU_CALL_TRIGGER, NULL);
-    claims("storage", 0, "elsewhere", RELKVANU_STORE_PRESENT);
+    relkvanu_store *store = opens_with_manifests();
+    uint64_t savepoint = completes(store, RELKVANU_CALL_SAVEPOINT, NULL);
+    imports("storage", 0, "none/y.db", "elsewhere", RELKVANU_STORE_FAILED);
+    CHECK(exists("elsewhere"), "no folder");
+    completes(store, RELKVANU_CALL_TRIGGER, NULL);
+    claims("storage", 0, "y.db", "elsewhere", RELKVANU_STORE_PRESENT);
     CHECK(strstr(recovered.message, "another record") != NULL && !exists("y.db"), "%s", recovered.message);
-    CHECK(relkvanu_store_put(store, 5000, "x", 1) == RELKVANU_STORE_OK, "it was fenced by a claim that was refused");
+    puts_file(store, 5000, RELKVANU_STORE_OK);
     relkvanu_store_close(store);
-    claims("storage", savepoint, "elsewhere", RELKVANU_STORE_OK);
+    claims("storage", savepoint, "y.db", "elsewhere", RELKVANU_STORE_OK);
     CHECK(recovered.record == savepoint, "record %" PRIu64, recovered.record);
 }
 
 /* The part of a folder may be the folder to carry from. */
 CASE(an_export_over_itself) {
-    relkvanu_store *store = opens_with(manifests(RELKVANU_STORE_CREATE));
+    relkvanu_store *store = opens_with_manifests();
     relkvanu_store_carried carried;
     uint64_t first = 0;
-    completes(store, 1, RELKVANU_CALL_TRIGGER, &first);
+    completes(store, RELKVANU_CALL_TRIGGER, &first);
     relkvanu_store_close(store);
     CHECK(rename(in("storage"), in("out.part")) == 0, "the folder");
     CHECK(relkvanu_store_export(in("out.part"), 0, in("out"), &carried) == RELKVANU_STORE_PRESENT && !exists("out"), "%s", carried.message);
@@ -788,16 +724,16 @@ CASE(an_export_over_itself) {
 CASE(a_claim_in_place) {
     relkvanu_store_options options = manifests(RELKVANU_STORE_CREATE);
     relkvanu_store *store = opens(&options, RELKVANU_STORE_OK);
-    uint64_t first = 0, job[2], id = completes(store, 1, RELKVANU_CALL_TRIGGER, &first);
+    uint64_t first = 0, job[2], id = completes(store, RELKVANU_CALL_TRIGGER, &first);
     memcpy(job, report.job, sizeof job);
-    exports(0, "elsewhere", RELKVANU_STORE_OK);
-    claims("elsewhere", 0, "elsewhere", RELKVANU_STORE_OK);
+    exports("storage", 0, "elsewhere", RELKVANU_STORE_OK);
+    claims("elsewhere", 0, "y.db", "elsewhere", RELKVANU_STORE_OK);
     relkvanu_store *other = opens_other();
     CHECK(memcmp(job, report.job, sizeof job) != 0 && has_files(other, id, first), "the exported one");
     relkvanu_store_close(other);
     CHECK(unlink(in("y.db")) == 0, "the job");
-    claims("storage", 0, "storage", RELKVANU_STORE_OK);
-    CHECK(relkvanu_store_put(store, 5001, "x", 1) == RELKVANU_STORE_STORAGE, "the old job puts a file");
+    claims("storage", 0, "y.db", "storage", RELKVANU_STORE_OK);
+    puts_file(store, 5001, RELKVANU_STORE_STORAGE);
     relkvanu_store_close(store);
     options = manifests(RELKVANU_STORE_RECOVER);
     other = opens_at("y.db", &options, RELKVANU_STORE_OK);
@@ -880,14 +816,15 @@ static relkvanu_store *opens_without_folder(uint32_t flags) {
 
 /* A record of 8 files that are elsewhere. Its last acknowledgement has this status. */
 static uint64_t acknowledges_elsewhere(relkvanu_store *store, uint64_t term, int last) {
-    relkvanu_answer answer, triggered = trigger(store, RELKVANU_CALL_TRIGGER);
+    relkvanu_answer answer;
+    uint64_t id = begins(store, RELKVANU_CALL_TRIGGER);
     for (uint16_t i = 0; i < SUBTASKS; i++) {
         uint64_t file = reserved(store, term, 1);
-        int status = relkvanu_store_ack_in(store, term, RELKVANU_STORE_NOW, triggered.b, 0, i, &file, 1, NULL, 0, &answer);
+        int status = relkvanu_store_ack_in(store, term, RELKVANU_STORE_NOW, id, 0, i, &file, 1, NULL, 0, &answer);
         CHECK(status == (i + 1 < SUBTASKS ? RELKVANU_STORE_OK : last), "status %d", status);
         CHECK(answer.code == (status == RELKVANU_STORE_OK ? RELKVANU_DONE : RELKVANU_STORE_NOT_MADE), "code %" PRIu32, answer.code);
     }
-    return triggered.b;
+    return id;
 }
 
 static uint64_t completes_elsewhere(relkvanu_store *store, uint64_t term) {

@@ -269,7 +269,7 @@ static int count_deletions(void *with, const uint64_t *files, size_t len, uint8_
 
 static void put_and_complete(relkvanu_store *store, uint64_t file) {
     for (uint64_t at = file; at < file + 2 * SUBTASKS; at++) {
-        CHECK(relkvanu_store_put(store, at, "state", 5) == RELKVANU_STORE_OK, "file %" PRIu64, at);
+        puts_file(store, at, RELKVANU_STORE_OK);
     }
     checkpoint(store, file);
 }
@@ -306,7 +306,7 @@ CASE(the_own_storage_discards) {
     relkvanu_store_close(store);
     options.flags = RELKVANU_STORE_RECOVER;
     store = opens(&options, RELKVANU_STORE_OK);
-    CHECK(relkvanu_store_put(store, 50, "state", 5) == RELKVANU_STORE_OK, "a file that no record has");
+    puts_file(store, 50, RELKVANU_STORE_OK);
     done(store, RELKVANU_CALL_RESTORE, RELKVANU_STORE_NOW, 0);
     CHECK(sweeps_as(store, NULL, RELKVANU_STORE_OK) == 0, "a sweep");
     CHECK(access(in("storage/50"), F_OK) != 0 && access(in("storage/201"), F_OK) == 0, "the files");

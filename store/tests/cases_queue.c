@@ -46,7 +46,7 @@ CASE(submits) {
 }
 
 /* Waits for the next completion, which has this token. Returns its status. */
-static int completes(relkvanu_store *store, uint64_t token) {
+static int completion_of(relkvanu_store *store, uint64_t token) {
     relkvanu_store_completion one;
     CHECK(is_readable(store, 300000) && relkvanu_store_completed(store, &one, 1) == 1, "no completion");
     CHECK(one.token == token, "token %" PRIu64, one.token);
@@ -62,7 +62,7 @@ static void submits_a_list(relkvanu_store *store) {
     relkvanu_settings found;
     uint64_t shape[1];
     size_t len = 1;
-    CHECK(relkvanu_store_submit(store, list, 2, 2) == RELKVANU_STORE_OK && completes(store, 2) == RELKVANU_STORE_OK, "a list");
+    CHECK(relkvanu_store_submit(store, list, 2, 2) == RELKVANU_STORE_OK && completion_of(store, 2) == RELKVANU_STORE_OK, "a list");
     CHECK(list[0].answer.what == RELKVANU_TICK_TRIGGERED && list[1].answer.what == RELKVANU_CONFIGURED, "%" PRIu32 " and %" PRIu32,
         list[0].answer.what, list[1].answer.what);
     CHECK(relkvanu_store_job(store, &found, shape, &len) == RELKVANU_STORE_OK && found.interval == 1 << 30 && found.tolerable == 7,
@@ -75,18 +75,18 @@ static void submits_a_list(relkvanu_store *store) {
 /* Stops the job by a submit. Returns the savepoint, which a timer gets. */
 static uint64_t submits_a_stop(relkvanu_store *store, uint64_t token) {
     relkvanu_store_call tick, call, again;
-    CHECK(relkvanu_store_submit_stop_job(store, &call, token) == RELKVANU_STORE_OK && completes(store, token) == RELKVANU_STORE_OK &&
+    CHECK(relkvanu_store_submit_stop_job(store, &call, token) == RELKVANU_STORE_OK && completion_of(store, token) == RELKVANU_STORE_OK &&
               call.answer.what == RELKVANU_SAVEPOINT_TRIGGERED,
         "code %" PRIu32 ", what %" PRIu32, call.answer.code, call.answer.what);
     CHECK(phase_of(store).phase == RELKVANU_STORE_PHASE_STOPPING && phase_of(store).savepoint == call.answer.a, "the phase");
     CHECK(relkvanu_store_submit_stop_job(store, &again, token + 1) == RELKVANU_STORE_OK &&
-          completes(store, token + 1) == RELKVANU_STORE_NOT_NOW && again.answer.code == RELKVANU_STORE_NOT_MADE);
+          completion_of(store, token + 1) == RELKVANU_STORE_NOT_NOW && again.answer.code == RELKVANU_STORE_NOT_MADE);
     CHECK(relkvanu_store_await_tick(store, 60000, &tick) == RELKVANU_STORE_OK && tick.answer.what == RELKVANU_SAVEPOINT_TRIGGERED &&
           tick.answer.a == call.answer.a);
     return call.answer.a;
 }
 
-static void takes_part(relkvanu_store *store, uint64_t id) {
+static void acks_all(relkvanu_store *store, uint64_t id) {
     relkvanu_answer answer = {0}, names;
     CHECK(relkvanu_store_reserve(store, 1, SUBTASKS, &names) == RELKVANU_STORE_OK && names.code == RELKVANU_DONE, "names");
     for (uint16_t i = 0; i < SUBTASKS; i++) {
@@ -104,7 +104,7 @@ static void submits_two_begins(relkvanu_store *store, uint64_t savepoint) {
         CHECK(relkvanu_store_submit_begin_job(store, &calls[i], 20 + i) == RELKVANU_STORE_OK, "a begin");
     }
     relkvanu_store_read_end(store);
-    CHECK(completes(store, 20) == RELKVANU_STORE_OK && completes(store, 21) == RELKVANU_STORE_NOT_NOW, "two begins");
+    CHECK(completion_of(store, 20) == RELKVANU_STORE_OK && completion_of(store, 21) == RELKVANU_STORE_NOT_NOW, "two begins");
     CHECK(calls[0].answer.what == RELKVANU_RESTORED_SAVEPOINT && calls[0].answer.b == savepoint && calls[0].place != 0, "what %" PRIu32,
         calls[0].answer.what);
     CHECK(calls[1].answer.code == RELKVANU_STORE_NOT_MADE && calls[1].place == 0, "code %" PRIu32, calls[1].answer.code);
@@ -117,11 +117,11 @@ CASE(submitted_commands) {
     options.settings.interval = 1 << 30;
     relkvanu_store *store = opens(&options, RELKVANU_STORE_OK);
     relkvanu_store_call call;
-    CHECK(relkvanu_store_submit_begin_job(store, &call, 1) == RELKVANU_STORE_OK && completes(store, 1) == RELKVANU_STORE_NOT_NOW);
+    CHECK(relkvanu_store_submit_begin_job(store, &call, 1) == RELKVANU_STORE_OK && completion_of(store, 1) == RELKVANU_STORE_NOT_NOW);
     CHECK(call.answer.code == RELKVANU_STORE_NOT_MADE && call.place == 0, "code %" PRIu32, call.answer.code);
     submits_a_list(store);
     uint64_t savepoint = submits_a_stop(store, 10);
-    takes_part(store, savepoint);
+    acks_all(store, savepoint);
     CHECK(phase_of(store).phase == RELKVANU_STORE_PHASE_STOPPED, "the phase");
     submits_two_begins(store, savepoint);
     CHECK(relkvanu_store_submit_stop_job(store, &call, 30) == RELKVANU_STORE_OK, "a stop");

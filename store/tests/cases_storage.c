@@ -19,8 +19,7 @@ CASE(not_mounted) {
     CHECK(rename(in("storage"), in("away")) == 0, "storage");
     opens(&options, RELKVANU_STORE_STORAGE);
     CHECK(mkdir(in("storage"), 0700) == 0, "storage");
-    opens(&options, RELKVANU_STORE_STORAGE);
-    CHECK(says("no marker"), "%s", report.message);
+    opens_not(&options, RELKVANU_STORE_STORAGE, "no marker");
     CHECK(rmdir(in("storage")) == 0 && rename(in("away"), in("storage")) == 0, "storage");
     relkvanu_store_close(opens(&options, RELKVANU_STORE_OK));
 }
@@ -34,22 +33,19 @@ CASE(of_another_job) {
     CHECK(rename(in("storage/.relkvanu-job"), in("marker")) == 0, "marker");
     relkvanu_store_close(opens(&options, RELKVANU_STORE_OK));
     CHECK(rename(in("marker"), in("storage/.relkvanu-job")) == 0, "marker");
-    opens(&options, RELKVANU_STORE_STORAGE);
-    CHECK(says("another job"), "%s", report.message);
+    opens_not(&options, RELKVANU_STORE_STORAGE, "another job");
 }
 
 CASE(named_or_not) {
     relkvanu_store_options with = storage_options(RELKVANU_STORE_CREATE, 0), without = job_options(RELKVANU_STORE_CREATE, 0);
     relkvanu_store_close(opens(&with, RELKVANU_STORE_OK));
-    opens(&without, RELKVANU_STORE_STORAGE);
-    CHECK(says("name none"), "%s", report.message);
+    opens_not(&without, RELKVANU_STORE_STORAGE, "name none");
     unlink(in("x.db"));
     unlink(in("x.db-wal"));
     relkvanu_store *store = opens(&without, RELKVANU_STORE_OK);
     CHECK(relkvanu_store_folder(store) == -1, "a folder");
     relkvanu_store_close(store);
-    opens(&with, RELKVANU_STORE_STORAGE);
-    CHECK(says("without a storage folder"), "%s", report.message);
+    opens_not(&with, RELKVANU_STORE_STORAGE, "without a storage folder");
 }
 
 /* The files of the job itself are no files of the storage. */
@@ -98,8 +94,7 @@ CASE(an_older_copy) {
     copy_file("x.db", "second.db");
     copy_file("first.db", "x.db");
     for (int times = 0; times < 3; times++) { /* a refusal changes nothing */
-        opens(&options, RELKVANU_STORE_STORAGE);
-        CHECK(says("an older copy"), "%s", report.message);
+        opens_not(&options, RELKVANU_STORE_STORAGE, "an older copy");
     }
     copy_file("second.db", "x.db");
     relkvanu_store_close(opens(&options, RELKVANU_STORE_OK));
@@ -130,7 +125,7 @@ CASE(a_folder_that_is_not_synced) {
     uint64_t file = 7;
     uint8_t outcome = 9;
     CHECK(relkvanu_store_storage(store, &storage) == RELKVANU_STORE_OK, "the folder");
-    CHECK(relkvanu_store_put(store, file, "state", 5) == RELKVANU_STORE_OK, "a put");
+    puts_file(store, file, RELKVANU_STORE_OK);
     fail_syncs("/storage", EINVAL);
     CHECK(relkvanu_store_put(store, 8, "state", 5) == RELKVANU_STORE_NOT_PUT && errno == EINVAL && !exists("storage/8"), "errno %d", errno);
     CHECK(storage.delete_files(storage.with, &file, 1, &outcome) == RELKVANU_STORAGE_FAILED && errno == EINVAL, "errno %d", errno);
@@ -144,12 +139,11 @@ CASE(a_marker_that_is_a_link) {
     struct stat found;
     make_empty("elsewhere");
     CHECK(symlink("../elsewhere", in("storage/.relkvanu-job.new")) == 0, "a link");
-    opens(&options, RELKVANU_STORE_STORAGE);
-    CHECK(says("a symbolic link is in the place of its marker: .relkvanu-job.new"), "%s", report.message);
+    opens_not(&options, RELKVANU_STORE_STORAGE, "a symbolic link is in the place of its marker: .relkvanu-job.new");
     CHECK(stat(in("elsewhere"), &found) == 0 && found.st_size == 0, "the link was followed");
     unlink(in("storage/.relkvanu-job.new"));
     relkvanu_store *store = opens(&options, RELKVANU_STORE_OK);
-    CHECK(relkvanu_store_put(store, 7, "state", 5) == RELKVANU_STORE_OK, "a put");
+    puts_file(store, 7, RELKVANU_STORE_OK);
     CHECK(rename(in("storage/.relkvanu-job"), in("marker")) == 0 && symlink("../marker", in("storage/.relkvanu-job")) == 0, "the marker");
     CHECK(relkvanu_store_put(store, 8, "state", 5) == RELKVANU_STORE_STORAGE && !exists("storage/8"), "a put beside a link");
     relkvanu_storage storage;
@@ -159,8 +153,7 @@ CASE(a_marker_that_is_a_link) {
     CHECK(
         storage.delete_files(storage.with, &file, 1, &outcome) == RELKVANU_STORAGE_NOT_THERE && exists("storage/7"), "outcome %d", outcome);
     relkvanu_store_close(store);
-    opens(&options, RELKVANU_STORE_STORAGE);
-    CHECK(says("a symbolic link is in the place of its marker: .relkvanu-job"), "%s", report.message);
+    opens_not(&options, RELKVANU_STORE_STORAGE, "a symbolic link is in the place of its marker: .relkvanu-job");
     CHECK(unlink(in("x.db")) == 0 && unlink(in("x.db-wal")) == 0 && unlink(in("marker")) == 0, "the job");
     options.flags |= RELKVANU_STORE_ADOPT;
     opens(&options, RELKVANU_STORE_STORAGE); /* the link leads nowhere now */
