@@ -19,10 +19,6 @@ static void check_no_part(void) {
         !exists("b.db.part") && !exists("b.db.part-wal") && !exists("b.db.part-journal") && !exists("b.db-wal") && !exists("b.db-journal"));
 }
 
-static uint64_t calls_of(const relkvanu_store_report *it) {
-    return it->image_place + it->replayed;
-}
-
 static bool has_same_state(relkvanu_store *one, relkvanu_store *other) {
     bool is_same = has_same_image(begins_read(one), begins_read(other));
     relkvanu_store_read_end(one);
@@ -30,19 +26,27 @@ static bool has_same_state(relkvanu_store *one, relkvanu_store *other) {
     return is_same;
 }
 
-/* Recovers a file, and closes it. Returns how many calls it has. */
-static uint64_t calls_in(const char *name, uint32_t flags) {
+/* Recovers a file, which has from so many calls to so many, and closes it. */
+static void has_some_calls(const char *name, uint32_t flags, uint64_t least, uint64_t most) {
     relkvanu_store_options options = job_options(flags, RELKVANU_STORE_NO_IMAGES);
     relkvanu_store_close(opens_at(name, &options, RELKVANU_STORE_OK));
-    CHECK(report.is_recovered, "a new job");
-    return calls_of(&report);
+    uint64_t found = report.image_place + report.replayed;
+    CHECK(report.is_recovered && found >= least && found <= most, "%" PRIu64 " calls, and not %" PRIu64 " to %" PRIu64, found, least, most);
+}
+
+static void has_calls(const char *name, uint32_t flags, uint64_t calls) {
+    has_some_calls(name, flags, calls, calls);
+}
+
+static relkvanu_store *new_job_without_images(void) {
+    return new_job_alone(RELKVANU_STORE_NO_IMAGES);
 }
 
 CASE(a_backup) {
-    relkvanu_store_options options = job_options(RELKVANU_STORE_CREATE, RELKVANU_STORE_NO_IMAGES);
+    relkvanu_store_options options = job_options(RELKVANU_STORE_RECOVER, RELKVANU_STORE_NO_IMAGES);
     struct stat is;
     umask(0);
-    relkvanu_store *store = opens(&options, RELKVANU_STORE_OK);
+    relkvanu_store *store = new_job_without_images();
     checkpoint(store, 1);
     backs_up(store, "b.db", RELKVANU_STORE_OK);
     check_no_part();
@@ -52,10 +56,10 @@ CASE(a_backup) {
     backs_up(store, "x.db", RELKVANU_STORE_PRESENT);
     backs_up(store, "c.db", RELKVANU_STORE_OK);
     relkvanu_store_close(store);
-    CHECK(calls_in("x.db", RELKVANU_STORE_RECOVER) == 2 * CHECKPOINT_CALLS, "%" PRIu64 " calls", calls_of(&report));
-    CHECK(calls_in("b.db", RELKVANU_STORE_BACKUP) == CHECKPOINT_CALLS && report.epoch == 2, "%" PRIu64 " calls", calls_of(&report));
-    CHECK(calls_in("c.db", RELKVANU_STORE_BACKUP) == 2 * CHECKPOINT_CALLS, "%" PRIu64 " calls", calls_of(&report));
-    options.flags = RELKVANU_STORE_RECOVER;
+    has_calls("x.db", RELKVANU_STORE_RECOVER, 2 * CHECKPOINT_CALLS);
+    has_calls("b.db", RELKVANU_STORE_BACKUP, CHECKPOINT_CALLS);
+    CHECK(report.epoch == 2, "opening %" PRIu64, report.epoch);
+    has_calls("c.db", RELKVANU_STORE_BACKUP, 2 * CHECKPOINT_CALLS);
     store = opens_at("b.db", &options, RELKVANU_STORE_OK); /* from then on it is a job */
     checkpoint(store, 101);
     relkvanu_store *other = opens_at("c.db", &options, RELKVANU_STORE_OK);
@@ -73,8 +77,8 @@ CASE(a_backup_with_images) {
     backs_up(store, "b.db", RELKVANU_STORE_OK);
     reserved(store, 1, 1);
     relkvanu_store_close(store);
-    CHECK(calls_in("b.db", RELKVANU_STORE_BACKUP) == 40 && report.next_name == 41 && report.term == 1 && report.image_place >= 33,
-        "next name %" PRIu64 ", image of call %" PRIu64, report.next_name, report.image_place);
+    has_calls("b.db", RELKVANU_STORE_BACKUP, 40);
+    CHECK(report.next_name == 41 && report.term == 1 && report.image_place >= 33, "image of call %" PRIu64, report.image_place);
 }
 
 /* A file is opened as what it is, and a refusal makes no job and changes none. */
@@ -82,21 +86,17 @@ CASE(flags_of_a_backup) {
     relkvanu_store_options options = job_options(RELKVANU_STORE_CREATE | RELKVANU_STORE_BACKUP, 0);
     opens(&options, RELKVANU_STORE_ABSENT);
     CHECK(!exists("x.db"), "a job");
-    options.flags = RELKVANU_STORE_CREATE;
-    relkvanu_store *store = opens(&options, RELKVANU_STORE_OK);
+    relkvanu_store *store = opens_as(&options, RELKVANU_STORE_CREATE, RELKVANU_STORE_OK);
     backs_up(store, "b.db", RELKVANU_STORE_OK);
     relkvanu_store_close(store);
+    opens_not_at("b.db", &options, RELKVANU_STORE_STORAGE, "RELKVANU_STORE_BACKUP");
+    options.flags = RELKVANU_STORE_RECOVER;
+    opens_not_at("b.db", &options, RELKVANU_STORE_STORAGE, "backup");
     options.flags = RELKVANU_STORE_BACKUP;
     opens_not(&options, RELKVANU_STORE_BAD_ARGUMENT, "no backup");
-    for (uint32_t times = 0; times < 2; times++) {
-        options.flags = times == 0 ? RELKVANU_STORE_RECOVER : RELKVANU_STORE_CREATE;
-        opens_at("b.db", &options, RELKVANU_STORE_STORAGE);
-        CHECK(says("backup") && says("RELKVANU_STORE_BACKUP"), "%s", report.message);
-    }
-    calls_in("b.db", RELKVANU_STORE_BACKUP);
-    options.flags = RELKVANU_STORE_BACKUP;
+    has_calls("b.db", RELKVANU_STORE_BACKUP, 0);
     opens_at("b.db", &options, RELKVANU_STORE_BAD_ARGUMENT);
-    calls_in("b.db", RELKVANU_STORE_RECOVER);
+    has_calls("b.db", RELKVANU_STORE_RECOVER, 0);
     run_sql(in("b.db"), "PRAGMA user_version=5");
     options.flags = RELKVANU_STORE_RECOVER;
     opens_at("b.db", &options, RELKVANU_STORE_NOT_A_STORE);
@@ -128,7 +128,7 @@ CASE(no_backup) {
     close(file);
     checkpoint(store, 101);
     relkvanu_store_close(store);
-    CHECK(calls_in("x.db", RELKVANU_STORE_RECOVER) == 2 * CHECKPOINT_CALLS, "%" PRIu64 " calls", calls_of(&report));
+    has_calls("x.db", RELKVANU_STORE_RECOVER, 2 * CHECKPOINT_CALLS);
 }
 
 /* A job whose file has the name of the part, open or not: it stays as it is. */
@@ -144,7 +144,7 @@ CASE(a_job_in_the_way) {
     backs_up(store, "b.db", RELKVANU_STORE_PRESENT);
     CHECK(!exists("b.db"), "a backup");
     relkvanu_store_close(store);
-    CHECK(calls_in("b.db.part", RELKVANU_STORE_RECOVER) == 2 * CHECKPOINT_CALLS, "%" PRIu64 " calls", calls_of(&report));
+    has_calls("b.db.part", RELKVANU_STORE_RECOVER, 2 * CHECKPOINT_CALLS);
 }
 
 /* What a process left that was killed is begun anew. */
@@ -160,7 +160,7 @@ CASE(a_part_that_was_left) {
     CHECK(stat(in("b.db"), &is) == 0 && (is.st_mode & 0777) == 0600, "mode %o", is.st_mode);
     check_no_part();
     relkvanu_store_close(store);
-    CHECK(calls_in("b.db", RELKVANU_STORE_BACKUP) == CHECKPOINT_CALLS, "%" PRIu64 " calls", calls_of(&report));
+    has_calls("b.db", RELKVANU_STORE_BACKUP, CHECKPOINT_CALLS);
 }
 
 /* A failed commit closes the store: there is no backup of it. */
@@ -216,11 +216,9 @@ static void make_long(relkvanu_store *store) {
 
 /* Each backup has each name that was answered before it began, and none that was not given out before it ended. */
 CASE(under_load) {
-    relkvanu_store_options options = job_options(RELKVANU_STORE_CREATE, RELKVANU_STORE_NO_IMAGES);
     uint64_t least[BACKUPS], most[BACKUPS], during = 0;
     pthread_t callers[CALLERS];
-    options.flags = RELKVANU_STORE_CREATE;
-    struct load load = {.store = opens(&options, RELKVANU_STORE_OK), .answered = LISTS * RELKVANU_STORE_MOST_CALLS};
+    struct load load = {.store = new_job_without_images(), .answered = LISTS * RELKVANU_STORE_MOST_CALLS};
     make_long(load.store);
     for (size_t i = 0; i < CALLERS; i++) {
         callers[i] = starts(reserves, &load);
@@ -242,9 +240,8 @@ CASE(under_load) {
     for (size_t i = 0; i < BACKUPS; i++) {
         char name[20];
         snprintf(name, sizeof name, "b%zu.db", i);
-        uint64_t calls = calls_in(name, RELKVANU_STORE_BACKUP);
-        CHECK(calls + 1 == report.next_name && calls >= least[i] && calls <= most[i], "%" PRIu64 " calls, and not %" PRIu64 " to %" PRIu64,
-            calls, least[i], most[i]);
+        has_some_calls(name, RELKVANU_STORE_BACKUP, least[i], most[i]);
+        CHECK(report.image_place + report.replayed + 1 == report.next_name, "next name %" PRIu64, report.next_name);
     }
 }
 
@@ -259,11 +256,9 @@ static void *backs_up_too(void *with) {
 
 /* Several at once: one of them makes the file. */
 CASE(at_once) {
-    relkvanu_store_options options = job_options(RELKVANU_STORE_CREATE, RELKVANU_STORE_NO_IMAGES);
     pthread_t threads[CALLERS];
     unsigned made = 0;
-    options.flags = RELKVANU_STORE_CREATE;
-    struct load load = {.store = opens(&options, RELKVANU_STORE_OK), .path = in("b.db")};
+    struct load load = {.store = new_job_without_images(), .path = in("b.db")};
     make_long(load.store);
     for (size_t i = 0; i < CALLERS; i++) {
         threads[i] = starts(backs_up_too, &load);
@@ -276,7 +271,7 @@ CASE(at_once) {
     relkvanu_store_close(load.store);
     CHECK(made == 1, "%u were made", made);
     check_no_part();
-    CHECK(calls_in("b.db", RELKVANU_STORE_BACKUP) == LISTS * RELKVANU_STORE_MOST_CALLS, "%" PRIu64 " calls", calls_of(&report));
+    has_calls("b.db", RELKVANU_STORE_BACKUP, LISTS * RELKVANU_STORE_MOST_CALLS);
 }
 
 static bool has_files(uint64_t first) {
@@ -304,24 +299,20 @@ static void discard_all(relkvanu_store *store) {
 /* The job went on after the backup, and its files are there: a savepoint of the backup has all its files. The backup gives out no name again, its
  * sweep leaves the files of the savepoint alone, and the store that has gone on puts and deletes nothing more. */
 CASE(put_back) {
-    relkvanu_store_options options = storage_options(RELKVANU_STORE_CREATE, 0);
-    size_t left;
-    options.flags = RELKVANU_STORE_CREATE;
-    relkvanu_store *store = opens(&options, RELKVANU_STORE_OK);
+    relkvanu_store_options options = storage_options(RELKVANU_STORE_RECOVER, 0);
+    relkvanu_store *store = new_job();
     uint64_t savepoint = completes(store, RELKVANU_CALL_SAVEPOINT, NULL); /* files 1 to 8 */
     completes(store, RELKVANU_CALL_TRIGGER, NULL);                        /* 9 to 16 */
     backs_up(store, "b.db", RELKVANU_STORE_OK);
     completes(store, RELKVANU_CALL_TRIGGER, NULL); /* 17 to 24 */
     discard_all(store);
     CHECK(has_files(1) && !has_files(9) && has_files(17), "the files");
-    options.flags = RELKVANU_STORE_RECOVER;
     opens_at("b.db", &options, RELKVANU_STORE_STORAGE);
     options.flags = RELKVANU_STORE_BACKUP;
     relkvanu_store *back = opens_at("b.db", &options, RELKVANU_STORE_OK);
-    CHECK(report.epoch == 2 && report.term == 1 && report.next_name == 25, "opening %" PRIu64 ", next name %" PRIu64, report.epoch,
-        report.next_name);
-    CHECK(relkvanu_store_put(store, 25, "state", 5) == RELKVANU_STORE_STORAGE &&
-          relkvanu_store_sweep(store, &left) == RELKVANU_STORE_STORAGE);
+    CHECK(report.epoch == 2 && report.term == 1 && report.next_name == 25, "next name %" PRIu64, report.next_name);
+    puts_file(store, 25, RELKVANU_STORE_STORAGE);
+    is_swept(store, RELKVANU_STORE_STORAGE, 0);
     CHECK(done(back, RELKVANU_CALL_RESTORE, RELKVANU_STORE_NOW, savepoint).what == RELKVANU_RESTORED_SAVEPOINT, "a restore");
     is_swept(back, RELKVANU_STORE_OK, 0);
     CHECK(has_files(1) && !has_files(17), "the files after the sweep");
@@ -338,10 +329,9 @@ CASE(put_back) {
 
 /* The opening of the backup is later than those that the job has had since. */
 CASE(put_back_after_openings) {
-    relkvanu_store_options options = storage_options(RELKVANU_STORE_CREATE, 0);
-    relkvanu_store *store = opens(&options, RELKVANU_STORE_OK);
+    relkvanu_store_options options = storage_options(RELKVANU_STORE_RECOVER, 0);
+    relkvanu_store *store = new_job();
     backs_up(store, "b.db", RELKVANU_STORE_OK);
-    options.flags = RELKVANU_STORE_RECOVER;
     for (int i = 0; i < 3; i++) {
         relkvanu_store_close(store);
         store = opens(&options, RELKVANU_STORE_OK);
@@ -357,12 +347,11 @@ CASE(put_back_after_openings) {
 
 /* Opened several times before its first opening has ended, since the process ended or there was a fault: no name comes twice. */
 CASE(put_back_again) {
-    relkvanu_store_options options = storage_options(RELKVANU_STORE_CREATE, 0);
-    relkvanu_store *store = opens(&options, RELKVANU_STORE_OK);
+    relkvanu_store_options options = storage_options(RELKVANU_STORE_BACKUP, 0);
+    relkvanu_store *store = new_job();
     backs_up(store, "b.db", RELKVANU_STORE_OK);
     completes(store, RELKVANU_CALL_TRIGGER, NULL);
     relkvanu_store_close(store);
-    options.flags = RELKVANU_STORE_BACKUP;
     write_text("storage/16777217", "");
     opens_not_at("b.db", &options, RELKVANU_STORE_STORAGE, "2^24");
     unlink(in("storage/16777217"));
@@ -374,17 +363,15 @@ CASE(put_back_again) {
     run_sql(in("b.db"), "DROP TRIGGER no");
     options.flags = RELKVANU_STORE_BACKUP;
     relkvanu_store_close(opens_at("b.db", &options, RELKVANU_STORE_OK));
-    CHECK(
-        report.next_name == 200001 && report.replayed == 4, "next name %" PRIu64 ", %" PRIu64 " calls", report.next_name, report.replayed);
+    CHECK(report.next_name == 200001 && report.replayed == 4, "next name %" PRIu64, report.next_name);
 }
 
 /* A storage of another job, or none, is refused for a backup too. */
 CASE(put_back_elsewhere) {
-    relkvanu_store_options options = storage_options(RELKVANU_STORE_CREATE, 0);
-    relkvanu_store *store = opens(&options, RELKVANU_STORE_OK);
+    relkvanu_store_options options = storage_options(RELKVANU_STORE_BACKUP, 0);
+    relkvanu_store *store = new_job();
     backs_up(store, "b.db", RELKVANU_STORE_OK);
     relkvanu_store_close(store);
-    options.flags = RELKVANU_STORE_BACKUP;
     CHECK(rename(in("storage/.relkvanu-job"), in("marker")) == 0, "the marker");
     opens_not_at("b.db", &options, RELKVANU_STORE_STORAGE, "no marker");
     write_text("storage/.relkvanu-job", "relkvanu job 00000000000000000000000000000001\nepoch 1\n");
@@ -395,14 +382,13 @@ CASE(put_back_elsewhere) {
 
 /* After a cancel no names are given out. */
 CASE(of_a_cancelled_job) {
-    relkvanu_store_options options = storage_options(RELKVANU_STORE_CREATE, 0);
-    relkvanu_store *store = opens(&options, RELKVANU_STORE_OK);
+    relkvanu_store_options options = storage_options(RELKVANU_STORE_BACKUP, 0);
+    relkvanu_store *store = new_job();
     completes(store, RELKVANU_CALL_TRIGGER, NULL);
     done(store, RELKVANU_CALL_CANCEL, RELKVANU_STORE_NOW, 0);
     backs_up(store, "b.db", RELKVANU_STORE_OK);
     relkvanu_store_close(store);
     write_text("storage/100", "");
-    options.flags = RELKVANU_STORE_BACKUP;
     relkvanu_store_close(opens_at("b.db", &options, RELKVANU_STORE_OK));
     CHECK(report.mode.what == RELKVANU_MODE_CANCELLED && report.next_name == SUBTASKS + 1, "next name %" PRIu64, report.next_name);
 }

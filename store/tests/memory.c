@@ -6,6 +6,7 @@
 
 #include "../../bindings/c/tests/refusing_heap.h"
 
+#include <dirent.h>
 #include <errno.h>
 #include <pthread.h>
 #include <stdarg.h>
@@ -13,50 +14,33 @@
 #include <unistd.h>
 
 enum kind { OWN, COORDINATOR, SQLITE, KINDS };
+enum { WITH_MANIFESTS = RELKVANU_STORE_CREATE | RELKVANU_STORE_MANIFESTS | RELKVANU_STORE_CHECKSUMS };
 enum { WAY_BACK_FILES = 4 * SUBTASKS }; /* with those of the first checkpoint */
 
 static const char *const names[] = {"the store and the coordinator", "the coordinator", "SQLite"};
 static unsigned long requests, refused_from, refused_to; /* of the kind that is refused */
-static bool is_own, is_lite;
+static bool is_own, is_lite, is_reached;                 /* is_reached: the last one that was to be refused was asked for */
 
 static bool refuses(bool is_this) {
-    return is_this && ++requests >= refused_from && requests < refused_to;
+    bool is_refused = is_this && ++requests >= refused_from && requests < refused_to;
+    errno = is_refused ? ENOMEM : errno;
+    return is_refused;
 }
 
-void *__real_malloc(size_t size);
-void *__real_calloc(size_t count, size_t size);
-void *__real_realloc(void *at, size_t size);
-char *__real_strdup(const char *text);
-char *__real_strndup(const char *text, size_t len);
-char *__real_realpath(const char *path, char *real);
-
-void *__wrap_malloc(size_t size) {
-    return refuses(is_own) ? NULL : __real_malloc(size);
-}
-
-void *__wrap_calloc(size_t count, size_t size) {
-    return refuses(is_own) ? NULL : __real_calloc(count, size);
-}
-
-void *__wrap_realloc(void *at, size_t size) {
-    return refuses(is_own) ? NULL : __real_realloc(at, size);
-}
-
-char *__wrap_strdup(const char *text) {
-    return refuses(is_own) ? NULL : __real_strdup(text);
-}
-
-char *__wrap_strndup(const char *text, size_t len) {
-    return refuses(is_own) ? NULL : __real_strndup(text, len);
-}
-
-char *__wrap_realpath(const char *path, char *real) {
-    if (refuses(is_own)) {
-        errno = ENOMEM;
-        return NULL;
+#define WRAPS(type, name, parameters, arguments)                 \
+    type __real_##name parameters;                               \
+    type __wrap_##name parameters {                              \
+        return refuses(is_own) ? NULL : __real_##name arguments; \
     }
-    return __real_realpath(path, real);
-}
+
+/* clang-format off */
+WRAPS(void *, malloc, (size_t size), (size))
+WRAPS(void *, calloc, (size_t count, size_t size), (count, size))
+WRAPS(void *, realloc, (void *at, size_t size), (at, size))
+WRAPS(char *, strdup, (const char *text), (text))
+WRAPS(char *, strndup, (const char *text, size_t len), (text, len))
+WRAPS(char *, realpath, (const char *path, char *real), (path, real))
+/* clang-format on */
 
 int __wrap_asprintf(char **text, const char *format, ...) {
     va_list more;
@@ -84,7 +68,7 @@ static void watch_sqlite(void) {
     CHECK(sqlite3_config(SQLITE_CONFIG_MALLOC, &mine) == SQLITE_OK && sqlite3_config(SQLITE_CONFIG_LOOKASIDE, 0, 0) == SQLITE_OK);
 }
 
-static char path[PATHS], storage[PATHS];
+static char folder[PATHS - 20], path[PATHS], storage[PATHS];
 static struct told told[400];
 static size_t told_len;
 static char words[RELKVANU_STORE_MESSAGE]; /* of the last opening */
@@ -100,8 +84,14 @@ static void set_refused(enum kind kind, unsigned long from, bool is_for_good) {
 }
 
 static void set_none(void) {
+    is_reached = (is_own || is_lite ? requests : heap_requests()) >= refused_from;
     is_own = is_lite = false;
     heap_refuse(0);
+}
+
+static bool has_no_memory(enum kind kind, int status) {
+    return status == RELKVANU_STORE_NO_MEMORY || status == RELKVANU_STORE_OUT_OF_MEMORY || status == RELKVANU_STORE_CLOSED ||
+           (kind == SQLITE && status == RELKVANU_STORE_FAILED);
 }
 
 /* Makes calls, and notes those that were answered. Returns the status, or RELKVANU_STORE_NO_MEMORY if a call had none. */
@@ -217,8 +207,7 @@ static int back_up(relkvanu_store *store) {
 static int open_and_work(uint64_t images) {
     relkvanu_store *store;
     relkvanu_store_report report;
-    relkvanu_store_options options = job_options(RELKVANU_STORE_CREATE, images);
-    options.flags = RELKVANU_STORE_CREATE | RELKVANU_STORE_MANIFESTS | RELKVANU_STORE_CHECKSUMS;
+    relkvanu_store_options options = job_options(WITH_MANIFESTS, images);
     options.storage = storage;
     int status = relkvanu_store_open(&store, path, &options, &report);
     term = report.term;
@@ -234,25 +223,19 @@ static int open_and_work(uint64_t images) {
     return status;
 }
 
+/* Those of a folder, and none of the folders in it. */
+static void remove_files(const char *from) {
+    DIR *entries = opendir(from);
+    CHECK(entries != NULL, "%s", from);
+    for (const struct dirent *it; (it = readdir(entries)) != NULL;) {
+        unlinkat(dirfd(entries), it->d_name, 0);
+    }
+    closedir(entries);
+}
+
 static void remove_job(void) {
-    static const char *const ends[] = {"", "-wal", "-shm", ".lock", "-journal"};
-    char name[PATHS + 20];
-    for (size_t i = 0; i < sizeof ends / sizeof *ends; i++) {
-        snprintf(name, sizeof name, "%s%s", path, ends[i]);
-        unlink(name);
-    }
-    snprintf(name, sizeof name, "%s/.relkvanu-job", storage);
-    unlink(name);
-    for (int id = 1; id < 20; id++) {
-        snprintf(name, sizeof name, "%s/record-%d.manifest", storage, id);
-        unlink(name);
-        snprintf(name, sizeof name, "%s/record-%d.manifest.claimed", storage, id);
-        unlink(name);
-    }
-    for (int file = 1; file <= 2 * SUBTASKS; file++) {
-        snprintf(name, sizeof name, "%s/%d", storage, file);
-        unlink(name);
-    }
+    remove_files(folder);
+    remove_files(storage);
     told_len = 0;
 }
 
@@ -316,11 +299,8 @@ static bool refuse(enum kind kind, unsigned long nth, bool is_for_good, bool is_
     }
     set_refused(kind, nth, is_for_good);
     int status = open_and_work(RELKVANU_STORE_NO_IMAGES);
-    bool is_reached = kind == COORDINATOR ? heap_requests() >= nth : requests >= nth;
     set_none();
-    CHECK(status == RELKVANU_STORE_OK || status == RELKVANU_STORE_NO_MEMORY || status == RELKVANU_STORE_OUT_OF_MEMORY ||
-              status == RELKVANU_STORE_CLOSED || (kind == SQLITE && status == RELKVANU_STORE_FAILED),
-        "status %d: %s", status, words);
+    CHECK(status == RELKVANU_STORE_OK || has_no_memory(kind, status), "status %d: %s", status, words);
     check_job();
     return is_reached;
 }
@@ -331,13 +311,21 @@ static unsigned long each_up_to(unsigned long usual) {
     return rounds == NULL || strcmp(rounds, "1") == 0 ? usual : 3 * usual;
 }
 
-static unsigned refuse_each(enum kind kind, bool is_for_good, bool is_recovery) {
+static unsigned long refuse_each(enum kind kind, bool is_for_good, bool is_recovery) {
     unsigned long nth = 1, each = each_up_to(50);
     while (refuse(kind, nth, is_for_good, is_recovery)) {
         nth += 1 + nth / each;
     }
     CHECK(nth > 20, "no memory was asked for");
-    return (unsigned)nth;
+    return nth;
+}
+
+static unsigned long makes_without_memory(enum kind kind, bool is_for_good) {
+    return refuse_each(kind, is_for_good, false);
+}
+
+static unsigned long reopens_without_memory(enum kind kind, bool is_for_good) {
+    return refuse_each(kind, is_for_good, true);
 }
 
 /* An image that has no memory stops no call, and a discarder goes on. */
@@ -392,42 +380,32 @@ static void stops_without_memory(void) {
 
 /* A job whose file is lost, with a file for each that it names. */
 static uint64_t lose_job(void) {
-    relkvanu_store_options options = job_options(RELKVANU_STORE_CREATE, RELKVANU_STORE_NO_IMAGES);
-    static const char *const ends[] = {"", "-wal", "-shm", ".lock"};
-    char name[PATHS + 20];
-    uint64_t id = 0;
-    options.flags = RELKVANU_STORE_CREATE | RELKVANU_STORE_MANIFESTS | RELKVANU_STORE_CHECKSUMS;
-    relkvanu_store *store = new_job(options);
+    relkvanu_store *store = new_job(job_options(WITH_MANIFESTS, RELKVANU_STORE_NO_IMAGES));
     for (uint64_t file = 1; file <= 2 * SUBTASKS; file++) {
         CHECK(relkvanu_store_put(store, file, "state", 5) == RELKVANU_STORE_OK, "file %" PRIu64, file);
     }
     CHECK(work(store) == RELKVANU_STORE_OK, "work");
     relkvanu *handle;
     CHECK(relkvanu_store_read(store, &handle) == RELKVANU_STORE_OK, "a read");
-    id = relkvanu_choice(handle).a;
+    uint64_t id = relkvanu_choice(handle).a;
     relkvanu_store_read_end(store);
     relkvanu_store_close(store);
-    for (size_t i = 0; i < 4; i++) {
-        snprintf(name, sizeof name, "%s%s", path, ends[i]);
-        unlink(name);
-    }
+    remove_files(folder);
     return id;
 }
 
 /* A recovery without memory has done nothing, and the next one makes the job. */
-static unsigned recovers_without_memory(enum kind kind, bool is_for_good) {
+static unsigned long recovers_without_memory(enum kind kind, bool is_for_good) {
     relkvanu_store_recovered recovered;
     uint64_t id = lose_job();
     unsigned long nth = 0, each = each_up_to(34);
-    for (bool is_reached = true; is_reached;) {
+    for (is_reached = true; is_reached;) {
         nth += 1 + nth / each;
         set_refused(kind, nth, is_for_good);
         int status = relkvanu_store_recover(path, storage, 0, &recovered);
-        is_reached = kind == COORDINATOR ? heap_requests() >= nth : requests >= nth;
         set_none();
-        bool has_none = status == RELKVANU_STORE_NO_MEMORY || status == RELKVANU_STORE_OUT_OF_MEMORY || status == RELKVANU_STORE_CLOSED ||
-                        (kind == SQLITE && status == RELKVANU_STORE_FAILED);
-        CHECK(status == RELKVANU_STORE_OK || (has_none && access(path, F_OK) != 0), "status %d: %s", status, recovered.message);
+        bool is_undone = has_no_memory(kind, status) && access(path, F_OK) != 0;
+        CHECK(status == RELKVANU_STORE_OK || is_undone, "status %d: %s", status, recovered.message);
         CHECK(is_reached || status == RELKVANU_STORE_OK, "status %d without a refusal", status);
         id = status == RELKVANU_STORE_OK && is_reached ? lose_job() : id; /* it can do without that request */
     }
@@ -437,23 +415,22 @@ static unsigned recovers_without_memory(enum kind kind, bool is_for_good) {
     relkvanu_store *store = opens(job_options(RELKVANU_STORE_RECOVER, 0));
     CHECK(relkvanu_store_load(store, id, &loaded, note_part, &parts) == RELKVANU_STORE_OK && parts == SUBTASKS, "%zu parts", parts);
     relkvanu_store_close(store);
-    return (unsigned)nth;
+    return nth;
 }
 
 /* A claim without memory can be made again, and what it takes over is whole then. */
-static unsigned claims_without_memory(enum kind kind, bool is_for_good) {
+static unsigned long claims_without_memory(enum kind kind, bool is_for_good) {
     relkvanu_store_recovered recovered;
     char from[PATHS + 20], to[PATHS + 40], job[PATHS + 60];
     uint64_t id = lose_job();
     unsigned long nth = 0, taken = 0;
     snprintf(from, sizeof from, "%s", storage);
     snprintf(to, sizeof to, "%s-%d-%d-0", storage, kind, is_for_good);
-    for (bool is_reached = true; is_reached;) {
+    for (is_reached = true; is_reached;) {
         nth += 1 + nth / 20;
         snprintf(job, sizeof job, "%s.db", to);
         set_refused(kind, nth, is_for_good);
         int status = relkvanu_store_claim(from, 0, job, to, &recovered);
-        is_reached = kind == COORDINATOR ? heap_requests() >= nth : requests >= nth;
         set_none();
         bool is_there = access(job, F_OK) == 0;
         CHECK(is_reached || status == RELKVANU_STORE_OK, "status %d without a refusal: %s", status, recovered.message);
@@ -469,11 +446,11 @@ static unsigned claims_without_memory(enum kind kind, bool is_for_good) {
         }
     }
     CHECK(nth > 20 && taken != 0, "no claim after %lu requests", nth);
-    return (unsigned)nth;
+    return nth;
 }
 
 /* A way back to an older checkpoint for which there is no memory changes nothing, and can be made later. */
-static void way_back_waits(enum kind kind) {
+static unsigned long way_back_waits(enum kind kind, bool is_for_good) {
     relkvanu_store_call call;
     relkvanu_store_counts before, after;
     relkvanu_store_options options = job_options(RELKVANU_STORE_CREATE, 0);
@@ -489,7 +466,7 @@ static void way_back_waits(enum kind kind) {
     unsigned long nth = 0;
     while (status == RELKVANU_STORE_NO_MEMORY) {
         relkvanu_store_count(store, &before);
-        set_refused(kind, ++nth, false);
+        set_refused(kind, ++nth, is_for_good);
         status = relkvanu_store_go_back(store, 1, RELKVANU_STORE_ACCEPT_PUBLISHED, &call);
         set_none();
         relkvanu_store_count(store, &after);
@@ -502,12 +479,7 @@ static void way_back_waits(enum kind kind) {
     term = call.term;
     CHECK(work(store) == RELKVANU_STORE_OK, "work");
     relkvanu_store_close(store);
-    for (int file = 1; file <= WAY_BACK_FILES; file++) {
-        char name[PATHS];
-        snprintf(name, sizeof name, "%s/%d", storage, file);
-        CHECK(unlink(name) == 0, "%s", name);
-    }
-    printf("store: memory of a way back, of %s: up to request %lu\n", names[kind], nth);
+    return nth;
 }
 
 /* Submits a stop. Returns its status, or RELKVANU_STORE_NO_MEMORY if the call had none. */
@@ -526,7 +498,7 @@ static int submit_stop(relkvanu_store *store, relkvanu_store_call *call) {
 }
 
 /* A stop that is submitted, and for which there is no memory, changes nothing, and can be submitted later. */
-static void submits_wait(enum kind kind) {
+static unsigned long submits_wait(enum kind kind, bool is_for_good) {
     relkvanu_store_call call;
     relkvanu_store_counts counts;
     relkvanu_store_job_phase phase;
@@ -534,7 +506,7 @@ static void submits_wait(enum kind kind) {
     int status = RELKVANU_STORE_NO_MEMORY;
     unsigned long nth = 0;
     while (status == RELKVANU_STORE_NO_MEMORY) {
-        set_refused(kind, ++nth, false);
+        set_refused(kind, ++nth, is_for_good);
         status = submit_stop(store, &call);
         set_none();
         relkvanu_store_count(store, &counts);
@@ -546,7 +518,7 @@ static void submits_wait(enum kind kind) {
     }
     CHECK(nth > 1 && call.answer.what == RELKVANU_SAVEPOINT_TRIGGERED, "request %lu, what %" PRIu32, nth, call.answer.what);
     relkvanu_store_close(store);
-    printf("store: memory of a submitted stop, of %s: up to request %lu\n", names[kind], nth);
+    return nth;
 }
 
 static bool no_page(void *with, const relkvanu_storage_file *files, size_t len) {
@@ -571,20 +543,20 @@ static int use_folder(const relkvanu_storage_options *options) {
     return status;
 }
 
-static void folder_waits(const char *folder) {
+static unsigned long folder_waits(enum kind kind, bool is_for_good) {
     static char state[PATHS];
     snprintf(state, sizeof state, "%s/state", folder);
-    CHECK(mkdir(state, 0700) == 0, "%s", state);
+    CHECK(mkdir(state, 0700) == 0 || errno == EEXIST, "%s", state);
     relkvanu_storage_options options = {.flags = RELKVANU_STORAGE_NEW, .path = state, .job = "orders", .prefix = "a", .suffix = "b"};
     int status = RELKVANU_STORAGE_NO_MEMORY;
     unsigned long nth = 0;
     while (status == RELKVANU_STORAGE_NO_MEMORY) {
-        set_refused(OWN, ++nth, true);
+        set_refused(kind, ++nth, is_for_good);
         status = use_folder(&options);
         set_none();
     }
     CHECK(status == RELKVANU_STORAGE_OK && nth > 5, "status %d at request %lu", status, nth);
-    printf("store: memory of a folder: up to request %lu\n", nth);
+    return nth;
 }
 
 /* A tick that has no memory is not tried again at once: the timer rests for a second. */
@@ -642,42 +614,46 @@ static void gives_up_in_parts(void) {
     relkvanu_store_close(store);
 }
 
+/* What is tried with each request refused in turn, of the first kinds, and whether also with all later ones refused. Each says how many requests there were. */
+static const struct tried {
+    const char *of;
+    unsigned long (*tries)(enum kind kind, bool is_for_good);
+    int kinds;
+    bool is_for_good;
+} all[] = {
+    {"a new job", makes_without_memory, KINDS, true},
+    {"a recovery", reopens_without_memory, KINDS, true},
+    {"a job that was lost", recovers_without_memory, KINDS, true},
+    {"a claim", claims_without_memory, KINDS, true},
+    {"a way back", way_back_waits, COORDINATOR + 1, false},
+    {"a submitted stop", submits_wait, COORDINATOR + 1, false},
+    {"a folder", folder_waits, OWN + 1, true},
+};
+
+static unsigned tries(const struct tried *it, enum kind kind) {
+    unsigned ways = it->is_for_good && kind != COORDINATOR ? 2 : 1; /* the heap of the tests refuses one */
+    for (unsigned way = 0; way < ways; way++) {
+        unsigned long nth = it->tries(kind, way == 1);
+        printf("store: memory of %s, %s, of %s: up to request %lu\n", names[kind], way == 1 ? "for good" : "once", it->of, nth);
+    }
+    return ways;
+}
+
 int main(int argc, char **argv) {
-    unsigned passed = 8;
+    unsigned passed = 5;
     CHECK(argc == 2, "memory FOLDER");
-    snprintf(path, sizeof path, "%s/x.db", argv[1]);
-    snprintf(storage, sizeof storage, "%s/storage", argv[1]);
+    snprintf(folder, sizeof folder, "%s", argv[1]);
+    snprintf(path, sizeof path, "%s/x.db", folder);
+    snprintf(storage, sizeof storage, "%s/storage", folder);
     CHECK(mkdir(storage, 0700) == 0, "%s", storage);
     watch_sqlite();
-    for (int kind = OWN; kind < KINDS; kind++) {
-        for (int way = 0; way < 4; way++) {
-            bool is_for_good = way % 2 == 1;
-            if (kind == COORDINATOR && is_for_good) {
-                continue; /* the heap of the tests refuses one */
-            }
-            unsigned tried = refuse_each((enum kind)kind, is_for_good, way >= 2);
-            printf("store: memory of %s, %s, of a %s: up to request %u\n", names[kind], is_for_good ? "for good" : "once",
-                way >= 2 ? "recovery" : "new job", tried);
-            passed++;
-        }
-    }
-    for (int kind = OWN; kind < KINDS; kind++) {
-        for (int is_for_good = 0; is_for_good < (kind == COORDINATOR ? 1 : 2); is_for_good++) {
-            unsigned tried = recovers_without_memory((enum kind)kind, is_for_good != 0);
-            printf("store: memory of %s, %s, of a job that was lost: up to request %u\n", names[kind], is_for_good ? "for good" : "once",
-                tried);
-            tried = claims_without_memory((enum kind)kind, is_for_good != 0);
-            printf("store: memory of %s, %s, of a claim: up to request %u\n", names[kind], is_for_good ? "for good" : "once", tried);
-            passed += 2;
+    for (size_t i = 0; i < sizeof all / sizeof *all; i++) {
+        for (int kind = OWN; kind < all[i].kinds; kind++) {
+            passed += tries(&all[i], (enum kind)kind);
         }
     }
     images_wait(COORDINATOR);
     images_wait(SQLITE);
-    folder_waits(argv[1]);
-    way_back_waits(OWN);
-    way_back_waits(COORDINATOR);
-    submits_wait(OWN);
-    submits_wait(COORDINATOR);
     stops_without_memory();
     rests_without_memory();
     gives_up_in_parts();
