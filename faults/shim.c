@@ -307,7 +307,7 @@ static int write_fault(int fd, const char *path, const void *bytes, size_t len, 
     return strcmp(fault, "full") == 0 ? ENOSPC : strcmp(fault, "quota") == 0 ? EDQUOT : EIO;
 }
 
-static ssize_t write_of(int fd, const void *bytes, size_t len, off_t at) {
+ssize_t pwrite64(int fd, const void *bytes, size_t len, off_t at) {
     char path[PATH];
     if (!path_of(fd, path)) {
         return syscall(SYS_pwrite64, fd, bytes, len, at);
@@ -324,13 +324,7 @@ static ssize_t write_of(int fd, const void *bytes, size_t len, off_t at) {
     return written;
 }
 
-ssize_t pwrite64(int fd, const void *bytes, size_t len, off_t at) {
-    return write_of(fd, bytes, len, at);
-}
-
-ssize_t pwrite(int fd, const void *bytes, size_t len, off_t at) {
-    return write_of(fd, bytes, len, at);
-}
+ssize_t pwrite(int fd, const void *bytes, size_t len, off_t at) __attribute__((alias("pwrite64")));
 
 /* At the descriptor's place, or at the end of a file that is appended to. */
 ssize_t write(int fd, const void *bytes, size_t len) {
@@ -365,7 +359,7 @@ ssize_t writev(int fd, const struct iovec *parts, int parts_len) {
     return write(fd, parts->iov_base, parts->iov_len); /* a caller goes on behind what was written */
 }
 
-static ssize_t read_of(int fd, void *bytes, size_t len, off_t at) {
+ssize_t pread64(int fd, void *bytes, size_t len, off_t at) {
     char path[PATH];
     if (getenv("STORE_FAULT") != NULL && strcmp(getenv("STORE_FAULT"), "read") == 0 && path_of(fd, path) && fails("read", path)) {
         errno = EIO;
@@ -374,13 +368,7 @@ static ssize_t read_of(int fd, void *bytes, size_t len, off_t at) {
     return syscall(SYS_pread64, fd, bytes, len, at);
 }
 
-ssize_t pread64(int fd, void *bytes, size_t len, off_t at) {
-    return read_of(fd, bytes, len, at);
-}
-
-ssize_t pread(int fd, void *bytes, size_t len, off_t at) {
-    return read_of(fd, bytes, len, at);
-}
+ssize_t pread(int fd, void *bytes, size_t len, off_t at) __attribute__((alias("pread64")));
 
 static bool changes(const char *path) {
     may_die(false);
@@ -410,53 +398,42 @@ int ftruncate64(int fd, off_t len) {
 
 int ftruncate(int fd, off_t len) __attribute__((alias("ftruncate64")));
 
-int unlinkat(int at, const char *name, int flags) {
-    char path[PATH];
-    full_path(at, name, path);
-    if (is_in(path) && !changes(path)) {
+/* A change of the names of a file, which is told by the path that has to be ours, unless the call fails. */
+static int change_names(enum kind kind, const char *path, const char *target, const char *ours, long call, const long words[5]) {
+    if (is_in(ours) && !changes(ours)) {
         return -1;
     }
     lock_names();
-    int result = (int)syscall(SYS_unlinkat, at, name, flags);
-    if (is_in(path) && result == 0) {
-        tell(REMOVES, path, 0, NULL, 0);
+    int result = (int)syscall(call, words[0], words[1], words[2], words[3], words[4]);
+    if (is_in(ours) && result == 0) {
+        tell(kind, path, 0, target, strlen(target));
     }
     unlock_names();
-    if (is_in(path)) {
+    if (is_in(ours)) {
         may_die(true);
     }
     return result;
+}
+
+int unlinkat(int at, const char *name, int flags) {
+    char path[PATH];
+    full_path(at, name, path);
+    return change_names(REMOVES, path, "", path, SYS_unlinkat, (long[5]){at, (long)name, flags});
 }
 
 int unlink(const char *name) {
     return unlinkat(AT_FDCWD, name, 0);
 }
 
-static int rename_of(int from, const char *name, int to, const char *other, unsigned flags) {
+int renameat2(int from, const char *name, int to, const char *other, unsigned flags) {
     char path[PATH], target[PATH];
     full_path(from, name, path);
     full_path(to, other, target);
-    if (is_in(path) && !changes(path)) {
-        return -1;
-    }
-    lock_names();
-    int result = (int)syscall(SYS_renameat2, from, name, to, other, flags);
-    if (result == 0 && is_in(path)) {
-        tell(RENAMES, path, 0, target, strlen(target));
-    }
-    unlock_names();
-    if (is_in(path)) {
-        may_die(true);
-    }
-    return result;
+    return change_names(RENAMES, path, target, path, SYS_renameat2, (long[5]){from, (long)name, to, (long)other, flags});
 }
 
 int renameat(int from, const char *name, int to, const char *other) {
-    return rename_of(from, name, to, other, 0);
-}
-
-int renameat2(int from, const char *name, int to, const char *other, unsigned flags) {
-    return rename_of(from, name, to, other, flags);
+    return renameat2(from, name, to, other, 0);
 }
 
 int rename(const char *name, const char *other) {
@@ -467,19 +444,7 @@ int linkat(int from, const char *name, int to, const char *other, int flags) {
     char path[PATH], target[PATH];
     full_path(from, name, path);
     full_path(to, other, target);
-    if (is_in(target) && !changes(target)) {
-        return -1;
-    }
-    lock_names();
-    int result = (int)syscall(SYS_linkat, from, name, to, other, flags);
-    if (result == 0 && is_in(target)) {
-        tell(LINKS, path, 0, target, strlen(target));
-    }
-    unlock_names();
-    if (is_in(target)) {
-        may_die(true);
-    }
-    return result;
+    return change_names(LINKS, path, target, target, SYS_linkat, (long[5]){from, (long)name, to, (long)other, flags});
 }
 
 int link(const char *name, const char *other) {
@@ -562,6 +527,7 @@ static int open_of(int at, const char *name, int flags, int mode) {
     return result;
 }
 
+/* The mode of a new file, which is there only for one. */
 #define MODE(mode)                              \
     int mode = 0;                               \
     if ((flags & (O_CREAT | O_TMPFILE)) != 0) { \
@@ -576,25 +542,16 @@ int open(const char *name, int flags, ...) {
     return open_of(AT_FDCWD, name, flags, mode);
 }
 
-int open64(const char *name, int flags, ...) {
-    MODE(mode)
-    return open_of(AT_FDCWD, name, flags, mode);
-}
-
 int openat(int at, const char *name, int flags, ...) {
     MODE(mode)
     return open_of(at, name, flags, mode);
 }
 
-int openat64(int at, const char *name, int flags, ...) {
-    MODE(mode)
-    return open_of(at, name, flags, mode);
-}
+int open64(const char *name, int flags, ...) __attribute__((alias("open")));
+int openat64(int at, const char *name, int flags, ...) __attribute__((alias("openat")));
 
-typedef FILE *opens_stream(const char *name, const char *mode);
-
-static FILE *stream_of(const char *called, const char *name, const char *mode) {
-    opens_stream *real = (opens_stream *)dlsym(RTLD_NEXT, called);
+FILE *fopen(const char *name, const char *mode) {
+    FILE *(*real)(const char *, const char *) = (FILE * (*)(const char *, const char *)) dlsym(RTLD_NEXT, "fopen");
     char path[PATH];
     struct stat is;
     full_path(AT_FDCWD, name, path);
@@ -615,13 +572,7 @@ static FILE *stream_of(const char *called, const char *name, const char *mode) {
     return stream;
 }
 
-FILE *fopen(const char *name, const char *mode) {
-    return stream_of("fopen", name, mode);
-}
-
-FILE *fopen64(const char *name, const char *mode) {
-    return stream_of("fopen64", name, mode);
-}
+FILE *fopen64(const char *name, const char *mode) __attribute__((alias("fopen")));
 
 /* In place of a system call that the program makes itself. */
 static void make_call(int signal, siginfo_t *info, void *context) {
