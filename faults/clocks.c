@@ -1,11 +1,11 @@
 /* LD_PRELOAD: sets clocks. The file that CLOCKS names has two numbers of 64 bits, in seconds: what is added to the time of day, and to the
    time since the machine's start that a suspension stops. */
 #define _GNU_SOURCE
-#include <dlfcn.h>
 #include <fcntl.h>
 #include <stdint.h>
 #include <stdlib.h>
 #include <sys/mman.h>
+#include <sys/syscall.h>
 #include <sys/time.h>
 #include <time.h>
 #include <unistd.h>
@@ -24,11 +24,7 @@ static const volatile int64_t *added(void) {
 }
 
 int clock_gettime(clockid_t clock, struct timespec *time) {
-    static int (*real)(clockid_t, struct timespec *);
-    if (!real) {
-        real = dlsym(RTLD_NEXT, "clock_gettime");
-    }
-    int result = real(clock, time);
+    int result = (int)syscall(SYS_clock_gettime, clock, time);
     if (clock == CLOCK_REALTIME || clock == CLOCK_REALTIME_COARSE) {
         time->tv_sec += added()[0];
     }
@@ -39,11 +35,7 @@ int clock_gettime(clockid_t clock, struct timespec *time) {
 }
 
 int gettimeofday(struct timeval *restrict time, void *restrict zone) {
-    static int (*real)(struct timeval *, void *);
-    if (!real) {
-        real = dlsym(RTLD_NEXT, "gettimeofday");
-    }
-    int result = real(time, zone);
+    int result = (int)syscall(SYS_gettimeofday, time, zone);
     time->tv_sec += added()[0];
     return result;
 }

@@ -73,8 +73,7 @@ __attribute__((destructor)) static void end(void) {
         int at = open(file, O_WRONLY | O_CREAT | O_TRUNC, 0600);
         int size = snprintf(text, sizeof text, "%ld %ld %ld %ld %ld %ld %ld\n", (long)allocations, input.calls, output.calls, input.late,
             output.late, (long)threads, (long)refusals);
-        ssize_t (*to)(int, const void *, size_t) = dlsym(RTLD_NEXT, "write");
-        if (at >= 0 && to(at, text, (size_t)size) != size) {
+        if (at >= 0 && syscall(SYS_write, at, text, size) != size) {
             abort();
         }
     }
@@ -120,9 +119,7 @@ void *realloc(void *old, size_t size) {
 void *memalign(size_t by, size_t size) {
     return is_refused() ? NULL : __libc_memalign(by, size);
 }
-void *aligned_alloc(size_t by, size_t size) {
-    return is_refused() ? NULL : __libc_memalign(by, size);
-}
+void *aligned_alloc(size_t by, size_t size) __attribute__((alias("memalign")));
 
 int posix_memalign(void **made, size_t by, size_t size) {
     if (is_refused()) {
@@ -159,40 +156,28 @@ static size_t piece(const struct stream *stream, size_t size) {
 }
 
 ssize_t read(int from, void *bytes, size_t size) {
-    static ssize_t (*next)(int, void *, size_t);
-    if (!next) {
-        next = dlsym(RTLD_NEXT, "read");
-    }
     if (from != input.number) {
-        return next(from, bytes, size);
+        return syscall(SYS_read, from, bytes, size);
     }
     if (is_failing(&input)) {
         return -1;
     }
-    ssize_t count = next(from, bytes, piece(&input, size));
+    ssize_t count = syscall(SYS_read, from, bytes, piece(&input, size));
     input.is_over |= count <= 0;
     return count;
 }
 
 ssize_t write(int to, const void *bytes, size_t size) {
-    static ssize_t (*next)(int, const void *, size_t);
-    if (!next) {
-        next = dlsym(RTLD_NEXT, "write");
-    }
     if (to != output.number) {
-        return next(to, bytes, size);
+        return syscall(SYS_write, to, bytes, size);
     }
     if (is_failing(&output)) {
         return output.error ? -1 : 0;
     }
-    return next(to, bytes, piece(&output, size));
+    return syscall(SYS_write, to, bytes, piece(&output, size));
 }
 
 int getentropy(void *bytes, size_t size) {
-    static int (*next)(void *, size_t);
-    if (!next) {
-        next = dlsym(RTLD_NEXT, "getentropy");
-    }
     if (random_fails) {
         errno = EIO;
         return -1;
@@ -201,5 +186,5 @@ int getentropy(void *bytes, size_t size) {
         memset(bytes, 0, size);
         return 0;
     }
-    return next(bytes, size);
+    return syscall(SYS_getrandom, bytes, size, 0) == (long)size ? 0 : -1;
 }
