@@ -124,8 +124,6 @@ static void no_names(void) {
     relkvanu_close(&job);
 }
 
-/* A line with a term does what the function of its call does. */
-
 static void change_each_byte(relkvanu *job, const char *text) {
     static const char others[] = {'\0', '\t', '\r', ' ', '+', '-', '.', '9', 'x', '\x7f', '\xff'};
     size_t len = strlen(text);
