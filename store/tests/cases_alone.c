@@ -8,7 +8,7 @@
 
 /* Who waits by the descriptor alone is told of one completion, too. */
 CASE(lone_completion) {
-    relkvanu_store *store = opens_with(job_options(RELKVANU_STORE_CREATE, 0));
+    relkvanu_store *store = new_job_alone(0);
     relkvanu_store_call call = {.call = {.kind = RELKVANU_CALL_SAVEPOINT}};
     relkvanu_store_completion one;
     struct pollfd it = {.fd = relkvanu_store_descriptor(store), .events = POLLIN};
@@ -25,7 +25,7 @@ CASE(lone_completion) {
 CASE(most_calls_of_a_commit) {
     enum { MANY = RELKVANU_STORE_MOST_CALLS + 100 };
     static relkvanu_store_call calls[MANY];
-    relkvanu_store *store = opens_with(job_options(RELKVANU_STORE_CREATE, 0));
+    relkvanu_store *store = new_job_alone(0);
     begins_read(store);
     for (uint64_t i = 0; i < MANY; i++) {
         bool is_decline = i % 2 != 0;
@@ -63,8 +63,7 @@ CASE(killed_after_an_earlier_image) {
     relkvanu_store_close(store);
     run_sql(in("x.db"), "UPDATE image SET sum = sum + 1 WHERE place = (SELECT max(place) FROM image)");
     CHECK(in_child(open_the_earlier, &options) == 7, "a child");
-    options.flags = RELKVANU_STORE_RECOVER;
-    relkvanu_store_close(opens(&options, RELKVANU_STORE_OK));
+    relkvanu_store_close(opens_as(&options, RELKVANU_STORE_RECOVER, RELKVANU_STORE_OK));
 }
 
 static bool is_cut;
@@ -97,7 +96,7 @@ static void check_unissued(relkvanu_store *store, const char *after) {
 
 /* A sweep that fails changes nothing of what the last whole one counted. */
 CASE(sweep_that_fails) {
-    relkvanu_store *store = opens_with(storage_options(RELKVANU_STORE_CREATE, 0));
+    relkvanu_store *store = new_job();
     relkvanu_storage storage = {.check = is_storage_there, .list = list_three, .delete_files = delete_none};
     size_t left;
     reserved(store, report.term, 5);
@@ -122,7 +121,7 @@ int clock_gettime(clockid_t clock, struct timespec *now) {
 
 /* The store's time goes on while the machine is suspended. */
 CASE(suspension) {
-    relkvanu_store *store = opens_with(job_options(RELKVANU_STORE_CREATE, 0));
+    relkvanu_store *store = new_job_alone(0);
     uint64_t before = relkvanu_store_now(store);
     suspended = 1000000;
     uint64_t after = relkvanu_store_now(store);

@@ -56,10 +56,6 @@ int open(const char *name, int flags, ...) {
     return file;
 }
 
-static relkvanu_store *opened(void) {
-    return opens_with(storage_options(RELKVANU_STORE_CREATE, 0));
-}
-
 static bool why_has(int error) {
     char words[RELKVANU_STORE_MESSAGE];
     return relkvanu_store_why(words, sizeof words) == strlen(words) && strstr(words, strerror(error)) != NULL;
@@ -68,7 +64,7 @@ static bool why_has(int error) {
 /* The marker can't be read, for each reason: the storage is not gone for it. */
 CASE(errors_of_a_storage) {
     static const int errors[] = {EMFILE, EIO, EACCES};
-    relkvanu_store *store = opened();
+    relkvanu_store *store = new_job();
     for (size_t i = 0; i < sizeof errors / sizeof *errors; i++) {
         fail_opens(".relkvanu-job", errors[i]);
         CHECK(relkvanu_store_put(store, 1, "a", 1) == RELKVANU_STORE_NOT_PUT && errno == errors[i] && why_has(errors[i]), "put %d", errno);
@@ -120,7 +116,7 @@ CASE(errors_of_an_opening) {
 }
 
 CASE(measures) {
-    relkvanu_store *store = opens_with(job_options(RELKVANU_STORE_CREATE, RELKVANU_STORE_NO_IMAGES));
+    relkvanu_store *store = new_job_alone(RELKVANU_STORE_NO_IMAGES);
     CHECK(measures_of(store).last_commit == 0 && measures_of(store).log_rows == 0, "a new job");
     for (uint64_t i = 0; i < 7; i++) {
         done(store, RELKVANU_CALL_SAVEPOINT, i, 0);
@@ -173,7 +169,7 @@ static void waits_after_failures(relkvanu_store *store, struct deleting *d) {
 }
 
 CASE(a_discarder_for_a_while) {
-    relkvanu_store *store = opens_with(job_options(RELKVANU_STORE_CREATE, 0));
+    relkvanu_store *store = new_job_alone(0);
     struct deleting d = {.ends_after = 1};
     CHECK(relkvanu_store_discard_for(store, 4, 20, delete_some, &d) == RELKVANU_STORE_TIMED_OUT && d.batches == 0, "nothing waits");
     checkpoint(store, 1);
@@ -202,7 +198,7 @@ static void says_why(relkvanu_store *store, relkvanu_call call, const uint64_t *
 /* What was refused names the record, the subtask, the file and both terms; what was made says nothing. */
 CASE(why_a_call_was_refused) {
     const uint64_t file = 77, own = 1;
-    relkvanu_store *store = opens_with(job_options(RELKVANU_STORE_CREATE, 0));
+    relkvanu_store *store = new_job_alone(0);
     relkvanu_call ack = {.kind = RELKVANU_CALL_ACK, .now = RELKVANU_STORE_NOW, .number = 1, .term = 1};
     relkvanu_call reserve = {.kind = RELKVANU_CALL_RESERVE, .number = 4, .term = 1}, dispose = {.kind = RELKVANU_CALL_DISPOSE, .number = 9};
     says_why(store, ack, NULL, 0, "record 1, subtask 0.0, term 1: refused UnknownCheckpoint");
@@ -268,7 +264,7 @@ static int64_t gives(void *with, void *to, size_t room) {
 }
 
 CASE(put_from_elsewhere) {
-    relkvanu_store *store = opened();
+    relkvanu_store *store = new_job();
     struct stat found, given;
     struct source source = {.len = 1000003};
     CHECK(relkvanu_store_put_from(store, 1, gives, &source) == RELKVANU_STORE_OK, "a source");
@@ -298,7 +294,7 @@ CASE(put_from_elsewhere) {
 /* A call through the handle of a read is in no log: the store is closed before another one is committed behind it. */
 static int writes_in_a_read(void *with) {
     (void)with;
-    relkvanu_store *store = opens_with(job_options(RELKVANU_STORE_CREATE, RELKVANU_STORE_NO_IMAGES));
+    relkvanu_store *store = new_job_alone(RELKVANU_STORE_NO_IMAGES);
     relkvanu *handle;
     relkvanu_answer answer;
     char words[RELKVANU_STORE_MESSAGE];
@@ -323,7 +319,7 @@ static void *reserves_beside(void *store) {
 
 /* It would wait for itself. A submit does not wait, and other threads do. */
 CASE(a_call_in_a_read) {
-    relkvanu_store *store = opened();
+    relkvanu_store *store = new_job();
     relkvanu *handle;
     relkvanu_answer answer;
     relkvanu_store_completion done_of[2];
@@ -359,7 +355,7 @@ enum { LEAST_STACK = 256 << 10 };
 static void *does_all(void *with) {
     static relkvanu_store_call calls[RELKVANU_STORE_MOST_CALLS];
     char words[RELKVANU_STORE_MESSAGE];
-    relkvanu_store *store = opened();
+    relkvanu_store *store = new_job();
     relkvanu_answer answer;
     for (size_t i = 0; i < RELKVANU_STORE_MOST_CALLS; i++) {
         calls[i] = (relkvanu_store_call){.call = {.kind = RELKVANU_CALL_RESERVE, .number = 1, .term = 1}};
@@ -385,7 +381,7 @@ CASE(the_least_stack) {
 }
 
 static void *opens_one(void *store) {
-    *(relkvanu_store **)store = opens_with(job_options(RELKVANU_STORE_CREATE, 0));
+    *(relkvanu_store **)store = new_job_alone(0);
     return NULL;
 }
 

@@ -70,7 +70,7 @@ CASE(a_backup) {
 
 /* With images, whose log is cut. */
 CASE(a_backup_with_images) {
-    relkvanu_store *store = opens_with(job_options(RELKVANU_STORE_CREATE, 7));
+    relkvanu_store *store = new_job_alone(7);
     for (uint64_t i = 0; i < 40; i++) {
         CHECK(reserved(store, 1, 1) == i + 1, "name %" PRIu64, i + 1);
     }
@@ -104,7 +104,7 @@ CASE(flags_of_a_backup) {
 
 /* What else has the target's names, and what fails. Each time the store goes on. */
 CASE(no_backup) {
-    relkvanu_store *store = opens_with(job_options(RELKVANU_STORE_CREATE, 0));
+    relkvanu_store *store = new_job_alone(0);
     checkpoint(store, 1);
     backs_up(store, "nowhere/b.db", RELKVANU_STORE_NOT_PUT);
     CHECK(errno == ENOENT && strstr(message, "nowhere/b.db") != NULL, "%d: %s", errno, message);
@@ -149,7 +149,7 @@ CASE(a_job_in_the_way) {
 
 /* What a process left that was killed is begun anew. */
 CASE(a_part_that_was_left) {
-    relkvanu_store *store = opens_with(job_options(RELKVANU_STORE_CREATE, 0));
+    relkvanu_store *store = new_job_alone(0);
     checkpoint(store, 1);
     write_text("b.db.part", "SQLite format 3 and other bytes that are no part of a backup");
     write_text("b.db.part-wal", "other");
@@ -165,7 +165,7 @@ CASE(a_part_that_was_left) {
 
 /* A failed commit closes the store: there is no backup of it. */
 CASE(of_a_closed_store) {
-    relkvanu_store *store = opens_with(job_options(RELKVANU_STORE_CREATE, 0));
+    relkvanu_store *store = new_job_alone(0);
     CHECK(rename(in("x.db"), in("y.db")) == 0, "rename");
     relkvanu_store_call call = {.call = {.kind = RELKVANU_CALL_SAVEPOINT}};
     CHECK(relkvanu_store_calls(store, &call, 1) == RELKVANU_STORE_FAILED, "a commit");
@@ -180,7 +180,7 @@ static int backs_up_forked(void *store) {
 }
 
 CASE(in_a_forked_child) {
-    relkvanu_store *store = opens_with(job_options(RELKVANU_STORE_CREATE, 0));
+    relkvanu_store *store = new_job_alone(0);
     CHECK(in_child(backs_up_forked, store) == RELKVANU_STORE_FORKED && !exists("b.db"), "a child");
     check_no_part();
     relkvanu_store_close(store);

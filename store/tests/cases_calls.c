@@ -94,8 +94,7 @@ CASE(the_next_tick) {
     CHECK(relkvanu_store_await_tick(store, 30, &tick) == RELKVANU_STORE_TIMED_OUT && tick.answer.code == RELKVANU_STORE_NOT_MADE, "await");
     CHECK(done(store, RELKVANU_CALL_TICK, 60000, 0).what == RELKVANU_TICK_TRIGGERED, "a trigger");
     relkvanu_store_close(store);
-    options.flags = RELKVANU_STORE_RECOVER;
-    store = opens(&options, RELKVANU_STORE_OK);
+    store = opens_as(&options, RELKVANU_STORE_RECOVER, RELKVANU_STORE_OK);
     CHECK(done(store, RELKVANU_CALL_TICK, 120000, 0).what == RELKVANU_TICK_HELD_AT_ONCE, "held");
     wait = wait_of(store);
     CHECK(wait > 7000000 && wait <= 7200000, "it is held until the expiry, and not for %" PRIu64, wait);

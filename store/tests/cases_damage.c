@@ -7,7 +7,7 @@ enum { CALLS = 2 * CHECKPOINT_CALLS, LAST = CALLS - 1, LEFT = 45, IMAGE_CALLS = 
 
 /* A job whose log has 20 calls, two checkpoints; closed. */
 static void make_job(uint64_t image_calls) {
-    relkvanu_store *store = opens_with(job_options(RELKVANU_STORE_CREATE, image_calls));
+    relkvanu_store *store = new_job_alone(image_calls);
     checkpoint(store, 1);
     checkpoint(store, 100);
     relkvanu_store_close(store);
@@ -101,8 +101,7 @@ CASE(other_names) {
     refuses(RELKVANU_STORE_DIFFERS, "call 20");
     CHECK(says("7/1 0 0"), "%s", report.message);
     replace_last("reserve 1 1", RELKVANU_RESERVED, CALLS, 1);
-    options.flags = RELKVANU_STORE_RECOVER;
-    relkvanu_store_close(opens(&options, RELKVANU_STORE_OK));
+    relkvanu_store_close(opens_as(&options, RELKVANU_STORE_RECOVER, RELKVANU_STORE_OK));
     CHECK(report.next_name == CALLS + 1, "next name %" PRIu64, report.next_name);
 }
 
@@ -140,13 +139,11 @@ CASE(an_earlier_image) {
     make_job(5);
     run_sql(in("x.db"), "UPDATE image SET sum = sum + 1 WHERE place = (SELECT max(place) FROM image)");
     refuses(RELKVANU_STORE_DAMAGED, "image after call 20");
-    options.flags = RELKVANU_STORE_EARLIER_IMAGE;
-    relkvanu_store *store = opens(&options, RELKVANU_STORE_OK);
+    relkvanu_store *store = opens_as(&options, RELKVANU_STORE_EARLIER_IMAGE, RELKVANU_STORE_OK);
     CHECK(report.image_place < CALLS && report.image_place + report.replayed == CALLS && report.replayed != 0, "%" PRIu64,
         report.image_place);
     relkvanu_store_close(store);
-    options.flags = RELKVANU_STORE_RECOVER;
-    store = opens(&options, RELKVANU_STORE_OK); /* the damaged one is gone */
+    store = opens_as(&options, RELKVANU_STORE_RECOVER, RELKVANU_STORE_OK); /* the damaged one is gone */
     shadow_open(&shadow, &options);
     relkvanu_answer answer = relkvanu_tick(&shadow.handle, 0);
     CHECK(answer.code == RELKVANU_DONE && !shadow_equals(&shadow, store), "the comparison of images sees nothing");
@@ -156,7 +153,7 @@ CASE(an_earlier_image) {
 
 /* Reserves names one by one, with an image after each tenth call or so, and ends without a close. */
 static int leave_open(void *with) {
-    relkvanu_store *store = opens_with(job_options(RELKVANU_STORE_CREATE, IMAGE_CALLS));
+    relkvanu_store *store = new_job_alone(IMAGE_CALLS);
     (void)with;
     for (uint64_t name = 1; name <= LEFT; name++) {
         CHECK(reserved(store, 1, 1) == name, "name %" PRIu64, name);
@@ -205,7 +202,7 @@ static void forfeit_many(relkvanu_store *store) {
 /* A large image waits until the log has several times its bytes, however many calls these are. */
 CASE(large_images) {
     static relkvanu_store_call calls[RELKVANU_STORE_MOST_CALLS];
-    relkvanu_store *store = opens_with(job_options(RELKVANU_STORE_CREATE, IMAGE_CALLS));
+    relkvanu_store *store = new_job_alone(IMAGE_CALLS);
     save_many(store);
     uint64_t images = totals_of(store).images, forfeits = 0;
     CHECK(images != 0, "no image has all these files");
@@ -221,7 +218,7 @@ CASE(large_images) {
     CHECK(totals_of(store).images == images + 1 && forfeits != 16, "%" PRIu64 " images after %" PRIu64 " forfeits", totals_of(store).images,
         forfeits);
     relkvanu_store_close(store);
-    relkvanu_store_close(opens_with(job_options(RELKVANU_STORE_CREATE, IMAGE_CALLS)));
+    relkvanu_store_close(new_job_alone(IMAGE_CALLS));
 }
 
 static void copy_file(const char *from, const char *to, long flip) {

@@ -52,7 +52,7 @@ static void checkpoint_with_files(relkvanu_store *store, uint64_t file) {
 }
 
 CASE(deletes_and_reports) {
-    relkvanu_store *store = opens_with(storage_options(RELKVANU_STORE_CREATE, 0));
+    relkvanu_store *store = new_job();
     struct discarding d = {0}, second = {.store = store, .batch = 5};
     CHECK(relkvanu_store_discard(store, 4096, delete_files, &d) == RELKVANU_STORE_BAD_ARGUMENT, "a large batch");
     start(&d, store, 5);
@@ -70,7 +70,7 @@ CASE(deletes_and_reports) {
 }
 
 CASE(never_gives_up) {
-    relkvanu_store *store = opens_with(storage_options(RELKVANU_STORE_CREATE, 0));
+    relkvanu_store *store = new_job();
     struct discarding d = {0};
     d.stubborn = 7;
     start(&d, store, 4);
@@ -94,7 +94,7 @@ CASE(never_gives_up) {
 
 /* A process ended between a take and its reports: one file is deleted, the other is not. */
 CASE(settles) {
-    relkvanu_store *store = opens_with(storage_options(RELKVANU_STORE_CREATE, 0));
+    relkvanu_store *store = new_job();
     uint64_t files[16];
     relkvanu_store_call take = {.call = {.kind = RELKVANU_CALL_TAKE, .number = 16}, .files = files, .files_len = 16};
     checkpoint_with_files(store, 1);
@@ -114,7 +114,7 @@ CASE(settles) {
 
 /* Without the marker a missing file is not gone. */
 CASE(without_marker) {
-    relkvanu_store *store = opens_with(storage_options(RELKVANU_STORE_CREATE, 0));
+    relkvanu_store *store = new_job();
     struct discarding d = {0};
     CHECK(renameat(relkvanu_store_folder(store), ".relkvanu-job", relkvanu_store_folder(store), "away") == 0, "marker");
     start(&d, store, 16);
@@ -137,7 +137,7 @@ static void write_marker(relkvanu_store *store, uint64_t job, uint64_t epoch) {
 
 /* Another host has opened a copy of the job, or has given the folder to another job: nothing of it is deleted any more. */
 CASE(another_opening) {
-    relkvanu_store *store = opens_with(storage_options(RELKVANU_STORE_CREATE, 0));
+    relkvanu_store *store = new_job();
     struct discarding d = {.store = store, .batch = 16};
     checkpoint_with_files(store, 1);
     checkpoint_with_files(store, 101); /* releases 1 to 16 */
@@ -192,8 +192,7 @@ CASE(an_end_without_a_cancel) {
     }
     CHECK(has_files(store, 16) && exists(stored(101)) && exists(stored(116)), "the folder");
     relkvanu_store_close(store);
-    options.flags = RELKVANU_STORE_RECOVER;
-    store = opens(&options, RELKVANU_STORE_OK);
+    store = opens_as(&options, RELKVANU_STORE_RECOVER, RELKVANU_STORE_OK);
     CHECK(report.taken == 0 && report.choice.what == RELKVANU_CHOICE_CHECKPOINT && report.choice.a == 2, "the next opening");
     relkvanu_store_close(store);
 }
@@ -204,7 +203,7 @@ static bool is_never_asked(void *with, const uint64_t *files, size_t len, uint8_
 
 /* Each of these would wait for what only the end of the read can bring: so the first one waits for a second at most. */
 CASE(in_a_read) {
-    relkvanu_store *store = opens_with(storage_options(RELKVANU_STORE_CREATE, 0));
+    relkvanu_store *store = new_job();
     struct discarding d = {.store = store, .batch = 5};
     relkvanu_store_call tick;
     CHECK(relkvanu_store_discard_for(store, 0, 1, NULL, NULL) == RELKVANU_STORE_TIMED_OUT, "one that has nothing to settle");

@@ -1,12 +1,8 @@
 /* State files by their numbers: put, deleted and swept. */
 #include "cases.h"
 
-static relkvanu_store *opened(void) {
-    return opens_with(storage_options(RELKVANU_STORE_CREATE, 0));
-}
-
 CASE(put_and_read) {
-    relkvanu_store *store = opened();
+    relkvanu_store *store = new_job();
     char found[16] = "";
     CHECK(
         relkvanu_store_put(store, UINT64_MAX, "state", 5) == RELKVANU_STORE_OK && relkvanu_store_put(store, 0, "", 0) == RELKVANU_STORE_OK);
@@ -18,7 +14,7 @@ CASE(put_and_read) {
 }
 
 CASE(a_number_is_put_once) {
-    relkvanu_store *store = opened();
+    relkvanu_store *store = new_job();
     struct stat found;
     CHECK(relkvanu_store_put(store, 7, "first", 5) == RELKVANU_STORE_OK, "put");
     CHECK(relkvanu_store_put(store, 7, "another", 7) == RELKVANU_STORE_PRESENT, "put again");
@@ -32,7 +28,7 @@ CASE(a_number_is_put_once) {
 
 /* A file of more than 1000 bytes can't be written. */
 CASE(one_that_can_not_be_written) {
-    relkvanu_store *store = opened();
+    relkvanu_store *store = new_job();
     static char contents[2000];
     limit_files(1000);
     int status = relkvanu_store_put(store, 7, contents, sizeof contents), error = errno;
@@ -44,7 +40,7 @@ CASE(one_that_can_not_be_written) {
 }
 
 CASE(puts_without_marker) {
-    relkvanu_store *store = opened();
+    relkvanu_store *store = new_job();
     CHECK(rename(in("storage/.relkvanu-job"), in("marker")) == 0, "marker");
     CHECK(relkvanu_store_put(store, 7, "state", 5) == RELKVANU_STORE_STORAGE && !exists("storage/7"), "put");
     is_swept(store, RELKVANU_STORE_STORAGE, 0);
@@ -52,7 +48,7 @@ CASE(puts_without_marker) {
 }
 
 CASE(puts_without_storage) {
-    relkvanu_store *store = opens_with(job_options(RELKVANU_STORE_CREATE, 0));
+    relkvanu_store *store = new_job_alone(0);
     uint64_t file = 7;
     uint8_t is_gone = 1;
     puts_file(store, 7, RELKVANU_STORE_BAD_ARGUMENT);
@@ -63,7 +59,7 @@ CASE(puts_without_storage) {
 }
 
 CASE(deletes) {
-    relkvanu_store *store = opened();
+    relkvanu_store *store = new_job();
     uint64_t files[] = {1, 2, 3, 4};
     uint8_t is_gone[4] = {0};
     make_empty("storage/1");
@@ -77,7 +73,7 @@ CASE(deletes) {
 
 /* A job with files 100 to 115 in use, and 400 files that a task has written and not acknowledged. */
 CASE(sweeps) {
-    relkvanu_store *store = opened();
+    relkvanu_store *store = new_job();
     char name[PATHS];
     CHECK(reserved(store, 1, 600) == 1, "names");
     checkpoint(store, 100);

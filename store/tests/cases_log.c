@@ -42,7 +42,7 @@ static void reserve_list(relkvanu_store *store, size_t len) {
 /* Ends as if it was killed. */
 static int reserves(void *with) {
     (void)with;
-    relkvanu_store *store = opens_with(job_options(RELKVANU_STORE_CREATE, RELKVANU_STORE_NO_IMAGES));
+    relkvanu_store *store = new_job_alone(RELKVANU_STORE_NO_IMAGES);
     for (int made = 0; made < CALLS; made += LIST) {
         reserve_list(store, LIST);
     }
@@ -156,7 +156,7 @@ static int fills_the_wal(void *with) {
     size_t begin, end;
     int made = 0;
     (void)with;
-    relkvanu_store *store = opens_with(job_options(RELKVANU_STORE_CREATE, RELKVANU_STORE_NO_IMAGES));
+    relkvanu_store *store = new_job_alone(RELKVANU_STORE_NO_IMAGES);
     do {
         reserve_list(store, 1);
         made++;
@@ -190,7 +190,7 @@ enum { LAST_LIST = 200 };
 static int makes_torn(void *with) {
     struct kept lock;
     (void)with;
-    relkvanu_store *store = opens_with(job_options(RELKVANU_STORE_CREATE, RELKVANU_STORE_NO_IMAGES));
+    relkvanu_store *store = new_job_alone(RELKVANU_STORE_NO_IMAGES);
     reserve_list(store, LIST);
     keep(&lock, "x.db.lock");
     reserve_list(store, LAST_LIST);
@@ -264,7 +264,7 @@ CASE(an_older_file) {
 /* A tail whose own sum does not fit says nothing. */
 CASE(a_damaged_tail) {
     struct kept lock;
-    relkvanu_store *store = opens_with(job_options(RELKVANU_STORE_CREATE, RELKVANU_STORE_NO_IMAGES));
+    relkvanu_store *store = new_job_alone(RELKVANU_STORE_NO_IMAGES);
     reserve_list(store, LIST);
     relkvanu_store_close(store);
     keep(&lock, "x.db.lock");
@@ -272,7 +272,7 @@ CASE(a_damaged_tail) {
     CHECK(tail != NULL && strstr(tail, " 20 ") != NULL, "no tail of call 20");
     tail[10] = (char)(tail[10] ^ 1); /* its own sum is another one: it is no tail */
     put_back(&lock, lock.len);
-    relkvanu_store_close(opens_with(job_options(RELKVANU_STORE_CREATE, RELKVANU_STORE_NO_IMAGES)));
+    relkvanu_store_close(new_job_alone(RELKVANU_STORE_NO_IMAGES));
     CHECK(report.next_name == LIST * 10 + 1, "next name %" PRIu64, report.next_name);
     free(lock.bytes);
 }

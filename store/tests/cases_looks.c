@@ -38,7 +38,7 @@ static void *discards(void *with) {
 
 /* A discarder of a store with files that the second checkpoint has released. */
 static void start(struct discarding *d) {
-    d->store = opens_with(storage_options(RELKVANU_STORE_CREATE, 0));
+    d->store = new_job();
     checkpoint(d->store, 1);
     checkpoint(d->store, 101);
     CHECK(counts_of(d->store).waiting == RELEASED, "%" PRIu64 " wait", counts_of(d->store).waiting);
@@ -146,7 +146,7 @@ int sqlite3_exec(sqlite3 *db, const char *sql, int (*row)(void *, int, char **, 
 /* A copy that is damaged is no backup, and neither is one that is not synced. */
 CASE(bad_copies) {
     char words[RELKVANU_STORE_MESSAGE];
-    relkvanu_store *store = opens_with(job_options(RELKVANU_STORE_CREATE, 0));
+    relkvanu_store *store = new_job_alone(0);
     is_damaged = true;
     int got = relkvanu_store_backup(store, in("b.db"), words, sizeof words);
     CHECK(got == RELKVANU_STORE_NOT_PUT && !exists("b.db") && !exists("b.db.part"), "status %d: %s", got, words);
@@ -246,8 +246,7 @@ CASE(commit_without_room) {
     CHECK(relkvanu_store_calls(store, calls, CALLS) == RELKVANU_STORE_OK && calls[CALLS - 1].place == CALLS, "a list");
     CHECK(!is_full_once && totals_of(store).retries == 1, "it was not tried again");
     relkvanu_store_close(store);
-    options.flags = RELKVANU_STORE_RECOVER;
-    store = opens(&options, RELKVANU_STORE_OK);
+    store = opens_as(&options, RELKVANU_STORE_RECOVER, RELKVANU_STORE_OK);
     CHECK(report.replayed == CALLS, "%" PRIu64 " calls", report.replayed);
     relkvanu_store_close(store);
 }

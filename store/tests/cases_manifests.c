@@ -184,8 +184,7 @@ CASE(a_lost_job) {
     relkvanu_store_close(store);
     CHECK(rename(in("x.db"), in("old.db")) == 0, "the old file");
     lose_job();
-    options.flags = RELKVANU_STORE_MANIFESTS;
-    opens(&options, RELKVANU_STORE_ABSENT);
+    opens_as(&options, RELKVANU_STORE_MANIFESTS, RELKVANU_STORE_ABSENT);
     options.flags |= RELKVANU_STORE_CREATE;
     opens(&options, RELKVANU_STORE_STORAGE);
     recovers("x.db", "storage", 0, RELKVANU_STORE_OK);
@@ -873,7 +872,7 @@ CASE(manifests_elsewhere) {
     check_status = RELKVANU_STORAGE_OK;
     relkvanu_store_close(store);
     CHECK(unlink(in("x.db")) == 0, "the job");
-    store = opens_with(storage_options(RELKVANU_STORE_CREATE, 0));
+    store = new_job();
     CHECK(keeps(store) == RELKVANU_STORE_BAD_ARGUMENT, "it has a folder");
     relkvanu_store_close(store);
 }

@@ -4,7 +4,7 @@
 #include <dirent.h>
 
 static relkvanu_store *named_job(void) {
-    return opens_with(storage_options(RELKVANU_STORE_CREATE, 0));
+    return new_job();
 }
 
 static void fenced(relkvanu_answer answer, uint32_t why, uint64_t file) {
@@ -111,10 +111,8 @@ CASE(by_an_earlier_image) {
     }
     relkvanu_store_close(store);
     run_sql(in("x.db"), "UPDATE image SET sum = sum + 1 WHERE place = (SELECT max(place) FROM image)");
-    options.flags = RELKVANU_STORE_RECOVER;
-    opens(&options, RELKVANU_STORE_DAMAGED);
-    options.flags = RELKVANU_STORE_EARLIER_IMAGE;
-    store = opens(&options, RELKVANU_STORE_OK);
+    opens_as(&options, RELKVANU_STORE_RECOVER, RELKVANU_STORE_DAMAGED);
+    store = opens_as(&options, RELKVANU_STORE_EARLIER_IMAGE, RELKVANU_STORE_OK);
     CHECK(report.replayed != 0 && report.image_place + report.replayed == 21 && report.term == 5 && report.next_name == 18,
         "term %" PRIu64 ", next name %" PRIu64, report.term, report.next_name);
     CHECK(reserved(store, 5, 1) == 18, "names are given once");
@@ -226,7 +224,7 @@ CASE(adopts) {
 
 /* A new job over a storage of the engine's own that has files, with numbers up to 300. */
 CASE(above_the_files_of_a_storage) {
-    relkvanu_store *store = opens_with(job_options(RELKVANU_STORE_CREATE, 0));
+    relkvanu_store *store = new_job_alone(0);
     relkvanu_store_call call;
     relkvanu_answer answer;
     uint64_t files[] = {250, 301}, garbage[2], others[2];

@@ -59,10 +59,6 @@ static relkvanu_storage storage_of(struct objects *objects) {
     return (relkvanu_storage){.with = objects, .check = check, .delete_files = delete_files, .list = list};
 }
 
-static relkvanu_store *opened(void) {
-    return opens_with(job_options(RELKVANU_STORE_CREATE, 0));
-}
-
 static size_t sweeps_as(relkvanu_store *store, const relkvanu_storage *storage, int status) {
     size_t left = 99;
     int got = relkvanu_store_sweep_storage(store, storage, &left);
@@ -74,7 +70,7 @@ static size_t sweeps_as(relkvanu_store *store, const relkvanu_storage *storage, 
 CASE(a_sweep_of_objects) {
     static struct objects objects;
     relkvanu_storage storage = storage_of(&objects);
-    relkvanu_store *store = opened();
+    relkvanu_store *store = new_job_alone(0);
     CHECK(reserved(store, 1, 3100) == 1, "names");
     checkpoint(store, 100);
     CHECK(sweeps_as(store, &storage, RELKVANU_STORE_OK) == 0, "a sweep of no object");
@@ -105,7 +101,7 @@ CASE(a_sweep_of_objects) {
 CASE(pages_that_are_too_large) {
     static struct objects objects;
     relkvanu_storage storage = storage_of(&objects);
-    relkvanu_store *store = opened();
+    relkvanu_store *store = new_job_alone(0);
     done(store, RELKVANU_CALL_RESTORE, RELKVANU_STORE_NOW, 0);
     for (uint64_t file = 100; file < 100 + RELKVANU_STORAGE_PAGE + 1; file++) {
         objects.is_there[file] = true;
@@ -119,7 +115,7 @@ CASE(storages_that_are_not_whole) {
     static struct objects objects;
     const relkvanu_storage good = storage_of(&objects);
     relkvanu_storage bad[] = {good, good, good, good};
-    relkvanu_store *store = opened();
+    relkvanu_store *store = new_job_alone(0);
     bad[0].check = NULL;
     bad[1].delete_files = NULL;
     bad[2].list = NULL;
@@ -164,7 +160,7 @@ static void set_fault(struct objects *objects, int fault) {
 CASE(a_discarder_of_objects) {
     static struct objects objects;
     relkvanu_storage storage = storage_of(&objects);
-    relkvanu_store *store = opened();
+    relkvanu_store *store = new_job_alone(0);
     struct discarding it = {.store = store, .storage = &storage};
     for (uint64_t file = 100; file < 100 + 4 * SUBTASKS; file++) {
         objects.is_there[file] = file != 103;
@@ -189,7 +185,7 @@ CASE(a_discarder_of_objects) {
 CASE(a_discarder_of_another_job) {
     static struct objects objects;
     relkvanu_storage storage = storage_of(&objects);
-    relkvanu_store *store = opened();
+    relkvanu_store *store = new_job_alone(0);
     checkpoint(store, 100);
     checkpoint(store, 200);
     objects.is_there[100] = true;
@@ -304,8 +300,7 @@ CASE(the_own_storage_discards) {
     CHECK(access(in("storage/101"), F_OK) != 0 && access(in("storage/201"), F_OK) == 0, "the files");
     CHECK(relkvanu_store_discard_storage(store, 0, NULL) == RELKVANU_STORE_STOPPED, "a discarder of its own");
     relkvanu_store_close(store);
-    options.flags = RELKVANU_STORE_RECOVER;
-    store = opens(&options, RELKVANU_STORE_OK);
+    store = opens_as(&options, RELKVANU_STORE_RECOVER, RELKVANU_STORE_OK);
     puts_file(store, 50, RELKVANU_STORE_OK);
     done(store, RELKVANU_CALL_RESTORE, RELKVANU_STORE_NOW, 0);
     CHECK(sweeps_as(store, NULL, RELKVANU_STORE_OK) == 0, "a sweep");

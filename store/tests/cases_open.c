@@ -43,10 +43,8 @@ CASE(needs_a_flag) {
     CHECK(!exists("x.db") && !exists("x.db.lock") && says("x.db"), "%s", report.message);
     close(open(in("x.db"), O_CREAT | O_WRONLY, 0600));
     opens(&options, RELKVANU_STORE_ABSENT);
-    options.flags = RELKVANU_STORE_CREATE;
-    relkvanu_store_close(opens(&options, RELKVANU_STORE_OK));
-    options.flags = RELKVANU_STORE_CREATE_ONLY;
-    opens(&options, RELKVANU_STORE_PRESENT);
+    relkvanu_store_close(opens_as(&options, RELKVANU_STORE_CREATE, RELKVANU_STORE_OK));
+    opens_as(&options, RELKVANU_STORE_CREATE_ONLY, RELKVANU_STORE_PRESENT);
     options.flags = 1u << 20 | RELKVANU_STORE_CREATE;
     opens_not(&options, RELKVANU_STORE_BAD_ARGUMENT, "flags has 0x100000, which is not known");
     options.flags = 16u | RELKVANU_STORE_CREATE;
@@ -146,7 +144,7 @@ CASE(checks_the_settings) {
 CASE(makes_private_files) {
     static const char *const names[] = {"x.db", "x.db-wal", "x.db-shm", "x.db.lock"};
     umask(0);
-    relkvanu_store *store = opens_with(job_options(RELKVANU_STORE_CREATE, 0));
+    relkvanu_store *store = new_job_alone(0);
     for (size_t i = 0; i < 4; i++) {
         struct stat is;
         CHECK(stat(in(names[i]), &is) == 0 && (is.st_mode & 0777) == 0600, "%s has the mode %o", names[i], is.st_mode & 0777);
@@ -197,7 +195,7 @@ static int reads_by_sqlite(void *with) {
 }
 
 CASE(one_at_a_time) {
-    relkvanu_store *store = opens_with(job_options(RELKVANU_STORE_CREATE, 0));
+    relkvanu_store *store = new_job_alone(0);
     CHECK(symlink("x.db", in("link")) == 0, "a link");
     check_refused("at first");
     open_elsewhere();
@@ -229,7 +227,7 @@ static int calls_in_child(void *with) {
 }
 
 CASE(a_forked_child) {
-    relkvanu_store *store = opens_with(job_options(RELKVANU_STORE_CREATE, RELKVANU_STORE_NO_IMAGES));
+    relkvanu_store *store = new_job_alone(RELKVANU_STORE_NO_IMAGES);
     checkpoint(store, 1);
     CHECK(in_child(calls_in_child, store) == RELKVANU_STORE_IN_USE, "a child");
     checkpoint(store, 100);
@@ -239,7 +237,7 @@ CASE(a_forked_child) {
 
 /* Opens the job, leaves a child that lives on, and ends without a close. */
 static int ends_with_child(void *with) {
-    relkvanu_store *store = opens_with(job_options(RELKVANU_STORE_CREATE, RELKVANU_STORE_NO_IMAGES));
+    relkvanu_store *store = new_job_alone(RELKVANU_STORE_NO_IMAGES);
     checkpoint(store, 1);
     if (fork() == 0) {
         pid_t own = getpid(); /* it has closed the locks by now */

@@ -13,7 +13,7 @@ CASE(submits) {
     static relkvanu_store_call calls[MANY];
     static bool is_seen[MANY];
     relkvanu_store_completion some[7];
-    relkvanu_store *store = opens_with(job_options(RELKVANU_STORE_CREATE, 0));
+    relkvanu_store *store = new_job_alone(0);
     CHECK(!is_readable(store, 0) && relkvanu_store_completed(store, some, 7) == 0, "a completion of nothing");
     CHECK(relkvanu_store_submit(store, calls, 1, 1) == RELKVANU_STORE_BAD_ARGUMENT && calls[0].answer.code == RELKVANU_STORE_NOT_MADE);
     CHECK(relkvanu_store_submit(store, calls, 0, 1) == RELKVANU_STORE_BAD_ARGUMENT, "no call");
@@ -127,8 +127,7 @@ CASE(submitted_commands) {
     CHECK(relkvanu_store_submit_stop_job(store, &call, 30) == RELKVANU_STORE_OK, "a stop");
     relkvanu_store_close(store); /* which waits for it */
     CHECK(call.answer.what == RELKVANU_SAVEPOINT_TRIGGERED && call.place != 0, "what %" PRIu32, call.answer.what);
-    options.flags = RELKVANU_STORE_RECOVER;
-    store = opens(&options, RELKVANU_STORE_OK);
+    store = opens_as(&options, RELKVANU_STORE_RECOVER, RELKVANU_STORE_OK);
     CHECK(report.phase == RELKVANU_STORE_PHASE_STOPPING && report.savepoint == call.answer.a, "phase %" PRIu32, report.phase);
     relkvanu_store_close(store);
 }
@@ -174,8 +173,7 @@ CASE(callers_and_readers) {
     relkvanu_store_counts counts = totals_of(store);
     CHECK(counts.calls == CALLERS * ROUNDS * 3 && counts.images > 1, "%" PRIu64 " calls", counts.calls);
     relkvanu_store_close(store);
-    options.flags = RELKVANU_STORE_RECOVER;
-    store = opens(&options, RELKVANU_STORE_OK);
+    store = opens_as(&options, RELKVANU_STORE_RECOVER, RELKVANU_STORE_OK);
     CHECK(report.image_place == CALLERS * ROUNDS * 3, "%" PRIu64, report.image_place);
     relkvanu_store_close(store);
 }
@@ -193,7 +191,7 @@ static void *awaits(void *with) {
 
 /* A commit wakes a timer that waits for an expiry, and a stop ends it. */
 CASE(a_woken_timer) {
-    relkvanu_store *store = opens_with(job_options(RELKVANU_STORE_CREATE, 0));
+    relkvanu_store *store = new_job_alone(0);
     struct caller timer = {.store = store};
     timer.thread = starts(awaits, &timer);
     usleep(100000);

@@ -9,8 +9,7 @@ CASE(a_folder_with_files) {
     options.flags |= RELKVANU_STORE_ADOPT;
     relkvanu_store_close(opens(&options, RELKVANU_STORE_OK));
     CHECK(exists("storage/17") && exists("storage/.relkvanu-job"), "the folder");
-    options.flags = RELKVANU_STORE_RECOVER;
-    relkvanu_store_close(opens(&options, RELKVANU_STORE_OK));
+    relkvanu_store_close(opens_as(&options, RELKVANU_STORE_RECOVER, RELKVANU_STORE_OK));
 }
 
 CASE(not_mounted) {
@@ -162,11 +161,11 @@ CASE(a_marker_that_is_a_link) {
 
 /* Earlier versions wrote the first line alone. */
 CASE(a_marker_without_an_epoch) {
-    relkvanu_store_close(opens_with(storage_options(RELKVANU_STORE_CREATE, 0)));
+    relkvanu_store_close(new_job());
     FILE *marker = fopen(in("storage/.relkvanu-job"), "w");
     CHECK(marker != NULL && fprintf(marker, "relkvanu job %016" PRIx64 "%016" PRIx64 "\n", report.job[0], report.job[1]) > 0 &&
           fclose(marker) == 0);
-    relkvanu_store_close(opens_with(storage_options(RELKVANU_STORE_CREATE, 0)));
+    relkvanu_store_close(new_job());
     CHECK(report.epoch == 2, "epoch %" PRIu64, report.epoch);
 }
 
@@ -181,7 +180,7 @@ static int opens_task(const char *folder, const uint64_t job[2], uint64_t epoch)
 
 /* A task in another process puts files into the store's folder until another opening has it, or the marker is away. */
 CASE(a_task_of_another_process) {
-    relkvanu_store *store = opens_with(storage_options(RELKVANU_STORE_CREATE, 0));
+    relkvanu_store *store = new_job();
     uint64_t other[2] = {report.job[0], report.job[1] + 1}, epoch = report.epoch, len = 0;
     char read[8] = "";
     relkvanu_storage task;
@@ -201,7 +200,7 @@ CASE(a_task_of_another_process) {
     CHECK(rename(in("storage/.relkvanu-job"), in("marker")) == 0 && task.put(task.with, 10, "a", 1) == RELKVANU_STORAGE_NOT_THERE, "away");
     CHECK(rename(in("marker"), in("storage/.relkvanu-job")) == 0 && task.put(task.with, 10, "a", 1) == RELKVANU_STORAGE_OK, "back");
     relkvanu_store_close(store);
-    store = opens_with(storage_options(RELKVANU_STORE_CREATE, 0));
+    store = new_job();
     CHECK(task.put(task.with, 11, "a", 1) == RELKVANU_STORAGE_OTHER_JOB && !exists("storage/11") && !exists("storage/11.part"));
     CHECK(task.check(task.with) == RELKVANU_STORAGE_OTHER_JOB, "a later opening");
     relkvanu_storage_close_task(&task);
