@@ -91,6 +91,12 @@ void write_text(const char *name, const char *text) {
     CHECK(to != NULL && fputs(text, to) >= 0 && fclose(to) == 0, "%s", name);
 }
 
+void copy_file(const char *from, const char *to) {
+    char command[2 * PATHS + 8];
+    snprintf(command, sizeof command, "cp '%s' '%s'", in(from), in(to));
+    CHECK(system(command) == 0, "%s", command);
+}
+
 const char *stored(uint64_t file) {
     static _Thread_local char names[4][40];
     static _Thread_local unsigned next;

@@ -29,6 +29,7 @@ relkvanu_store *new_job_alone(uint64_t image_calls);
 bool exists(const char *name);     /* in the folder of the case */
 void make_empty(const char *name); /* a file, which is not there yet */
 void write_text(const char *name, const char *text);
+void copy_file(const char *from, const char *to);
 const char *stored(uint64_t file); /* storage/FILE, as long */
 void lose_job(void);               /* removes x.db and what SQLite has beside it */
 void lose_job_of(relkvanu_store *store);

@@ -1,10 +1,9 @@
-/* What comes alone, late or from elsewhere: a completion, a kill after an opening, a log with other files, a time. */
+/* What comes alone or late: a completion, a kill after an opening, a sweep that fails, a time. */
 #include "cases.h"
 
 #include <poll.h>
 #include <sys/syscall.h>
 #include <time.h>
-#include <zlib.h>
 
 /* Who waits by the descriptor alone is told of one completion, too. */
 CASE(lone_completion) {
@@ -143,70 +142,4 @@ CASE(long_marker_names) {
         CHECK(got == wanted, "%zu bytes: status %d", len, got);
         relkvanu_storage_close_folder(&storage);
     }
-}
-
-enum { TAKEN = 2 * SUBTASKS };
-
-/* The last row of a log, with its numbers as the checksum has them, and the checksum of the row before it. */
-struct row {
-    uint64_t numbers[4], files[TAKEN];
-    char line[LINE];
-    uLong before;
-};
-
-static void read_last(sqlite3 *db, struct row *row) {
-    sqlite3_stmt *it;
-    const char *sql = "SELECT place, what, a, b, line, files, (SELECT chain FROM log AS l WHERE l.place = log.place - 1) FROM log"
-                      " ORDER BY place DESC LIMIT 1";
-    CHECK(sqlite3_prepare_v2(db, sql, -1, &it, NULL) == SQLITE_OK && sqlite3_step(it) == SQLITE_ROW, "%s", sqlite3_errmsg(db));
-    CHECK(sqlite3_column_bytes(it, 5) == sizeof row->files, "%d bytes of files", sqlite3_column_bytes(it, 5));
-    for (int i = 0; i < 4; i++) {
-        row->numbers[i] = (uint64_t)sqlite3_column_int64(it, i);
-    }
-    snprintf(row->line, sizeof row->line, "%s", (const char *)sqlite3_column_text(it, 4));
-    memcpy(row->files, sqlite3_column_blob(it, 5), sizeof row->files);
-    row->before = (uLong)sqlite3_column_int64(it, 6);
-    sqlite3_finalize(it);
-}
-
-static void write_files(sqlite3 *db, const struct row *row) {
-    sqlite3_stmt *it;
-    uLong sum = crc32(row->before, (const Bytef *)row->numbers, sizeof row->numbers);
-    sum = crc32(sum, (const Bytef *)row->line, (uInt)strlen(row->line));
-    sum = crc32(sum, (const Bytef *)row->files, sizeof row->files);
-    CHECK(sqlite3_prepare_v2(db, "UPDATE log SET files = ?1, chain = ?2 WHERE place = ?3", -1, &it, NULL) == SQLITE_OK, "%s",
-        sqlite3_errmsg(db));
-    sqlite3_bind_blob(it, 1, row->files, sizeof row->files, SQLITE_STATIC);
-    sqlite3_bind_int64(it, 2, (sqlite3_int64)sum);
-    sqlite3_bind_int64(it, 3, (sqlite3_int64)row->numbers[0]);
-    CHECK(sqlite3_step(it) == SQLITE_DONE, "%s", sqlite3_errmsg(db));
-    sqlite3_finalize(it);
-}
-
-/* Changes the last row's files by so much, with the right checksum. */
-static void change_taken(uint64_t by) {
-    sqlite3 *db;
-    struct row row;
-    CHECK(sqlite3_open(in("x.db"), &db) == SQLITE_OK, "no file");
-    read_last(db, &row);
-    row.files[3] += by;
-    write_files(db, &row);
-    sqlite3_close(db);
-}
-
-/* A log that says that other files were taken ends the recovery, and the same row with its own files does not. */
-CASE(other_files_taken) {
-    relkvanu_store_options options = storage_options(RELKVANU_STORE_CREATE, RELKVANU_STORE_NO_IMAGES);
-    relkvanu_store *store = opens(&options, RELKVANU_STORE_OK);
-    uint64_t files[TAKEN];
-    relkvanu_store_call take = {.call = {.kind = RELKVANU_CALL_TAKE, .number = TAKEN}, .files = files, .files_len = TAKEN};
-    checkpoint(store, 1);
-    checkpoint(store, 101);
-    CHECK(relkvanu_store_calls(store, &take, 1) == RELKVANU_STORE_OK && take.answer.a == TAKEN, "%" PRIu64 " are taken", take.answer.a);
-    relkvanu_store_close(store);
-    options.flags = RELKVANU_STORE_RECOVER;
-    change_taken(1000);
-    opens(&options, RELKVANU_STORE_DIFFERS);
-    change_taken((uint64_t)-1000);
-    relkvanu_store_close(opens(&options, RELKVANU_STORE_OK));
 }

@@ -3,7 +3,7 @@
 
 #include "../src/store.h"
 
-enum { CALLS = 2 * CHECKPOINT_CALLS, LAST = CALLS - 1, LEFT = 45, IMAGE_CALLS = 10 };
+enum { CALLS = 2 * CHECKPOINT_CALLS, LAST = CALLS - 1, LEFT = 45, OF_A_TERM = 15, IMAGE_CALLS = 10 };
 
 /* A job whose log has 20 calls, two checkpoints; closed. */
 static void make_job(uint64_t image_calls) {
@@ -50,21 +50,50 @@ CASE(other_files) {
     CHECK(relkvanu_store_open(&store, in("folder"), &options, &report) == RELKVANU_STORE_FAILED && store == NULL, "a folder");
 }
 
-/* Replaces the last call of the log, with a checksum that fits. */
-static void replace_last(const char *line, uint32_t what, uint64_t a, uint64_t b) {
-    char sql[600];
-    sqlite3 *db;
+/* Replaces a call of the log, and the files that a take fetched, with a checksum that fits. */
+static void replace_row(uint64_t place, const char *line, relkvanu_answer answer, const uint64_t *files) {
+    sqlite3 *db = open_file(in("x.db"));
     sqlite3_stmt *it;
-    CHECK(sqlite3_open(in("x.db"), &db) == SQLITE_OK &&
-          sqlite3_prepare_v2(db, "SELECT chain FROM log WHERE place = 19", -1, &it, NULL) == SQLITE_OK && sqlite3_step(it) == SQLITE_ROW);
-    struct rks_row row = {{(const uint8_t *)line, strlen(line)}, {.what = what, .a = a, .b = b}, NULL, CALLS, 0};
-    uint32_t chain = rks_chain((uint32_t)sqlite3_column_int64(it, 0), &row);
+    int code = sqlite3_prepare_v2(db, "SELECT chain FROM log WHERE place = ?1 - 1", -1, &it, NULL);
+    CHECK(code == SQLITE_OK && sqlite3_bind_int64(it, 1, (sqlite3_int64)place) == SQLITE_OK && sqlite3_step(it) == SQLITE_ROW,
+        "no call before");
+    uint32_t before = (uint32_t)sqlite3_column_int64(it, 0);
+    sqlite3_finalize(it);
+    struct rks_row row = {{(const uint8_t *)line, strlen(line)}, answer, files, place, 0};
+    const sqlite3_int64 numbers[] = {
+        (sqlite3_int64)place, answer.what, (sqlite3_int64)answer.a, (sqlite3_int64)answer.b, rks_chain(before, &row)};
+    static const char sql[] = "UPDATE log SET what = ?2, a = ?3, b = ?4, chain = ?5, line = ?6, files = ?7 WHERE place = ?1";
+    CHECK(sqlite3_prepare_v2(db, sql, -1, &it, NULL) == SQLITE_OK, "%s", sqlite3_errmsg(db));
+    for (int i = 0; i < 5; i++) {
+        sqlite3_bind_int64(it, i + 1, numbers[i]);
+    }
+    sqlite3_bind_text(it, 6, line, -1, SQLITE_STATIC);
+    sqlite3_bind_blob(it, 7, files, files == NULL ? 0 : (int)(answer.a * sizeof *files), SQLITE_STATIC);
+    CHECK(sqlite3_step(it) == SQLITE_DONE, "%s", sqlite3_errmsg(db));
     sqlite3_finalize(it);
     sqlite3_close(db);
-    snprintf(sql, sizeof sql,
-        "UPDATE log SET line='%s', what=%" PRIu32 ", a=%" PRIu64 ", b=%" PRIu64 ", chain=%" PRIu32 " WHERE place = 20", line, what, a, b,
-        chain);
-    run_sql(in("x.db"), sql);
+}
+
+static void replace_last(const char *line, uint32_t what, uint64_t a, uint64_t b) {
+    replace_row(CALLS, line, (relkvanu_answer){RELKVANU_DONE, what, a, b}, NULL);
+}
+
+/* A log that says that other files were taken ends the recovery, and the same row with its own files does not. */
+CASE(other_files_taken) {
+    uint64_t files[2 * SUBTASKS];
+    relkvanu_store_call take = {.call = {.kind = RELKVANU_CALL_TAKE, .number = 2 * SUBTASKS}, .files = files, .files_len = 2 * SUBTASKS};
+    relkvanu_store_options options = job_options(RELKVANU_STORE_RECOVER, RELKVANU_STORE_NO_IMAGES);
+    make_job(RELKVANU_STORE_NO_IMAGES);
+    relkvanu_store *store = opens(&options, RELKVANU_STORE_OK);
+    CHECK(relkvanu_store_calls(store, &take, 1) == RELKVANU_STORE_OK && take.answer.a == 2 * SUBTASKS, "%" PRIu64 " are taken",
+        take.answer.a);
+    relkvanu_store_close(store);
+    files[3] += 1000;
+    replace_row(CALLS + 1, "take 16", take.answer, files);
+    opens(&options, RELKVANU_STORE_DIFFERS);
+    files[3] -= 1000;
+    replace_row(CALLS + 1, "take 16", take.answer, files);
+    relkvanu_store_close(opens(&options, RELKVANU_STORE_OK));
 }
 
 CASE(other_answers) {
@@ -151,12 +180,15 @@ CASE(an_earlier_image) {
     relkvanu_store_close(store);
 }
 
-/* Reserves names one by one, with an image after each tenth call or so, and ends without a close. */
+/* Reserves names one by one in three terms, with an image after each tenth call or so, and ends without a close. */
 static int leave_open(void *with) {
     relkvanu_store *store = new_job_alone(IMAGE_CALLS);
     (void)with;
     for (uint64_t name = 1; name <= LEFT; name++) {
-        CHECK(reserved(store, 1, 1) == name, "name %" PRIu64, name);
+        CHECK(reserved(store, term_of(store), 1) == name, "name %" PRIu64, name);
+        if (name % OF_A_TERM == 0) {
+            done(store, RELKVANU_CALL_RESTORE, RELKVANU_STORE_NOW, 0);
+        }
     }
     return 0;
 }
@@ -166,9 +198,10 @@ CASE(log_behind_both_images) {
     CHECK(in_child(leave_open, NULL) == 0, "the job");
     run_sql(in("x.db"), "UPDATE image SET sum = sum + 1 WHERE place = (SELECT max(place) FROM image)");
     relkvanu_store *store = opens_with(job_options(RELKVANU_STORE_EARLIER_IMAGE, IMAGE_CALLS));
-    CHECK(report.image_place != 0 && report.image_place + report.replayed == LEFT, "%" PRIu64 ", %" PRIu64, report.image_place,
-        report.replayed);
-    CHECK(report.replayed > IMAGE_CALLS && report.next_name == LEFT + 1, "%" PRIu64 ", %" PRIu64, report.replayed, report.next_name);
+    uint64_t calls = report.image_place + report.replayed;
+    CHECK(report.image_place != 0 && report.replayed > IMAGE_CALLS && calls == LEFT + LEFT / OF_A_TERM, "%" PRIu64 " calls", calls);
+    CHECK(report.next_name == LEFT + 1 && report.term == 1 + LEFT / OF_A_TERM, "next name %" PRIu64, report.next_name);
+    CHECK(reserved(store, report.term, 1) == LEFT + 1, "names are given once");
     relkvanu_store_close(store);
 }
 
@@ -221,54 +254,6 @@ CASE(large_images) {
     relkvanu_store_close(new_job_alone(IMAGE_CALLS));
 }
 
-static void copy_file(const char *from, const char *to, long flip) {
-    static char bytes[1 << 20];
-    FILE *it = fopen(from, "rb");
-    CHECK(it != NULL, "%s", from);
-    size_t len = fread(bytes, 1, sizeof bytes, it);
-    fclose(it);
-    if (flip >= 0 && (size_t)flip < len) {
-        bytes[flip] = (char)(bytes[flip] ^ 0x10);
-    }
-    it = fopen(to, "wb");
-    CHECK(it != NULL && fwrite(bytes, 1, len, it) == len, "%s", to);
-    fclose(it);
-}
-
-/* A bit anywhere in the file either does not matter, or an opening stops. */
-CASE(any_damaged_byte) {
-    relkvanu_store_options options = job_options(RELKVANU_STORE_RECOVER, RELKVANU_STORE_NO_IMAGES);
-    unsigned opened = 0, stopped = 0;
-    struct shadow shadow;
-    struct stat is;
-    size_t len;
-    make_job(RELKVANU_STORE_NO_IMAGES);
-    CHECK(stat(in("x.db"), &is) == 0, "x.db");
-    shadow_open(&shadow, &options);
-    struct told *rows = log_rows(in("x.db"), 0, &len);
-    for (size_t i = 0; i < len; i++) {
-        shadow_make(&shadow, &rows[i]);
-    }
-    free(rows);
-    CHECK(rename(in("x.db"), in("whole")) == 0, "whole");
-    for (long at = 0; at < is.st_size; at += 131) {
-        relkvanu_store *store;
-        unlink(in("x.db-wal"));
-        copy_file(in("whole"), in("x.db"), at);
-        int status = relkvanu_store_open(&store, in("x.db"), &options, &report);
-        if (status == RELKVANU_STORE_OK) {
-            CHECK(shadow_equals(&shadow, store), "another state after a change of byte %ld", at);
-        } else {
-            CHECK(report.message[0] != 0, "status %d, no message", status);
-        }
-        opened += status == RELKVANU_STORE_OK;
-        stopped += status != RELKVANU_STORE_OK;
-        relkvanu_store_close(store);
-    }
-    relkvanu_close(&shadow.handle);
-    CHECK(opened > 50 && stopped > 5, "%u openings, %u refusals", opened, stopped);
-}
-
 /* Somebody replaces or deletes a file while the store is open. */
 CASE(replaced_files) {
     static const char *const names[] = {"x.db", "x.db-wal"};
@@ -277,7 +262,7 @@ CASE(replaced_files) {
         relkvanu_store *store = opens(&options, RELKVANU_STORE_OK);
         char words[512];
         CHECK(rename(in(names[i]), in("away")) == 0, "%s", names[i]);
-        copy_file(in("away"), in(names[i]), -1);
+        copy_file("away", names[i]);
         relkvanu_store_call call = {.call = {.kind = RELKVANU_CALL_SAVEPOINT, .now = 5}};
         CHECK(
             relkvanu_store_calls(store, &call, 1) == RELKVANU_STORE_FAILED && call.answer.code == RELKVANU_STORE_NOT_MADE, "%s", names[i]);

@@ -1,18 +1,6 @@
 /* State files by their numbers: put, deleted and swept. */
 #include "cases.h"
 
-CASE(put_and_read) {
-    relkvanu_store *store = new_job();
-    char found[16] = "";
-    CHECK(
-        relkvanu_store_put(store, UINT64_MAX, "state", 5) == RELKVANU_STORE_OK && relkvanu_store_put(store, 0, "", 0) == RELKVANU_STORE_OK);
-    int file = openat(relkvanu_store_folder(store), "18446744073709551615", O_RDONLY);
-    CHECK(read(file, found, sizeof found) == 5 && memcmp(found, "state", 5) == 0, "%s", found);
-    close(file);
-    CHECK(exists("storage/0") && !exists("storage/0.part"), "the folder");
-    relkvanu_store_close(store);
-}
-
 CASE(a_number_is_put_once) {
     relkvanu_store *store = new_job();
     struct stat found;
@@ -23,19 +11,6 @@ CASE(a_number_is_put_once) {
     CHECK(relkvanu_store_put(store, 8, "state", 5) == RELKVANU_STORE_PRESENT && exists("storage/8.part") && !exists("storage/8"), "a part");
     CHECK(symlink(in("elsewhere"), in("storage/9.part")) == 0, "a link");
     CHECK(relkvanu_store_put(store, 9, "state", 5) == RELKVANU_STORE_PRESENT && !exists("elsewhere"), "a link that is followed");
-    relkvanu_store_close(store);
-}
-
-/* A file of more than 1000 bytes can't be written. */
-CASE(one_that_can_not_be_written) {
-    relkvanu_store *store = new_job();
-    static char contents[2000];
-    limit_files(1000);
-    int status = relkvanu_store_put(store, 7, contents, sizeof contents), error = errno;
-    limit_files(0);
-    CHECK(status == RELKVANU_STORE_NOT_PUT && error == EFBIG, "status %d, errno %d", status, error);
-    CHECK(!exists("storage/7") && !exists("storage/7.part"), "a file is left");
-    CHECK(relkvanu_store_put(store, 7, contents, sizeof contents) == RELKVANU_STORE_OK, "the same number once more");
     relkvanu_store_close(store);
 }
 
@@ -55,19 +30,6 @@ CASE(puts_without_storage) {
     is_swept(store, RELKVANU_STORE_BAD_ARGUMENT, 0);
     relkvanu_store_delete_files(store, &file, 1, &is_gone);
     CHECK(is_gone == 0, "deleted");
-    relkvanu_store_close(store);
-}
-
-CASE(deletes) {
-    relkvanu_store *store = new_job();
-    uint64_t files[] = {1, 2, 3, 4};
-    uint8_t is_gone[4] = {0};
-    make_empty("storage/1");
-    make_empty("storage/2.part");
-    CHECK(mkdir(in("storage/3"), 0700) == 0, "a folder");
-    relkvanu_store_delete_files(store, files, 4, is_gone);
-    CHECK(is_gone[0] && is_gone[1] && !is_gone[2] && is_gone[3], "%d %d %d %d", is_gone[0], is_gone[1], is_gone[2], is_gone[3]);
-    CHECK(!exists("storage/1") && !exists("storage/2.part") && exists("storage/3"), "the folder");
     relkvanu_store_close(store);
 }
 

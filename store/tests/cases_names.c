@@ -71,54 +71,6 @@ CASE(terms_and_names) {
     relkvanu_store_close(store);
 }
 
-/* A process that is killed after its answers: all of them are there, by the log alone and by an image. */
-static int reserves_and_is_killed(void *with) {
-    relkvanu_store *store = opens_with(storage_options(RELKVANU_STORE_CREATE, *(uint64_t *)with));
-    uint64_t term = report.term;
-    for (int i = 0; i < 5; i++) {
-        reserved(store, term, 7);
-        term = made(store, (relkvanu_call){.kind = RELKVANU_CALL_RESTORE, .now = RELKVANU_STORE_NOW}).term;
-    }
-    uint64_t last = reserved(store, term, 7);
-    return (int)(last * 10 + term); /* no close */
-}
-
-CASE(reserved_and_killed) {
-    for (uint64_t images = 3; images <= 1000; images += 997) {
-        uint64_t told = (uint64_t)in_child(reserves_and_is_killed, &images);
-        CHECK(told == 36 * 10 % 256 + 6, "%" PRIu64, told);
-        relkvanu_store_options options = storage_options(RELKVANU_STORE_RECOVER, 0);
-        relkvanu_store *store = opens(&options, RELKVANU_STORE_OK);
-        CHECK(report.term == 6 && report.next_name == 43, "term %" PRIu64 ", next name %" PRIu64, report.term, report.next_name);
-        CHECK(reserved(store, 6, 1) == 43, "names are given once");
-        relkvanu_store_close(store);
-        unlink(in("x.db"));
-        unlink(in("x.db-wal"));
-        unlink(in("storage/.relkvanu-job"));
-    }
-}
-
-/* The last image is damaged: by the one before it and the log the names are those of the last call. */
-CASE(by_an_earlier_image) {
-    relkvanu_store_options options = storage_options(RELKVANU_STORE_CREATE, 5);
-    relkvanu_store *store = opens(&options, RELKVANU_STORE_OK);
-    uint64_t term = 1;
-    for (uint64_t i = 1; i <= 17; i++) {
-        CHECK(reserved(store, term, 1) == i, "name %" PRIu64, i);
-        if (i % 4 == 0) {
-            term = made(store, (relkvanu_call){.kind = RELKVANU_CALL_RESTORE, .now = RELKVANU_STORE_NOW}).term;
-        }
-    }
-    relkvanu_store_close(store);
-    run_sql(in("x.db"), "UPDATE image SET sum = sum + 1 WHERE place = (SELECT max(place) FROM image)");
-    opens_as(&options, RELKVANU_STORE_RECOVER, RELKVANU_STORE_DAMAGED);
-    store = opens_as(&options, RELKVANU_STORE_EARLIER_IMAGE, RELKVANU_STORE_OK);
-    CHECK(report.replayed != 0 && report.image_place + report.replayed == 21 && report.term == 5 && report.next_name == 18,
-        "term %" PRIu64 ", next name %" PRIu64, report.term, report.next_name);
-    CHECK(reserved(store, 5, 1) == 18, "names are given once");
-    relkvanu_store_close(store);
-}
-
 CASE(forfeits) {
     relkvanu_store *store = named_job();
     relkvanu_answer answer;

@@ -78,12 +78,6 @@ CASE(before_the_marker) {
     relkvanu_store_close(opens(&options, RELKVANU_STORE_OK));
 }
 
-static void copy_file(const char *from, const char *to) {
-    char command[2 * PATHS + 8];
-    snprintf(command, sizeof command, "cp '%s' '%s'", in(from), in(to));
-    CHECK(system(command) == 0, "%s", command);
-}
-
 /* A sweep of an older copy would delete the files of the calls that it lacks. */
 CASE(an_older_copy) {
     relkvanu_store_options options = storage_options(RELKVANU_STORE_CREATE, 0);
