@@ -136,27 +136,6 @@ static void choices(const std::string &path) {
     CHECK(why(job.savepoint(base, std::uint64_t{1} << 61)) == ckpt::error::moment_too_large && std::holds_alternative<ckpt::fresh>(base));
 }
 
-static void submits(const std::string &path) {
-    ckpt::Store job = opened(path + "3", RELKVANU_STORE_CREATE);
-    relkvanu_store_call list[20] = {};
-    std::set<std::uint64_t> tokens;
-    for (std::uint64_t i = 0; i < 20; i++) {
-        list[i].call.kind = RELKVANU_CALL_SAVEPOINT;
-        list[i].call.now = RELKVANU_STORE_NOW;
-        CHECK(!job.submit(ckpt::span<relkvanu_store_call>(&list[i], 1), i));
-    }
-    while (tokens.size() < 20) {
-        pollfd it = {job.descriptor(), POLLIN, 0};
-        CHECK(poll(&it, 1, 60000) == 1);
-        relkvanu_store_completion some[3];
-        std::size_t len = job.completed(some);
-        for (std::size_t i = 0; i < len; i++) {
-            CHECK(some[i].status == RELKVANU_STORE_OK && tokens.insert(some[i].token).second);
-        }
-    }
-    CHECK(list[19].answer.what == RELKVANU_SAVEPOINT_TRIGGERED && list[19].place == 20);
-}
-
 /* Waits for one completion, and returns its status. */
 static int completion(ckpt::Store &job, std::uint64_t token) {
     pollfd it = {job.descriptor(), POLLIN, 0};
@@ -166,9 +145,13 @@ static int completion(ckpt::Store &job, std::uint64_t token) {
     return one[0].status;
 }
 
-static void submitted_commands(const std::string &path) {
+static void submits(const std::string &path) {
     ckpt::Store job = opened(path + "7", RELKVANU_STORE_CREATE);
-    relkvanu_store_call call = {};
+    relkvanu_store_call call = {}, list[2] = {};
+    list[0].call.kind = list[1].call.kind = RELKVANU_CALL_SAVEPOINT;
+    list[0].call.now = list[1].call.now = RELKVANU_STORE_NOW;
+    CHECK(!job.submit(list, 9) && completion(job, 9) == RELKVANU_STORE_OK);
+    CHECK(list[1].answer.what == RELKVANU_SAVEPOINT_TRIGGERED && list[1].place == 2);
     CHECK(!job.submit_begin_job(call, 1) && completion(job, 1) == RELKVANU_STORE_NOT_NOW);
     CHECK(!job.submit_stop_job(call, 2) && completion(job, 2) == RELKVANU_STORE_OK && call.answer.what == RELKVANU_SAVEPOINT_TRIGGERED);
     acknowledge(job, call.answer.a, 1);
@@ -484,7 +467,6 @@ int main(int argc, char **argv) {
     recovery(path);
     choices(path + "12");
     submits(path);
-    submitted_commands(path);
     discarder(path);
     files(path);
     puts(path);
