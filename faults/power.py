@@ -444,6 +444,16 @@ def write_tree(left: Tree, root: "str | pathlib.Path") -> pathlib.Path:
     return root
 
 
+def lose(journal: "str | pathlib.Path", root: "str | pathlib.Path", start: Optional[Tree], loss: Loss, chance: random.Random) -> Lost:
+    """Power is lost at the end of a journal: the folder has what is left."""
+    pathlib.Path(journal).touch()
+    it = Journal.read(journal, root, start)
+    (lost,) = it.losses([(len(it.records), loss)], chance)
+    shutil.rmtree(root)
+    write_tree(lost.tree, root)
+    return lost
+
+
 Points = Sequence[Tuple[int, Loss]]
 Ignored = Callable[[str], bool]
 

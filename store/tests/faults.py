@@ -29,7 +29,7 @@ import tempfile
 import time
 
 sys.path.insert(0, str(pathlib.Path(__file__).resolve().parent.parent.parent / "faults"))
-from power import Journal, Loss, read_tree, settle, write_tree
+from power import Journal, Loss, lose, read_tree, settle, write_tree
 
 LISTS = 14  # of the scenario
 LONGEST = 900  # seconds of a process, on a busy machine
@@ -79,30 +79,28 @@ class Run:
         more = {f"STORE_{name.upper()}": str(value) for name, value in what.items()}
         return {**os.environ, "LD_PRELOAD": str(self.bin / "shim.so"), "STORE_IN": str(self.folder), **more}
 
-    def scenario(self, lists=LISTS, images=20, **what):
+    def runs(self, program, *words, **what):
         """Returns the exit status and what it printed."""
-        command = [self.bin / "scenario", self.folder, self.told, str(lists), str(images), self.mode]
-        ran = subprocess.run(command, env=self.environment(**what), stdout=subprocess.PIPE, stderr=subprocess.STDOUT, text=True, timeout=LONGEST)
+        command, env = [self.bin / program, self.folder, *map(str, words)], self.environment(**what) if what else None
+        ran = subprocess.run(command, env=env, stdout=subprocess.PIPE, stderr=subprocess.STDOUT, text=True, timeout=LONGEST)
         assert ran.returncode in (0, -signal.SIGKILL), ran.stdout
         return ran.returncode, ran.stdout
 
+    def scenario(self, lists=LISTS, images=20, **what):
+        return self.runs("scenario", self.told, lists, images, self.mode, **what)
+
     def saves(self, **what):
         """Makes calls, a backup, and calls again. Returns the exit status, the statuses of the backup and of the last calls, and its error."""
-        command = [self.bin / "saves", self.folder, self.told, self.later, self.backup]
-        ran = subprocess.run(command, env=self.environment(**what), stdout=subprocess.PIPE, stderr=subprocess.STDOUT, text=True, timeout=LONGEST)
-        assert ran.returncode in (0, -signal.SIGKILL), ran.stdout
-        return (ran.returncode, *(map(int, ran.stdout.split()[:3]) if ran.returncode == 0 else (None, None, None)))
+        status, told = self.runs("saves", self.told, self.later, self.backup, **what)
+        return (status, *(map(int, told.split()[:3]) if status == 0 else (None, None, None)))
 
     def command(self, verb, **what):
         """Makes a command of an operator. Returns the exit status, and whether it was answered."""
-        ran = subprocess.run([self.bin / "commands", self.folder, verb], env=self.environment(**what), stdout=subprocess.PIPE, stderr=subprocess.STDOUT, text=True, timeout=LONGEST)
-        assert ran.returncode in (0, -signal.SIGKILL), ran.stdout
-        return ran.returncode, ran.stdout == "made\n"
+        status, told = self.runs("commands", verb, **what)
+        return status, told == "made\n"
 
     def state(self):
-        ran = subprocess.run([self.bin / "commands", self.folder, "state"], stdout=subprocess.PIPE, stderr=subprocess.STDOUT, text=True, timeout=LONGEST)
-        assert ran.returncode == 0, ran.stdout
-        return ran.stdout
+        return self.runs("commands", "state")[1]
 
     def verify_backup(self, work):
         """Looks at the backup as at a job: it has the calls that were told before it was made, and no others."""
@@ -127,19 +125,12 @@ class Run:
         assert process.returncode == -signal.SIGKILL, told
 
     def verify(self, most, what=None):
-        command = [self.bin / "verify", self.folder, self.told, str(most), *([what] if what else [])]
-        ran = subprocess.run(command, stdout=subprocess.PIPE, stderr=subprocess.STDOUT, text=True, timeout=LONGEST)
-        assert ran.returncode == 0, ran.stdout
-        words = ran.stdout.split()
+        words = self.runs("verify", self.told, most, *([what] if what else []))[1].split()
         return int(words[0]), words[-1] == "whole"
 
     def lose_power(self, loss, chance):
         """Returns whether that took anything."""
-        self.journal.touch()
-        journal = Journal.read(self.journal, self.folder, self.on_disk)
-        (lost,) = journal.losses([(len(journal.records), loss)], chance)
-        shutil.rmtree(self.folder)
-        write_tree(lost.tree, self.folder)
+        lost = lose(self.journal, self.folder, self.on_disk, loss, chance)
         self.keep()
         return lost.has_effect
 
@@ -188,41 +179,37 @@ class Tests:
         self.losses += 1
         self.lost += run.lose_power(loss, chance)
 
-    def at(self, base, number, what):
-        """One fault. Returns whether it was reached."""
-        words = "-".join(getattr(it, "name", str(it)) for it in what.values())
-        folder = self.work / f"{base.work.name}-{words}-{number}"
-        run = base.copy(folder)
+    def after(self, base, number, what, makes):
+        """A copy of the job after one fault in what it makes, the words of the fault, and what that returned."""
+        run = base.copy(self.folder())
         given = {name: value if value != "N" else number for name, value in what.items()}
         loss = given.pop("loss", None)
-        status, told = run.scenario(**given, **({"journal": run.journal} if loss else {}))
+        found = makes(run, **given, **({"journal": run.journal} if loss else {}))
         if loss:
             self.lose_power(run, loss, random.Random(number))
+        return run, given, found
+
+    def at(self, base, number, what):
+        """One fault. Returns whether it was reached."""
+        run, _, (status, told) = self.after(base, number, what, Run.scenario)
         run.verify(5, files_of(run.mode))
         if self.rounds > 1 or run.mode != "calls" or number % 5 == 1:  # the job goes on
             again, words = run.scenario(lists=3)
             assert again == 0 and words.startswith("calls 0"), words
             run.verify(5, files_of(run.mode))
-        shutil.rmtree(folder)
+        shutil.rmtree(run.work)
         return status != 0 or not told.startswith("calls 0")
 
     def backup_at(self, base, number, what):
         """One fault while a job makes a backup. Returns whether it was reached."""
-        words = "-".join(getattr(it, "name", str(it)) for it in what.values()).replace("/", "")
-        folder = self.work / f"{base.work.name}-backup-{words}-{number}"
-        run = base.copy(folder)
-        given = {name: value if value != "N" else number for name, value in what.items()}
-        loss = given.pop("loss", None)
-        ended, status, calls, error = run.saves(**given, **({"journal": run.journal} if loss else {}))
-        if loss:
-            self.lose_power(run, loss, random.Random(number))
+        run, given, (ended, status, calls, error) = self.after(base, number, what, Run.saves)
         check(ended != 0 or calls == 0 or "on" not in given, f"the calls after the backup: status {calls}")
         # one whose folder could not be synced, and that could not be removed either, is there, whole
         may_stay = given.get("fault") == "any" and given.get("for") == 0
         check(status is None or (status == 0) == run.backup.exists() or may_stay, f"the backup: status {status}")
         check(given.get("fault") not in ("full", "quota") or status != NOT_PUT or error in (errno.ENOSPC, errno.EDQUOT), f"the backup: error {error}")
         if run.backup.exists():
-            run.verify_backup(self.work / f"{folder.name}-back")
+            run.verify_backup(self.folder())
             run.backup.unlink()
         with open(run.told, "a") as told, open(run.later, "a+") as later:
             later.seek(0)
@@ -232,8 +219,8 @@ class Tests:
         again = run.saves()
         check(again[:3] == (0, 0, 0), f"the next backup: {again}")
         check(sorted(it.name for it in run.backup.parent.iterdir()) == ["b.db"], f"{list(run.backup.parent.iterdir())}")
-        run.verify_backup(self.work / f"{folder.name}-back")
-        shutil.rmtree(folder)
+        run.verify_backup(self.folder())
+        shutil.rmtree(run.work)
         return ended != 0 or status != 0 or calls != 0
 
     def backups(self, base):
@@ -248,16 +235,10 @@ class Tests:
 
     def command_at(self, base, number, what):
         """One fault while an operator's command is made. Returns whether it was reached."""
-        folder = self.folder()
-        run = base.copy(folder)
-        given = {name: value if value != "N" else number for name, value in what.items()}
-        loss = given.pop("loss", None)
-        ended, is_answered = run.command(run.mode, **given, **({"journal": run.journal} if loss else {}))
-        if loss:
-            self.lose_power(run, loss, random.Random(number))
+        run, _, (ended, is_answered) = self.after(base, number, what, lambda run, **given: run.command(run.mode, **given))
         state, (before, after) = run.state(), self.states[run.mode]
         check(state == after or (state == before and not is_answered), f"answered: {is_answered}; it is {state}, it was {before}, and would be {after}")
-        shutil.rmtree(folder)
+        shutil.rmtree(run.work)
         return ended != 0 or not is_answered
 
     def commands(self):
@@ -321,9 +302,9 @@ class Tests:
         for often in (1, 0):
             self.each(base, fault="read", at="N", **{"for": often})
 
-    def files(self, new, killed):
+    def files(self):
         """Jobs whose tasks put files."""
-        for base in (new, killed):
+        for base in (self.new("files"), self.killed("files")):
             self.each(base, step=13, die="N")
             self.each(base, step=17, fault="any", at="N", **{"for": 1})
             self.each(base, step=61, fault="any", at="N", **{"for": 0})
@@ -401,20 +382,11 @@ def main(bin_folder, rounds="1"):
     with tempfile.TemporaryDirectory() as work:
         tests = Tests(bin_folder, int(rounds), work)
         new, killed = tests.new(), tests.killed()
-        for name, part in [("ends", tests.ends), ("faults", tests.faults), ("reads", tests.reads)]:
-            for base in (new, killed):
-                before = tests.passed
-                part(base)
-                print(f"store: {name} of a {'new job' if base is new else 'recovery'}: {tests.passed - before} passed, {time.monotonic() - began:.0f} s", flush=True)
-        before = tests.passed
-        tests.files(tests.new("files"), tests.killed("files"))
-        print(f"store: faults of jobs with files: {tests.passed - before} passed, {time.monotonic() - began:.0f} s", flush=True)
-        before = tests.passed
-        tests.backups(killed)
-        print(f"store: faults of backups: {tests.passed - before} passed, {time.monotonic() - began:.0f} s", flush=True)
-        before = tests.passed
-        tests.commands()
-        print(f"store: faults of commands: {tests.passed - before} passed, {time.monotonic() - began:.0f} s", flush=True)
+        parts = [(f"{part.__name__} of a {whose}", part, base) for part in (tests.ends, tests.faults, tests.reads) for whose, base in (("new job", new), ("recovery", killed))]
+        for name, part, *given in [*parts, ("faults of jobs with files", tests.files), ("faults of backups", tests.backups, killed), ("faults of commands", tests.commands)]:
+            before = tests.passed
+            part(*given)
+            print(f"store: {name}: {tests.passed - before} passed, {time.monotonic() - began:.0f} s", flush=True)
         for kind in ("kill", "power", "loss", "faults"):
             calls, stops = tests.crowds(kind)
             print(f"store: crowds with {kind}: {stops} times, {calls} answered calls, {tests.failed} failed so far, {time.monotonic() - began:.0f} s", flush=True)

@@ -19,7 +19,7 @@ import time
 
 sys.path.insert(0, str(pathlib.Path(__file__).resolve().parent.parent.parent / "faults"))
 from engines import NEW, run_tests, recovers as runs_to
-from power import Journal, Kind, Loss, read_tree, write_tree
+from power import Journal, Kind, Loss, lose as lose_power, read_tree, write_tree
 from relkvanu import Settings
 from relkvanu.manifest import files_in
 from relkvanu.store import Store
@@ -183,11 +183,7 @@ def losses_of(it, base, most, command, check):
             shutil.copytree(base, folder)
             on_disk = read_tree(folder)
             it.runs(*command(folder), LD_PRELOAD=it.shim, STORE_IN=str(folder), STORE_DIE=str(place), STORE_DIE_AFTER=after, STORE_JOURNAL=str(journal))
-            journal.touch()
-            records = Journal.read(journal, folder, on_disk)
-            (lost,) = records.losses([(len(records.records), loss)], it.chance)
-            shutil.rmtree(folder)
-            write_tree(lost.tree, folder)
+            lose_power(journal, folder, on_disk, loss, it.chance)
             check(folder)
             shutil.rmtree(folder)
 
@@ -201,11 +197,6 @@ def at_each_end(it):
         goes_on(it, folder, complete)
 
     ends_of(it, base, ENDS, recovery, check)
-
-
-def at_each_loss(it):
-    base, complete = base_of(it)
-    losses_of(it, base, ENDS // 2, recovery, lambda folder: goes_on(it, folder, complete))
 
 
 def export(folder):
@@ -305,10 +296,7 @@ def after_a_whole_one(it):
     on_disk = read_tree(folder)
     told = it.recovers(folder, LD_PRELOAD=it.shim, STORE_IN=str(folder), STORE_JOURNAL=str(journal))
     assert told.returncode == 0, told.stdout
-    records = Journal.read(journal, folder, on_disk)
-    (lost,) = records.losses([(len(records.records), Loss.SYNCED)], it.chance)
-    shutil.rmtree(folder)
-    write_tree(lost.tree, folder)
+    lose_power(journal, folder, on_disk, Loss.SYNCED, it.chance)
     with Store(folder / "job.db", Settings(interval=10), [2], storage=folder / "state") as job:
         assert job.report.is_recovered and job.report.choice.id == record_of(told.stdout), job.report
 
@@ -386,7 +374,8 @@ def at_each(name, base_of, command, check, ends, losses):
     return ended, lost
 
 
-TESTS = (what_it_says, after_a_whole_one, with_its_name_alone, at_each_end, at_each_loss, *at_each("exports", base_of, export, is_exported, ENDS // 2, LOST),
+TESTS = (what_it_says, after_a_whole_one, with_its_name_alone, at_each_end, at_each("recovers", base_of, recovery, goes_on, ENDS, ENDS // 2)[1],
+         *at_each("exports", base_of, export, is_exported, ENDS // 2, LOST),
          *at_each("imports", base_of, imports, is_imported, ENDS, LOST), *at_each("claims", base_of, claim, is_claimed, ENDS, LOST),
          *at_each("claims_in_place", exported_base, claim_in_place, is_claimed_in_place, ENDS // 2, ENDS // 2), the_old_job_of_a_claim, lost_logs, lost_engines)
 
