@@ -1,6 +1,7 @@
 /* cases FOLDER [NAME]: runs each case of the store's tests, or one, in a process and a folder of its own. The last line has the counts. */
 #include "cases.h"
 
+#include <dirent.h>
 #include <signal.h>
 #include <sys/resource.h>
 #include <sys/syscall.h>
@@ -97,6 +98,17 @@ void copy_file(const char *from, const char *to) {
     CHECK(system(command) == 0, "%s", command);
 }
 
+size_t files_in(const char *folder) {
+    DIR *entries = opendir(in(folder));
+    size_t found = 0;
+    CHECK(entries != NULL, "%s", folder);
+    for (const struct dirent *it; (it = readdir(entries)) != NULL;) {
+        found += it->d_name[0] != '.';
+    }
+    closedir(entries);
+    return found;
+}
+
 const char *stored(uint64_t file) {
     static _Thread_local char names[4][40];
     static _Thread_local unsigned next;
@@ -109,6 +121,22 @@ pthread_t starts(void *(*run)(void *with), void *with) {
     pthread_t thread;
     CHECK(pthread_create(&thread, NULL, run, with) == 0, "a thread");
     return thread;
+}
+
+void *discards(void *discarder) {
+    struct discarder *it = discarder;
+    it->status = it->deletes != NULL ? relkvanu_store_discard(it->store, it->batch, it->deletes, it->with)
+                                     : relkvanu_store_discard_storage(it->store, it->batch, it->storage);
+    return NULL;
+}
+
+void start_discarder(struct discarder *it) {
+    it->thread = starts(discards, it);
+}
+
+void stop_discarder(struct discarder *it) {
+    relkvanu_store_stop(it->store);
+    CHECK(pthread_join(it->thread, NULL) == 0 && it->status == RELKVANU_STORE_STOPPED, "status %d", it->status);
 }
 
 relkvanu *begins_read(relkvanu_store *store) {

@@ -30,8 +30,9 @@ bool exists(const char *name);     /* in the folder of the case */
 void make_empty(const char *name); /* a file, which is not there yet */
 void write_text(const char *name, const char *text);
 void copy_file(const char *from, const char *to);
-const char *stored(uint64_t file); /* storage/FILE, as long */
-void lose_job(void);               /* removes x.db and what SQLite has beside it */
+size_t files_in(const char *folder); /* how many, beside those whose names begin with a point */
+const char *stored(uint64_t file);   /* storage/FILE, as long */
+void lose_job(void);                 /* removes x.db and what SQLite has beside it */
 void lose_job_of(relkvanu_store *store);
 
 /* Waits until so. On no machine that takes five minutes. */
@@ -42,7 +43,21 @@ void lose_job_of(relkvanu_store *store);
     }
 
 pthread_t starts(void *(*run)(void *with), void *with); /* a thread */
-relkvanu *begins_read(relkvanu_store *store);           /* up to relkvanu_store_read_end */
+
+/* A discarder in a thread of its own, with a function or over a storage. A stop ends it. */
+struct discarder {
+    relkvanu_store *store;
+    size_t batch;
+    void (*deletes)(void *with, const uint64_t *files, size_t len, uint8_t *is_gone);
+    void *with;
+    const relkvanu_storage *storage; /* without a function; NULL: the store's own */
+    pthread_t thread;
+    int status;
+};
+void *discards(void *discarder); /* in this thread */
+void start_discarder(struct discarder *it);
+void stop_discarder(struct discarder *it);
+relkvanu *begins_read(relkvanu_store *store); /* up to relkvanu_store_read_end */
 
 /* What a store says of itself: how long a timer waits, when the next checkpoint is due, whether the job has stopped, which term runs, how many files there are,
  * and what it has counted. */

@@ -1,20 +1,15 @@
 /* The discarder. */
 #include "cases.h"
 
-#include <dirent.h>
-
 struct discarding {
-    pthread_t thread;
-    relkvanu_store *store;
-    size_t batch;
+    struct discarder is;
     atomic_uint asked, deleted, largest;
     atomic_uint_fast64_t stubborn; /* a file that can't be deleted */
-    int status;
 };
 
 static void delete_files(void *with, const uint64_t *files, size_t len, uint8_t *is_gone) {
     struct discarding *d = with;
-    CHECK(len >= 1 && len <= d->batch, "%zu files", len);
+    CHECK(len >= 1 && len <= d->is.batch, "%zu files", len);
     if (len > d->largest) {
         d->largest = (unsigned)len;
     }
@@ -26,21 +21,15 @@ static void delete_files(void *with, const uint64_t *files, size_t len, uint8_t 
     }
 }
 
-static void *discards(void *with) {
-    struct discarding *d = with;
-    d->status = relkvanu_store_discard(d->store, d->batch, delete_files, d);
-    return NULL;
-}
-
 static void start(struct discarding *d, relkvanu_store *store, size_t batch) {
-    d->store = store;
-    d->batch = batch;
-    d->thread = starts(discards, d);
+    d->is = (struct discarder){.store = store, .batch = batch, .deletes = delete_files, .with = d};
+    start_discarder(&d->is);
 }
 
+/* Nothing of it is deleted any more, and the store is closed. */
 static void stop(struct discarding *d) {
-    relkvanu_store_stop(d->store);
-    CHECK(pthread_join(d->thread, NULL) == 0 && d->status == RELKVANU_STORE_STOPPED, "status %d", d->status);
+    stop_discarder(&d->is);
+    relkvanu_store_close(d->is.store);
 }
 
 /* A checkpoint with files that exist. */
@@ -53,7 +42,8 @@ static void checkpoint_with_files(relkvanu_store *store, uint64_t file) {
 
 CASE(deletes_and_reports) {
     relkvanu_store *store = new_job();
-    struct discarding d = {0}, second = {.store = store, .batch = 5};
+    struct discarding d = {0};
+    struct discarder second = {.store = store, .batch = 5, .deletes = delete_files, .with = &d};
     CHECK(relkvanu_store_discard(store, 4096, delete_files, &d) == RELKVANU_STORE_BAD_ARGUMENT, "a large batch");
     start(&d, store, 5);
     for (uint64_t i = 0; i < 4; i++) {
@@ -66,13 +56,11 @@ CASE(deletes_and_reports) {
     CHECK(second.status == RELKVANU_STORE_NOT_NOW, "a second discarder: status %d", second.status);
     CHECK(d.deleted == 48 && d.largest > 1 && !exists(stored(1)) && !exists(stored(216)) && exists(stored(301)), "%u deleted", d.deleted);
     stop(&d);
-    relkvanu_store_close(store);
 }
 
 CASE(never_gives_up) {
     relkvanu_store *store = new_job();
-    struct discarding d = {0};
-    d.stubborn = 7;
+    struct discarding d = {.stubborn = 7};
     start(&d, store, 4);
     checkpoint_with_files(store, 1);
     checkpoint_with_files(store, 101);
@@ -89,7 +77,6 @@ CASE(never_gives_up) {
     AWAIT(unreported(store) == 0);
     CHECK(!exists(stored(7)) && !exists(stored(110)), "file 7");
     stop(&d);
-    relkvanu_store_close(store);
 }
 
 /* A process ended between a take and its reports: one file is deleted, the other is not. */
@@ -109,7 +96,6 @@ CASE(settles) {
     AWAIT(unreported(store) == 0);
     CHECK(d.asked == 16 && d.deleted == 16 && !exists(stored(1)) && exists(stored(101)), "%u asked", d.asked);
     stop(&d);
-    relkvanu_store_close(store);
 }
 
 /* Without the marker a missing file is not gone. */
@@ -122,7 +108,7 @@ CASE(without_marker) {
     checkpoint(store, 101);
     usleep(300000);
     CHECK(d.asked == 0, "%u asked in a folder that may be another one", d.asked);
-    stop(&d);
+    stop_discarder(&d.is);
     relkvanu_counts counts = counts_of(store);
     CHECK(counts.waiting == 16 && counts.taken == 0, "%" PRIu64 " wait, %" PRIu64 " are taken", counts.waiting, counts.taken);
     CHECK(renameat(relkvanu_store_folder(store), "away", relkvanu_store_folder(store), ".relkvanu-job") == 0, "marker");
@@ -138,15 +124,15 @@ static void write_marker(relkvanu_store *store, uint64_t job, uint64_t epoch) {
 /* Another host has opened a copy of the job, or has given the folder to another job: nothing of it is deleted any more. */
 CASE(another_opening) {
     relkvanu_store *store = new_job();
-    struct discarding d = {.store = store, .batch = 16};
+    struct discarding d = {.is = {.store = store, .batch = 16, .deletes = delete_files, .with = &d}};
     checkpoint_with_files(store, 1);
     checkpoint_with_files(store, 101); /* releases 1 to 16 */
     done(store, RELKVANU_CALL_RESTORE, RELKVANU_STORE_NOW, 0);
     for (uint64_t later = 0; later < 2; later++) {
         write_marker(store, report.job[0] + 1 - later, report.epoch + later);
         for (int again = 0; again < 2; again++) { /* a take; then what is taken */
-            discards(&d);
-            CHECK(d.status == RELKVANU_STORE_STORAGE && d.asked == 0 && exists(stored(1)), "status %d, %u asked", d.status, d.asked);
+            discards(&d.is);
+            CHECK(d.is.status == RELKVANU_STORE_STORAGE && d.asked == 0 && exists(stored(1)), "status %d, %u asked", d.is.status, d.asked);
         }
         CHECK(relkvanu_store_put(store, 999, "x", 1) == RELKVANU_STORE_STORAGE && !exists(stored(999)), "a put");
         is_swept(store, RELKVANU_STORE_STORAGE, 0);
@@ -156,20 +142,6 @@ CASE(another_opening) {
     AWAIT(unreported(store) == 0);
     CHECK(!exists(stored(1)) && exists(stored(101)), "the files");
     stop(&d);
-    relkvanu_store_close(store);
-}
-
-/* Whether the folder has so many files, beside the marker. */
-static bool has_files(relkvanu_store *store, size_t files) {
-    DIR *entries = fdopendir(dup(relkvanu_store_folder(store)));
-    size_t found = 0;
-    CHECK(entries != NULL, "the folder");
-    for (const struct dirent *entry = readdir(entries); entry != NULL; entry = readdir(entries)) {
-        found += entry->d_name[0] != '.';
-    }
-    rewinddir(entries);
-    closedir(entries);
-    return found == files;
 }
 
 /* The job ends for a while, without a cancel. Its tasks were killed with names that they had reserved: what they wrote by these is garbage once the term has
@@ -183,14 +155,14 @@ CASE(an_end_without_a_cancel) {
     CHECK(renameat(relkvanu_store_folder(store), "50", relkvanu_store_folder(store), "60.part") == 0, "a part");
     puts_file(store, 50, RELKVANU_STORE_OK);
     is_swept(store, RELKVANU_STORE_OK, 0);
-    CHECK(has_files(store, 34), "a sweep alone leaves them");
+    CHECK(files_in("storage") == 34, "a sweep alone leaves them");
     done(store, RELKVANU_CALL_RESTORE, RELKVANU_STORE_NOW, 0);
     is_swept(store, RELKVANU_STORE_OK, 0);
-    CHECK(has_files(store, 32), "a sweep after the restore");
+    CHECK(files_in("storage") == 32, "a sweep after the restore");
     while (unreported(store) != 0) {
         CHECK(relkvanu_store_discard_for(store, 0, 10, NULL, NULL) == RELKVANU_STORE_TIMED_OUT, "the discarder");
     }
-    CHECK(has_files(store, 16) && exists(stored(101)) && exists(stored(116)), "the folder");
+    CHECK(files_in("storage") == 16 && exists(stored(101)) && exists(stored(116)), "the folder");
     relkvanu_store_close(store);
     store = opens_as(&options, RELKVANU_STORE_RECOVER, RELKVANU_STORE_OK);
     CHECK(report.taken == 0 && report.choice.what == RELKVANU_CHOICE_CHECKPOINT && report.choice.a == 2, "the next opening");
@@ -204,7 +176,7 @@ static bool is_never_asked(void *with, const uint64_t *files, size_t len, uint8_
 /* Each of these would wait for what only the end of the read can bring: so the first one waits for a second at most. */
 CASE(in_a_read) {
     relkvanu_store *store = new_job();
-    struct discarding d = {.store = store, .batch = 5};
+    struct discarding d = {.stubborn = 0};
     relkvanu_store_call tick;
     CHECK(relkvanu_store_discard_for(store, 0, 1, NULL, NULL) == RELKVANU_STORE_TIMED_OUT, "one that has nothing to settle");
     done(store, RELKVANU_CALL_CANCEL, RELKVANU_STORE_NOW, 0); /* no tick is due any more */

@@ -8,13 +8,11 @@
 enum { RELEASED = 2 * SUBTASKS, ASKS = 6 };
 
 struct discarding {
-    pthread_t thread;
-    relkvanu_store *store;
+    struct discarder is;
     void (*meanwhile)(struct discarding *d);
     bool is_gone;
     atomic_uint asked;
     struct timespec at[ASKS];
-    int status;
 };
 
 static void note_and_tell(void *with, const uint64_t *files, size_t len, uint8_t *is_gone) {
@@ -30,35 +28,25 @@ static void note_and_tell(void *with, const uint64_t *files, size_t len, uint8_t
     d->asked++;
 }
 
-static void *discards(void *with) {
-    struct discarding *d = with;
-    d->status = relkvanu_store_discard(d->store, 4 * RELEASED, note_and_tell, d);
-    return NULL;
-}
-
 /* A discarder of a store with files that the second checkpoint has released. */
 static void start(struct discarding *d) {
-    d->store = new_job();
-    checkpoint(d->store, 1);
-    checkpoint(d->store, 101);
-    CHECK(counts_of(d->store).waiting == RELEASED, "%" PRIu64 " wait", counts_of(d->store).waiting);
-}
-
-static void run(struct discarding *d) {
-    d->thread = starts(discards, d);
+    relkvanu_store *store = new_job();
+    d->is = (struct discarder){.store = store, .batch = 4 * RELEASED, .deletes = note_and_tell, .with = d};
+    checkpoint(store, 1);
+    checkpoint(store, 101);
+    CHECK(counts_of(store).waiting == RELEASED, "%" PRIu64 " wait", counts_of(store).waiting);
 }
 
 static void stop(struct discarding *d) {
-    relkvanu_store_stop(d->store);
-    CHECK(pthread_join(d->thread, NULL) == 0 && d->status == RELKVANU_STORE_STOPPED, "status %d", d->status);
-    relkvanu_store_close(d->store);
+    stop_discarder(&d->is);
+    relkvanu_store_close(d->is.store);
 }
 
 /* It waits longer after each failure: 0.1, 0.2, 0.4 and 0.8 seconds. A busy machine only makes that longer. */
 CASE(waits_grow) {
     struct discarding d = {.is_gone = false};
     start(&d);
-    run(&d);
+    start_discarder(&d.is);
     AWAIT(d.asked >= ASKS);
     stop(&d);
     for (int i = 1; i < ASKS; i++) {
@@ -72,16 +60,16 @@ CASE(unsynced_deletions) {
     struct discarding d = {.is_gone = true};
     start(&d);
     fail_syncs("/storage", EIO);
-    run(&d);
-    AWAIT(d.asked >= 2 || unreported(d.store) != RELEASED);
-    CHECK(unreported(d.store) == RELEASED, "%" PRIu64 " are left after a sync that failed", unreported(d.store));
+    start_discarder(&d.is);
+    AWAIT(d.asked >= 2 || unreported(d.is.store) != RELEASED);
+    CHECK(unreported(d.is.store) == RELEASED, "%" PRIu64 " are left after a sync that failed", unreported(d.is.store));
     fail_syncs("", 0);
-    AWAIT(unreported(d.store) == 0);
+    AWAIT(unreported(d.is.store) == 0);
     stop(&d);
 }
 
 static void take_marker(struct discarding *d) {
-    int folder = relkvanu_store_folder(d->store);
+    int folder = relkvanu_store_folder(d->is.store);
     CHECK(renameat(folder, ".relkvanu-job", folder, "away") == 0, "a marker");
 }
 
@@ -89,9 +77,9 @@ static void take_marker(struct discarding *d) {
 CASE(marker_goes_during_deletions) {
     struct discarding d = {.is_gone = true, .meanwhile = take_marker};
     start(&d);
-    run(&d);
-    AWAIT(d.asked != 0 && (counts_of(d.store).taken == 0 || unreported(d.store) != RELEASED));
-    CHECK(d.asked == 1 && unreported(d.store) == RELEASED, "%" PRIu64 " are left without a marker", unreported(d.store));
+    start_discarder(&d.is);
+    AWAIT(d.asked != 0 && (counts_of(d.is.store).taken == 0 || unreported(d.is.store) != RELEASED));
+    CHECK(d.asked == 1 && unreported(d.is.store) == RELEASED, "%" PRIu64 " are left without a marker", unreported(d.is.store));
     stop(&d);
 }
 

@@ -1,9 +1,6 @@
 /* Manifests: what the storage folder says of complete records, and a job that is made of them once its own file is lost. */
 #include "cases.h"
 
-#include <dirent.h>
-#include <time.h>
-
 /* A job over the storage folder, which has manifests. */
 static relkvanu_store_options manifests(uint32_t flags) {
     return storage_options(flags | RELKVANU_STORE_MANIFESTS, 0);
@@ -448,18 +445,6 @@ CASE(another_jobs_manifest) {
     CHECK(message[0] != 0, "no message");
 }
 
-/* How many names a folder has, and whether it has a file of so many bytes. */
-static size_t count_names(const char *folder) {
-    DIR *entries = opendir(in(folder));
-    size_t len = 0;
-    CHECK(entries != NULL, "%s", folder);
-    for (const struct dirent *it; (it = readdir(entries)) != NULL;) {
-        len += it->d_name[0] != '.' || it->d_name[1] == 'r'; /* the marker */
-    }
-    closedir(entries);
-    return len;
-}
-
 static bool has_bytes(const char *folder, uint64_t file, off_t len) {
     char name[PATHS];
     struct stat is;
@@ -486,7 +471,8 @@ CASE(an_export) {
     }
     is_swept(store, RELKVANU_STORE_OK, 0);
     relkvanu_store_close(store);
-    CHECK(count_names("out") == 9 && count_names("other") == 9 && count_names("empty") == 9, "%zu names", count_names("out"));
+    CHECK(files_in("out") == 9 && files_in("other") == 9 && files_in("empty") == 9 && !exists("out/.relkvanu-job"), "%zu names",
+        files_in("out"));
     for (uint64_t i = 0; i < SUBTASKS; i++) {
         CHECK(has_bytes("out", first + i, (off_t)i + 1) && has_bytes("empty", first + i, (off_t)i + 1), "file %" PRIu64, first + i);
     }

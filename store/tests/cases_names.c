@@ -1,12 +1,6 @@
 /* Terms, reservations, what an old task may do, and sweeps at any time. */
 #include "cases.h"
 
-#include <dirent.h>
-
-static relkvanu_store *named_job(void) {
-    return new_job();
-}
-
 static void fenced(relkvanu_answer answer, uint32_t why, uint64_t file) {
     CHECK(answer.code == RELKVANU_FENCED && answer.what == why && answer.a == file, "code %" PRIu32 ", what %" PRIu32 " %" PRIu64,
         answer.code, answer.what, answer.a);
@@ -36,7 +30,7 @@ static uint64_t complete(relkvanu_store *store, uint64_t term, uint64_t name) {
 
 /* The worked example of docs/LOGS.md, as far as a store has it; then the recovery has all of it. */
 CASE(terms_and_names) {
-    relkvanu_store *store = named_job();
+    relkvanu_store *store = new_job();
     CHECK(report.term == 1 && report.next_name == 1 && !report.is_recovered, "term %" PRIu64 ", next name %" PRIu64, report.term,
         report.next_name);
     check_term(store, 1, 1);
@@ -72,7 +66,7 @@ CASE(terms_and_names) {
 }
 
 CASE(forfeits) {
-    relkvanu_store *store = named_job();
+    relkvanu_store *store = new_job();
     relkvanu_answer answer;
     static uint64_t names[65537], garbage[65537], others[65537];
     CHECK(reserved(store, 1, 65536) == 1, "the names");
@@ -93,7 +87,7 @@ CASE(forfeits) {
 
 /* A sweep while a task has names that it has not used yet, after its term, of files that are in use, and of some that were not given out. */
 CASE(sweeps_at_any_time) {
-    relkvanu_store *store = named_job();
+    relkvanu_store *store = new_job();
     CHECK(reserved(store, 1, 30) == 1, "the names");
     for (uint64_t name = 1; name <= 33; name++) {
         make_empty(stored(name));
@@ -138,7 +132,7 @@ CASE(its_own_file) {
 
 /* Another process has opened a copy of the job over the folder: this one deletes and puts nothing more. */
 CASE(a_later_opening) {
-    relkvanu_store *store = named_job();
+    relkvanu_store *store = new_job();
     CHECK(reserved(store, 1, 3) == 1, "the names");
     for (uint64_t name = 1; name <= 3; name++) {
         make_empty(stored(name));
@@ -285,18 +279,11 @@ static void check_live(relkvanu_store *store) {
 
 static void *sweeps(void *with) {
     struct fleet *fleet = with;
-    size_t left, times = 0;
-    while (!fleet->is_over) {
-        CHECK(relkvanu_store_sweep(fleet->store, &left) == RELKVANU_STORE_OK && left == 0, "%zu are left", left);
-        times++;
+    size_t times = 0;
+    for (; !fleet->is_over; times++) {
+        is_swept(fleet->store, RELKVANU_STORE_OK, 0);
     }
     CHECK(times > 3, "%zu sweeps", times);
-    return NULL;
-}
-
-static void *discards(void *with) {
-    relkvanu_store *store = with;
-    CHECK(relkvanu_store_discard(store, 16, relkvanu_store_delete_files, store) == RELKVANU_STORE_STOPPED, "the discarder");
     return NULL;
 }
 
@@ -325,23 +312,12 @@ static void round_of(struct fleet *fleet) {
     check_live(fleet->store);
 }
 
-static unsigned files_there(void) {
-    DIR *listing = opendir(in("storage"));
-    unsigned found = 0;
-    struct dirent *entry;
-    CHECK(listing != NULL, "storage");
-    while ((entry = readdir(listing)) != NULL) {
-        found += entry->d_name[0] != '.';
-    }
-    closedir(listing);
-    return found;
-}
-
 CASE(a_sweeper_beside_tasks) {
     static struct fleet fleet;
-    size_t left;
-    fleet.store = named_job();
-    pthread_t sweeper = starts(sweeps, &fleet), discarder = starts(discards, fleet.store);
+    fleet.store = new_job();
+    pthread_t sweeper = starts(sweeps, &fleet);
+    struct discarder discarder = {.store = fleet.store, .batch = 16, .deletes = relkvanu_store_delete_files, .with = fleet.store};
+    start_discarder(&discarder);
     start_tasks(&fleet, report.term);
     for (int i = 0; i < ROUNDS || (fleet.late < 3 && i < MOST_ROUNDS); i++) { /* on a busy machine few restores find a task in its part */
         round_of(&fleet);
@@ -350,12 +326,11 @@ CASE(a_sweeper_beside_tasks) {
     AWAIT(fleet.tasks == 0);
     pthread_join(sweeper, NULL);
     AWAIT(unreported(fleet.store) == 0);
-    relkvanu_store_stop(fleet.store);
-    pthread_join(discarder, NULL);
-    CHECK(relkvanu_store_sweep(fleet.store, &left) == RELKVANU_STORE_OK && left == 0, "the last sweep");
+    stop_discarder(&discarder);
+    is_swept(fleet.store, RELKVANU_STORE_OK, 0);
     check_live(fleet.store);
     uint64_t used = counts_of(fleet.store).in_use;
-    CHECK(used == files_there() && used == 2 * SUBTASKS, "%" PRIu64 " files in use, and %u in the folder", used, files_there());
+    CHECK(used == files_in("storage") && used == 2 * SUBTASKS, "%" PRIu64 " files in use", used);
     relkvanu_store_counts counts = totals_of(fleet.store);
     CHECK(fleet.late >= 3 && counts.swept > ROUNDS * SUBTASKS && counts.unissued == 0, "%u calls came late, %" PRIu64 " files were swept",
         (unsigned)fleet.late, counts.swept);

@@ -128,18 +128,6 @@ CASE(storages_that_are_not_whole) {
     relkvanu_store_close(store);
 }
 
-struct discarding {
-    relkvanu_store *store;
-    relkvanu_storage *storage;
-    int status;
-};
-
-static void *discards(void *with) {
-    struct discarding *it = with;
-    it->status = relkvanu_store_discard_storage(it->store, 5, it->storage);
-    return NULL;
-}
-
 static bool is_there(struct objects *objects, uint64_t first, uint64_t last) {
     bool any = false;
     pthread_mutex_lock(&objects->mutex);
@@ -161,21 +149,20 @@ CASE(a_discarder_of_objects) {
     static struct objects objects;
     relkvanu_storage storage = storage_of(&objects);
     relkvanu_store *store = new_job_alone(0);
-    struct discarding it = {.store = store, .storage = &storage};
+    struct discarder it = {.store = store, .batch = 5, .storage = &storage};
     for (uint64_t file = 100; file < 100 + 4 * SUBTASKS; file++) {
         objects.is_there[file] = file != 103;
     }
     checkpoint(store, 100);
     checkpoint(store, 100 + 2 * SUBTASKS);
     objects.fault = RELKVANU_STORAGE_NOT_THERE;
-    pthread_t thread = starts(discards, &it);
+    start_discarder(&it);
     AWAIT(objects.deletions >= 2);
     CHECK(is_there(&objects, 100, 100), "it is not there, and a file counts as gone");
     set_fault(&objects, 0);
     AWAIT(!is_there(&objects, 100, 99 + 2 * SUBTASKS));
     AWAIT(unreported(store) == 0);
-    relkvanu_store_stop(store);
-    CHECK(pthread_join(thread, NULL) == 0 && it.status == RELKVANU_STORE_STOPPED, "status %d", it.status);
+    stop_discarder(&it);
     for (uint64_t file = 100 + 2 * SUBTASKS; file < 100 + 4 * SUBTASKS; file++) {
         CHECK(objects.is_there[file], "object %" PRIu64, file);
     }
@@ -292,11 +279,11 @@ CASE(the_own_storage_discards) {
     CHECK(relkvanu_store_storage(store, &under) == RELKVANU_STORE_OK, "a storage");
     relkvanu_storage counting = under;
     counting.delete_files = count_deletions;
-    struct discarding it = {.store = store, .storage = &counting};
-    pthread_t thread = starts(discards, &it);
+    struct discarder it = {.store = store, .batch = 5, .storage = &counting};
+    start_discarder(&it);
     AWAIT(unreported(store) == 0);
-    relkvanu_store_stop(store);
-    CHECK(pthread_join(thread, NULL) == 0 && it.status == RELKVANU_STORE_STOPPED && counted == 2 * SUBTASKS, "status %d", it.status);
+    stop_discarder(&it);
+    CHECK(counted == 2 * SUBTASKS, "%u deletions", (unsigned)counted);
     CHECK(access(in("storage/101"), F_OK) != 0 && access(in("storage/201"), F_OK) == 0, "the files");
     CHECK(relkvanu_store_discard_storage(store, 0, NULL) == RELKVANU_STORE_STOPPED, "a discarder of its own");
     relkvanu_store_close(store);
