@@ -428,14 +428,16 @@ int fsync(int fd) {
     return (int)syscall(SYS_fsync, fd);
 }
 
-/* Whether a file of the case has these words. */
-bool has_text(const char *name, const char *words) {
+const char *manifest_says(uint64_t id, const char *words) {
     static char text[1 << 16];
+    char name[64];
+    snprintf(name, sizeof name, "storage/record-%" PRIu64 ".manifest", id);
     FILE *from = fopen(in(name), "r");
     CHECK(from != NULL, "%s", name);
     text[fread(text, 1, sizeof text - 1, from)] = 0;
     fclose(from);
-    return strstr(text, words) != NULL;
+    const char *at = strstr(text, words);
+    return at == NULL ? NULL : at + strlen(words);
 }
 
 /* The status of a case, in a folder of its own, by whose name some fail syncs. */

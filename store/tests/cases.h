@@ -145,7 +145,7 @@ void add_case(const char *name, void (*run)(void));
     }                                                           \
     static void name(void)
 
-/* Whether a file of the case has these words. */
-bool has_text(const char *name, const char *words);
+/* What is behind these words in the manifest of a record; NULL: it has none of them. It stays until the next one is asked for. */
+const char *manifest_says(uint64_t id, const char *words);
 
 #endif

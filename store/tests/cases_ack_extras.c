@@ -422,13 +422,6 @@ CASE(payloads_of_a_stop) {
     CHECK(parts_of(0) == SUBTASKS, "%zu rows", parts_of(0));
 }
 
-/* Whether the manifest of a record has this text. */
-static bool manifest_has(uint64_t id, const char *words) {
-    char name[60];
-    snprintf(name, sizeof name, "storage/record-%" PRIu64 ".manifest", id);
-    return has_text(name, words);
-}
-
 /* Manifests have payloads, the order of files, and figures. So do recoveries, exports and imports. */
 CASE(payloads_of_manifests) {
     relkvanu_store_options options = storage_options(RELKVANU_STORE_CREATE | RELKVANU_STORE_MANIFESTS, 0);
@@ -446,7 +439,7 @@ CASE(payloads_of_manifests) {
         acks(store, id, i, payload_of(id, i).text);
     }
     relkvanu_store_close(store);
-    CHECK(manifest_has(id, "\"bytes\":10,\"millis\":3}") && !manifest_has(id, "\"millis\":0"), "no figures");
+    CHECK(manifest_says(id, "\"bytes\":10,\"millis\":3}") != NULL && manifest_says(id, "\"millis\":0") == NULL, "no figures");
     int status = relkvanu_store_export(in("storage"), savepoint, in("exported"), &carried);
     CHECK(status == RELKVANU_STORE_OK, "status %d: %s", status, carried.message);
     lose_job();

@@ -1,7 +1,6 @@
 /* A folder as a storage: its marker, files with any names, links, pages, and ends in the middle. And storages of an engine. */
 #include "cases.h"
 
-#include <linux/audit.h>
 #include <linux/filter.h>
 #include <linux/seccomp.h>
 #include <signal.h>

@@ -19,39 +19,26 @@ static uint64_t completes_with(relkvanu_store *store, uint32_t kind, uint64_t re
     return id;
 }
 
-/* The JSON of a manifest, asked for by SQLite. */
-static int64_t says_of(uint64_t id, const char *expression) {
-    char name[PATHS], sql[300];
-    sqlite3 *db = NULL;
-    sqlite3_stmt *it = NULL;
-    static char text[1 << 16];
-    snprintf(name, sizeof name, "storage/record-%" PRIu64 ".manifest", id);
-    FILE *from = fopen(in(name), "r");
-    CHECK(from != NULL, "%s", name);
-    size_t len = fread(text, 1, sizeof text - 1, from);
-    fclose(from);
-    snprintf(sql, sizeof sql, "SELECT %s", expression);
-    CHECK(sqlite3_open(":memory:", &db) == SQLITE_OK && sqlite3_prepare_v2(db, sql, -1, &it, NULL) == SQLITE_OK, "%s", sql);
-    CHECK(sqlite3_bind_text(it, 1, text, (int)len, SQLITE_STATIC) == SQLITE_OK && sqlite3_step(it) == SQLITE_ROW, "%s: %s", sql,
-        sqlite3_errmsg(db));
-    int64_t number = sqlite3_column_int64(it, 0);
-    sqlite3_finalize(it);
-    sqlite3_close(db);
-    return number;
+/* A number that the manifest says to be above all that was told below it. */
+static uint64_t told_below(uint64_t id, const char *member) {
+    const char *below = manifest_says(id, "\"below\":"), *at = below == NULL ? NULL : strstr(below, member);
+    CHECK(at != NULL, "no %s", member);
+    return strtoull(at + strlen(member), NULL, 10);
 }
 
-static void check_manifest(uint64_t id, uint64_t file) {
-    char files[200];
-    CHECK(says_of(id, "json_extract(?1,'$.relkvanu')='manifest'") == 1 && says_of(id, "json_extract(?1,'$.version')") == 1, "the head");
-    CHECK(says_of(id, "json_extract(?1,'$.record')") == (int64_t)id, "the number");
-    CHECK(says_of(id, "json_extract(?1,'$.kind')='checkpoint'") == 1 && says_of(id, "json_extract(?1,'$.chosen')") == 1, "the kind");
-    CHECK(says_of(id, "json_extract(?1,'$.shape')='[8]'") == 1, "the shape");
-    CHECK(says_of(id, "json_extract(?1,'$.settings')='{\"interval\":10,\"pause\":0,\"at_once\":1,\"timeout\":1073741824,\"tolerable\":1000,"
-                      "\"retained\":1,\"keep_on_cancel\":false}'") == 1);
-    CHECK(says_of(id, "json_extract(?1,'$.files')") == 8 && says_of(id, "json_extract(?1,'$.bytes')") == 36, "the sums");
-    snprintf(files, sizeof files, "json_extract(?1,'$.subtasks[2]')='{\"vertex\":0,\"index\":2,\"files\":{\"%" PRIu64 "\":3}}'", file + 2);
-    CHECK(says_of(id, files) == 1, "a subtask");
-    CHECK(says_of(id, "json_extract(?1,'$.term')") == 1 && says_of(id, "json_extract(?1,'$.below.term')") > 1, "the term");
+/* That of the first record, whose first file has this name. */
+static void check_manifest(uint64_t file) {
+    static const char *const parts[] = {"{\"relkvanu\":\"manifest\",\"version\":1,", "\"epoch\":1,\"term\":1,",
+        "\"record\":1,\"kind\":\"checkpoint\",\"chosen\":true,\n",
+        "\"settings\":{\"interval\":10,\"pause\":0,\"at_once\":1,\"timeout\":1073741824,\"tolerable\":1000,\"retained\":1,\"keep_on_"
+        "cancel\":false},\n",
+        "\"shape\":[8]", "\n],\"files\":8,\"bytes\":36,"};
+    char subtask[100];
+    for (size_t i = 0; i < sizeof parts / sizeof *parts; i++) {
+        CHECK(manifest_says(1, parts[i]) != NULL, "%s", parts[i]);
+    }
+    snprintf(subtask, sizeof subtask, "\n{\"vertex\":0,\"index\":2,\"files\":{\"%" PRIu64 "\":3}},", file + 2);
+    CHECK(manifest_says(1, subtask) != NULL && told_below(1, "\"term\":") > 1, "%s", subtask);
 }
 
 /* The manifest is there when a record is complete, and goes when it ends. */
@@ -59,9 +46,9 @@ CASE(manifests_of_records) {
     relkvanu_store *store = opens_with_manifests();
     uint64_t first = 0;
     CHECK(completes(store, RELKVANU_CALL_TRIGGER, &first) == 1, "the number");
-    check_manifest(1, first);
+    check_manifest(first);
     CHECK(completes(store, RELKVANU_CALL_SAVEPOINT, &first) == 2, "the number");
-    CHECK(says_of(2, "json_extract(?1,'$.kind')='savepoint'") == 1 && says_of(2, "json_extract(?1,'$.chosen')") == 0, "the savepoint");
+    CHECK(manifest_says(2, "\"kind\":\"savepoint\",\"chosen\":false") != NULL, "the savepoint");
     CHECK(completes(store, RELKVANU_CALL_TRIGGER, &first) == 3, "the number");
     CHECK(!exists("storage/record-1.manifest") && exists("storage/record-2.manifest") && exists("storage/record-3.manifest"));
     CHECK(list_records("storage") == 2 && records[0].id == 2 && records[1].id == 3, "%zu records", records_len);
@@ -95,20 +82,17 @@ CASE(manifests_are_asked_for) {
 
 /* What a sweep takes for manifests of ended records, and what it leaves. */
 CASE(a_sweep_of_manifests) {
-    static const char *const foreign[] = {"record-7", "record-07.manifest", "record-.manifest", "record-7.manifest.old", "manifest"};
-    static const char *const stale[] = {"record-7.manifest", "record-7.manifest.part", "record-1.manifest.part"};
+    static const char *const names[] = {"storage/record-7", "storage/record-07.manifest", "storage/record-.manifest",
+        "storage/record-7.manifest.old", "storage/manifest", /* and those of ended records: */
+        "storage/record-7.manifest", "storage/record-7.manifest.part", "storage/record-1.manifest.part"};
     relkvanu_store *store = opens_with_manifests();
     completes(store, RELKVANU_CALL_TRIGGER, NULL);
     for (size_t i = 0; i < 8; i++) {
-        char name[PATHS];
-        snprintf(name, sizeof name, "storage/%s", i < 5 ? foreign[i] : stale[i - 5]);
-        make_empty(name);
+        make_empty(names[i]);
     }
     is_swept(store, RELKVANU_STORE_OK, 0);
     for (size_t i = 0; i < 8; i++) {
-        char name[PATHS];
-        snprintf(name, sizeof name, "storage/%s", i < 5 ? foreign[i] : stale[i - 5]);
-        CHECK(exists(name) == (i < 5), "%s", name);
+        CHECK(exists(names[i]) == (i < 5), "%s", names[i]);
     }
     CHECK(list_records("storage") == 1 && records[0].id == 1, "the manifest of the choice is gone");
     relkvanu_store_close(store);
@@ -423,8 +407,7 @@ CASE(numbers_that_failed) {
         CHECK(relkvanu_store_calls(store, calls, 2) == RELKVANU_STORE_OK && calls[1].answer.code == RELKVANU_DONE, "a savepoint");
         last = calls[0].answer.a;
     }
-    CHECK(last == id + 1100 && says_of(id, "json_extract(?1,'$.below.number')") > (int64_t)last, "the manifest is behind record %" PRIu64,
-        last);
+    CHECK(last == id + 1100 && told_below(id, "\"number\":") > last, "the manifest is behind record %" PRIu64, last);
     lose_job_of(store);
     recovers("x.db", "storage", 0, RELKVANU_STORE_OK);
     store = opens_with_manifests();
@@ -615,28 +598,16 @@ CASE(a_latest_manifest_that_is_damaged) {
     relkvanu_store_close(store);
 }
 
-/* A job whose latest record lacks a file. Returns the savepoint before that. */
-static uint64_t lacks_a_file_of_the_latest(void) {
+/* An import or a claim that passes over a record which lacks a file says so, as a recovery does. */
+CASE(an_import_that_passes_a_record) {
     relkvanu_store *store = opens_with_manifests();
     uint64_t first = 0, savepoint = completes(store, RELKVANU_CALL_SAVEPOINT, NULL);
-    char name[PATHS];
     completes(store, RELKVANU_CALL_TRIGGER, &first);
     relkvanu_store_close(store);
-    snprintf(name, sizeof name, "storage/%" PRIu64, first);
-    CHECK(unlink(in(name)) == 0, "%s", name);
-    return savepoint;
-}
-
-/* A claim or an import that passes over such a record says so, as a recovery does. */
-CASE(a_latest_record_that_lacks_a_file) {
-    uint64_t savepoint = lacks_a_file_of_the_latest();
-    claims("storage", 0, "y.db", "elsewhere", RELKVANU_STORE_OK);
-    CHECK(recovered.record == savepoint && recovered.passed == 1, "%" PRIu64 " passed", recovered.passed);
-}
-
-CASE(an_import_that_passes_a_record) {
-    uint64_t savepoint = lacks_a_file_of_the_latest();
+    CHECK(unlink(in(stored(first))) == 0, "file %" PRIu64, first);
     imports("storage", 0, "y.db", "elsewhere", RELKVANU_STORE_OK);
+    CHECK(recovered.record == savepoint && recovered.passed == 1, "%" PRIu64 " passed", recovered.passed);
+    claims("storage", 0, "z.db", "apart", RELKVANU_STORE_OK);
     CHECK(recovered.record == savepoint && recovered.passed == 1, "%" PRIu64 " passed", recovered.passed);
 }
 
