@@ -139,6 +139,18 @@ void stop_discarder(struct discarder *it) {
     CHECK(pthread_join(it->thread, NULL) == 0 && it->status == RELKVANU_STORE_STOPPED, "status %d", it->status);
 }
 
+relkvanu_storage own_storage(relkvanu_store *store) {
+    relkvanu_storage own;
+    CHECK(relkvanu_store_storage(store, &own) == RELKVANU_STORE_OK, "no storage");
+    return own;
+}
+
+void deletes_file(const relkvanu_storage *storage, uint64_t file, int status, uint8_t outcome) {
+    uint8_t found = 9;
+    int got = storage->delete_files(storage->with, &file, 1, &found);
+    CHECK(got == status && found == outcome, "status %d, not %d; outcome %d", got, status, found);
+}
+
 relkvanu *begins_read(relkvanu_store *store) {
     relkvanu *handle;
     CHECK(relkvanu_store_read(store, &handle) == RELKVANU_STORE_OK, "no read");
@@ -238,21 +250,25 @@ uint64_t begins(relkvanu_store *store, uint32_t kind) {
 
 relkvanu_answer takes_part(relkvanu_store *store, uint64_t term, uint64_t id, uint16_t index, uint64_t file, size_t len, uint64_t reused) {
     relkvanu_answer answer;
-    CHECK(relkvanu_store_put(store, file, "the state of a task", len) == RELKVANU_STORE_OK, "file %" PRIu64, file);
+    CHECK(relkvanu_store_put(store, file, CONTENTS, len) == RELKVANU_STORE_OK, "file %" PRIu64, file);
     int status = relkvanu_store_ack_in(store, term, RELKVANU_STORE_NOW, id, 0, index, &file, 1, &reused, reused != 0, &answer);
     CHECK(status == RELKVANU_STORE_OK && answer.code == RELKVANU_DONE, "status %d, what %" PRIu32, status, answer.what);
     return answer;
 }
 
-uint64_t completes(relkvanu_store *store, uint32_t kind, uint64_t *first) {
+uint64_t completes_with(relkvanu_store *store, uint32_t kind, size_t len, uint64_t reused, uint64_t *first) {
     uint64_t id = begins(store, kind), term = term_of(store), file = reserved(store, term, SUBTASKS);
     for (uint16_t i = 0; i < SUBTASKS; i++) {
-        takes_part(store, term, id, i, file + i, i + 1u, 0);
+        takes_part(store, term, id, i, file + i, len != 0 ? len : i + 1u, i == 0 ? reused : 0);
     }
     if (first != NULL) {
         *first = file;
     }
     return id;
+}
+
+uint64_t completes(relkvanu_store *store, uint32_t kind, uint64_t *first) {
+    return completes_with(store, kind, 0, 0, first);
 }
 
 /* Reserves the names that were not given out up to this one. Returns the term. */
@@ -279,6 +295,13 @@ uint64_t checkpoint(relkvanu_store *store, uint64_t file) {
             answer.code, answer.what);
     }
     return ticked.b;
+}
+
+uint64_t checkpoint_with_files(relkvanu_store *store, uint64_t file) {
+    for (uint64_t i = 0; i < 2 * SUBTASKS; i++) {
+        puts_file(store, file + i, RELKVANU_STORE_OK);
+    }
+    return checkpoint(store, file);
 }
 
 relkvanu_store_record records[MOST_RECORDS];

@@ -57,6 +57,8 @@ struct discarder {
 void *discards(void *discarder); /* in this thread */
 void start_discarder(struct discarder *it);
 void stop_discarder(struct discarder *it);
+relkvanu_storage own_storage(relkvanu_store *store);
+void deletes_file(const relkvanu_storage *storage, uint64_t file, int status, uint8_t outcome);
 relkvanu *begins_read(relkvanu_store *store); /* up to relkvanu_store_read_end */
 
 /* What a store says of itself: how long a timer waits, when the next checkpoint is due, whether the job has stopped, which term runs, how many files there are,
@@ -91,9 +93,14 @@ relkvanu_answer takes_part(relkvanu_store *store, uint64_t term, uint64_t id, ui
 /* A record in which each subtask takes part with a new file, of 1 to 8 bytes. Returns its number. *first is the first file. */
 uint64_t completes(relkvanu_store *store, uint32_t kind, uint64_t *first);
 
+/* The same. Each file has so many of these bytes, unless that is 0, and the first subtask also acknowledges a file from before, unless that is 0. */
+#define CONTENTS "123456789 of a task"
+uint64_t completes_with(relkvanu_store *store, uint32_t kind, size_t len, uint64_t reused, uint64_t *first);
+
 /* Triggers a checkpoint and acknowledges it for each subtask, with files from the number on, 2 each, which no one has reserved before: all names up to
  * the last of them are reserved first, mostly in one call. Returns its number. */
 uint64_t checkpoint(relkvanu_store *store, uint64_t file);
+uint64_t checkpoint_with_files(relkvanu_store *store, uint64_t file); /* the same, with files that are there */
 enum { CHECKPOINT_CALLS = 2 + SUBTASKS };
 
 /* The records that a folder of the case has told last. */

@@ -425,8 +425,6 @@ CASE(payloads_of_a_stop) {
 /* Manifests have payloads, the order of files, and figures. So do recoveries, exports and imports. */
 CASE(payloads_of_manifests) {
     relkvanu_store_options options = storage_options(RELKVANU_STORE_CREATE | RELKVANU_STORE_MANIFESTS, 0);
-    relkvanu_store_recovered recovered;
-    relkvanu_store_carried carried;
     relkvanu_store *store = opens(&options, RELKVANU_STORE_OK);
     uint64_t savepoint = tells(store, RELKVANU_CALL_SAVEPOINT, 0).a;
     acks_all(store, savepoint);
@@ -440,18 +438,16 @@ CASE(payloads_of_manifests) {
     }
     relkvanu_store_close(store);
     CHECK(manifest_says(id, "\"bytes\":10,\"millis\":3}") != NULL && manifest_says(id, "\"millis\":0") == NULL, "no figures");
-    int status = relkvanu_store_export(in("storage"), savepoint, in("exported"), &carried);
-    CHECK(status == RELKVANU_STORE_OK, "status %d: %s", status, carried.message);
+    exports("storage", savepoint, "exported", RELKVANU_STORE_OK);
     lose_job();
-    status = relkvanu_store_recover(in("x.db"), in("storage"), 0, &recovered);
-    CHECK(status == RELKVANU_STORE_OK && recovered.record == id && recovered.savepoints == 1, "status %d: %s", status, recovered.message);
+    recovers("x.db", "storage", 0, RELKVANU_STORE_OK);
+    CHECK(recovered.record == id && recovered.savepoints == 1, "record %" PRIu64, recovered.record);
     options = storage_options(RELKVANU_STORE_MANIFESTS, 0);
     store = opens(&options, RELKVANU_STORE_OK);
     loads(store, id);
     CHECK(loaded.files_len == 2 && loaded.files[0] == names + 1 && loaded.files[1] == names, "%zu files", loaded.files_len);
     relkvanu_store_close(store);
-    status = relkvanu_store_import(in("exported"), 0, in("y.db"), in("other"), &recovered);
-    CHECK(status == RELKVANU_STORE_OK, "status %d: %s", status, recovered.message);
+    imports("exported", 0, "y.db", "other", RELKVANU_STORE_OK);
     relkvanu_store_options elsewhere = job_options(0, 0);
     elsewhere.storage = in("other");
     store = opens_at("y.db", &elsewhere, RELKVANU_STORE_OK);
@@ -464,9 +460,8 @@ CASE(payloads_of_manifests) {
 CASE(payloads_of_a_backup) {
     relkvanu_store *store = job_of(1);
     relkvanu_store_recovered recovered;
-    char message[RELKVANU_STORE_MESSAGE];
     uint64_t id = completes_all(store);
-    CHECK(relkvanu_store_backup(store, in("backup"), message, sizeof message) == RELKVANU_STORE_OK, "%s", message);
+    backs_up(store, "backup", RELKVANU_STORE_OK);
     completes_all(store);
     relkvanu_store_close(store);
     int status = relkvanu_store_put_back(in("backup"), in("x.db"), in("storage"), &recovered);

@@ -32,14 +32,6 @@ static void stop(struct discarding *d) {
     relkvanu_store_close(d->is.store);
 }
 
-/* A checkpoint with files that exist. */
-static void checkpoint_with_files(relkvanu_store *store, uint64_t file) {
-    for (uint64_t i = 0; i < 2 * SUBTASKS; i++) {
-        make_empty(stored(file + i));
-    }
-    checkpoint(store, file);
-}
-
 CASE(deletes_and_reports) {
     relkvanu_store *store = new_job();
     struct discarding d = {0};

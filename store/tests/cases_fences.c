@@ -7,19 +7,12 @@ static relkvanu_store_options options_of(uint32_t flags) {
     return storage_options(flags | RELKVANU_STORE_MANIFESTS, 0);
 }
 
-static void fill_in(relkvanu_store *store, uint64_t first) {
-    for (uint64_t file = first; file < first + 2 * SUBTASKS; file++) {
-        puts_file(store, file, RELKVANU_STORE_OK);
-    }
-}
-
 /* A job with one record, whose files are there. */
 static relkvanu_store *job_with_a_record(void) {
     relkvanu_store_options options = options_of(RELKVANU_STORE_CREATE);
     options.settings.retained = 2;
     relkvanu_store *store = opens(&options, RELKVANU_STORE_OK);
-    fill_in(store, 1);
-    CHECK(checkpoint(store, 1) == 1, "the number");
+    CHECK(checkpoint_with_files(store, 1) == 1, "the number");
     return store;
 }
 
@@ -93,22 +86,25 @@ static void is_refused(struct call *opening) {
     opens(&options, RELKVANU_STORE_STORAGE);
 }
 
+/* A claim that takes the first record over. */
+static void claims_first(void) {
+    claims("storage", 0, "apart/y.db", "apart/state", RELKVANU_STORE_OK);
+    CHECK(recovered.record == 1, "record %" PRIu64, recovered.record);
+}
+
 CASE(a_claim_beside_an_opening) {
     struct call opening = {.status = 0};
-    relkvanu_store_recovered recovered;
     holds_an_opening(&opening, "/a_claim_beside_an_opening");
-    int status = relkvanu_store_claim(in("storage"), 0, in("apart/y.db"), in("apart/state"), &recovered);
-    CHECK(status == RELKVANU_STORE_OK && recovered.record == 1, "status %d: %s", status, recovered.message);
+    claims_first();
     is_refused(&opening);
     has_record("apart/y.db", "apart/state", 1);
 }
 
 CASE(a_recovery_beside_an_opening) {
     struct call opening = {.status = 0};
-    relkvanu_store_recovered recovered;
     holds_an_opening(&opening, "/a_recovery_beside_an_opening");
-    int status = relkvanu_store_recover(in("apart/y.db"), in("storage"), 0, &recovered);
-    CHECK(status == RELKVANU_STORE_OK && recovered.record == 1, "status %d: %s", status, recovered.message);
+    recovers("apart/y.db", "storage", 0, RELKVANU_STORE_OK);
+    CHECK(recovered.record == 1, "record %" PRIu64, recovered.record);
     is_refused(&opening);
     has_record("apart/y.db", "storage", 1);
 }
@@ -116,8 +112,7 @@ CASE(a_recovery_beside_an_opening) {
 /* A claim in a thread of its own, when its folder has the record and there is no job of it yet. */
 static void holds_a_claim(struct call *claim) {
     relkvanu_store *store = job_with_a_record();
-    fill_in(store, 17);
-    CHECK(checkpoint(store, 17) == 2 && mkdir(in("apart"), 0700) == 0, "an earlier record, and a later one");
+    CHECK(checkpoint_with_files(store, 17) == 2 && mkdir(in("apart"), 0700) == 0, "an earlier record, and a later one");
     relkvanu_store_close(store);
     hold_syncs("/apart/one.part");
     begins_call(claim, claims_it, "apart/one.db", "apart/one");
@@ -128,33 +123,26 @@ static const char WORDS[] = "/apart/one: repeat that command or start its job, o
 
 /* Nothing is made of an earlier record that is still there, unless somebody gives its number. */
 static void is_claimed(void) {
-    relkvanu_store_recovered recovered;
-    relkvanu_store_carried carried;
-    CHECK(relkvanu_store_recover(in("y.db"), in("storage"), 0, &recovered) == RELKVANU_STORE_ABSENT, "a recovery");
+    recovers("y.db", "storage", 0, RELKVANU_STORE_ABSENT);
     CHECK(strstr(recovered.message, "record 2 was claimed for ") != NULL && strstr(recovered.message, WORDS) != NULL, "%s",
         recovered.message);
-    CHECK(relkvanu_store_import(in("storage"), 0, in("y.db"), in("elsewhere"), &recovered) == RELKVANU_STORE_ABSENT &&
-              strstr(recovered.message, WORDS) != NULL,
-        "%s", recovered.message);
-    CHECK(relkvanu_store_export(in("storage"), 0, in("out"), &carried) == RELKVANU_STORE_ABSENT && strstr(carried.message, WORDS) != NULL,
-        "%s", carried.message);
+    imports("storage", 0, "y.db", "elsewhere", RELKVANU_STORE_ABSENT);
+    exports("storage", 0, "out", RELKVANU_STORE_ABSENT);
+    CHECK(strstr(recovered.message, WORDS) != NULL && strstr(carried.message, WORDS) != NULL, "%s", carried.message);
     CHECK(!exists("y.db") && !exists("elsewhere") && !exists("out"), "something was made");
 }
 
 /* Who gives the number of the earlier record makes the job again, above all that it told. Then its sweep takes the mark away. */
 static void goes_back_to_earlier(void) {
     relkvanu_store_options options = options_of(RELKVANU_STORE_RECOVER);
-    relkvanu_store_recovered recovered;
-    relkvanu_store *store;
-    size_t left;
-    int status = relkvanu_store_recover(in("y.db"), in("storage"), 1, &recovered);
-    CHECK(status == RELKVANU_STORE_OK && recovered.next_number > 2, "status %d: %s", status, recovered.message);
-    CHECK(relkvanu_store_open(&store, in("y.db"), &options, &report) == RELKVANU_STORE_OK, "%s", report.message);
-    CHECK(exists("storage/record-2.manifest.claimed") && relkvanu_store_sweep(store, &left) == RELKVANU_STORE_OK && left == 0, "a sweep");
+    recovers("y.db", "storage", 1, RELKVANU_STORE_OK);
+    CHECK(recovered.next_number > 2, "number %" PRIu64, recovered.next_number);
+    relkvanu_store *store = opens_at("y.db", &options, RELKVANU_STORE_OK);
+    CHECK(exists("storage/record-2.manifest.claimed"), "the mark");
+    is_swept(store, RELKVANU_STORE_OK, 0);
     relkvanu_store_close(store);
-    CHECK(!exists("storage/record-2.manifest.claimed") &&
-              relkvanu_store_recover(in("z.db"), in("storage"), 0, &recovered) == RELKVANU_STORE_OK,
-        "%s", recovered.message);
+    CHECK(!exists("storage/record-2.manifest.claimed"), "the mark");
+    recovers("z.db", "storage", 0, RELKVANU_STORE_OK);
 }
 
 /* The second claim waits for the first, and does not take the earlier record then. */
@@ -169,23 +157,21 @@ CASE(two_claims_at_once) {
     has_record("apart/one.db", "apart/one", 2);
     CHECK(!exists("apart/other") && !exists("apart/other.db"), "what the second claim has made");
     is_claimed();
-    relkvanu_store_recovered recovered;
-    int status = relkvanu_store_claim(in("storage"), 2, in("y.db"), in("elsewhere"), &recovered);
-    CHECK(status == RELKVANU_STORE_ABSENT && strstr(recovered.message, WORDS) != NULL, "status %d: %s", status, recovered.message);
+    claims("storage", 2, "y.db", "elsewhere", RELKVANU_STORE_ABSENT);
+    CHECK(strstr(recovered.message, WORDS) != NULL, "%s", recovered.message);
     goes_back_to_earlier();
 }
 
 /* The recovery that has fenced the folder last has the records. */
 CASE(two_recoveries_at_once) {
     struct call one = {.status = 0};
-    relkvanu_store_recovered recovered;
     relkvanu_store_close(job_with_a_record());
     CHECK(mkdir(in("one"), 0700) == 0 && mkdir(in("other"), 0700) == 0, "folders");
     hold_syncs("/one");
     begins_call(&one, recovers_it, "one/x.db", "storage");
     await_held_sync();
-    int status = relkvanu_store_recover(in("other/x.db"), in("storage"), 0, &recovered);
-    CHECK(status == RELKVANU_STORE_OK && recovered.record == 1, "status %d: %s", status, recovered.message);
+    recovers("other/x.db", "storage", 0, RELKVANU_STORE_OK);
+    CHECK(recovered.record == 1, "record %" PRIu64, recovered.record);
     hold_syncs(NULL);
     ends_with(&one, RELKVANU_STORE_STORAGE, "has taken the storage folder meanwhile");
     CHECK(!exists("one/x.db"), "a second job");
@@ -209,14 +195,12 @@ static uint64_t acks_all_but_one(relkvanu_store *store) {
 
 /* A job without state files, whose record is claimed while its engine runs. */
 static relkvanu_store *claimed(void) {
-    relkvanu_store_recovered recovered;
     relkvanu_answer answer;
     relkvanu_store *store = opens_with(options_of(RELKVANU_STORE_CREATE));
     CHECK(acks(store, acks_all_but_one(store), 0, &answer) == RELKVANU_STORE_OK && answer.what == RELKVANU_ACK_COMPLETED, "a record");
     acks_all_but_one(store);
     CHECK(mkdir(in("apart"), 0700) == 0, "a folder");
-    int status = relkvanu_store_claim(in("storage"), 0, in("apart/y.db"), in("apart/state"), &recovered);
-    CHECK(status == RELKVANU_STORE_OK && recovered.record == 1, "status %d: %s", status, recovered.message);
+    claims_first();
     return store;
 }
 
@@ -265,7 +249,6 @@ CASE(a_claim_beside_a_crowd) {
 
 /* A claim that fences the folder while a manifest is written, and has listed the others before: the record is complete for nobody. */
 CASE(a_claim_beside_a_manifest) {
-    relkvanu_store_recovered recovered;
     relkvanu_answer answer;
     struct ack ack = {.store = opens_with(options_of(RELKVANU_STORE_CREATE))};
     CHECK(acks(ack.store, acks_all_but_one(ack.store), 0, &answer) == RELKVANU_STORE_OK, "a record");
@@ -274,8 +257,7 @@ CASE(a_claim_beside_a_manifest) {
     hold_syncs("/record-2.manifest.part");
     pthread_t thread = starts(acks_last, &ack);
     await_held_sync();
-    int status = relkvanu_store_claim(in("storage"), 0, in("apart/y.db"), in("apart/state"), &recovered);
-    CHECK(status == RELKVANU_STORE_OK && recovered.record == 1, "status %d: %s", status, recovered.message);
+    claims_first();
     hold_syncs(NULL);
     CHECK(pthread_join(thread, NULL) == 0 && ack.status == RELKVANU_STORE_STORAGE, "status %d", ack.status);
     is_closed(ack.store);
@@ -298,8 +280,7 @@ static int copies_and_goes_on(void *with) {
     (void)with;
     relkvanu_store *store = job_with_a_record();
     puts_aside("cp", "x.db", "old.db");
-    fill_in(store, 17);
-    return checkpoint(store, 17) == 2 ? 7 : 1; /* it is killed */
+    return checkpoint_with_files(store, 17) == 2 ? 7 : 1; /* it is killed */
 }
 
 /* A copy from the last opening has the number of that opening. The manifest of a later call proves that it is older, and the newer file stays the job. */
@@ -324,7 +305,6 @@ CASE(a_copy_of_the_last_opening) {
 /* One digit of the identity in the marker is another one: the message says whose the records are. */
 CASE(a_marker_of_another_job) {
     char job[40], words[120], marker[200] = "";
-    relkvanu_store_recovered recovered;
     relkvanu_store_close(job_with_a_record());
     snprintf(job, sizeof job, "%016" PRIx64 "%016" PRIx64, report.job[0], report.job[1]);
     lose_job();
@@ -333,10 +313,9 @@ CASE(a_marker_of_another_job) {
     char *digit = strstr(marker, job);
     CHECK(digit != NULL && fseek(file, digit - marker, SEEK_SET) == 0 && fputc(*digit == '0' ? '1' : '0', file) > 0, "the marker");
     CHECK(fclose(file) == 0, "the marker");
-    CHECK(relkvanu_store_recover(in("x.db"), in("storage"), 0, &recovered) == RELKVANU_STORE_ABSENT, "%s", recovered.message);
+    recovers("x.db", "storage", 0, RELKVANU_STORE_ABSENT);
     snprintf(words, sizeof words, "1 whole records there are of another job, %s: the marker, which names ", job);
     CHECK(strstr(recovered.message, words) != NULL, "%s", recovered.message);
-    CHECK(relkvanu_store_claim(in("storage"), 0, in("y.db"), in("elsewhere"), &recovered) == RELKVANU_STORE_ABSENT &&
-              strstr(recovered.message, words) != NULL,
-        "%s", recovered.message);
+    claims("storage", 0, "y.db", "elsewhere", RELKVANU_STORE_ABSENT);
+    CHECK(strstr(recovered.message, words) != NULL, "%s", recovered.message);
 }

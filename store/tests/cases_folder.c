@@ -150,9 +150,9 @@ CASE(files_of_a_folder) {
     puts_into(&it, 5, "state", RELKVANU_STORAGE_PRESENT);
     CHECK(mkdir(in("state/6"), 0700) == 0 && listed(&it, 0).all == 3, "%zu files", listed(&it, 0).all);
     CHECK(it.delete_files(it.with, files, 5, outcomes) == RELKVANU_STORAGE_OK, "no deletion");
-    CHECK(outcomes[0] == RELKVANU_STORAGE_DELETED && outcomes[1] == RELKVANU_STORAGE_DELETED && outcomes[2] == RELKVANU_STORAGE_DELETED);
-    CHECK(outcomes[3] == RELKVANU_STORAGE_UNDELETED && outcomes[4] == RELKVANU_STORAGE_MISSING && has("state/6"), "%d %d", outcomes[3],
-        outcomes[4]);
+    const uint8_t wanted[] = {
+        RELKVANU_STORAGE_DELETED, RELKVANU_STORAGE_DELETED, RELKVANU_STORAGE_DELETED, RELKVANU_STORAGE_UNDELETED, RELKVANU_STORAGE_MISSING};
+    CHECK(memcmp(outcomes, wanted, sizeof wanted) == 0 && has("state/6"), "the outcomes");
     CHECK(listed(&it, 0).all == 0 && it.delete_files(it.with, NULL, 0, NULL) == RELKVANU_STORAGE_OK, "files are left");
     relkvanu_storage_close_folder(&it);
 }
@@ -178,12 +178,10 @@ static void fails_to_sync(const relkvanu_storage *it, const char *end, int error
 }
 
 static void fails_to_delete(const relkvanu_storage *it, int error) {
-    uint64_t file = 8;
-    uint8_t outcome = 9;
-    puts_into(it, file, "state", RELKVANU_STORAGE_OK);
+    puts_into(it, 8, "state", RELKVANU_STORAGE_OK);
     fail_syncs("/state", error);
-    CHECK(it->delete_files(it->with, &file, 1, &outcome) == RELKVANU_STORAGE_FAILED && errno == error, "errno %d, not %d", errno, error);
-    CHECK(outcome == RELKVANU_STORAGE_UNDELETED, "outcome %d", outcome);
+    deletes_file(it, 8, RELKVANU_STORAGE_FAILED, RELKVANU_STORAGE_UNDELETED);
+    CHECK(errno == error, "errno %d, not %d", errno, error);
     fail_syncs("", 0);
 }
 
@@ -193,8 +191,6 @@ enum { SYNC_ERRORS_LEN = sizeof SYNC_ERRORS / sizeof *SYNC_ERRORS };
 /* Of all errors of a sync one is taken: EINVAL, of a folder. A file system that can't sync a folder says so. */
 CASE(syncs_that_fail) {
     relkvanu_storage it = opened(NULL, NULL);
-    uint64_t file = 7;
-    uint8_t outcome = 9;
     for (int i = 0; i < SYNC_ERRORS_LEN; i++) {
         fails_to_sync(&it, "/state/7.part", SYNC_ERRORS[i]);
         fails_to_sync(&it, "/state", SYNC_ERRORS[i]);
@@ -202,10 +198,9 @@ CASE(syncs_that_fail) {
     }
     fails_to_sync(&it, "/state/7.part", EINVAL);
     fail_syncs("/state", EINVAL);
-    puts_into(&it, file, "state", RELKVANU_STORAGE_OK);
-    reads(&it, file, "state");
-    CHECK(
-        it.delete_files(it.with, &file, 1, &outcome) == RELKVANU_STORAGE_OK && outcome == RELKVANU_STORAGE_DELETED, "outcome %d", outcome);
+    puts_into(&it, 7, "state", RELKVANU_STORAGE_OK);
+    reads(&it, 7, "state");
+    deletes_file(&it, 7, RELKVANU_STORAGE_OK, RELKVANU_STORAGE_DELETED);
     relkvanu_storage_close_folder(&it);
 }
 
@@ -241,8 +236,6 @@ static void die_at_renames(void) {
 /* A put that is killed between its write and its rename leaves a file that is listed and deleted, and that no other put overwrites. */
 CASE(killed_before_the_rename) {
     relkvanu_storage it = opened("s-", ".bin");
-    uint64_t file = 7;
-    uint8_t outcome;
     int status;
     fflush(NULL);
     pid_t child = fork();
@@ -256,16 +249,14 @@ CASE(killed_before_the_rename) {
     struct found found = listed(&it, 0);
     CHECK(found.all == 1 && found.counts[7] == 1 && found.bytes == 5, "%zu files", found.all);
     puts_into(&it, 7, "other", RELKVANU_STORAGE_PRESENT);
-    CHECK(
-        it.delete_files(it.with, &file, 1, &outcome) == RELKVANU_STORAGE_OK && outcome == RELKVANU_STORAGE_DELETED, "outcome %d", outcome);
+    deletes_file(&it, 7, RELKVANU_STORAGE_OK, RELKVANU_STORAGE_DELETED);
     CHECK(!has("state/s-7.bin.part") && listed(&it, 0).all == 0, "a part is left");
     relkvanu_storage_close_folder(&it);
 }
 
 CASE(links_are_not_followed) {
     relkvanu_storage it = opened(NULL, NULL);
-    uint64_t file = 7, len;
-    uint8_t outcome;
+    uint64_t len;
     char found[8];
     write_text("elsewhere", "state");
     CHECK(symlink("../elsewhere", in("state/7")) == 0 && symlink("../made", in("state/8.part")) == 0, "links");
@@ -274,8 +265,7 @@ CASE(links_are_not_followed) {
     puts_into(&it, 7, "other", RELKVANU_STORAGE_PRESENT);
     puts_into(&it, 8, "other", RELKVANU_STORAGE_PRESENT);
     CHECK(!has("state/7.part") && !has("made"), "a put");
-    CHECK(
-        it.delete_files(it.with, &file, 1, &outcome) == RELKVANU_STORAGE_OK && outcome == RELKVANU_STORAGE_DELETED, "outcome %d", outcome);
+    deletes_file(&it, 7, RELKVANU_STORAGE_OK, RELKVANU_STORAGE_DELETED);
     CHECK(!has("state/7") && has("elsewhere"), "a deletion");
     CHECK(rename(in("state/.relkvanu-storage"), in("marker")) == 0 && symlink("../marker", in("state/.relkvanu-storage")) == 0);
     CHECK(it.check(it.with) == RELKVANU_STORAGE_FAILED && errno == ELOOP, "errno %d", errno);
@@ -290,8 +280,7 @@ static void refuses_all(const relkvanu_storage *it, int status) {
     uint8_t outcomes[] = {9, 9};
     CHECK(it->check(it->with) == status, "check");
     puts_into(it, 9, "state", status);
-    CHECK(it->delete_files(it->with, files, 2, outcomes) == status && outcomes[0] == 0 && outcomes[1] == 0, "%d %d", outcomes[0],
-        outcomes[1]);
+    CHECK(it->delete_files(it->with, files, 2, outcomes) == status && outcomes[0] == 0 && outcomes[1] == 0, "outcome %d", outcomes[0]);
 }
 
 CASE(the_marker_of_another_job) {
@@ -392,9 +381,7 @@ CASE(pages_of_a_listing) {
 static bool delete_page(void *with, const relkvanu_storage_file *files, size_t len) {
     relkvanu_storage *it = with;
     for (size_t i = 0; i < len; i++) {
-        uint8_t outcome;
-        CHECK(it->delete_files(it->with, &files[i].file, 1, &outcome) == RELKVANU_STORAGE_OK && outcome != RELKVANU_STORAGE_UNDELETED,
-            "file %" PRIu64, files[i].file);
+        deletes_file(it, files[i].file, RELKVANU_STORAGE_OK, RELKVANU_STORAGE_DELETED);
     }
     return true;
 }

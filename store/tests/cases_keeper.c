@@ -54,20 +54,13 @@ static relkvanu_answer makes(relkvanu_store *store, relkvanu_store_call call) {
     return call.answer;
 }
 
-/* All acknowledgements of a record but the last one. */
-static uint64_t nearly_all(relkvanu_store *store, uint64_t id) {
+/* Begins a record of this kind, which waits for the last acknowledgement. Returns its number. */
+static uint64_t nearly_all(relkvanu_store *store, uint32_t kind) {
+    uint64_t id = begins(store, kind);
     for (uint16_t i = 0; i + 1 < SUBTASKS; i++) {
         makes(store, ack(id, i));
     }
     return id;
-}
-
-static uint64_t savepoint(relkvanu_store *store) {
-    return done(store, RELKVANU_CALL_SAVEPOINT, RELKVANU_STORE_NOW, 0).a;
-}
-
-static uint64_t trigger(relkvanu_store *store) {
-    return done(store, RELKVANU_CALL_TRIGGER, RELKVANU_STORE_NOW, 0).b;
 }
 
 /* Calls behind a read, as somebody does who is not alone: then the manifest of a record that it completes is written beside others. */
@@ -90,7 +83,7 @@ static relkvanu_store *opens_with_manifests(void) {
 /* Acknowledgements of other records and reservations are answered. Who completed the record, who reads and who begins a record is answered behind the manifest. */
 CASE(others_go_on) {
     relkvanu_store *store = opens_with_manifests();
-    uint64_t id = nearly_all(store, trigger(store)), other = savepoint(store);
+    uint64_t id = nearly_all(store, RELKVANU_CALL_TRIGGER), other = begins(store, RELKVANU_CALL_SAVEPOINT);
     struct caller completes = {.store = store, .call = ack(id, SUBTASKS - 1)}, reads = {.store = store, .reads = true},
                   begins = {.store = store, .call = {.call = {.kind = RELKVANU_CALL_TICK, .now = RELKVANU_STORE_NOW}}};
     needs(&completes, id);
@@ -121,7 +114,7 @@ CASE(a_trigger_by_hand) {
     relkvanu_store_options options = storage_options(RELKVANU_STORE_CREATE | RELKVANU_STORE_MANIFESTS, 0);
     options.settings.interval = 1 << 30; /* so that no tick is due */
     relkvanu_store *store = opens(&options, RELKVANU_STORE_OK);
-    uint64_t id = nearly_all(store, trigger(store)), other = savepoint(store);
+    uint64_t id = nearly_all(store, RELKVANU_CALL_TRIGGER), other = begins(store, RELKVANU_CALL_SAVEPOINT);
     struct caller completes = {.store = store, .call = ack(id, SUBTASKS - 1)}, timer = {.store = store, .is_timer = true},
                   triggers = {.store = store, .call = {.call = {.kind = RELKVANU_CALL_TRIGGER, .now = RELKVANU_STORE_NOW}}},
                   acknowledges = {.store = store, .call = ack(other, 0)};
@@ -152,7 +145,7 @@ CASE(a_trigger_by_hand) {
 /* Submits are answered in their order. A close waits for the manifest. */
 CASE(submits_keep_their_order) {
     relkvanu_store *store = opens_with_manifests();
-    uint64_t id = nearly_all(store, savepoint(store)), other = savepoint(store);
+    uint64_t id = nearly_all(store, RELKVANU_CALL_SAVEPOINT), other = begins(store, RELKVANU_CALL_SAVEPOINT);
     relkvanu_store_call last = ack(id, SUBTASKS - 1), more = ack(other, 0), again = ack(other, 1);
     relkvanu_store_completion some[3];
     hold_syncs("/record-1.manifest.part");
@@ -178,7 +171,7 @@ CASE(submits_keep_their_order) {
 /* The next completion is committed only behind the manifest of the one before: manifests are at most one record behind the log. */
 CASE(one_record_behind) {
     relkvanu_store *store = opens_with_manifests();
-    uint64_t id = nearly_all(store, savepoint(store)), other = nearly_all(store, savepoint(store));
+    uint64_t id = nearly_all(store, RELKVANU_CALL_SAVEPOINT), other = nearly_all(store, RELKVANU_CALL_SAVEPOINT);
     struct caller one = {.store = store, .call = ack(id, SUBTASKS - 1)}, two = {.store = store, .call = ack(other, SUBTASKS - 1)};
     needs(&one, id);
     needs(&two, other);
@@ -199,8 +192,8 @@ CASE(one_record_behind) {
 /* A manifest that can't be written beside others is counted, and written later; one of a record that ended goes then. */
 CASE(manifests_that_fail_beside) {
     relkvanu_store *store = opens_with_manifests();
-    makes(store, ack(nearly_all(store, savepoint(store)), SUBTASKS - 1));
-    uint64_t next = nearly_all(store, trigger(store));
+    makes(store, ack(nearly_all(store, RELKVANU_CALL_SAVEPOINT), SUBTASKS - 1));
+    uint64_t next = nearly_all(store, RELKVANU_CALL_TRIGGER);
     struct caller last = {.store = store, .call = ack(next, SUBTASKS - 1)};
     fail_syncs("/storage", EIO); /* the folder's */
     begins_behind_a_read(store, &last);
@@ -218,7 +211,7 @@ CASE(manifests_that_fail_beside) {
 CASE(ended_manifests_go_beside) {
     relkvanu_store *store = opens_with_manifests();
     for (uint64_t id = 1; id <= 3; id++) {
-        CHECK(nearly_all(store, trigger(store)) == id, "the number");
+        CHECK(nearly_all(store, RELKVANU_CALL_TRIGGER) == id, "the number");
         struct caller last = {.store = store, .call = ack(id, SUBTASKS - 1)};
         begins_behind_a_read(store, &last);
         ends(&last);
@@ -231,15 +224,14 @@ CASE(ended_manifests_go_beside) {
 /* The thread reads the files of a record while others call. */
 CASE(checksums_beside) {
     relkvanu_store *store = opens_with_manifests();
-    relkvanu_answer names;
     relkvanu_store_close(store);
     store = opens_with(storage_options(RELKVANU_STORE_MANIFESTS | RELKVANU_STORE_CHECKSUMS, 0));
     for (uint64_t id = 1; id <= 3; id++) {
-        CHECK(relkvanu_store_reserve(store, report.term, 1, &names) == RELKVANU_STORE_OK && names.code == RELKVANU_DONE, "no name");
-        CHECK(relkvanu_store_put(store, names.a, "123456789", 9) == RELKVANU_STORE_OK, "no file");
-        CHECK(nearly_all(store, trigger(store)) == id, "the number");
+        uint64_t file = reserved(store, report.term, 1);
+        CHECK(relkvanu_store_put(store, file, CONTENTS, 9) == RELKVANU_STORE_OK, "no file");
+        CHECK(nearly_all(store, RELKVANU_CALL_TRIGGER) == id, "the number");
         struct caller last = {.store = store, .call = ack(id, SUBTASKS - 1)};
-        last.call.first = &names.a;
+        last.call.first = &file;
         last.call.first_len = 1;
         begins_behind_a_read(store, &last);
         ends(&last);

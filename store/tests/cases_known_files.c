@@ -3,8 +3,8 @@
 
 #include <sys/syscall.h>
 
-/* The check value of CRC-32, as its published descriptions have it: of these nine bytes. */
-static const char CONTENTS[] = "123456789", SUM[] = "cbf43926";
+/* The check value of CRC-32, as its published descriptions have it: of the first nine bytes of CONTENTS. */
+static const char SUM[] = "cbf43926";
 enum { LENGTH = 9, MOST_FAULTS = 32 };
 
 static struct fault {
@@ -46,20 +46,6 @@ static relkvanu_store *opens_again(void) {
     return opens_with(storage_options(RELKVANU_STORE_MANIFESTS | RELKVANU_STORE_CHECKSUMS, 0));
 }
 
-/* A record in which each subtask has a fresh file, and the first one also a file from before, unless that is 0. *first is the first fresh file. */
-static uint64_t completes_with(relkvanu_store *store, uint32_t kind, uint64_t reused, uint64_t *first) {
-    relkvanu_answer answer = done(store, kind, RELKVANU_STORE_NOW, 0);
-    uint64_t id = kind == RELKVANU_CALL_SAVEPOINT ? answer.a : answer.b, term = term_of(store);
-    *first = reserved(store, term, SUBTASKS);
-    for (uint16_t i = 0; i < SUBTASKS; i++) {
-        uint64_t file = *first + i;
-        CHECK(relkvanu_store_put(store, file, CONTENTS, LENGTH) == RELKVANU_STORE_OK, "no file");
-        int status = relkvanu_store_ack_in(store, term, RELKVANU_STORE_NOW, id, 0, i, &file, 1, &reused, i == 0 && reused != 0, &answer);
-        CHECK(status == RELKVANU_STORE_OK && answer.code == RELKVANU_DONE, "status %d, what %" PRIu32, status, answer.what);
-    }
-    return id;
-}
-
 static const char *file_in(const char *folder, uint64_t file) {
     char name[PATHS];
     snprintf(name, sizeof name, "%s/%" PRIu64, folder, file);
@@ -88,7 +74,7 @@ CASE(checksums_of_files) {
     relkvanu_store_options options = storage_options(RELKVANU_STORE_CREATE | RELKVANU_STORE_CHECKSUMS, 0);
     opens_not(&options, RELKVANU_STORE_BAD_ARGUMENT, "RELKVANU_STORE_MANIFESTS");
     relkvanu_store *store = opens_new();
-    CHECK(completes_with(store, RELKVANU_CALL_TRIGGER, 0, &first) == 1, "the number");
+    CHECK(completes_with(store, RELKVANU_CALL_TRIGGER, LENGTH, 0, &first) == 1, "the number");
     snprintf(words, sizeof words, "\"files\":{\"%" PRIu64 "\":9},\"sums\":[\"%s\"]}", first + 3, SUM);
     CHECK(manifest_says(1, words) != NULL, "%s", words);
     CHECK(checks("storage") == 0 && records_len == 1 && records[0].unknown == 0 && records[0].is_next && records[0].files == 8);
@@ -99,7 +85,7 @@ CASE(checksums_of_files) {
 CASE(files_that_changed) {
     uint64_t first;
     relkvanu_store *store = opens_new();
-    completes_with(store, RELKVANU_CALL_TRIGGER, 0, &first);
+    completes_with(store, RELKVANU_CALL_TRIGGER, LENGTH, 0, &first);
     flips("storage", first + 1);
     CHECK(list_records("storage") == 1 && records[0].missing == 0 && records[0].is_next, "it was not read");
     CHECK(checks("storage") == 1 && records[0].missing == 0 && records[0].changed == 1, "%zu faults", faults_len);
@@ -117,13 +103,12 @@ CASE(files_that_changed) {
 /* A file is read once: a later record, a later opening, and a job that is made again keep the checksum from before. */
 CASE(kept_checksums) {
     uint64_t first, later, saved;
-    relkvanu_store_recovered recovered;
     relkvanu_store *store = opens_new();
-    completes_with(store, RELKVANU_CALL_TRIGGER, 0, &first);
-    uint64_t savepoint = completes_with(store, RELKVANU_CALL_SAVEPOINT, 0, &saved);
+    completes_with(store, RELKVANU_CALL_TRIGGER, LENGTH, 0, &first);
+    uint64_t savepoint = completes_with(store, RELKVANU_CALL_SAVEPOINT, LENGTH, 0, &saved);
     flips("storage", first);
     flips("storage", saved);
-    uint64_t id = completes_with(store, RELKVANU_CALL_TRIGGER, first, &later);
+    uint64_t id = completes_with(store, RELKVANU_CALL_TRIGGER, LENGTH, first, &later);
     for (int opening = 0; opening < 2; opening++) {
         CHECK(checks("storage") == 2 && records_len == 2, "%zu faults", faults_len);
         is_fault(0, savepoint, saved, RELKVANU_STORE_FILE_CHANGED);
@@ -132,8 +117,8 @@ CASE(kept_checksums) {
         store = opens_again();
     }
     lose_job_of(store);
-    int status = relkvanu_store_recover(in("x.db"), in("storage"), 0, &recovered);
-    CHECK(status == RELKVANU_STORE_OK && recovered.record == id && recovered.savepoints == 1, "status %d: %s", status, recovered.message);
+    recovers("x.db", "storage", 0, RELKVANU_STORE_OK);
+    CHECK(recovered.record == id && recovered.savepoints == 1, "record %" PRIu64, recovered.record);
     relkvanu_store_close(opens_again());
     CHECK(checks("storage") == 3 && records_len == 3 && records[0].unknown == 0, "%zu faults",
         faults_len); /* that of the old savepoint is left */
@@ -156,16 +141,15 @@ static void is_lost(relkvanu_store *store, uint64_t file, const char *words) {
 /* A file that was cut, or lost and cut, stays lost: no opening and no later record that reuses it takes its length anew. */
 CASE(kept_lengths) {
     uint64_t first, later;
-    relkvanu_store_recovered recovered;
     relkvanu_store *store = opens_with(storage_options(RELKVANU_STORE_CREATE | RELKVANU_STORE_MANIFESTS, 0));
-    completes_with(store, RELKVANU_CALL_TRIGGER, 0, &first);
+    completes_with(store, RELKVANU_CALL_TRIGGER, LENGTH, 0, &first);
     CHECK(truncate(file_in("storage", first), 4) == 0, "it is cut");
     for (int opening = 0; opening < 2; opening++) {
         is_lost(store, first, "has 4 bytes, and its manifest says 9");
         relkvanu_store_close(store);
         store = opens_with(storage_options(RELKVANU_STORE_MANIFESTS, 0));
     }
-    completes_with(store, RELKVANU_CALL_TRIGGER, first, &later);
+    completes_with(store, RELKVANU_CALL_TRIGGER, LENGTH, first, &later);
     is_lost(store, first, "has 4 bytes");
     CHECK(unlink(file_in("storage", first)) == 0, "it is lost");
     relkvanu_store_close(store);
@@ -175,19 +159,18 @@ CASE(kept_lengths) {
     CHECK(cut >= 0 && write(cut, "12", 2) == 2 && close(cut) == 0, "a part of it comes back");
     is_lost(store, first, "has 2 bytes");
     lose_job_of(store);
-    CHECK(relkvanu_store_recover(in("x.db"), in("storage"), 0, &recovered) == RELKVANU_STORE_ABSENT, "a recovery goes on from it");
+    recovers("x.db", "storage", 0, RELKVANU_STORE_ABSENT);
     CHECK(unlink(file_in("storage", first)) == 0 && link(file_in("storage", later), file_in("storage", first)) == 0, "it is whole");
-    CHECK(relkvanu_store_recover(in("x.db"), in("storage"), 0, &recovered) == RELKVANU_STORE_OK, "%s", recovered.message);
+    recovers("x.db", "storage", 0, RELKVANU_STORE_OK);
 }
 
 /* A backup whose choice has a file that was cut since begins from a savepoint that is whole. */
 CASE(a_backup_of_a_cut_file) {
     uint64_t first, saved;
-    relkvanu_store_recovered recovered;
     relkvanu_store *store = opens_with(storage_options(RELKVANU_STORE_CREATE | RELKVANU_STORE_MANIFESTS, 0));
-    uint64_t savepoint = completes_with(store, RELKVANU_CALL_SAVEPOINT, 0, &saved);
-    completes_with(store, RELKVANU_CALL_TRIGGER, 0, &first);
-    CHECK(relkvanu_store_backup(store, in("b.db"), message, sizeof message) == RELKVANU_STORE_OK, "%s", message);
+    uint64_t savepoint = completes_with(store, RELKVANU_CALL_SAVEPOINT, LENGTH, 0, &saved);
+    completes_with(store, RELKVANU_CALL_TRIGGER, LENGTH, 0, &first);
+    backs_up(store, "b.db", RELKVANU_STORE_OK);
     relkvanu_store_close(store);
     CHECK(truncate(file_in("storage", first + 3), 4) == 0, "it is cut");
     int status = relkvanu_store_put_back(in("b.db"), in("x.db"), in("storage"), &recovered);
@@ -202,8 +185,8 @@ CASE(a_backup_of_a_cut_file) {
 CASE(manifests_without_checksums) {
     uint64_t first;
     relkvanu_store *store = opens_with(storage_options(RELKVANU_STORE_CREATE | RELKVANU_STORE_MANIFESTS, 0));
-    completes_with(store, RELKVANU_CALL_SAVEPOINT, 0, &first);
-    completes_with(store, RELKVANU_CALL_TRIGGER, 0, &first);
+    completes_with(store, RELKVANU_CALL_SAVEPOINT, LENGTH, 0, &first);
+    completes_with(store, RELKVANU_CALL_TRIGGER, LENGTH, 0, &first);
     relkvanu_store_close(store);
     flips("storage", first);
     CHECK(checks("storage") == 0 && records_len == 2 && records[0].unknown == 8 && records[1].unknown == 8, "they are not known");
@@ -218,19 +201,17 @@ CASE(manifests_without_checksums) {
 CASE(a_file_that_is_not_there) {
     uint64_t first;
     relkvanu_store *store = opens_new();
-    relkvanu_answer names, answer, triggered = done(store, RELKVANU_CALL_TRIGGER, RELKVANU_STORE_NOW, 0);
-    CHECK(relkvanu_store_reserve(store, report.term, SUBTASKS, &names) == RELKVANU_STORE_OK, "no names");
+    relkvanu_answer answer = {0};
+    uint64_t id = begins(store, RELKVANU_CALL_TRIGGER), file = reserved(store, report.term, SUBTASKS);
     for (uint16_t i = 0; i < SUBTASKS; i++) {
-        uint64_t file = names.a + i;
-        CHECK(relkvanu_store_ack_in(store, report.term, RELKVANU_STORE_NOW, triggered.b, 0, i, &file, 1, NULL, 0, &answer) ==
-              RELKVANU_STORE_OK);
+        answer = acked_at_0(store, report.term, id, i, file + i);
     }
     CHECK(answer.what == RELKVANU_ACK_COMPLETED, "what %" PRIu32, answer.what);
     relkvanu_store_measures measures = measures_of(store);
     CHECK(measures.manifests == 1 && measures.failed_manifests == 0, "%" PRIu64 " manifests", measures.manifests);
     CHECK(manifest_says(1, "sums\":[\"") == NULL && manifest_says(1, "\"sums\":[null]") != NULL);
     CHECK(list_records("storage") == 1 && records[0].missing == 8 && records[0].unknown == 8, "the record");
-    completes_with(store, RELKVANU_CALL_TRIGGER, 0, &first);
+    completes_with(store, RELKVANU_CALL_TRIGGER, LENGTH, 0, &first);
     relkvanu_store_close(store);
 }
 
@@ -238,27 +219,22 @@ CASE(a_file_that_is_not_there) {
 CASE(carried_checksums) {
     uint64_t first;
     char words[64];
-    relkvanu_store_carried carried;
-    relkvanu_store_recovered recovered;
     relkvanu_store *store = opens_new();
-    uint64_t id = completes_with(store, RELKVANU_CALL_TRIGGER, 0, &first);
+    uint64_t id = completes_with(store, RELKVANU_CALL_TRIGGER, LENGTH, 0, &first);
     link_error = EXDEV;
-    CHECK(relkvanu_store_export(in("storage"), 0, in("copied"), &carried) == RELKVANU_STORE_OK, "%s", carried.message);
+    exports("storage", 0, "copied", RELKVANU_STORE_OK);
     CHECK(checks("copied") == 0 && records[0].unknown == 0 && records[0].files == 8, "the copy");
-    int status = relkvanu_store_claim(in("copied"), 0, in("y.db"), in("other"), &recovered);
-    CHECK(status == RELKVANU_STORE_OK && recovered.record == id && access(in("copied"), F_OK) != 0, "status %d: %s", status,
-        recovered.message);
+    claims("copied", 0, "y.db", "other", RELKVANU_STORE_OK);
+    CHECK(recovered.record == id && !exists("copied"), "record %" PRIu64, recovered.record);
     CHECK(checks("other") == 0 && records[0].unknown == 0 && records[0].files == 8, "what was claimed");
     flips("storage", first + 7);
-    status = relkvanu_store_export(in("storage"), 0, in("damaged"), &carried);
-    CHECK(
-        status == RELKVANU_STORE_DAMAGED && access(in("damaged"), F_OK) != 0 && access(in("damaged.part"), F_OK) != 0, "status %d", status);
+    exports("storage", 0, "damaged", RELKVANU_STORE_DAMAGED);
     snprintf(words, sizeof words, "%" PRIu64 ": it has another checksum", first + 7);
     CHECK(strstr(carried.message, words) != NULL, "%s", carried.message);
-    status = relkvanu_store_import(in("storage"), 0, in("z.db"), in("third"), &recovered);
-    CHECK(status == RELKVANU_STORE_DAMAGED && access(in("z.db"), F_OK) != 0 && access(in("third"), F_OK) != 0, "status %d", status);
+    imports("storage", 0, "z.db", "third", RELKVANU_STORE_DAMAGED);
+    CHECK(!exists("damaged") && !exists("z.db") && !exists("third"), "something was made");
     link_error = 0;
-    CHECK(relkvanu_store_import(in("storage"), 0, in("z.db"), in("third"), &recovered) == RELKVANU_STORE_OK, "%s", recovered.message);
+    imports("storage", 0, "z.db", "third", RELKVANU_STORE_OK);
     CHECK(checks("third") == 1, "%zu faults", faults_len);
     is_fault(0, id, first + 7, RELKVANU_STORE_FILE_CHANGED);
     relkvanu_store_close(store);
@@ -269,13 +245,13 @@ CASE(many_checksums) {
     uint64_t first = 0, kept = 0;
     relkvanu_store *store = opens_new();
     for (int nth = 0; nth < 300; nth++) {
-        completes_with(store, RELKVANU_CALL_TRIGGER, kept, &first);
+        completes_with(store, RELKVANU_CALL_TRIGGER, LENGTH, kept, &first);
         CHECK(relkvanu_store_discard_for(store, 0, 1, NULL, NULL) == RELKVANU_STORE_TIMED_OUT, "a discarder");
         kept = kept == 0 ? first : kept;
     }
     flips("storage", kept);
     flips("storage", first + 1);
-    uint64_t id = completes_with(store, RELKVANU_CALL_TRIGGER, kept, &first);
+    uint64_t id = completes_with(store, RELKVANU_CALL_TRIGGER, LENGTH, kept, &first);
     CHECK(checks("storage") == 1 && records_len == 1 && records[0].unknown == 0 && records[0].files == 9, "%zu faults", faults_len);
     is_fault(0, id, kept, RELKVANU_STORE_FILE_CHANGED);
     relkvanu_store_close(store);
@@ -290,7 +266,7 @@ static bool ends_at_once(void *with, uint64_t record, uint64_t file, uint32_t fa
 CASE(a_look_that_ends) {
     uint64_t first;
     relkvanu_store *store = opens_new();
-    completes_with(store, RELKVANU_CALL_TRIGGER, 0, &first);
+    completes_with(store, RELKVANU_CALL_TRIGGER, LENGTH, 0, &first);
     flips("storage", first);
     flips("storage", first + 1);
     int status = relkvanu_store_check_records(in("storage"), note_record, ends_at_once, records, message, sizeof message);

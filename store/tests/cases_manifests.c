@@ -10,15 +10,6 @@ static relkvanu_store *opens_with_manifests(void) {
     return opens_with(manifests(RELKVANU_STORE_CREATE));
 }
 
-/* Another record, in which each subtask has a new file, and the first one also a file from before. */
-static uint64_t completes_with(relkvanu_store *store, uint32_t kind, uint64_t reused) {
-    uint64_t id = begins(store, kind), file = reserved(store, 1, SUBTASKS);
-    for (uint16_t i = 0; i < SUBTASKS; i++) {
-        takes_part(store, 1, id, i, file + i, i + 1u, i == 0 ? reused : 0);
-    }
-    return id;
-}
-
 /* A number that the manifest says to be above all that was told below it. */
 static uint64_t told_below(uint64_t id, const char *member) {
     const char *below = manifest_says(id, "\"below\":"), *at = below == NULL ? NULL : strstr(below, member);
@@ -556,7 +547,7 @@ CASE(a_claim) {
     relkvanu_store *store = opens(&options, RELKVANU_STORE_OK);
     uint64_t first = 0, shared = 0, savepoint = completes(store, RELKVANU_CALL_SAVEPOINT, &shared);
     completes(store, RELKVANU_CALL_TRIGGER, &first);
-    uint64_t last = completes_with(store, RELKVANU_CALL_TRIGGER, first);
+    uint64_t last = completes_with(store, RELKVANU_CALL_TRIGGER, 0, first, NULL);
     claims("storage", 99, "y.db", "elsewhere", RELKVANU_STORE_ABSENT);
     int wal = open(in("y.db-wal"), O_WRONLY | O_CREAT | O_CLOEXEC, 0600);
     CHECK(wal >= 0 && write(wal, "x", 1) == 1 && close(wal) == 0, "a -wal");
@@ -616,7 +607,7 @@ CASE(a_claim_of_shared_files) {
     relkvanu_store *store = opens_with_manifests();
     uint64_t first = 0;
     completes(store, RELKVANU_CALL_TRIGGER, &first);
-    uint64_t savepoint = completes_with(store, RELKVANU_CALL_SAVEPOINT, first);
+    uint64_t savepoint = completes_with(store, RELKVANU_CALL_SAVEPOINT, 0, first, NULL);
     relkvanu_store_close(store);
     claims("storage", savepoint - 1, "y.db", "elsewhere", RELKVANU_STORE_OK);
     CHECK(has_bytes("elsewhere", first, 1) && has_bytes("storage", first, 1) && !has_bytes("storage", first + 1, 2), "the files");

@@ -214,26 +214,23 @@ static int in_a_child(void *with) {
 }
 
 CASE(the_own_folder) {
-    relkvanu_store_options options = storage_options(RELKVANU_STORE_CREATE, 0);
-    relkvanu_store *store = opens(&options, RELKVANU_STORE_OK);
-    relkvanu_storage own;
-    uint64_t files[] = {7, 8}, len = 0, sums[2] = {0};
-    uint8_t outcomes[2];
+    relkvanu_store *store = new_job();
+    relkvanu_storage own = own_storage(store);
+    uint64_t len = 0, sums[2] = {0};
     char found[8] = "";
-    CHECK(relkvanu_store_storage(store, &own) == RELKVANU_STORE_OK && own.check(own.with) == RELKVANU_STORAGE_OK, "a storage");
+    CHECK(own.check(own.with) == RELKVANU_STORAGE_OK, "a storage");
     CHECK(own.put(own.with, 7, "state", 5) == RELKVANU_STORAGE_OK && relkvanu_store_put(store, 7, "", 0) == RELKVANU_STORE_PRESENT, "put");
     CHECK(own.get(own.with, 7, found, sizeof found, &len) == RELKVANU_STORAGE_OK && len == 5 && strcmp(found, "state") == 0, "%s", found);
     CHECK(own.list(own.with, 0, note_sum, sums) == RELKVANU_STORAGE_OK && sums[0] == 7 && sums[1] == 5, "%" PRIu64 " bytes", sums[1]);
     CHECK(in_child(in_a_child, &(struct store_and_own){store, own}) == 0, "a child");
     CHECK(rename(in("storage/.relkvanu-job"), in("marker")) == 0 && own.check(own.with) == RELKVANU_STORAGE_NOT_THERE, "the marker");
-    CHECK(own.delete_files(own.with, files, 2, outcomes) == RELKVANU_STORAGE_NOT_THERE && outcomes[0] == 0 && outcomes[1] == 0);
+    deletes_file(&own, 7, RELKVANU_STORAGE_NOT_THERE, RELKVANU_STORAGE_UNDELETED);
     CHECK(rename(in("marker"), in("storage/.relkvanu-job")) == 0, "the marker");
-    CHECK(own.delete_files(own.with, files, 2, outcomes) == RELKVANU_STORAGE_OK && outcomes[0] == 1 && outcomes[1] == 2, "%d %d",
-        outcomes[0], outcomes[1]);
+    deletes_file(&own, 7, RELKVANU_STORAGE_OK, RELKVANU_STORAGE_DELETED);
+    deletes_file(&own, 8, RELKVANU_STORAGE_OK, RELKVANU_STORAGE_MISSING);
     relkvanu_store_close(store);
-    options = job_options(RELKVANU_STORE_CREATE_ONLY, 0);
-    CHECK(unlink(in("x.db")) == 0 && unlink(in("x.db-wal")) == 0, "x.db");
-    store = opens(&options, RELKVANU_STORE_OK);
+    lose_job();
+    store = opens_with(job_options(RELKVANU_STORE_CREATE_ONLY, 0));
     CHECK(relkvanu_store_storage(store, &own) == RELKVANU_STORE_BAD_ARGUMENT && own.with == NULL, "no folder");
     CHECK(relkvanu_store_discard_storage(store, 0, NULL) == RELKVANU_STORE_BAD_ARGUMENT, "a discarder without a folder");
     CHECK(relkvanu_store_discard_for(store, 0, 1, NULL, NULL) == RELKVANU_STORE_BAD_ARGUMENT, "one for a while");
@@ -250,19 +247,12 @@ static int count_deletions(void *with, const uint64_t *files, size_t len, uint8_
     return under.delete_files(with, files, len, outcomes);
 }
 
-static void put_and_complete(relkvanu_store *store, uint64_t file) {
-    for (uint64_t at = file; at < file + 2 * SUBTASKS; at++) {
-        puts_file(store, at, RELKVANU_STORE_OK);
-    }
-    checkpoint(store, file);
-}
-
 /* The store's own storage is taken as any other one, and by NULL. What its folder has not synced is not reported. */
 CASE(the_own_storage_discards) {
     relkvanu_store_options options = storage_options(RELKVANU_STORE_CREATE, 0);
     relkvanu_store *store = opens(&options, RELKVANU_STORE_OK);
-    put_and_complete(store, 1);
-    put_and_complete(store, 101);
+    checkpoint_with_files(store, 1);
+    checkpoint_with_files(store, 101);
     fail_syncs("/storage", EIO);
     do { /* on a slow machine the time may be up before a batch */
         CHECK(relkvanu_store_discard_for(store, 0, 50, NULL, NULL) == RELKVANU_STORE_TIMED_OUT, "a discarder");
@@ -275,8 +265,8 @@ CASE(the_own_storage_discards) {
     while (unreported(store) != 0) {
         CHECK(relkvanu_store_discard_for(store, 0, 500, NULL, NULL) == RELKVANU_STORE_TIMED_OUT, "a discarder");
     }
-    put_and_complete(store, 201);
-    CHECK(relkvanu_store_storage(store, &under) == RELKVANU_STORE_OK, "a storage");
+    checkpoint_with_files(store, 201);
+    under = own_storage(store);
     relkvanu_storage counting = under;
     counting.delete_files = count_deletions;
     struct discarder it = {.store = store, .batch = 5, .storage = &counting};

@@ -87,11 +87,10 @@ static uint64_t submits_a_stop(relkvanu_store *store, uint64_t token) {
 }
 
 static void acks_all(relkvanu_store *store, uint64_t id) {
-    relkvanu_answer answer = {0}, names;
-    CHECK(relkvanu_store_reserve(store, 1, SUBTASKS, &names) == RELKVANU_STORE_OK && names.code == RELKVANU_DONE, "names");
+    relkvanu_answer answer = {0};
+    uint64_t file = reserved(store, 1, SUBTASKS);
     for (uint16_t i = 0; i < SUBTASKS; i++) {
-        uint64_t file = names.a + i;
-        CHECK(relkvanu_store_ack_in(store, 1, 0, id, 0, i, &file, 1, NULL, 0, &answer) == RELKVANU_STORE_OK, "an acknowledgement");
+        answer = acked_at_0(store, 1, id, i, file + i);
     }
     CHECK(answer.what == RELKVANU_ACK_COMPLETED, "what %" PRIu32, answer.what);
 }

@@ -114,15 +114,12 @@ CASE(a_folder_that_is_not_synced) {
     opens(&options, RELKVANU_STORE_FAILED);
     fail_syncs("", 0);
     relkvanu_store *store = opens(&options, RELKVANU_STORE_OK);
-    relkvanu_storage storage;
-    uint64_t file = 7;
-    uint8_t outcome = 9;
-    CHECK(relkvanu_store_storage(store, &storage) == RELKVANU_STORE_OK, "the folder");
-    puts_file(store, file, RELKVANU_STORE_OK);
+    relkvanu_storage storage = own_storage(store);
+    puts_file(store, 7, RELKVANU_STORE_OK);
     fail_syncs("/storage", EINVAL);
     CHECK(relkvanu_store_put(store, 8, "state", 5) == RELKVANU_STORE_NOT_PUT && errno == EINVAL && !exists("storage/8"), "errno %d", errno);
-    CHECK(storage.delete_files(storage.with, &file, 1, &outcome) == RELKVANU_STORAGE_FAILED && errno == EINVAL, "errno %d", errno);
-    CHECK(outcome == RELKVANU_STORAGE_UNDELETED, "outcome %d", outcome);
+    deletes_file(&storage, 7, RELKVANU_STORAGE_FAILED, RELKVANU_STORAGE_UNDELETED);
+    CHECK(errno == EINVAL, "errno %d", errno);
     relkvanu_store_close(store);
 }
 
@@ -139,12 +136,9 @@ CASE(a_marker_that_is_a_link) {
     puts_file(store, 7, RELKVANU_STORE_OK);
     CHECK(rename(in("storage/.relkvanu-job"), in("marker")) == 0 && symlink("../marker", in("storage/.relkvanu-job")) == 0, "the marker");
     CHECK(relkvanu_store_put(store, 8, "state", 5) == RELKVANU_STORE_STORAGE && !exists("storage/8"), "a put beside a link");
-    relkvanu_storage storage;
-    uint64_t file = 7;
-    uint8_t outcome = 9;
-    CHECK(relkvanu_store_storage(store, &storage) == RELKVANU_STORE_OK, "the folder");
-    CHECK(
-        storage.delete_files(storage.with, &file, 1, &outcome) == RELKVANU_STORAGE_NOT_THERE && exists("storage/7"), "outcome %d", outcome);
+    relkvanu_storage storage = own_storage(store);
+    deletes_file(&storage, 7, RELKVANU_STORAGE_NOT_THERE, RELKVANU_STORAGE_UNDELETED);
+    CHECK(exists("storage/7"), "it is deleted");
     relkvanu_store_close(store);
     opens_not(&options, RELKVANU_STORE_STORAGE, "a symbolic link is in the place of its marker: .relkvanu-job");
     CHECK(unlink(in("x.db")) == 0 && unlink(in("x.db-wal")) == 0 && unlink(in("marker")) == 0, "the job");
