@@ -29,10 +29,23 @@ static uint64_t triggers(relkvanu_store *store) {
     return id;
 }
 
+/* An acknowledgement or a decline with what is in `more`. */
+static void answers(relkvanu_store *store, uint64_t term, uint64_t id, uint16_t index, uint32_t code) {
+    int status = more.reason == NULL
+                     ? relkvanu_store_ack_with(store, term, RELKVANU_STORE_NOW, id, 0, index, NULL, 0, NULL, 0, &more, &answer)
+                     : relkvanu_store_decline_with(store, term, RELKVANU_STORE_NOW, id, 0, index, &more, &answer);
+    CHECK(
+        status == RELKVANU_STORE_OK && answer.code == code, "status %d, code %" PRIu32 ", what %" PRIu32, status, answer.code, answer.what);
+}
+
 static void acks(relkvanu_store *store, uint64_t id, uint16_t index, const char *payload) {
     more = with_payload(payload);
-    int status = relkvanu_store_ack_with(store, term_of(store), RELKVANU_STORE_NOW, id, 0, index, NULL, 0, NULL, 0, &more, &answer);
-    CHECK(status == RELKVANU_STORE_OK && answer.code == RELKVANU_DONE, "status %d, what %" PRIu32, status, answer.what);
+    answers(store, term_of(store), id, index, RELKVANU_DONE);
+}
+
+static void declines(relkvanu_store *store, uint64_t id, const char *reason) {
+    more = (relkvanu_store_more){.reason = reason, .reason_len = strlen(reason), .ended = ended, .ended_room = ENDED};
+    answers(store, term_of(store), id, 1, RELKVANU_DONE);
 }
 
 static void acks_all(relkvanu_store *store, uint64_t id) {
@@ -88,18 +101,16 @@ static void loads(relkvanu_store *store, uint64_t id) {
 }
 
 /* How many rows of parts a closed job has, of this record, or of all (0). */
-static size_t parts_of(uint64_t record) {
-    sqlite3 *db;
-    sqlite3_stmt *it;
-    static const char sql[] = "SELECT count(*) FROM part WHERE record = ?1 OR ?1 = 0";
-    CHECK(sqlite3_open_v2(in("x.db"), &db, SQLITE_OPEN_READONLY, NULL) == SQLITE_OK, "no file");
-    CHECK(sqlite3_prepare_v2(db, sql, -1, &it, NULL) == SQLITE_OK && sqlite3_bind_int64(it, 1, (sqlite3_int64)record) == SQLITE_OK, "%s",
-        sqlite3_errmsg(db));
-    CHECK(sqlite3_step(it) == SQLITE_ROW, "%s", sqlite3_errmsg(db));
-    size_t found = (size_t)sqlite3_column_int64(it, 0);
-    sqlite3_finalize(it);
-    sqlite3_close(db);
-    return found;
+static uint64_t parts_of(uint64_t record) {
+    char sql[100];
+    snprintf(sql, sizeof sql, "SELECT count(*) FROM part WHERE record = %" PRIu64 " OR %" PRIu64 " = 0", record, record);
+    return ask_sql(in("x.db"), sql);
+}
+
+/* The last records that ended, and how many. */
+static size_t history(relkvanu_store *store, relkvanu_store_past *past, size_t room) {
+    CHECK(relkvanu_store_history(store, past, &room) == RELKVANU_STORE_OK, "no history");
+    return room;
 }
 
 static relkvanu_store *reopens(relkvanu_store *store) {
@@ -136,7 +147,7 @@ CASE(payloads) {
     CHECK(more.kind == RELKVANU_STORE_CHECKPOINT && more.ended_len == 1 && ended[0] == pending, "%zu ended", more.ended_len);
     loads(store, second);
     relkvanu_store_close(store);
-    CHECK(parts_of(0) == parts_of(second) && parts_of(second) == SUBTASKS, "%zu rows", parts_of(0));
+    CHECK(parts_of(0) == parts_of(second) && parts_of(second) == SUBTASKS, "%" PRIu64 " rows", parts_of(0));
     store = reopens(NULL);
     tells(store, RELKVANU_CALL_CANCEL, 0);
     CHECK(more.ended_len == 1 && ended[0] == second, "%zu ended", more.ended_len);
@@ -173,7 +184,7 @@ CASE(payloads_of_lists) {
         loads(store, id);
     }
     relkvanu_store_close(store);
-    CHECK(parts_of(0) == 1, "%zu rows", parts_of(0));
+    CHECK(parts_of(0) == 1, "%" PRIu64 " rows", parts_of(0));
 }
 
 /* A payload goes with its record, however that ends. */
@@ -181,10 +192,9 @@ CASE(payloads_of_ended_records) {
     relkvanu_store *store = job_of(2);
     uint64_t kept = completes_all(store), declined = triggers(store);
     acks(store, declined, 0, "declined");
-    more = (relkvanu_store_more){.reason = "no disk", .reason_len = 7, .ended = ended, .ended_room = ENDED};
-    int status = relkvanu_store_decline_with(store, term_of(store), RELKVANU_STORE_NOW, declined, 0, 1, &more, &answer);
-    CHECK(status == RELKVANU_STORE_OK && answer.what == RELKVANU_DECLINE_ABORTED, "status %d", status);
-    CHECK(more.kind == RELKVANU_STORE_CHECKPOINT && more.ended_len == 1 && ended[0] == declined, "%zu ended", more.ended_len);
+    declines(store, declined, "no disk");
+    CHECK(answer.what == RELKVANU_DECLINE_ABORTED && more.kind == RELKVANU_STORE_CHECKPOINT && more.ended_len == 1 && ended[0] == declined,
+        "%zu ended", more.ended_len);
     acks(store, declined, 2, "late");
     CHECK(answer.what == RELKVANU_ACK_LATE && more.kind == 0 && more.ended_len == 0, "what %" PRIu32, answer.what);
     uint64_t savepoint = tells(store, RELKVANU_CALL_SAVEPOINT, 0).a, expires = triggers(store);
@@ -202,7 +212,7 @@ CASE(payloads_of_ended_records) {
     CHECK(more.kind == RELKVANU_STORE_SAVEPOINT && more.ended_len == 1 && ended[0] == savepoint, "%zu ended", more.ended_len);
     loads(store, kept);
     relkvanu_store_close(store);
-    CHECK(parts_of(0) == SUBTASKS && parts_of(kept) == SUBTASKS, "%zu rows", parts_of(0));
+    CHECK(parts_of(0) == SUBTASKS && parts_of(kept) == SUBTASKS, "%" PRIu64 " rows", parts_of(0));
 }
 
 /* A later checkpoint subsumes an earlier one that is pending; a job that fails drops all. */
@@ -220,15 +230,13 @@ CASE(payloads_of_dropped_records) {
     uint64_t first = triggers(store), second = triggers(store);
     acks(store, first, 0, "dropped");
     acks(store, second, 0, "declined");
-    more = (relkvanu_store_more){.reason = "x", .reason_len = 1, .ended = ended, .ended_room = ENDED};
-    relkvanu_store_decline_with(store, term_of(store), RELKVANU_STORE_NOW, second, 0, 1, &more, &answer);
+    declines(store, second, "x");
     CHECK(answer.what == RELKVANU_DECLINE_FAILED && more.ended_len == 2 && ended[0] == first && ended[1] == second, "%zu ended",
         more.ended_len);
     relkvanu_store_past past[4];
-    size_t len = 4;
-    CHECK(relkvanu_store_history(store, past, &len) == RELKVANU_STORE_OK && len == 4, "%zu records", len);
+    CHECK(history(store, past, 4) == 4, "some records");
     const uint32_t outcomes[] = {RELKVANU_STORE_DECLINED, RELKVANU_STORE_DROPPED, RELKVANU_STORE_COMPLETED, RELKVANU_STORE_DROPPED};
-    for (size_t i = 0; i < len; i++) {
+    for (size_t i = 0; i < 4; i++) {
         CHECK(past[i].id == second - i && past[i].outcome == outcomes[i], "record %" PRIu64 ": %" PRIu32, past[i].id, past[i].outcome);
     }
     CHECK(strcmp(past[0].reason, "x") == 0 && past[1].reason[0] == 0, "%s", past[0].reason);
@@ -324,24 +332,20 @@ CASE(misuse_of_more) {
         CHECK(strstr(words, bad[i].words) != NULL && call.answer.code == RELKVANU_STORE_NOT_MADE, "case %zu: %s", i, words);
     }
     more = with_payload("x");
-    int status = relkvanu_store_ack_with(store, term, RELKVANU_STORE_NOW, id, 0, SUBTASKS, NULL, 0, NULL, 0, &more, &answer);
-    CHECK(status == RELKVANU_STORE_OK && answer.code == RELKVANU_REFUSED && more.kind == 0, "what %" PRIu32, answer.what);
-    status = relkvanu_store_ack_with(store, term + 1, RELKVANU_STORE_NOW, id, 0, 0, NULL, 0, NULL, 0, &more, &answer);
-    CHECK(status == RELKVANU_STORE_OK && answer.code == RELKVANU_FENCED, "what %" PRIu32, answer.what);
+    answers(store, term, id, SUBTASKS, RELKVANU_REFUSED);
+    CHECK(more.kind == 0, "kind %" PRIu32, more.kind);
+    answers(store, term + 1, id, 0, RELKVANU_FENCED);
     more = (relkvanu_store_more){.payload = text, .payload_len = RELKVANU_STORE_MOST_PAYLOAD};
-    status = relkvanu_store_ack_with(store, term, RELKVANU_STORE_NOW, id, 0, 0, NULL, 0, NULL, 0, &more, &answer);
-    CHECK(status == RELKVANU_STORE_OK && answer.what == RELKVANU_ACK_PENDING, "a payload of 4096 bytes");
-    status = relkvanu_store_ack_with(store, term, RELKVANU_STORE_NOW, id, 0, 0, NULL, 0, NULL, 0, &more, &answer);
-    CHECK(status == RELKVANU_STORE_OK && answer.code == RELKVANU_REFUSED, "twice");
+    answers(store, term, id, 0, RELKVANU_DONE);
+    answers(store, term, id, 0, RELKVANU_REFUSED); /* twice */
     relkvanu_store_close(store);
-    CHECK(parts_of(0) == 1, "%zu rows", parts_of(0));
+    CHECK(parts_of(0) == 1, "%" PRIu64 " rows", parts_of(0));
 }
 
 CASE(the_history) {
     relkvanu_store *store = job_of(1);
     relkvanu_store_past past[3];
-    size_t len = 3;
-    CHECK(relkvanu_store_history(store, past, &len) == RELKVANU_STORE_OK && len == 0, "%zu records of a new job", len);
+    CHECK(history(store, past, 3) == 0, "records of a new job");
     uint64_t id = triggers(store);
     acks(store, id, 0, "x");
     usleep(30000);
@@ -350,11 +354,9 @@ CASE(the_history) {
     }
     uint64_t savepoint = tells(store, RELKVANU_CALL_SAVEPOINT, 0).a;
     static const char reason[] = "the disk of host 7 is full";
-    more = (relkvanu_store_more){.reason = reason, .reason_len = strlen(reason)};
-    relkvanu_store_decline_with(store, term_of(store), RELKVANU_STORE_NOW, savepoint, 0, 1, &more, &answer);
+    declines(store, savepoint, reason);
     for (int again = 0; again < 2; again++) {
-        len = 3;
-        CHECK(relkvanu_store_history(store, past, &len) == RELKVANU_STORE_OK && len == 2, "%zu records", len);
+        CHECK(history(store, past, 3) == 2, "two records");
         CHECK(past[0].id == savepoint && past[0].kind == RELKVANU_STORE_SAVEPOINT && past[0].outcome == RELKVANU_STORE_DECLINED &&
                   past[0].acks == 0 && past[0].slowest == 0 && strcmp(past[0].reason, reason) == 0,
             "%s", past[0].reason);
@@ -366,8 +368,7 @@ CASE(the_history) {
             "%" PRIu64 " %" PRIu64 " %" PRIu64, past[1].first, past[1].median, past[1].slowest);
         store = reopens(store);
     }
-    len = 1;
-    CHECK(relkvanu_store_history(store, past, &len) == RELKVANU_STORE_OK && len == 1 && past[0].id == savepoint, "the last one");
+    CHECK(history(store, past, 1) == 1 && past[0].id == savepoint, "the last one");
     relkvanu_store_close(store);
 }
 
@@ -376,15 +377,14 @@ CASE(a_long_history) {
     relkvanu_store *store = job_of(1);
     relkvanu_store_call *calls = calloc(4000, sizeof *calls);
     static relkvanu_store_past past[RELKVANU_STORE_MOST_HISTORY + 1];
-    size_t len = RELKVANU_STORE_MOST_HISTORY + 1;
     uint64_t term = term_of(store);
     for (uint64_t i = 0; i < 2000; i++) {
         calls[2 * i].call.kind = RELKVANU_CALL_SAVEPOINT;
         calls[2 * i + 1].call = (relkvanu_call){.kind = RELKVANU_CALL_DECLINE, .number = i + 1, .term = term};
     }
     CHECK(relkvanu_store_calls(store, calls, 4000) == RELKVANU_STORE_OK, "no list");
-    CHECK(relkvanu_store_history(store, past, &len) == RELKVANU_STORE_OK && len == RELKVANU_STORE_MOST_HISTORY, "%zu records", len);
-    CHECK(past[0].id == 2000 && past[len - 1].id == 1001, "from %" PRIu64 " to %" PRIu64, past[0].id, past[len - 1].id);
+    size_t len = history(store, past, RELKVANU_STORE_MOST_HISTORY + 1);
+    CHECK(len == RELKVANU_STORE_MOST_HISTORY && past[0].id == 2000 && past[len - 1].id == 1001, "%zu records", len);
     relkvanu_store_close(store);
     free(calls);
 }
@@ -419,7 +419,7 @@ CASE(payloads_of_a_stop) {
     loads_as(store, 0, call.answer.a, RELKVANU_STORE_OK);
     loads_as(store, before, 0, RELKVANU_STORE_ABSENT);
     relkvanu_store_close(store);
-    CHECK(parts_of(0) == SUBTASKS, "%zu rows", parts_of(0));
+    CHECK(parts_of(0) == SUBTASKS, "%" PRIu64 " rows", parts_of(0));
 }
 
 /* Manifests have payloads, the order of files, and figures. So do recoveries, exports and imports. */
@@ -487,5 +487,5 @@ CASE(damaged_parts) {
     uint64_t next = completes_all(store);
     loads(store, next);
     relkvanu_store_close(store);
-    CHECK(parts_of(77) == 0 && parts_of(0) == SUBTASKS, "%zu rows", parts_of(0));
+    CHECK(parts_of(77) == 0 && parts_of(0) == SUBTASKS, "%" PRIu64 " rows", parts_of(0));
 }

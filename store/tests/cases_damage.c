@@ -52,17 +52,15 @@ CASE(other_files) {
 
 /* Replaces a call of the log, and the files that a take fetched, with a checksum that fits. */
 static void replace_row(uint64_t place, const char *line, relkvanu_answer answer, const uint64_t *files) {
+    static const char sql[] = "UPDATE log SET what = ?2, a = ?3, b = ?4, chain = ?5, line = ?6, files = ?7 WHERE place = ?1";
+    char last[80];
+    snprintf(last, sizeof last, "SELECT chain FROM log WHERE place = %" PRIu64, place - 1);
+    uint32_t before = (uint32_t)ask_sql(in("x.db"), last);
     sqlite3 *db = open_file(in("x.db"));
     sqlite3_stmt *it;
-    int code = sqlite3_prepare_v2(db, "SELECT chain FROM log WHERE place = ?1 - 1", -1, &it, NULL);
-    CHECK(code == SQLITE_OK && sqlite3_bind_int64(it, 1, (sqlite3_int64)place) == SQLITE_OK && sqlite3_step(it) == SQLITE_ROW,
-        "no call before");
-    uint32_t before = (uint32_t)sqlite3_column_int64(it, 0);
-    sqlite3_finalize(it);
     struct rks_row row = {{(const uint8_t *)line, strlen(line)}, answer, files, place, 0};
     const sqlite3_int64 numbers[] = {
         (sqlite3_int64)place, answer.what, (sqlite3_int64)answer.a, (sqlite3_int64)answer.b, rks_chain(before, &row)};
-    static const char sql[] = "UPDATE log SET what = ?2, a = ?3, b = ?4, chain = ?5, line = ?6, files = ?7 WHERE place = ?1";
     CHECK(sqlite3_prepare_v2(db, sql, -1, &it, NULL) == SQLITE_OK, "%s", sqlite3_errmsg(db));
     for (int i = 0; i < 5; i++) {
         sqlite3_bind_int64(it, i + 1, numbers[i]);

@@ -170,3 +170,13 @@ void run_sql(const char *path, const char *sql) {
     CHECK(sqlite3_exec(db, sql, NULL, NULL, &words) == SQLITE_OK, "%s", words);
     sqlite3_close(db);
 }
+
+uint64_t ask_sql(const char *path, const char *sql) {
+    sqlite3 *db = open_file(path);
+    sqlite3_stmt *it = NULL;
+    CHECK(sqlite3_prepare_v2(db, sql, -1, &it, NULL) == SQLITE_OK && sqlite3_step(it) == SQLITE_ROW, "%s", sqlite3_errmsg(db));
+    uint64_t number = (uint64_t)sqlite3_column_int64(it, 0);
+    sqlite3_finalize(it);
+    sqlite3_close(db);
+    return number;
+}

@@ -90,7 +90,8 @@ bool shadow_equals(struct shadow *shadow, relkvanu_store *store);
 /* Rows of a log that no store has open, with a place beyond after. To be freed. */
 struct told *log_rows(const char *path, uint64_t after, size_t *len);
 
-/* Runs statements on a file that no store has open. */
+/* Runs statements on a file that no store has open, or one that gives a number. */
 void run_sql(const char *path, const char *sql);
+uint64_t ask_sql(const char *path, const char *sql);
 
 #endif
