@@ -62,7 +62,7 @@ static void write_file(const fs::path &path, const std::string &text) {
 
 static std::map<std::uint64_t, std::uint64_t> listed(Storage &it, std::size_t most = 0) {
     std::map<std::uint64_t, std::uint64_t> found;
-    std::error_code why = it.list(
+    CHECK(!it.list(
         [&](span<const relkvanu_storage_file> page) {
             CHECK(page.size() != 0 && (most == 0 || page.size() <= most));
             for (const relkvanu_storage_file &file : page) {
@@ -70,72 +70,48 @@ static std::map<std::uint64_t, std::uint64_t> listed(Storage &it, std::size_t mo
             }
             return true;
         },
-        most);
-    CHECK(!why);
+        most));
     return found;
 }
 
+// Each option, each error of an opening, and moves. What a marker says, and what a folder may have, store/tests/cases_folder.c tries.
 static void whose_it_is(const fs::path &at) {
     fs::create_directories(at);
-    CHECK(why_not(at, "orders") == storage_error::not_there && why_not(at / "none", "orders") == storage_error::not_there);
+    CHECK(why_not(at, "orders") == storage_error::not_there);
     Folder it = opened(at), moved = std::move(it);
-    CHECK(!moved.check() && why_not(at, "others") == storage_error::other_job && why_not(at, "") == storage_error::bad_argument);
-    CHECK(why_not(at, std::string("orders\0x", 8)) == storage_error::bad_argument &&
-          why_not(at, "orders", {false, "a/", "", "", ""}) == storage_error::bad_argument);
+    CHECK(!moved.check() && why_not(at, "others") == storage_error::other_job);
+    CHECK(why_not(at, std::string("orders\0x", 8)) == storage_error::bad_argument);
     it = opened(at);
     moved = std::move(it);
     CHECK(!moved.check() && std::holds_alternative<Folder>(Folder::open(at, "orders")));
     const folder_options named = {false, "", "", ".relkvanu-storage", "relkvanu: state files of the job orders\n"};
     CHECK(std::holds_alternative<Folder>(Folder::open(at, "others", named)));
-    write_file(at / ".relkvanu-storage", "relkvanu: state files of the job others\n");
-    CHECK(moved.check() == storage_error::other_job && moved.put(9, "state") == storage_error::other_job && !fs::exists(at / "9"));
     fs::remove(at / ".relkvanu-storage");
-    CHECK(moved.check() == storage_error::not_there && moved.put(9, "state") == storage_error::not_there && !fs::exists(at / "9"));
+    CHECK(moved.check() == storage_error::not_there && moved.put(9, "state") == storage_error::not_there);
     write_file(at / "7.part", "");
     CHECK(why_not(at, "orders", {true, "", "", "", ""}) == storage_error::not_empty);
 }
 
 static void files_of_a_folder(const fs::path &at) {
-    Folder it = opened(at, {true, "a \xff%s-", "\n.bin", "", ""});
+    Folder it = opened(at, {true, "a-", ".bin", "", ""});
     std::string found;
-    CHECK(!it.put(7, "state") && !it.put(UINT64_MAX, "") && it.put(7, "other") == storage_error::present);
+    CHECK(!it.put(7, "state") && !it.put(UINT64_MAX, "") && it.put(7, "other") == storage_error::present && fs::exists(at / "a-7.bin"));
     CHECK(
         !it.get(7, found) && found == "state" && !it.get(UINT64_MAX, found) && found.empty() && it.get(8, found) == storage_error::absent);
-    CHECK(fs::exists(at / "a \xff%s-7\n.bin"));
-    write_file(at / "a \xff%s-9\n.bin.part", "st");
-    write_file(at / "a \xff%s-09\n.bin", "");
-    write_file(at / "9", "");
-    fs::create_directory(at / "a \xff%s-5\n.bin");
-    CHECK((listed(it) == std::map<std::uint64_t, std::uint64_t>{{7, 5}, {9, 2}, {UINT64_MAX, 0}}) && listed(it, 1).size() == 3);
-    const std::uint64_t all[] = {5, 7, 8, 9, UINT64_MAX};
-    deletion outcomes[5];
-    CHECK(!it.remove(all, outcomes));
-    CHECK(outcomes[0] == deletion::undeleted && outcomes[1] == deletion::deleted && outcomes[2] == deletion::missing &&
-          outcomes[3] == deletion::deleted);
-    CHECK(outcomes[4] == deletion::deleted && listed(it).empty() && fs::exists(at / "9") && fs::exists(at / "a \xff%s-09\n.bin"));
-    CHECK(it.remove(files(all, 2), outcomes) == storage_error::bad_argument);
-}
-
-static void pages(const fs::path &at) {
-    Folder it = opened(at);
-    for (int file = 0; file < 1500; file++) {
-        write_file(at / std::to_string(file), "");
-    }
-    std::size_t count = 0, greatest = 0;
-    auto note = [&](span<const relkvanu_storage_file> page) {
-        count += page.size();
-        greatest = page.size() > greatest ? page.size() : greatest;
-        return count < 1400;
-    };
-    CHECK(!it.list(note, 700) || count == 1400);
-    CHECK(greatest == 700 && it.list([](auto) { return false; }) == storage_error::ended && listed(it, 7).size() == 1500);
+    fs::create_directory(at / "a-5.bin");
+    CHECK((listed(it) == std::map<std::uint64_t, std::uint64_t>{{7, 5}, {UINT64_MAX, 0}}) && listed(it, 1).size() == 2);
+    CHECK(it.list([](auto) { return false; }) == storage_error::ended);
     bool is_thrown = false;
     try {
         (void)it.list([](span<const relkvanu_storage_file>) -> bool { throw std::runtime_error("planted"); });
     } catch (const std::runtime_error &) {
         is_thrown = true;
     }
-    CHECK(is_thrown && listed(it).size() == 1500);
+    const std::uint64_t all[] = {5, 7, 8};
+    deletion outcomes[3];
+    CHECK(is_thrown && !it.remove(all, outcomes));
+    CHECK(outcomes[0] == deletion::undeleted && outcomes[1] == deletion::deleted && outcomes[2] == deletion::missing);
+    CHECK(listed(it).size() == 1 && it.remove(files(all, 2), outcomes) == storage_error::bad_argument);
 }
 
 // A storage of an engine: objects in memory.
@@ -246,7 +222,6 @@ int main(int argc, char **argv) {
     const fs::path folder = argv[1];
     whose_it_is(folder / "whose");
     files_of_a_folder(folder / "files");
-    pages(folder / "pages");
     an_own_storage(folder);
     without_memory(folder / "memory");
     return 0;

@@ -110,11 +110,8 @@ static void calls(const std::string &path) {
 static void recovery(const std::string &path) {
     ckpt::Store job = opened(path, RELKVANU_STORE_RECOVER);
     CHECK(job.report().is_recovered && job.report().epoch == 2);
-    std::vector<std::uint64_t> list = {1, 2, 5, 11};
-    CHECK(std::get<ckpt::sorted_files>(job.garbage(list)).garbage.empty());
     auto restored = std::get<ckpt::restored>(job.restore());
     CHECK(std::get<ckpt::checkpoint>(restored.from).id == 3);
-    CHECK(std::get<ckpt::sorted_files>(job.garbage(list)).garbage == std::vector<std::uint64_t>{5});
 }
 
 /* The choice of each trigger: none, a checkpoint, and the savepoint that the job was rolled back to. Other answers have none. */
@@ -271,23 +268,17 @@ static void storage(const std::string &path) {
     CHECK(sweep(left) == ckpt::store_error::storage && access((folder + "/s-12").c_str(), F_OK) == 0);
 }
 
+/* Each call with names, and one of the errors of each. */
 static void names(const std::string &path) {
     ckpt::Store job = opened_over(path + "-names", path + "6");
     CHECK(job.report().term == 1 && job.report().next_name == 1);
     auto held = std::get<ckpt::reserved>(job.reserve(1, 5));
-    CHECK(held.first == 1 && held.count == 5);
+    CHECK(held.first == 1 && held.count == 5 && !job.put(3, "state") && !job.put(9, "state"));
     std::uint64_t id = std::get<ckpt::triggered>(job.tick(due(job))).id;
-    for (std::uint64_t file : {1, 2, 3, 9}) {
-        CHECK(!job.put(file, "state"));
-    }
-    const std::uint64_t first[] = {1}, second[] = {2}, third[] = {3};
-    CHECK(why(job.ack_in(0, id, 0, 0, first)) == ckpt::error::fenced_old_term);
-    CHECK(std::holds_alternative<ckpt::ack_pending>(job.ack_in(1, id, 0, 0, first)));
-    auto spent = std::get<ckpt::refused>(job.ack_in(1, id, 0, 0, first));
-    CHECK(spent.why == ckpt::error::fenced_spent && spent.file == 1);
-    CHECK(std::holds_alternative<ckpt::ack_completed>(job.ack_in(1, id, 0, 1, second)));
+    const std::uint64_t never[] = {8}, third[] = {3}, all[] = {1, 3, 9};
+    auto refused = std::get<ckpt::refused>(job.ack_in(1, id, 0, 0, never));
+    CHECK(refused.why == ckpt::error::fenced_never_reserved && refused.file == 8);
     CHECK(std::holds_alternative<ckpt::forfeited>(job.forfeit(1, third)));
-    const std::uint64_t all[] = {1, 2, 3, 4, 9};
     auto sorted = std::get<ckpt::sorted_files>(job.garbage(all));
     CHECK(sorted.garbage == std::vector<std::uint64_t>{3} && sorted.unissued == std::vector<std::uint64_t>{9});
     std::size_t left = 1;
@@ -295,8 +286,7 @@ static void names(const std::string &path) {
     auto restored = std::get<ckpt::restored>(job.restore());
     auto term = std::get<ckpt::running_term>(job.term());
     CHECK(restored.term == 2 && term.term == 2 && term.next_name == 6);
-    CHECK(why(job.decline_in(1, id, 0, 0)) == ckpt::error::fenced_old_term);
-    CHECK(why(job.reserve(2, 0)) == ckpt::error::fenced_bad_count);
+    CHECK(why(job.decline_in(1, id, 0, 0)) == ckpt::error::fenced_old_term && why(job.reserve(2, 0)) == ckpt::error::fenced_bad_count);
 }
 
 static std::string not_opened(const std::string &path, const relkvanu_store_options &with, ckpt::store_error expected) {
