@@ -1,6 +1,8 @@
 /* Manifests: what the storage folder says of complete records, and a job that is made of them once its own file is lost. */
 #include "cases.h"
 
+#include <dirent.h>
+
 /* A job over the storage folder, which has manifests. */
 static relkvanu_store_options manifests(uint32_t flags) {
     return storage_options(flags | RELKVANU_STORE_MANIFESTS, 0);
@@ -688,27 +690,18 @@ CASE(a_claim_in_place) {
     relkvanu_store_close(other);
 }
 
-/* A place of an engine, in memory. */
-enum { MOST_OBJECTS = 16 };
-static struct object {
-    char name[48];
-    char *text;
-    size_t len;
-} objects[MOST_OBJECTS];
-static int check_status, place_status, puts_made,
-    checks_left = -1; /* checks_left: after so many another opening has the place; -1: none has */
+/* A place of an engine, which is a folder of the case. */
+static int check_status, place_status, puts_made;
+static int checks_left = -1; /* after so many another opening has the place; -1: none has */
 
-static struct object *object_of(const char *name) {
-    for (size_t i = 0; i < MOST_OBJECTS; i++) {
-        if (strcmp(objects[i].name, name) == 0) {
-            return &objects[i];
-        }
-    }
-    return NULL;
+static const char *placed(const char *name) {
+    static char path[PATHS];
+    snprintf(path, sizeof path, "place/%s", name);
+    return in(path);
 }
 
 static int check_place(void *with) {
-    CHECK(with == objects, "the pointer");
+    CHECK(with == &place_status, "the pointer");
     if (checks_left >= 0 && checks_left-- == 0) {
         check_status = RELKVANU_STORAGE_OTHER_JOB;
         checks_left = -1;
@@ -717,47 +710,38 @@ static int check_place(void *with) {
 }
 
 static int put_object(void *with, const char *name, const void *contents, size_t len) {
-    CHECK(with == objects, "the pointer");
-    struct object *it = object_of(name) != NULL ? object_of(name) : object_of("");
-    CHECK(it != NULL, "no room for %s", name);
+    CHECK(with == &place_status, "the pointer");
     if (place_status != RELKVANU_STORAGE_OK) {
         return place_status;
     }
-    snprintf(it->name, sizeof it->name, "%s", name);
-    free(it->text);
-    it->text = malloc(len);
-    CHECK(it->text != NULL, "no memory");
-    memcpy(it->text, contents, len);
-    it->len = len;
+    FILE *to = fopen(placed(name), "w");
+    CHECK(to != NULL && fwrite(contents, 1, len, to) == len && fclose(to) == 0, "%s", name);
     puts_made++;
     return RELKVANU_STORAGE_OK;
 }
 
 static int remove_object(void *with, const char *name) {
-    CHECK(with == objects, "the pointer");
-    struct object *it = object_of(name);
-    if (it != NULL) {
-        free(it->text);
-        *it = (struct object){.text = NULL};
-    }
+    CHECK(with == &place_status && (unlink(placed(name)) == 0 || errno == ENOENT), "%s", name);
     return RELKVANU_STORAGE_OK;
 }
 
 static int list_objects(void *with, relkvanu_store_each_name each, void *with_each) {
-    CHECK(with == objects, "the pointer");
-    for (size_t i = 0; i < MOST_OBJECTS && place_status == RELKVANU_STORAGE_OK; i++) {
-        if (strncmp(objects[i].name, "record-", 7) == 0 && !each(with_each, objects[i].name)) {
-            return RELKVANU_STORAGE_ENDED;
-        }
+    bool goes_on = place_status == RELKVANU_STORAGE_OK;
+    DIR *entries = opendir(in("place"));
+    CHECK(with == &place_status && entries != NULL, "the place");
+    for (const struct dirent *it; goes_on && (it = readdir(entries)) != NULL;) {
+        goes_on = strncmp(it->d_name, "record-", 7) != 0 || each(with_each, it->d_name);
     }
-    return place_status;
+    closedir(entries);
+    return goes_on || place_status != RELKVANU_STORAGE_OK ? place_status : RELKVANU_STORAGE_ENDED;
 }
 
 static int keeps(relkvanu_store *store) {
-    return relkvanu_store_keep_manifests(store, check_place, put_object, remove_object, list_objects, objects);
+    return relkvanu_store_keep_manifests(store, check_place, put_object, remove_object, list_objects, &place_status);
 }
 
 static relkvanu_store *opens_without_folder(uint32_t flags) {
+    CHECK(mkdir(in("place"), 0700) == 0 || errno == EEXIST, "a place");
     return opens_with(job_options(flags, 0));
 }
 
@@ -778,45 +762,38 @@ static uint64_t completes_elsewhere(relkvanu_store *store, uint64_t term) {
     return acknowledges_elsewhere(store, term, RELKVANU_STORE_OK);
 }
 
-static size_t count_objects(void) {
-    size_t len = 0;
-    for (size_t i = 0; i < MOST_OBJECTS; i++) {
-        len += objects[i].name[0] != 0;
-    }
-    return len;
-}
-
-static const struct object *manifest_elsewhere(uint64_t id) {
+static bool is_placed(uint64_t id) {
     char name[48];
     snprintf(name, sizeof name, "record-%" PRIu64 ".manifest", id);
-    return object_of(name);
+    return access(placed(name), F_OK) == 0;
 }
 
 /* One put for each record, before it is answered. One that fails is counted, and made again. */
 CASE(manifests_elsewhere) {
     relkvanu_store *store = opens_without_folder(RELKVANU_STORE_CREATE);
-    CHECK(put_object(objects, "record-7.manifest", "of a record that ended", 1) == RELKVANU_STORAGE_OK, "an old one");
+    CHECK(put_object(&place_status, "record-7.manifest", "of a record that ended", 1) == RELKVANU_STORAGE_OK, "an old one");
     place_status = RELKVANU_STORAGE_NOT_THERE;
     CHECK(keeps(store) == RELKVANU_STORE_STORAGE, "a place that is not there");
     place_status = RELKVANU_STORAGE_OK;
-    CHECK(relkvanu_store_keep_manifests(store, check_place, NULL, remove_object, list_objects, objects) == RELKVANU_STORE_BAD_ARGUMENT);
-    CHECK(keeps(store) == RELKVANU_STORE_OK && keeps(store) == RELKVANU_STORE_BAD_ARGUMENT && count_objects() == 0, "%zu objects",
-        count_objects());
+    CHECK(
+        relkvanu_store_keep_manifests(store, check_place, NULL, remove_object, list_objects, &place_status) == RELKVANU_STORE_BAD_ARGUMENT);
+    CHECK(keeps(store) == RELKVANU_STORE_OK && keeps(store) == RELKVANU_STORE_BAD_ARGUMENT && files_in("place") == 0, "%zu objects",
+        files_in("place"));
     puts_made = 0;
     uint64_t id = completes_elsewhere(store, 1);
-    CHECK(puts_made == 1 && manifest_elsewhere(id) != NULL && count_objects() == 1, "%d puts", puts_made);
+    CHECK(puts_made == 1 && is_placed(id) && files_in("place") == 1, "%d puts", puts_made);
     place_status = RELKVANU_STORAGE_FAILED;
     uint64_t next = completes_elsewhere(store, 1);
-    CHECK(manifest_elsewhere(next) == NULL && manifest_elsewhere(id) != NULL, "the manifest before stays");
+    CHECK(!is_placed(next) && is_placed(id), "the manifest before stays");
     relkvanu_store_measures measures = measures_of(store);
     CHECK(measures.manifests == 1 && measures.failed_manifests >= 1, "%" PRIu64 " failed", measures.failed_manifests);
     place_status = RELKVANU_STORAGE_OK;
     uint64_t last = completes_elsewhere(store, 1);
-    CHECK(manifest_elsewhere(last) != NULL && count_objects() == 1, "%zu objects", count_objects());
+    CHECK(is_placed(last) && files_in("place") == 1, "%zu objects", files_in("place"));
     check_status = RELKVANU_STORAGE_OTHER_JOB;
     puts_made = 0;
     acknowledges_elsewhere(store, 1, RELKVANU_STORE_STORAGE);
-    CHECK(puts_made == 0 && manifest_elsewhere(last) != NULL, "it puts into the place of another opening");
+    CHECK(puts_made == 0 && is_placed(last), "it puts into the place of another opening");
     check_status = RELKVANU_STORAGE_OK;
     relkvanu_store_close(store);
     CHECK(unlink(in("x.db")) == 0, "the job");
@@ -834,7 +811,7 @@ static void is_taken_behind(int checks, int puts, int last) {
     checks_left = checks;
     puts_made = 0;
     uint64_t next = acknowledges_elsewhere(store, report.term, last);
-    CHECK(puts_made == puts && (manifest_elsewhere(next) != NULL) == (puts == 1) && manifest_elsewhere(id) != NULL);
+    CHECK(puts_made == puts && is_placed(next) == (puts == 1) && is_placed(id));
     CHECK(last == RELKVANU_STORE_OK || relkvanu_store_stop_job(store, &(relkvanu_store_call){.answer = {0}}) == RELKVANU_STORE_CLOSED);
     relkvanu_store_close(store);
     check_status = RELKVANU_STORAGE_OK;
@@ -846,23 +823,16 @@ CASE(a_place_that_is_taken) {
     is_taken_behind(3, 1, RELKVANU_STORE_OK); /* and before it is told; that of the earlier record is not removed */
 }
 
-/* Writes a folder that stands for the place, with its files, but for one. */
+/* Beside the manifests of the place its marker, and its files, but for one. */
 static void list_place(uint64_t epoch, uint64_t first, uint64_t lacking) {
-    char name[PATHS];
-    CHECK(mkdir(in("listing"), 0700) == 0 || errno == EEXIST, "a folder");
-    FILE *to = fopen(in("listing/.relkvanu-job"), "w");
-    CHECK(to != NULL, "the marker");
-    fprintf(to, "relkvanu job %016" PRIx64 "%016" PRIx64 "\nepoch %" PRIu64 "\n", report.job[0], report.job[1], epoch);
-    CHECK(fclose(to) == 0, "the marker");
-    for (size_t i = 0; i < MOST_OBJECTS; i++) {
-        snprintf(name, sizeof name, "listing/%.47s", objects[i].name);
-        to = objects[i].name[0] == 0 ? NULL : fopen(in(name), "w");
-        CHECK(to == NULL || (fwrite(objects[i].text, 1, objects[i].len, to) == objects[i].len && fclose(to) == 0), "%s", name);
-    }
+    char name[80];
+    snprintf(name, sizeof name, "relkvanu job %016" PRIx64 "%016" PRIx64 "\nepoch %" PRIu64 "\n", report.job[0], report.job[1], epoch);
+    write_text("place/.relkvanu-job", name);
     for (uint64_t file = first; file < first + SUBTASKS; file++) {
-        snprintf(name, sizeof name, "listing/%" PRIu64, file);
-        to = file == lacking ? NULL : fopen(in(name), "w");
-        CHECK(to == NULL || fclose(to) == 0, "%s", name);
+        snprintf(name, sizeof name, "place/%" PRIu64, file);
+        if (file != lacking) {
+            write_text(name, "");
+        }
     }
 }
 
@@ -873,9 +843,9 @@ CASE(a_lost_job_elsewhere) {
     uint64_t id = completes_elsewhere(store, 1), epoch = report.epoch;
     lose_job_of(store);
     list_place(epoch, 1, 3);
-    CHECK(relkvanu_store_recover_listed(in("x.db"), in("listing"), 0, &recovered) == RELKVANU_STORE_ABSENT, "a file is missing");
+    CHECK(relkvanu_store_recover_listed(in("x.db"), in("place"), 0, &recovered) == RELKVANU_STORE_ABSENT, "a file is missing");
     list_place(epoch, 1, 0);
-    int status = relkvanu_store_recover_listed(in("x.db"), in("listing"), 0, &recovered);
+    int status = relkvanu_store_recover_listed(in("x.db"), in("place"), 0, &recovered);
     CHECK(status == RELKVANU_STORE_OK && recovered.record == id && recovered.files == SUBTASKS, "status %d: %s", status, recovered.message);
     store = opens_without_folder(RELKVANU_STORE_RECOVER);
     CHECK(report.is_recovered && report.epoch > epoch + 1000 && report.term > 1 && choice_of(store) == id, "the job");
