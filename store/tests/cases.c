@@ -426,8 +426,7 @@ void await_held_sync(void) {
     AWAIT(held_now != 0);
 }
 
-/* Whether the path of an open file or folder ends so. */
-static bool ends_with(int fd, const char *end) {
+bool is_file(int fd, const char *end) {
     char link[64], path[PATHS] = "";
     size_t len = strlen(end);
     snprintf(link, sizeof link, "/proc/self/fd/%d", fd);
@@ -438,13 +437,13 @@ static bool ends_with(int fd, const char *end) {
 /* In place of that of the C library. */
 int fsync(int fd) {
     const char *end = held;
-    bool is_held = end != NULL && ends_with(fd, end);
+    bool is_held = end != NULL && is_file(fd, end);
     held_now += is_held;
     while (is_held && held == end) {
         usleep(1000);
     }
     held_now -= is_held;
-    if (sync_error != 0 && ends_with(fd, unsynced)) {
+    if (sync_error != 0 && is_file(fd, unsynced)) {
         errno = sync_error;
         return -1;
     }

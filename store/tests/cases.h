@@ -135,6 +135,8 @@ void is_swept(relkvanu_store *store, int status, size_t left);    /* and so many
 /* From now on the sync of a file or folder whose path ends so fails with this errno; 0: none fails. */
 void fail_syncs(const char *end, int error);
 
+bool is_file(int fd, const char *end); /* whether the path of an open file or folder ends so */
+
 /* From now on an opening of this name in a folder that is open fails with this errno; 0: none does. Or the next one alone. */
 void fail_opens(const char *name, int error);
 void fail_next_open(const char *name, int error);

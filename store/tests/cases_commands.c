@@ -329,8 +329,8 @@ CASE(an_hour) {
     relkvanu_store_close(store);
 }
 
-/* A stop that fails in this way, and is told of once. The job runs, and can be stopped again. */
-static void fails(void (*end)(relkvanu_store *store, uint64_t id), uint32_t why) {
+/* A stop that this call makes fail, which is told of once. The job runs, and can be stopped again. */
+static void fails(relkvanu_call end, uint32_t answer, uint32_t why) {
     char left[40];
     relkvanu_store_call tick;
     relkvanu_store *store = minutely_job();
@@ -338,7 +338,9 @@ static void fails(void (*end)(relkvanu_store *store, uint64_t id), uint32_t why)
     uint64_t id = stopping(store);
     acks(store, 1, id, 2);
     is_handed(store, RELKVANU_SAVEPOINT_TRIGGERED, id, 0);
-    end(store, id);
+    end.number = end.kind == RELKVANU_CALL_DECLINE ? id : 0;
+    uint32_t what = made(store, end).answer.what;
+    CHECK(what == answer, "what %" PRIu32, what);
     is_in(store, RELKVANU_STORE_PHASE_RUNNING, why, id, 0);
     CHECK(awaits(store, LONG, &tick) == RELKVANU_STORE_NOT_STOPPED, "it is told");
     store = reopened(store);
@@ -352,32 +354,11 @@ static void fails(void (*end)(relkvanu_store *store, uint64_t id), uint32_t why)
     CHECK(rename(in("storage"), in(left)) == 0, "the folder");
 }
 
-static void expires(relkvanu_store *store, uint64_t id) {
-    (void)id;
-    relkvanu_answer ticked = asks(store, RELKVANU_CALL_TICK, 2 * HOUR);
-    CHECK(ticked.what == RELKVANU_TICK_TRIGGERED && ticked.a == 1, "what %" PRIu32 " %" PRIu64, ticked.what, ticked.a);
-}
-
-static void declines(relkvanu_store *store, uint64_t id) {
-    relkvanu_call call = {.kind = RELKVANU_CALL_DECLINE, .index = 5, .number = id, .term = 1};
-    CHECK(made(store, call).answer.what == RELKVANU_DECLINE_ABORTED, "a decline");
-}
-
-static void restores(relkvanu_store *store, uint64_t id) {
-    (void)id;
-    done(store, RELKVANU_CALL_RESTORE, 0, 0);
-}
-
-static void cancels(relkvanu_store *store, uint64_t id) {
-    (void)id;
-    done(store, RELKVANU_CALL_CANCEL, 0, 0);
-}
-
 CASE(stops_that_fail) {
-    fails(expires, RELKVANU_STORE_STOP_EXPIRED);
-    fails(declines, RELKVANU_STORE_STOP_DECLINED);
-    fails(restores, RELKVANU_STORE_STOP_RESTORED);
-    fails(cancels, RELKVANU_STORE_STOP_CANCELLED);
+    fails((relkvanu_call){.kind = RELKVANU_CALL_TICK, .now = 2 * HOUR}, RELKVANU_TICK_TRIGGERED, RELKVANU_STORE_STOP_EXPIRED);
+    fails((relkvanu_call){.kind = RELKVANU_CALL_DECLINE, .index = 5, .term = 1}, RELKVANU_DECLINE_ABORTED, RELKVANU_STORE_STOP_DECLINED);
+    fails((relkvanu_call){.kind = RELKVANU_CALL_RESTORE}, RELKVANU_RESTORED_CHECKPOINT, RELKVANU_STORE_STOP_RESTORED);
+    fails((relkvanu_call){.kind = RELKVANU_CALL_CANCEL}, RELKVANU_CANCELLED, RELKVANU_STORE_STOP_CANCELLED);
 }
 
 /* A checkpoint that was pending before the stop fails the job. */

@@ -178,16 +178,9 @@ CASE(unsynced_opening) {
 static bool fails_once, is_full_once;
 static unsigned failed_syncs;
 
-static bool is_wal(int fd) {
-    char link[64], path[PATHS] = "";
-    snprintf(link, sizeof link, "/proc/self/fd/%d", fd);
-    ssize_t len = readlink(link, path, sizeof path - 1);
-    return len > 4 && strcmp(path + len - 4, "-wal") == 0;
-}
-
 /* In place of those of the C library, by which SQLite writes and syncs: the next one of a -wal fails, if it is asked to. */
 ssize_t pwrite64(int fd, const void *bytes, size_t len, off64_t at) {
-    if (is_full_once && is_wal(fd)) {
+    if (is_full_once && is_file(fd, "-wal")) {
         is_full_once = false;
         errno = ENOSPC;
         return -1;
@@ -196,7 +189,7 @@ ssize_t pwrite64(int fd, const void *bytes, size_t len, off64_t at) {
 }
 
 int fdatasync(int fd) {
-    if (fails_once && is_wal(fd)) {
+    if (fails_once && is_file(fd, "-wal")) {
         fails_once = false;
         failed_syncs++;
         errno = EIO;

@@ -187,78 +187,70 @@ CASE(above_the_files_of_a_storage) {
 /* Tasks that put files, old ones that go on, a sweeper and a discarder, all at once. */
 enum { ROUNDS = 12, MOST_ROUNDS = 120, CHECKPOINTS = 6 };
 
-struct fleet {
+static struct {
     relkvanu_store *store;
     atomic_uint_fast64_t term, barrier; /* of the tasks that run; the record that they take part in */
     atomic_uint tasks, late;            /* that run; calls of ended terms that were refused */
     atomic_bool is_over;
-};
+} fleet;
 
+/* A task is of a term, and does not run any more once it hears that this has ended. */
 struct task {
-    struct fleet *fleet;
     uint64_t term;
     uint16_t index;
 };
 
-/* Whether a restore that is committed has ended the term of the task. */
-static bool has_ended(const struct task *t) {
-    return term_of(t->fleet->store) > t->term;
+/* Whether a call of the task was refused. It has to be if a restore was answered before the call. */
+static bool is_refused(const struct task *t, bool was_over, relkvanu_answer answer) {
+    bool is_old = answer.code == RELKVANU_FENCED;
+    CHECK(is_old ? answer.what == RELKVANU_OLD_TERM : !was_over, "a call of term %" PRIu64 ": what %" PRIu32, t->term, answer.what);
+    return is_old;
 }
 
 /* Takes part in a record: reserves, puts, acknowledges or forfeits. Returns false if the term of the task has ended. */
-static bool takes_its_part(struct task *t, uint64_t id, unsigned *seed) {
-    relkvanu_store *store = t->fleet->store;
+static bool takes_its_part(const struct task *t, uint64_t id, unsigned *seed) {
     relkvanu_answer answer;
-    bool was_over = t->fleet->term > t->term; /* the restore was answered before this call */
-    CHECK(relkvanu_store_reserve(store, t->term, 3, &answer) == RELKVANU_STORE_OK, "reserve");
-    CHECK(!was_over || (answer.code == RELKVANU_FENCED && answer.what == RELKVANU_OLD_TERM), "an old task reserves");
-    if (answer.code == RELKVANU_FENCED) {
+    bool was_over = fleet.term > t->term;
+    CHECK(relkvanu_store_reserve(fleet.store, t->term, 3, &answer) == RELKVANU_STORE_OK, "reserve");
+    if (is_refused(t, was_over, answer)) {
         return false;
     }
     uint64_t names[] = {answer.a, answer.a + 1, answer.a + 2};
     for (int i = 0; i < 3; i++) {
-        int status = relkvanu_store_put(store, names[i], "state", 5);
-        CHECK(status == RELKVANU_STORE_OK || (status == RELKVANU_STORE_NOT_PUT && has_ended(t)), "put: status %d", status);
+        int status = relkvanu_store_put(fleet.store, names[i], "state", 5);
+        bool is_late = status == RELKVANU_STORE_NOT_PUT && term_of(fleet.store) > t->term; /* a sweep has taken its part */
+        CHECK(status == RELKVANU_STORE_OK || is_late, "put: status %d", status);
     }
     if (rand_r(seed) % 3 == 0) {
         usleep(2000); /* a restore may come */
     }
-    was_over = t->fleet->term > t->term;
-    CHECK(relkvanu_store_ack_in(store, t->term, 0, id, 0, t->index, names, 2, NULL, 0, &answer) == RELKVANU_STORE_OK, "ack");
-    CHECK(!was_over || (answer.code == RELKVANU_FENCED && answer.what == RELKVANU_OLD_TERM), "an old task acknowledges");
-    bool is_late = answer.code == RELKVANU_FENCED;
-    t->fleet->late += is_late;
-    CHECK(!is_late || answer.what == RELKVANU_OLD_TERM, "what %" PRIu32, answer.what);
-    CHECK(relkvanu_store_forfeit(store, t->term, names, 3, &answer) == RELKVANU_STORE_OK); /* what was acknowledged is not held any more */
+    was_over = fleet.term > t->term;
+    CHECK(relkvanu_store_ack_in(fleet.store, t->term, 0, id, 0, t->index, names, 2, NULL, 0, &answer) == RELKVANU_STORE_OK, "ack");
+    bool is_late = is_refused(t, was_over, answer);
+    fleet.late += is_late;
+    CHECK(relkvanu_store_forfeit(fleet.store, t->term, names, 3, &answer) ==
+          RELKVANU_STORE_OK); /* what was acknowledged is not held any more */
     return !is_late;
 }
 
 static void *runs(void *with) {
-    struct task t = *(struct task *)with;
+    struct task t = {.term = (uintptr_t)with / SUBTASKS, .index = (uintptr_t)with % SUBTASKS};
     uint64_t seen = 0;
     unsigned seed = (unsigned)(t.term * 100 + t.index);
-    free(with);
-    for (bool goes_on = true; goes_on && !t.fleet->is_over;) {
-        uint64_t id = t.fleet->barrier;
-        if (id != seen) {
-            goes_on = takes_its_part(&t, id, &seed);
-        } else {
-            usleep(100);
-        }
+    for (bool goes_on = true; goes_on && !fleet.is_over; usleep(100)) {
+        uint64_t id = fleet.barrier;
+        goes_on = id == seen || takes_its_part(&t, id, &seed);
         seen = id;
     }
-    t.fleet->tasks--;
+    fleet.tasks--;
     return NULL;
 }
 
-static void start_tasks(struct fleet *fleet, uint64_t term) {
-    fleet->term = term;
-    for (uint16_t i = 0; i < SUBTASKS; i++) {
-        struct task *t = malloc(sizeof *t);
-        CHECK(t != NULL, "no memory");
-        *t = (struct task){fleet, term, i};
-        fleet->tasks++;
-        pthread_detach(starts(runs, t));
+static void start_tasks(uint64_t term) {
+    fleet.term = term;
+    for (uintptr_t i = 0; i < SUBTASKS; i++) {
+        fleet.tasks++;
+        pthread_detach(starts(runs, (void *)(term * SUBTASKS + i)));
     }
 }
 
@@ -278,13 +270,12 @@ static void check_live(relkvanu_store *store) {
 }
 
 static void *sweeps(void *with) {
-    struct fleet *fleet = with;
     size_t times = 0;
-    for (; !fleet->is_over; times++) {
-        is_swept(fleet->store, RELKVANU_STORE_OK, 0);
+    for (; !fleet.is_over; times++) {
+        is_swept(fleet.store, RELKVANU_STORE_OK, 0);
     }
     CHECK(times > 3, "%zu sweeps", times);
-    return NULL;
+    return with;
 }
 
 static uint64_t missing(relkvanu_store *store, uint64_t id) {
@@ -295,32 +286,31 @@ static uint64_t missing(relkvanu_store *store, uint64_t id) {
 }
 
 /* Some checkpoints of the tasks that run, and then a restore in the middle of one. The tasks before it go on, and learn of it by a refusal. */
-static void round_of(struct fleet *fleet) {
+static void round_of(void) {
     for (int i = 0; i < CHECKPOINTS; i++) {
-        uint64_t id = trigger(fleet->store);
-        fleet->barrier = id;
-        for (int waits = 0; i + 1 < CHECKPOINTS && missing(fleet->store, id) != 0; waits++) {
-            CHECK(waits < 600000, "record %" PRIu64 " waits for %" PRIu64, id, missing(fleet->store, id));
+        uint64_t id = trigger(fleet.store);
+        fleet.barrier = id;
+        for (int waits = 0; i + 1 < CHECKPOINTS && missing(fleet.store, id) != 0; waits++) {
+            CHECK(waits < 600000, "record %" PRIu64 " waits for %" PRIu64, id, missing(fleet.store, id));
             usleep(500);
-            check_live(fleet->store);
+            check_live(fleet.store);
         }
     }
     usleep((useconds_t)rand() % 2000); /* some tasks are in the middle of their part */
-    relkvanu_store_call restore = made(fleet->store, (relkvanu_call){.kind = RELKVANU_CALL_RESTORE, .now = RELKVANU_STORE_NOW});
-    CHECK(restore.answer.what == RELKVANU_RESTORED_CHECKPOINT && restore.term == fleet->term + 1, "term %" PRIu64, restore.term);
-    start_tasks(fleet, restore.term);
-    check_live(fleet->store);
+    relkvanu_store_call restore = made(fleet.store, (relkvanu_call){.kind = RELKVANU_CALL_RESTORE, .now = RELKVANU_STORE_NOW});
+    CHECK(restore.answer.what == RELKVANU_RESTORED_CHECKPOINT && restore.term == fleet.term + 1, "term %" PRIu64, restore.term);
+    start_tasks(restore.term);
+    check_live(fleet.store);
 }
 
 CASE(a_sweeper_beside_tasks) {
-    static struct fleet fleet;
     fleet.store = new_job();
-    pthread_t sweeper = starts(sweeps, &fleet);
+    pthread_t sweeper = starts(sweeps, NULL);
     struct discarder discarder = {.store = fleet.store, .batch = 16, .deletes = relkvanu_store_delete_files, .with = fleet.store};
     start_discarder(&discarder);
-    start_tasks(&fleet, report.term);
+    start_tasks(report.term);
     for (int i = 0; i < ROUNDS || (fleet.late < 3 && i < MOST_ROUNDS); i++) { /* on a busy machine few restores find a task in its part */
-        round_of(&fleet);
+        round_of();
     }
     fleet.is_over = true;
     AWAIT(fleet.tasks == 0);
