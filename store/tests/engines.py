@@ -53,6 +53,12 @@ def recovers(folder, command, last):
     return used
 
 
+def places_of(count, chance, most):
+    """The calls that write at which a command ends, before or after each: all that the file `count` counts, or so many."""
+    places = [(place, after) for place in range(1, int(count.read_text()) + 1) for after in ("0", "1")]
+    return places if most == 0 else sorted(chance.sample(places, min(most, len(places))))
+
+
 def run_tests(tests, made):
     """Runs each test over what `made` makes of a new folder. The last line has the counts."""
     failed = 0

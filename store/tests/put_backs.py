@@ -17,7 +17,7 @@ import shutil
 import subprocess
 import sys
 
-from engines import LONGEST, SEED, await_opening, known, recovers, run_tests
+from engines import LONGEST, SEED, await_opening, known, places_of, recovers, run_tests
 from relkvanu import Settings
 from relkvanu.store import Store
 
@@ -210,8 +210,7 @@ def at_each_end(it):
     folder = it.folder(base)
     told = it.put_back(folder, copy, LD_PRELOAD=it.shim, STORE_IN=str(folder), STORE_DIE=str(1 << 40), STORE_COUNT=str(count))
     assert told.returncode == 0, told.stdout
-    places = [(place, after) for place in range(1, int(count.read_text()) + 1) for after in ("0", "1")]
-    for place, after in places if ROUNDS == 0 else sorted(random.Random(SEED).sample(places, min(ENDS * ROUNDS, len(places)))):
+    for place, after in places_of(count, random.Random(SEED), ENDS * ROUNDS):
         folder = it.folder(base)
         told = it.put_back(folder, copy, LD_PRELOAD=it.shim, STORE_IN=str(folder), STORE_DIE=str(place), STORE_DIE_AFTER=after)
         assert told.returncode != 0, f"no end at call {place}"

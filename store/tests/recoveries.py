@@ -18,7 +18,7 @@ import sys
 import time
 
 sys.path.insert(0, str(pathlib.Path(__file__).resolve().parent.parent.parent / "faults"))
-from engines import NEW, run_tests, recovers as runs_to
+from engines import NEW, places_of, run_tests, recovers as runs_to
 from power import Journal, Kind, Loss, lose as lose_power, read_tree, write_tree
 from relkvanu import Settings
 from relkvanu.manifest import files_in
@@ -152,20 +152,19 @@ def recovery(folder):
     return "recover", folder / "job.db", folder / "state"
 
 
-def places_of(it, base, most, command=recovery):
+def places_in(it, base, most, command):
     """Some of the calls of a command that write, or all."""
     count, folder = it.work / "count", it.work / "counted"
     shutil.copytree(base, folder)
     told = it.runs(*command(folder), LD_PRELOAD=it.shim, STORE_IN=str(folder), STORE_DIE=str(1 << 40), STORE_COUNT=str(count))
     assert told.returncode == 0, told.stdout
     shutil.rmtree(folder)
-    places = [(place, after) for place in range(1, int(count.read_text()) + 1) for after in ("0", "1")]
-    return places if ROUNDS == 0 else sorted(it.chance.sample(places, min(most * ROUNDS, len(places))))
+    return places_of(count, it.chance, most * ROUNDS)
 
 
 def ends_of(it, base, most, command, check):
     """The command ends before or after some of its calls that write. Checks what each leaves."""
-    for place, after in places_of(it, base, most, command):
+    for place, after in places_in(it, base, most, command):
         folder = it.work / f"{place}-{after}"
         shutil.copytree(base, folder)
         told = it.runs(*command(folder), LD_PRELOAD=it.shim, STORE_IN=str(folder), STORE_DIE=str(place), STORE_DIE_AFTER=after)
@@ -176,7 +175,7 @@ def ends_of(it, base, most, command, check):
 
 def losses_of(it, base, most, command, check):
     """The same, and power is lost there: what was not synced is gone, or part of it is."""
-    for place, after in places_of(it, base, most, command):
+    for place, after in places_in(it, base, most, command):
         for loss in (Loss.SYNCED, it.chance.choice(list(Loss))):
             folder, journal = it.work / f"{place}-{after}", it.work / "journal"
             journal.unlink(missing_ok=True)

@@ -8,15 +8,15 @@
 
 enum { LIST = 5 };
 
-/* Triggers savepoints: each of these calls is accepted. */
-static int make(relkvanu_store *store, const char *told) {
+/* Makes so many calls of this kind, each of which is accepted. */
+static int make(relkvanu_store *store, uint32_t kind, size_t len, const char *told) {
     relkvanu_store_call calls[LIST] = {0};
     int to = told_file(told);
-    for (size_t i = 0; i < LIST; i++) {
-        calls[i].call = (relkvanu_call){.kind = RELKVANU_CALL_SAVEPOINT};
+    for (size_t i = 0; i < len; i++) {
+        calls[i].call.kind = kind;
     }
-    int status = relkvanu_store_calls(store, calls, LIST);
-    for (size_t i = 0; i < LIST && status == RELKVANU_STORE_OK; i++) {
+    int status = relkvanu_store_calls(store, calls, len);
+    for (size_t i = 0; i < len && status == RELKVANU_STORE_OK; i++) {
         tell(to, &calls[i]);
     }
     close(to);
@@ -30,27 +30,17 @@ int main(int argc, char **argv) {
     CHECK(argc == 5, "saves FOLDER TOLD LATER BACKUP");
     relkvanu_store_options options = options_in(argv[1], RELKVANU_STORE_RECOVER, RELKVANU_STORE_NO_IMAGES);
     snprintf(path, sizeof path, "%s/x.db", argv[1]);
-    int status = relkvanu_store_open(&store, path, &options, &report), later = status, error = 0;
-    if (status == RELKVANU_STORE_OK) {
-        relkvanu_store_call restore = {.call = {.kind = RELKVANU_CALL_RESTORE}};
-        status = relkvanu_store_calls(store, &restore, 1);
-        int to = told_file(argv[2]);
-        if (status == RELKVANU_STORE_OK) {
-            tell(to, &restore);
-            status = make(store, argv[2]);
-        }
-        close(to);
-        later = status;
-    }
+    int status = relkvanu_store_open(&store, path, &options, &report);
+    status = status == RELKVANU_STORE_OK ? make(store, RELKVANU_CALL_RESTORE, 1, argv[2]) : status;
+    status = status == RELKVANU_STORE_OK ? make(store, RELKVANU_CALL_SAVEPOINT, LIST, argv[2]) : status;
+    int later = status, error = 0;
     if (status == RELKVANU_STORE_OK) {
         status = relkvanu_store_backup(store, argv[4], message, sizeof message);
         error = errno;
         CHECK((status == RELKVANU_STORE_OK) == (message[0] == 0), "status %d: %s", status, message);
-        later = make(store, argv[3]);
-        relkvanu_store_close(store);
-    } else {
-        relkvanu_store_close(store);
+        later = make(store, RELKVANU_CALL_SAVEPOINT, LIST, argv[3]);
     }
+    relkvanu_store_close(store);
     printf("%d %d %d %s\n", status, later, error, message);
     return 0;
 }
