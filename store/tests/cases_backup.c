@@ -175,17 +175,6 @@ CASE(of_a_closed_store) {
     relkvanu_store_close(store);
 }
 
-static int backs_up_forked(void *store) {
-    return relkvanu_store_backup(store, in("b.db"), message, sizeof message);
-}
-
-CASE(in_a_forked_child) {
-    relkvanu_store *store = new_job_alone(0);
-    CHECK(in_child(backs_up_forked, store) == RELKVANU_STORE_FORKED && !exists("b.db"), "a child");
-    check_no_part();
-    relkvanu_store_close(store);
-}
-
 /* Callers that reserve names, one each time. */
 struct load {
     relkvanu_store *store;

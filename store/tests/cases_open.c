@@ -118,6 +118,10 @@ CASE(checks_the_shape) {
     for (size_t i = 0; i < 257; i++) {
         shape[i] = 16;
     }
+    options.settings.interval = 9;
+    options.shape_len = 0;
+    opens_not(&options, RELKVANU_STORE_BAD_ARGUMENT, "x.db: settings.interval is 9"); /* the first fault */
+    options.settings.interval = 10;
     refuses_shape(shape, 0, "the shape has 0 vertices, and has to have 1 to 256");
     refuses_shape(shape, 257, "the shape has 257 vertices, and has to have 1 to 256");
     options.shape = shape;
@@ -129,16 +133,6 @@ CASE(checks_the_shape) {
     refuses_shape(shape, 256, "the shape has 0 subtasks in vertex 1, and has to have at least 1 in each");
     shape[0] = shape[1] = UINT64_MAX;
     refuses_shape(shape, 2, "the shape has 18446744073709551615 subtasks, and has to have at most 4096");
-}
-
-CASE(checks_the_settings) {
-    relkvanu_store_options options = job_options(RELKVANU_STORE_CREATE, 0);
-    options.settings.interval = 9;
-    options.shape_len = 0;
-    opens_not(&options, RELKVANU_STORE_BAD_ARGUMENT, "x.db: settings.interval is 9"); /* the first fault */
-    options = job_options(RELKVANU_STORE_CREATE, 0);
-    relkvanu_store_close(opens(&options, RELKVANU_STORE_OK));
-    CHECK(!report.is_recovered, "it was made by a refused opening");
 }
 
 CASE(makes_private_files) {
@@ -220,6 +214,7 @@ static int calls_in_child(void *with) {
                    relkvanu_store_next_tick(store, &wait) == RELKVANU_STORE_FORKED &&
                    relkvanu_store_garbage(store, files, 1, &garbage, &others, &answer) == RELKVANU_STORE_FORKED &&
                    relkvanu_store_discard(store, 1, NULL, NULL) == RELKVANU_STORE_FORKED &&
+                   relkvanu_store_backup(store, in("b.db"), message, sizeof message) == RELKVANU_STORE_FORKED && !exists("b.db") &&
                    relkvanu_store_await_tick(store, 1, &call) == RELKVANU_STORE_FORKED;
     relkvanu_store_stop(store);
     relkvanu_store_close(store);

@@ -33,20 +33,17 @@ static const struct {
     {{UINT32_MAX, UINT32_MAX, MOST, MOST}, "unknown code 4294967295, what 4294967295, a 18446744073709551615, b 18446744073709551615"},
 };
 
-static void check(bool is, const char *what, const char *of) {
-    if (!is) {
-        printf("%s: %s\n", what, of);
-        failed++;
-    }
-}
-
 static void check_text(const relkvanu_answer *answer, const char *text) {
     uint8_t told[RELKVANU_ANSWER_TEXT + 1];
     size_t len = strlen(text);
     memset(told, '#', sizeof told);
-    check(relkvanu_answer_text(answer, NULL, 0) == len, "another length", text);
-    check(relkvanu_answer_text(answer, told, len - 1) == len && told[0] == '#', "a buffer that is too short was written", text);
-    check(relkvanu_answer_text(answer, told, len) == len && memcmp(told, text, len) == 0 && told[len] == '#', "another text", text);
+    bool has_length = relkvanu_answer_text(answer, NULL, 0) == len;
+    bool is_unwritten = relkvanu_answer_text(answer, told, len - 1) == len && told[0] == '#';
+    bool is_same = relkvanu_answer_text(answer, told, len) == len && memcmp(told, text, len) == 0 && told[len] == '#';
+    if (!has_length || !is_unwritten || !is_same) {
+        printf("another text, or in a buffer that is too short: %s\n", text);
+        failed++;
+    }
 }
 
 /* Each number of the header has a text of its own, within the limit: the refusals have the library's names. */
@@ -54,7 +51,7 @@ static void check_length(uint32_t code, uint32_t what) {
     relkvanu_answer answer = {code, what, MOST, MOST};
     uint8_t told[RELKVANU_ANSWER_TEXT];
     size_t len = relkvanu_answer_text(&answer, told, sizeof told);
-    check(len > 0 && len <= sizeof told, "a text without a length", "");
+    failed += len == 0 || len > sizeof told;
 }
 
 int main(void) {
