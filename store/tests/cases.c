@@ -92,6 +92,15 @@ void write_text(const char *name, const char *text) {
     CHECK(to != NULL && fputs(text, to) >= 0 && fclose(to) == 0, "%s", name);
 }
 
+void write_marker(const char *folder, uint64_t other, uint64_t epoch) {
+    char name[PATHS], text[100], line[40];
+    snprintf(name, sizeof name, "%s/.relkvanu-job", folder);
+    snprintf(line, sizeof line, "epoch %" PRIu64 "\n", epoch);
+    snprintf(
+        text, sizeof text, "relkvanu job %016" PRIx64 "%016" PRIx64 "\n%s", report.job[0] + other, report.job[1], epoch == 0 ? "" : line);
+    write_text(name, text);
+}
+
 void copy_file(const char *from, const char *to) {
     char command[2 * PATHS + 8];
     snprintf(command, sizeof command, "cp '%s' '%s'", in(from), in(to));

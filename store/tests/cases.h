@@ -29,6 +29,8 @@ relkvanu_store *new_job_alone(uint64_t image_calls);
 bool exists(const char *name);     /* in the folder of the case */
 void make_empty(const char *name); /* a file, which is not there yet */
 void write_text(const char *name, const char *text);
+void write_marker(
+    const char *folder, uint64_t other, uint64_t epoch); /* of the job that was opened, or another one; epoch 0: of no opening */
 void copy_file(const char *from, const char *to);
 size_t files_in(const char *folder); /* how many, beside those whose names begin with a point */
 const char *stored(uint64_t file);   /* storage/FILE, as long */

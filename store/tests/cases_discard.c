@@ -107,12 +107,6 @@ CASE(without_marker) {
     relkvanu_store_close(store);
 }
 
-static void write_marker(relkvanu_store *store, uint64_t job, uint64_t epoch) {
-    int file = openat(relkvanu_store_folder(store), ".relkvanu-job", O_WRONLY | O_TRUNC);
-    CHECK(file >= 0 && dprintf(file, "relkvanu job %016" PRIx64 "%016" PRIx64 "\nepoch %" PRIu64 "\n", job, report.job[1], epoch) > 0 &&
-          close(file) == 0);
-}
-
 /* Another host has opened a copy of the job, or has given the folder to another job: nothing of it is deleted any more. */
 CASE(another_opening) {
     relkvanu_store *store = new_job();
@@ -121,7 +115,7 @@ CASE(another_opening) {
     checkpoint_with_files(store, 101); /* releases 1 to 16 */
     done(store, RELKVANU_CALL_RESTORE, RELKVANU_STORE_NOW, 0);
     for (uint64_t later = 0; later < 2; later++) {
-        write_marker(store, report.job[0] + 1 - later, report.epoch + later);
+        write_marker("storage", 1 - later, report.epoch + later);
         for (int again = 0; again < 2; again++) { /* a take; then what is taken */
             discards(&d.is);
             CHECK(d.is.status == RELKVANU_STORE_STORAGE && d.asked == 0 && exists(stored(1)), "status %d, %u asked", d.is.status, d.asked);
@@ -129,7 +123,7 @@ CASE(another_opening) {
         CHECK(relkvanu_store_put(store, 999, "x", 1) == RELKVANU_STORE_STORAGE && !exists(stored(999)), "a put");
         is_swept(store, RELKVANU_STORE_STORAGE, 0);
     }
-    write_marker(store, report.job[0], report.epoch);
+    write_marker("storage", 0, report.epoch);
     start(&d, store, 16);
     AWAIT(unreported(store) == 0);
     CHECK(!exists(stored(1)) && exists(stored(101)), "the files");

@@ -413,7 +413,7 @@ CASE(another_jobs_manifest) {
     relkvanu_store *store = opens_with_manifests();
     completes(store, RELKVANU_CALL_TRIGGER, NULL);
     relkvanu_store_close(store);
-    write_text("storage/.relkvanu-job", "relkvanu job 0123456789abcdef0123456789abcdef\nepoch 7\n");
+    write_marker("storage", 1, 7);
     lose_job();
     CHECK(list_records("storage") == 1 && !records[0].is_of_job && !records[0].is_next && records[0].missing == 0, "whose it is");
     recovers("x.db", "storage", 0, RELKVANU_STORE_ABSENT);
@@ -825,9 +825,8 @@ CASE(a_place_that_is_taken) {
 
 /* Beside the manifests of the place its marker, and its files, but for one. */
 static void list_place(uint64_t epoch, uint64_t first, uint64_t lacking) {
-    char name[80];
-    snprintf(name, sizeof name, "relkvanu job %016" PRIx64 "%016" PRIx64 "\nepoch %" PRIu64 "\n", report.job[0], report.job[1], epoch);
-    write_text("place/.relkvanu-job", name);
+    char name[48];
+    write_marker("place", 0, epoch);
     for (uint64_t file = first; file < first + SUBTASKS; file++) {
         snprintf(name, sizeof name, "place/%" PRIu64, file);
         if (file != lacking) {

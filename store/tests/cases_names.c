@@ -138,9 +138,7 @@ CASE(a_later_opening) {
         make_empty(stored(name));
     }
     made(store, (relkvanu_call){.kind = RELKVANU_CALL_RESTORE, .now = RELKVANU_STORE_NOW});
-    FILE *marker = fopen(in("storage/.relkvanu-job"), "w");
-    CHECK(marker != NULL && fprintf(marker, "relkvanu job %016" PRIx64 "%016" PRIx64 "\nepoch 2\n", report.job[0], report.job[1]) > 0 &&
-          fclose(marker) == 0);
+    write_marker("storage", 0, 2);
     is_swept(store, RELKVANU_STORE_STORAGE, 0);
     CHECK(exists(stored(1)) && exists(stored(3)), "a sweep");
     CHECK(relkvanu_store_put(store, 4, "state", 5) == RELKVANU_STORE_STORAGE && !exists(stored(4)), "a put");

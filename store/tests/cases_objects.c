@@ -5,9 +5,8 @@ enum { MOST_OBJECTS = 4000 };
 
 /* Objects by their numbers. A fault is a status that each function returns. */
 struct objects {
-    pthread_mutex_t mutex;
-    bool is_there[MOST_OBJECTS];
-    int fault, fault_of_list;
+    atomic_bool is_there[MOST_OBJECTS];
+    atomic_int fault, fault_of_list;
     uint64_t stubborn; /* an object that can't be deleted */
     size_t page;       /* of a listing */
     atomic_uint deletions;
@@ -15,22 +14,17 @@ struct objects {
 
 static int check(void *with) {
     struct objects *it = with;
-    pthread_mutex_lock(&it->mutex);
-    int fault = it->fault;
-    pthread_mutex_unlock(&it->mutex);
-    return fault;
+    return it->fault;
 }
 
 static int delete_files(void *with, const uint64_t *files, size_t len, uint8_t *outcomes) {
     struct objects *it = with;
-    pthread_mutex_lock(&it->mutex);
+    int fault = it->fault;
     for (size_t i = 0; i < len; i++) {
         bool stays = files[i] == it->stubborn;
         outcomes[i] = stays ? RELKVANU_STORAGE_UNDELETED : it->is_there[files[i]] ? RELKVANU_STORAGE_DELETED : RELKVANU_STORAGE_MISSING;
-        it->is_there[files[i]] = it->is_there[files[i]] && (stays || it->fault != 0);
+        it->is_there[files[i]] = it->is_there[files[i]] && (stays || fault != 0);
     }
-    int fault = it->fault;
-    pthread_mutex_unlock(&it->mutex);
     it->deletions++;
     return fault;
 }
@@ -55,7 +49,6 @@ static int list(void *with, size_t most, relkvanu_storage_page page, void *with_
 
 static relkvanu_storage storage_of(struct objects *objects) {
     *objects = (struct objects){.stubborn = UINT64_MAX, .page = RELKVANU_STORAGE_PAGE};
-    CHECK(pthread_mutex_init(&objects->mutex, NULL) == 0, "a mutex");
     return (relkvanu_storage){.with = objects, .check = check, .delete_files = delete_files, .list = list};
 }
 
@@ -130,18 +123,10 @@ CASE(storages_that_are_not_whole) {
 
 static bool is_there(struct objects *objects, uint64_t first, uint64_t last) {
     bool any = false;
-    pthread_mutex_lock(&objects->mutex);
     for (uint64_t file = first; file <= last; file++) {
         any = any || objects->is_there[file];
     }
-    pthread_mutex_unlock(&objects->mutex);
     return any;
-}
-
-static void set_fault(struct objects *objects, int fault) {
-    pthread_mutex_lock(&objects->mutex);
-    objects->fault = fault;
-    pthread_mutex_unlock(&objects->mutex);
 }
 
 /* The files of the first checkpoint are deleted once the storage is back; one of them is missing there. Those of the second are in use. */
@@ -159,7 +144,7 @@ CASE(a_discarder_of_objects) {
     start_discarder(&it);
     AWAIT(objects.deletions >= 2);
     CHECK(is_there(&objects, 100, 100), "it is not there, and a file counts as gone");
-    set_fault(&objects, 0);
+    objects.fault = 0;
     AWAIT(!is_there(&objects, 100, 99 + 2 * SUBTASKS));
     AWAIT(unreported(store) == 0);
     stop_discarder(&it);

@@ -150,9 +150,7 @@ CASE(a_marker_that_is_a_link) {
 /* Earlier versions wrote the first line alone. */
 CASE(a_marker_without_an_epoch) {
     relkvanu_store_close(new_job());
-    FILE *marker = fopen(in("storage/.relkvanu-job"), "w");
-    CHECK(marker != NULL && fprintf(marker, "relkvanu job %016" PRIx64 "%016" PRIx64 "\n", report.job[0], report.job[1]) > 0 &&
-          fclose(marker) == 0);
+    write_marker("storage", 0, 0);
     relkvanu_store_close(new_job());
     CHECK(report.epoch == 2, "epoch %" PRIu64, report.epoch);
 }
