@@ -201,7 +201,8 @@ static int in_a_child(void *with) {
 CASE(the_own_folder) {
     relkvanu_store *store = new_job();
     relkvanu_storage own = own_storage(store);
-    uint64_t len = 0, sums[2] = {0};
+    uint64_t len = 0, sums[2] = {0}, file = 7;
+    uint8_t is_gone = 1;
     char found[8] = "";
     CHECK(own.check(own.with) == RELKVANU_STORAGE_OK, "a storage");
     CHECK(own.put(own.with, 7, "state", 5) == RELKVANU_STORAGE_OK && relkvanu_store_put(store, 7, "", 0) == RELKVANU_STORE_PRESENT, "put");
@@ -217,6 +218,9 @@ CASE(the_own_folder) {
     lose_job();
     store = opens_with(job_options(RELKVANU_STORE_CREATE_ONLY, 0));
     CHECK(relkvanu_store_storage(store, &own) == RELKVANU_STORE_BAD_ARGUMENT && own.with == NULL, "no folder");
+    puts_file(store, 7, RELKVANU_STORE_BAD_ARGUMENT);
+    relkvanu_store_delete_files(store, &file, 1, &is_gone);
+    CHECK(!is_gone, "a deletion without a folder");
     CHECK(relkvanu_store_discard_storage(store, 0, NULL) == RELKVANU_STORE_BAD_ARGUMENT, "a discarder without a folder");
     CHECK(relkvanu_store_discard_for(store, 0, 1, NULL, NULL) == RELKVANU_STORE_BAD_ARGUMENT, "one for a while");
     CHECK(sweeps_as(store, NULL, RELKVANU_STORE_BAD_ARGUMENT) == 0, "a sweep");

@@ -71,7 +71,7 @@ static void watch_sqlite(void) {
 static char folder[PATHS - 20], path[PATHS], storage[PATHS];
 static struct told told[400];
 static size_t told_len;
-static char words[RELKVANU_STORE_MESSAGE]; /* of the last opening */
+static relkvanu_store_report report; /* of the last opening */
 static uint64_t term;
 
 static void set_refused(enum kind kind, unsigned long from, bool is_for_good) {
@@ -206,13 +206,11 @@ static int back_up(relkvanu_store *store) {
 
 static int open_and_work(uint64_t images) {
     relkvanu_store *store;
-    relkvanu_store_report report;
     relkvanu_store_options options = job_options(WITH_MANIFESTS, images);
     options.storage = storage;
     int status = relkvanu_store_open(&store, path, &options, &report);
     term = report.term;
     CHECK((store != NULL) == (status == RELKVANU_STORE_OK), "status %d", status);
-    snprintf(words, sizeof words, "%s", report.message);
     for (uint64_t i = 0; i < 3 && status == RELKVANU_STORE_OK; i++) {
         status = work(store);
     }
@@ -241,7 +239,6 @@ static void remove_job(void) {
 
 static relkvanu_store *opens(relkvanu_store_options options) {
     relkvanu_store *store;
-    relkvanu_store_report report;
     options.storage = storage;
     CHECK(relkvanu_store_open(&store, path, &options, &report) == RELKVANU_STORE_OK, "%s", report.message);
     term = report.term;
@@ -253,27 +250,21 @@ static relkvanu_store *new_job(relkvanu_store_options options) {
     return opens(options);
 }
 
-/* Makes or removes the files of all names. */
-static void make_files(uint64_t next_name, bool is_made) {
+/* Makes the files of all names. */
+static void make_files(uint64_t next_name) {
     char name[PATHS + 30];
     for (uint64_t file = 1; file < next_name; file++) {
         snprintf(name, sizeof name, "%s/%" PRIu64, storage, file);
-        FILE *made = is_made ? fopen(name, "w") : NULL;
-        CHECK(is_made ? made != NULL && fclose(made) == 0 : unlink(name) == 0, "%s", name);
+        FILE *made = fopen(name, "w");
+        CHECK(made != NULL && fclose(made) == 0, "%s", name);
     }
 }
 
 /* The job has what was told, and at most one list beside. */
 static void check_job(void) {
-    relkvanu_store *store;
-    relkvanu_store_report report;
     struct shadow shadow;
     size_t len;
-    relkvanu_store_options options = job_options(RELKVANU_STORE_CREATE, RELKVANU_STORE_NO_IMAGES);
-    options.storage = storage;
-    int status = relkvanu_store_open(&store, path, &options, &report);
-    CHECK(status == RELKVANU_STORE_OK && report.term != 0, "status %d: %s", status, report.message);
-    relkvanu_store_close(store);
+    relkvanu_store_close(opens(job_options(RELKVANU_STORE_CREATE, RELKVANU_STORE_NO_IMAGES)));
     struct told *rows = log_rows(path, 0, &len);
     CHECK(len >= told_len && len <= told_len + SUBTASKS + 2, "%zu calls, %zu were told", len, told_len);
     shadow_open_as(&shadow, path);
@@ -282,10 +273,10 @@ static void check_job(void) {
             "call %zu: %s, not %s", i + 1, rows[i].line, told[i].line);
         shadow_make(&shadow, &rows[i]);
     }
-    CHECK(relkvanu_store_open(&store, path, &options, &report) == RELKVANU_STORE_OK && shadow_equals(&shadow, store), "another image");
-    make_files(report.next_name, true);
+    relkvanu_store *store = opens(job_options(RELKVANU_STORE_CREATE, RELKVANU_STORE_NO_IMAGES));
+    CHECK(shadow_equals(&shadow, store), "another image");
+    make_files(report.next_name);
     CHECK(load(store, 0) == RELKVANU_STORE_OK, "what acknowledgements had beside their files");
-    make_files(report.next_name, false);
     relkvanu_store_close(store);
     relkvanu_close(&shadow.handle);
     free(rows);
@@ -300,7 +291,7 @@ static bool refuse(enum kind kind, unsigned long nth, bool is_for_good, bool is_
     set_refused(kind, nth, is_for_good);
     int status = open_and_work(RELKVANU_STORE_NO_IMAGES);
     set_none();
-    CHECK(status == RELKVANU_STORE_OK || has_no_memory(kind, status), "status %d: %s", status, words);
+    CHECK(status == RELKVANU_STORE_OK || has_no_memory(kind, status), "status %d: %s", status, report.message);
     check_job();
     return is_reached;
 }
