@@ -285,22 +285,6 @@ CASE(the_order_of_files) {
     relkvanu_store_close(store);
 }
 
-CASE(a_lost_file) {
-    relkvanu_store *store = job_of(1);
-    uint64_t id = triggers(store), names = reserves(store, SUBTASKS);
-    char words[100];
-    for (uint16_t i = 0; i < SUBTASKS; i++) {
-        uint64_t fresh = names + i;
-        acks_files(store, id, i, &fresh, 1, NULL, 0);
-    }
-    loads_as(store, 0, 0, RELKVANU_STORE_OK);
-    CHECK(unlink(in(stored(names + 3))) == 0, "file %" PRIu64, names + 3);
-    loads_as(store, id, 0, RELKVANU_STORE_FILE_LOST);
-    relkvanu_store_why(words, sizeof words);
-    CHECK(loaded.is.lost == names + 3 && strstr(words, "is missing") != NULL, "file %" PRIu64 ": %s", loaded.is.lost, words);
-    relkvanu_store_close(store);
-}
-
 /* What is refused changes nothing. */
 CASE(misuse_of_more) {
     relkvanu_store *store = job_of(1);

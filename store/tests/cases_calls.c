@@ -159,21 +159,6 @@ CASE(quiet_commits) {
     relkvanu_store_close(store);
 }
 
-CASE(an_awaited_tick) {
-    relkvanu_store *store = new_job_alone(0); /* due after 10 ms */
-    relkvanu_store_call tick;
-    CHECK(relkvanu_store_await_tick(store, 10000, &tick) == RELKVANU_STORE_OK && tick.answer.what == RELKVANU_TICK_TRIGGERED &&
-              tick.answer.b == 1,
-        "what %" PRIu32, tick.answer.what);
-    CHECK(tick.choice.what == RELKVANU_CHOICE_FRESH && tick.place == 1, "the choice");
-    CHECK(relkvanu_store_await_tick(store, 10000, &tick) == RELKVANU_STORE_OK && tick.answer.what == RELKVANU_TICK_HELD_AT_ONCE,
-        "what %" PRIu32, tick.answer.what);
-    CHECK(relkvanu_store_await_tick(store, 60, &tick) == RELKVANU_STORE_TIMED_OUT, "it spins while it is held");
-    relkvanu_store_stop(store);
-    CHECK(relkvanu_store_await_tick(store, 10000, &tick) == RELKVANU_STORE_STOPPED, "stop");
-    relkvanu_store_close(store);
-}
-
 CASE(images_and_cuts) {
     relkvanu_store *store = new_job_alone(100);
     uint64_t calls = 0, file = 1;

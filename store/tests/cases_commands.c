@@ -124,6 +124,8 @@ static void is_as_logged(relkvanu_store **store) {
     }
     *store = opens(&options, RELKVANU_STORE_OK);
     CHECK(shadow_equals(&shadow, *store), "another state");
+    relkvanu_answer more = relkvanu_reserve(&shadow.handle, relkvanu_term(&shadow.handle).a, 1);
+    CHECK(more.code != RELKVANU_DONE || !shadow_equals(&shadow, *store), "the comparison of images sees nothing");
     relkvanu_close(&shadow.handle);
     free(rows);
 }
@@ -373,25 +375,6 @@ CASE(a_stop_of_a_job_that_fails) {
     CHECK(awaits(store, LONG, &tick) == RELKVANU_STORE_NOT_RUNNING && tick.answer.a == 1, "and so is the failure");
     CHECK(relkvanu_store_stop_job(store, &call) == RELKVANU_STORE_OK, "a stop of a failed job");
     refused(call.answer, RELKVANU_NOT_RUNNING);
-    relkvanu_store_close(store);
-}
-
-/* A process that ends while the job is being stopped: it goes on from its last checkpoint. */
-static int stops_and_ends(void *with) {
-    (void)with;
-    relkvanu_store *store = minutely_job();
-    completed(store, 1);
-    acks(store, 1, stopping(store), SUBTASKS - 1);
-    return 7;
-}
-
-CASE(a_crash_while_it_stops) {
-    CHECK(in_child(stops_and_ends, NULL) == 7, "a child");
-    relkvanu_store *store = opens_with(options_of(RELKVANU_STORE_RECOVER));
-    was_in(RELKVANU_STORE_PHASE_STOPPING, 0, 2, 4);
-    relkvanu_answer restored = done(store, RELKVANU_CALL_RESTORE, RELKVANU_STORE_NOW, 0);
-    CHECK(restored.what == RELKVANU_RESTORED_CHECKPOINT && restored.b == 1, "what %" PRIu32, restored.what);
-    is_in(store, RELKVANU_STORE_PHASE_RUNNING, RELKVANU_STORE_STOP_RESTORED, 2, 0);
     relkvanu_store_close(store);
 }
 

@@ -160,24 +160,6 @@ CASE(damaged_rows) {
     }
 }
 
-CASE(an_earlier_image) {
-    relkvanu_store_options options = job_options(RELKVANU_STORE_CREATE, 5);
-    struct shadow shadow;
-    make_job(5);
-    run_sql(in("x.db"), "UPDATE image SET sum = sum + 1 WHERE place = (SELECT max(place) FROM image)");
-    refuses(RELKVANU_STORE_DAMAGED, "image after call 20");
-    relkvanu_store *store = opens_as(&options, RELKVANU_STORE_EARLIER_IMAGE, RELKVANU_STORE_OK);
-    CHECK(report.image_place < CALLS && report.image_place + report.replayed == CALLS && report.replayed != 0, "%" PRIu64,
-        report.image_place);
-    relkvanu_store_close(store);
-    store = opens_as(&options, RELKVANU_STORE_RECOVER, RELKVANU_STORE_OK); /* the damaged one is gone */
-    shadow_open(&shadow, &options);
-    relkvanu_answer answer = relkvanu_tick(&shadow.handle, 0);
-    CHECK(answer.code == RELKVANU_DONE && !shadow_equals(&shadow, store), "the comparison of images sees nothing");
-    relkvanu_close(&shadow.handle);
-    relkvanu_store_close(store);
-}
-
 /* Reserves names one by one in three terms, with an image after each tenth call or so, and ends without a close. */
 static int leave_open(void *with) {
     relkvanu_store *store = new_job_alone(IMAGE_CALLS);
@@ -195,6 +177,7 @@ static int leave_open(void *with) {
 CASE(log_behind_both_images) {
     CHECK(in_child(leave_open, NULL) == 0, "the job");
     run_sql(in("x.db"), "UPDATE image SET sum = sum + 1 WHERE place = (SELECT max(place) FROM image)");
+    refuses(RELKVANU_STORE_DAMAGED, "image after call ");
     relkvanu_store *store = opens_with(job_options(RELKVANU_STORE_EARLIER_IMAGE, IMAGE_CALLS));
     uint64_t calls = report.image_place + report.replayed;
     CHECK(report.image_place != 0 && report.replayed > IMAGE_CALLS && calls == LEFT + LEFT / OF_A_TERM, "%" PRIu64 " calls", calls);

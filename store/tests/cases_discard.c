@@ -90,23 +90,6 @@ CASE(settles) {
     stop(&d);
 }
 
-/* Without the marker a missing file is not gone. */
-CASE(without_marker) {
-    relkvanu_store *store = new_job();
-    struct discarding d = {0};
-    CHECK(renameat(relkvanu_store_folder(store), ".relkvanu-job", relkvanu_store_folder(store), "away") == 0, "marker");
-    start(&d, store, 16);
-    checkpoint(store, 1);
-    checkpoint(store, 101);
-    usleep(300000);
-    CHECK(d.asked == 0, "%u asked in a folder that may be another one", d.asked);
-    stop_discarder(&d.is);
-    relkvanu_counts counts = counts_of(store);
-    CHECK(counts.waiting == 16 && counts.taken == 0, "%" PRIu64 " wait, %" PRIu64 " are taken", counts.waiting, counts.taken);
-    CHECK(renameat(relkvanu_store_folder(store), "away", relkvanu_store_folder(store), ".relkvanu-job") == 0, "marker");
-    relkvanu_store_close(store);
-}
-
 /* Another host has opened a copy of the job, or has given the folder to another job: nothing of it is deleted any more. */
 CASE(another_opening) {
     relkvanu_store *store = new_job();

@@ -130,31 +130,14 @@ CASE(its_own_file) {
     relkvanu_store_close(store);
 }
 
-/* Another process has opened a copy of the job over the folder: this one deletes and puts nothing more. */
-CASE(a_later_opening) {
-    relkvanu_store *store = new_job();
-    CHECK(reserved(store, 1, 3) == 1, "the names");
-    for (uint64_t name = 1; name <= 3; name++) {
-        make_empty(stored(name));
-    }
-    made(store, (relkvanu_call){.kind = RELKVANU_CALL_RESTORE, .now = RELKVANU_STORE_NOW});
-    write_marker("storage", 0, 2);
-    is_swept(store, RELKVANU_STORE_STORAGE, 0);
-    CHECK(exists(stored(1)) && exists(stored(3)), "a sweep");
-    CHECK(relkvanu_store_put(store, 4, "state", 5) == RELKVANU_STORE_STORAGE && !exists(stored(4)), "a put");
-    relkvanu_store_close(store);
-    relkvanu_store_options options = storage_options(RELKVANU_STORE_RECOVER, 0);
-    opens_not(&options, RELKVANU_STORE_STORAGE, "an older copy");
-}
-
 /* Adopted files are below the first name, and are garbage; one that leaves no name is refused. */
 CASE(adopts) {
     relkvanu_store_options options = storage_options(RELKVANU_STORE_CREATE, 0);
     make_empty(stored(UINT64_C(1) << 62));
-    opens(&options, RELKVANU_STORE_STORAGE);
+    opens_not(&options, RELKVANU_STORE_STORAGE, "4611686018427387904");
     options.flags |= RELKVANU_STORE_ADOPT;
-    opens(&options, RELKVANU_STORE_STORAGE);
-    CHECK(says("2^62") && !exists("storage/.relkvanu-job"), "%s", report.message);
+    opens_not(&options, RELKVANU_STORE_STORAGE, "2^62");
+    CHECK(!exists("storage/.relkvanu-job") && !exists("x.db"), "a job");
     unlink(in("storage/4611686018427387904"));
     make_empty(stored(700));
     make_empty(stored(3));
@@ -163,22 +146,6 @@ CASE(adopts) {
     CHECK(reserved(store, 1, 1) == 701 && relkvanu_store_put(store, 701, "state", 5) == RELKVANU_STORE_OK, "a name");
     is_swept(store, RELKVANU_STORE_OK, 0);
     CHECK(!exists(stored(700)) && !exists(stored(3)) && exists(stored(701)));
-    relkvanu_store_close(store);
-}
-
-/* A new job over a storage of the engine's own that has files, with numbers up to 300. */
-CASE(above_the_files_of_a_storage) {
-    relkvanu_store *store = new_job_alone(0);
-    relkvanu_store_call call;
-    relkvanu_answer answer;
-    uint64_t files[] = {250, 301}, garbage[2], others[2];
-    CHECK(relkvanu_store_advance(store, report.term, 301, &call) == RELKVANU_STORE_OK && call.answer.what == RELKVANU_RESTORED_FRESH &&
-              call.term == 2,
-        "what %" PRIu32 ", term %" PRIu64, call.answer.what, call.term);
-    CHECK(relkvanu_store_garbage(store, files, 2, garbage, others, &answer) == RELKVANU_STORE_OK && answer.a == 1 && garbage[0] == 250 &&
-              answer.b == 1 && others[0] == 301,
-        "%" PRIu64 " are garbage", answer.a);
-    CHECK(reserved(store, 2, 1) == 301, "the first name");
     relkvanu_store_close(store);
 }
 

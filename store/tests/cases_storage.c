@@ -1,17 +1,6 @@
 /* The storage folder: whose it is, and what a sweep may delete. */
 #include "cases.h"
 
-CASE(a_folder_with_files) {
-    relkvanu_store_options options = storage_options(RELKVANU_STORE_CREATE, 0);
-    make_empty("storage/17");
-    opens(&options, RELKVANU_STORE_STORAGE);
-    CHECK(says("17") && !exists("x.db") && exists("storage/17"), "%s", report.message);
-    options.flags |= RELKVANU_STORE_ADOPT;
-    relkvanu_store_close(opens(&options, RELKVANU_STORE_OK));
-    CHECK(exists("storage/17") && exists("storage/.relkvanu-job"), "the folder");
-    relkvanu_store_close(opens_as(&options, RELKVANU_STORE_RECOVER, RELKVANU_STORE_OK));
-}
-
 CASE(not_mounted) {
     relkvanu_store_options options = storage_options(RELKVANU_STORE_CREATE, 0);
     relkvanu_store_close(opens(&options, RELKVANU_STORE_OK));

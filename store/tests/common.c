@@ -60,19 +60,6 @@ sqlite3 *open_file(const char *path) {
     return db;
 }
 
-/* From this name on; 0: it has no names. */
-static void open_shadow(struct shadow *shadow, const relkvanu_store_options *options, uint64_t name) {
-    *shadow = (struct shadow){0};
-    relkvanu_answer opened =
-        name == 0 ? relkvanu_open(&shadow->handle, &options->settings, options->shape, options->shape_len, 0, 1, 1, 2)
-                  : relkvanu_open_fenced(&shadow->handle, &options->settings, options->shape, options->shape_len, 0, 1, name, 1, 2);
-    CHECK(opened.code == RELKVANU_DONE, "the second coordinator");
-}
-
-void shadow_open(struct shadow *shadow, const relkvanu_store_options *options) {
-    open_shadow(shadow, options, 1);
-}
-
 void shadow_open_as(struct shadow *shadow, const char *path) {
     sqlite3 *db = open_file(path);
     sqlite3_stmt *it = NULL;
@@ -83,10 +70,12 @@ void shadow_open_as(struct shadow *shadow, const char *path) {
     relkvanu_answer first = relkvanu_line_says((const uint8_t *)config, strcspn(config, "\n"), numbers, 7);
     relkvanu_answer second = relkvanu_line_says((const uint8_t *)job, strcspn(job, "\n"), shape_found, 256);
     CHECK(first.what == RELKVANU_LINE_CONFIG && second.what == RELKVANU_LINE_JOB, "%s", config);
-    relkvanu_store_options options = {.settings = {numbers[0], numbers[1], numbers[2], numbers[3], numbers[4], numbers[5], numbers[6] != 0},
-        .shape = shape_found,
-        .shape_len = second.a};
-    open_shadow(shadow, &options, first_name_of(config));
+    const relkvanu_settings settings = {numbers[0], numbers[1], numbers[2], numbers[3], numbers[4], numbers[5], numbers[6] != 0};
+    uint64_t name = first_name_of(config);
+    *shadow = (struct shadow){0};
+    relkvanu_answer opened = name == 0 ? relkvanu_open(&shadow->handle, &settings, shape_found, second.a, 0, 1, 1, 2)
+                                       : relkvanu_open_fenced(&shadow->handle, &settings, shape_found, second.a, 0, 1, name, 1, 2);
+    CHECK(opened.code == RELKVANU_DONE, "the second coordinator");
     sqlite3_finalize(it);
     sqlite3_close(db);
 }

@@ -64,8 +64,6 @@ struct shadow {
     uint64_t place;
 };
 
-void shadow_open(struct shadow *shadow, const relkvanu_store_options *options);
-
 /* Opens it with the settings and the shape that are kept in a file. */
 void shadow_open_as(struct shadow *shadow, const char *path);
 
