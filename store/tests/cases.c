@@ -64,6 +64,10 @@ relkvanu_store *new_job(void) {
     return opens_with(storage_options(RELKVANU_STORE_CREATE, 0));
 }
 
+relkvanu_store *new_job_with_manifests(void) {
+    return opens_with(storage_options(RELKVANU_STORE_CREATE | RELKVANU_STORE_MANIFESTS, 0));
+}
+
 relkvanu_store *new_job_alone(uint64_t image_calls) {
     return opens_with(job_options(RELKVANU_STORE_CREATE, image_calls));
 }
@@ -166,10 +170,11 @@ relkvanu *begins_read(relkvanu_store *store) {
     return handle;
 }
 
+const char *const JOB_FILES[4] = {"x.db", "x.db-wal", "x.db-shm", "x.db.lock"};
+
 void lose_job(void) {
-    static const char *const names[] = {"x.db", "x.db-wal", "x.db-shm", "x.db.lock"};
     for (size_t i = 0; i < 4; i++) {
-        CHECK(unlink(in(names[i])) == 0 || errno == ENOENT, "%s", names[i]);
+        CHECK(unlink(in(JOB_FILES[i])) == 0 || errno == ENOENT, "%s", JOB_FILES[i]);
     }
 }
 

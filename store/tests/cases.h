@@ -10,6 +10,15 @@
 #include <sys/stat.h>
 #include <unistd.h>
 
+/* A case: CASE(name) { .. }. Each is known when the program begins. */
+void add_case(const char *name, void (*run)(void));
+#define CASE(name)                                              \
+    static void name(void);                                     \
+    __attribute__((constructor)) static void add_##name(void) { \
+        add_case(#name, name);                                  \
+    }                                                           \
+    static void name(void)
+
 /* A name in the folder of the case; it stays until the thread has asked for four more. */
 const char *in(const char *name);
 
@@ -24,17 +33,21 @@ extern relkvanu_store_report report; /* of the last opening */
 
 relkvanu_store_options storage_options(uint32_t flags, uint64_t image_calls);
 relkvanu_store *new_job(void); /* over the folder FOLDER/storage */
+relkvanu_store *new_job_with_manifests(void);
 relkvanu_store *new_job_alone(uint64_t image_calls);
 
 bool exists(const char *name);     /* in the folder of the case */
 void make_empty(const char *name); /* a file, which is not there yet */
 void write_text(const char *name, const char *text);
-void write_marker(
-    const char *folder, uint64_t other, uint64_t epoch); /* of the job that was opened, or another one; epoch 0: of no opening */
+
+/* The marker of the job that was opened, or of another one; epoch 0: of no opening. */
+void write_marker(const char *folder, uint64_t other, uint64_t epoch);
+
 void copy_file(const char *from, const char *to);
 size_t files_in(const char *folder); /* how many, beside those whose names begin with a point */
 const char *stored(uint64_t file);   /* storage/FILE, as long */
-void lose_job(void);                 /* removes x.db and what SQLite has beside it */
+extern const char *const JOB_FILES[4];
+void lose_job(void); /* removes x.db and what is beside it: these files */
 void lose_job_of(relkvanu_store *store);
 
 /* Waits until so. On no machine that takes five minutes. */
@@ -146,15 +159,6 @@ void fail_next_open(const char *name, int error);
 /* From now on the sync of a file whose path ends so waits until this is called again; NULL: none waits. And waits until one does. */
 void hold_syncs(const char *end);
 void await_held_sync(void);
-
-/* A case: CASE(name) { .. }. Each is known when the program begins. */
-void add_case(const char *name, void (*run)(void));
-#define CASE(name)                                              \
-    static void name(void);                                     \
-    __attribute__((constructor)) static void add_##name(void) { \
-        add_case(#name, name);                                  \
-    }                                                           \
-    static void name(void)
 
 /* What is behind these words in the manifest of a record; NULL: it has none of them. It stays until the next one is asked for. */
 const char *manifest_says(uint64_t id, const char *words);

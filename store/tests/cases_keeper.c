@@ -76,13 +76,9 @@ static void begins_behind_a_read(relkvanu_store *store, struct caller *it) {
     relkvanu_store_read_end(store);
 }
 
-static relkvanu_store *opens_with_manifests(void) {
-    return opens_with(storage_options(RELKVANU_STORE_CREATE | RELKVANU_STORE_MANIFESTS, 0));
-}
-
 /* Acknowledgements of other records and reservations are answered. Who completed the record, who reads and who begins a record is answered behind the manifest. */
 CASE(others_go_on) {
-    relkvanu_store *store = opens_with_manifests();
+    relkvanu_store *store = new_job_with_manifests();
     uint64_t id = nearly_all(store, RELKVANU_CALL_TRIGGER), other = begins(store, RELKVANU_CALL_SAVEPOINT);
     struct caller completes = {.store = store, .call = ack(id, SUBTASKS - 1)}, reads = {.store = store, .reads = true},
                   begins = {.store = store, .call = {.call = {.kind = RELKVANU_CALL_TICK, .now = RELKVANU_STORE_NOW}}};
@@ -144,7 +140,7 @@ CASE(a_trigger_by_hand) {
 
 /* Submits are answered in their order. A close waits for the manifest. */
 CASE(submits_keep_their_order) {
-    relkvanu_store *store = opens_with_manifests();
+    relkvanu_store *store = new_job_with_manifests();
     uint64_t id = nearly_all(store, RELKVANU_CALL_SAVEPOINT), other = begins(store, RELKVANU_CALL_SAVEPOINT);
     relkvanu_store_call last = ack(id, SUBTASKS - 1), more = ack(other, 0), again = ack(other, 1);
     relkvanu_store_completion some[3];
@@ -170,7 +166,7 @@ CASE(submits_keep_their_order) {
 
 /* The next completion is committed only behind the manifest of the one before: manifests are at most one record behind the log. */
 CASE(one_record_behind) {
-    relkvanu_store *store = opens_with_manifests();
+    relkvanu_store *store = new_job_with_manifests();
     uint64_t id = nearly_all(store, RELKVANU_CALL_SAVEPOINT), other = nearly_all(store, RELKVANU_CALL_SAVEPOINT);
     struct caller one = {.store = store, .call = ack(id, SUBTASKS - 1)}, two = {.store = store, .call = ack(other, SUBTASKS - 1)};
     needs(&one, id);
@@ -191,7 +187,7 @@ CASE(one_record_behind) {
 
 /* A manifest that can't be written beside others is counted, and written later; one of a record that ended goes then. */
 CASE(manifests_that_fail_beside) {
-    relkvanu_store *store = opens_with_manifests();
+    relkvanu_store *store = new_job_with_manifests();
     makes(store, ack(nearly_all(store, RELKVANU_CALL_SAVEPOINT), SUBTASKS - 1));
     uint64_t next = nearly_all(store, RELKVANU_CALL_TRIGGER);
     struct caller last = {.store = store, .call = ack(next, SUBTASKS - 1)};
@@ -209,7 +205,7 @@ CASE(manifests_that_fail_beside) {
 
 /* The manifest of a checkpoint goes when the next one has its own, which is written beside others. */
 CASE(ended_manifests_go_beside) {
-    relkvanu_store *store = opens_with_manifests();
+    relkvanu_store *store = new_job_with_manifests();
     for (uint64_t id = 1; id <= 3; id++) {
         CHECK(nearly_all(store, RELKVANU_CALL_TRIGGER) == id, "the number");
         struct caller last = {.store = store, .call = ack(id, SUBTASKS - 1)};
@@ -223,7 +219,7 @@ CASE(ended_manifests_go_beside) {
 
 /* The thread reads the files of a record while others call. */
 CASE(checksums_beside) {
-    relkvanu_store *store = opens_with_manifests();
+    relkvanu_store *store = new_job_with_manifests();
     relkvanu_store_close(store);
     store = opens_with(storage_options(RELKVANU_STORE_MANIFESTS | RELKVANU_STORE_CHECKSUMS, 0));
     for (uint64_t id = 1; id <= 3; id++) {

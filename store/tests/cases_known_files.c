@@ -141,7 +141,7 @@ static void is_lost(relkvanu_store *store, uint64_t file, const char *words) {
 /* A file that was cut, or lost and cut, stays lost: no opening and no later record that reuses it takes its length anew. */
 CASE(kept_lengths) {
     uint64_t first, later;
-    relkvanu_store *store = opens_with(storage_options(RELKVANU_STORE_CREATE | RELKVANU_STORE_MANIFESTS, 0));
+    relkvanu_store *store = new_job_with_manifests();
     completes_with(store, RELKVANU_CALL_TRIGGER, LENGTH, 0, &first);
     CHECK(truncate(file_in("storage", first), 4) == 0, "it is cut");
     for (int opening = 0; opening < 2; opening++) {
@@ -167,7 +167,7 @@ CASE(kept_lengths) {
 /* A backup whose choice has a file that was cut since begins from a savepoint that is whole. */
 CASE(a_backup_of_a_cut_file) {
     uint64_t first, saved;
-    relkvanu_store *store = opens_with(storage_options(RELKVANU_STORE_CREATE | RELKVANU_STORE_MANIFESTS, 0));
+    relkvanu_store *store = new_job_with_manifests();
     uint64_t savepoint = completes_with(store, RELKVANU_CALL_SAVEPOINT, LENGTH, 0, &saved);
     completes_with(store, RELKVANU_CALL_TRIGGER, LENGTH, 0, &first);
     backs_up(store, "b.db", RELKVANU_STORE_OK);
@@ -184,7 +184,7 @@ CASE(a_backup_of_a_cut_file) {
 /* Manifests from before have none. They get them at the next opening that asks for them. */
 CASE(manifests_without_checksums) {
     uint64_t first;
-    relkvanu_store *store = opens_with(storage_options(RELKVANU_STORE_CREATE | RELKVANU_STORE_MANIFESTS, 0));
+    relkvanu_store *store = new_job_with_manifests();
     completes_with(store, RELKVANU_CALL_SAVEPOINT, LENGTH, 0, &first);
     completes_with(store, RELKVANU_CALL_TRIGGER, LENGTH, 0, &first);
     relkvanu_store_close(store);

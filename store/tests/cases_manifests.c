@@ -8,10 +8,6 @@ static relkvanu_store_options manifests(uint32_t flags) {
     return storage_options(flags | RELKVANU_STORE_MANIFESTS, 0);
 }
 
-static relkvanu_store *opens_with_manifests(void) {
-    return opens_with(manifests(RELKVANU_STORE_CREATE));
-}
-
 /* A number that the manifest says to be above all that was told below it. */
 static uint64_t told_below(uint64_t id, const char *member) {
     const char *below = manifest_says(id, "\"below\":"), *at = below == NULL ? NULL : strstr(below, member);
@@ -36,7 +32,7 @@ static void check_manifest(uint64_t file) {
 
 /* The manifest is there when a record is complete, and goes when it ends. */
 CASE(manifests_of_records) {
-    relkvanu_store *store = opens_with_manifests();
+    relkvanu_store *store = new_job_with_manifests();
     uint64_t first = 0;
     CHECK(completes(store, RELKVANU_CALL_TRIGGER, &first) == 1, "the number");
     check_manifest(first);
@@ -78,7 +74,7 @@ CASE(a_sweep_of_manifests) {
     static const char *const names[] = {"storage/record-7", "storage/record-07.manifest", "storage/record-.manifest",
         "storage/record-7.manifest.old", "storage/manifest", /* and those of ended records: */
         "storage/record-7.manifest", "storage/record-7.manifest.part", "storage/record-1.manifest.part"};
-    relkvanu_store *store = opens_with_manifests();
+    relkvanu_store *store = new_job_with_manifests();
     completes(store, RELKVANU_CALL_TRIGGER, NULL);
     for (size_t i = 0; i < 8; i++) {
         make_empty(names[i]);
@@ -93,7 +89,7 @@ CASE(a_sweep_of_manifests) {
 
 /* A manifest that can't be written stops no call, and is written later. */
 CASE(manifests_that_fail) {
-    relkvanu_store *store = opens_with_manifests();
+    relkvanu_store *store = new_job_with_manifests();
     completes(store, RELKVANU_CALL_TRIGGER, NULL);
     fail_syncs("/record-2.manifest.part", EIO);
     completes(store, RELKVANU_CALL_TRIGGER, NULL);
@@ -199,19 +195,19 @@ CASE(a_folder_that_was_full) {
 
 /* A second loss, also before the recovered job was opened. */
 CASE(lost_again) {
-    relkvanu_store *store = opens_with_manifests();
+    relkvanu_store *store = new_job_with_manifests();
     uint64_t first = 0, id = completes(store, RELKVANU_CALL_TRIGGER, &first);
     lose_job_of(store);
     recovers("x.db", "storage", 0, RELKVANU_STORE_OK);
     lose_job();
     recovers("x.db", "storage", 0, RELKVANU_STORE_OK);
-    store = opens_with_manifests();
+    store = new_job_with_manifests();
     CHECK(choice_of(store) == id && has_files(store, id, first), "the choice");
     uint64_t term = report.term, name = report.next_name, next = completes(store, RELKVANU_CALL_TRIGGER, &first);
     lose_job_of(store);
     recovers("x.db", "storage", 0, RELKVANU_STORE_OK);
     CHECK(recovered.record == next && recovered.term > term && recovered.next_name > name + 7, "what is next");
-    store = opens_with_manifests();
+    store = new_job_with_manifests();
     CHECK(choice_of(store) == next && has_files(store, next, first), "the choice");
     goes_on(store, next, term, name + 8);
     relkvanu_store_close(store);
@@ -221,14 +217,14 @@ CASE(lost_again) {
 CASE(nothing_to_recover) {
     uint64_t first = 0;
     recovers("x.db", "storage", 0, RELKVANU_STORE_STORAGE); /* no marker */
-    relkvanu_store *store = opens_with_manifests();
+    relkvanu_store *store = new_job_with_manifests();
     recovers("x.db", "storage", 0, RELKVANU_STORE_IN_USE);
     relkvanu_store_close(store);
     recovers("x.db", "storage", 0, RELKVANU_STORE_PRESENT);
     lose_job();
     recovers("x.db", "storage", 0, RELKVANU_STORE_ABSENT); /* no record was complete */
     CHECK(unlink(in("storage/.relkvanu-job")) == 0, "the marker");
-    store = opens_with_manifests();
+    store = new_job_with_manifests();
     completes(store, RELKVANU_CALL_TRIGGER, &first);
     lose_job_of(store);
     recovers("x.db", "storage", 9, RELKVANU_STORE_ABSENT);
@@ -248,7 +244,7 @@ CASE(nothing_to_recover) {
 
 /* Each byte of a manifest is looked at. */
 CASE(damaged_manifests) {
-    relkvanu_store *store = opens_with_manifests();
+    relkvanu_store *store = new_job_with_manifests();
     struct stat is;
     completes(store, RELKVANU_CALL_SAVEPOINT, NULL);
     completes(store, RELKVANU_CALL_TRIGGER, NULL);
@@ -280,7 +276,7 @@ CASE(damaged_manifests) {
 
 /* A later version wrote the manifest, far above what the others say was told. One that is earlier than the choice says nothing of it. */
 CASE(manifests_that_cannot_be_read) {
-    relkvanu_store *store = opens_with_manifests();
+    relkvanu_store *store = new_job_with_manifests();
     uint64_t id = completes(store, RELKVANU_CALL_SAVEPOINT, NULL) + 1;
     CHECK(completes(store, RELKVANU_CALL_TRIGGER, NULL) == id, "the number");
     lose_job_of(store);
@@ -302,7 +298,7 @@ CASE(manifests_that_cannot_be_read) {
 
 /* What has the name that a new file had in earlier versions may be a job. */
 CASE(a_job_beside_a_recovery) {
-    relkvanu_store *store = opens_with_manifests();
+    relkvanu_store *store = new_job_with_manifests();
     completes(store, RELKVANU_CALL_TRIGGER, NULL);
     lose_job_of(store);
     relkvanu_store_options beside = job_options(RELKVANU_STORE_CREATE, 0);
@@ -313,7 +309,7 @@ CASE(a_job_beside_a_recovery) {
 
 /* A process that was told to end may not have ended. It puts nothing more once the record is chosen, also if the recovery then comes to an end. */
 CASE(a_recovery_fences_first) {
-    relkvanu_store *store = opens_with_manifests();
+    relkvanu_store *store = new_job_with_manifests();
     completes(store, RELKVANU_CALL_TRIGGER, NULL);
     recovers("z.db", "storage", 9, RELKVANU_STORE_ABSENT);
     puts_file(store, 5000, RELKVANU_STORE_OK);
@@ -327,7 +323,7 @@ CASE(a_recovery_fences_first) {
 
 /* No marker is one that is absent, and not one that can't be read: then the record of another job might be taken. */
 CASE(a_marker_that_cannot_be_read) {
-    relkvanu_store *store = opens_with_manifests();
+    relkvanu_store *store = new_job_with_manifests();
     completes(store, RELKVANU_CALL_TRIGGER, NULL);
     relkvanu_store_close(store);
     CHECK(rename(in("storage/.relkvanu-job"), in("storage/kept")) == 0 && symlink("kept", in("storage/.relkvanu-job")) == 0, "a link");
@@ -341,7 +337,7 @@ CASE(a_marker_that_cannot_be_read) {
 /* Savepoints live on, with the files that they share, and with another shape. */
 CASE(savepoints_live_on) {
     const uint64_t shape[] = {2, 3};
-    relkvanu_store *store = opens_with_manifests();
+    relkvanu_store *store = new_job_with_manifests();
     relkvanu_store_call call = {.call = {.kind = RELKVANU_CALL_RESTORE, .now = RELKVANU_STORE_NOW}, .first = shape, .first_len = 2};
     uint64_t first = 0, savepoint = completes(store, RELKVANU_CALL_SAVEPOINT, &first);
     relkvanu_answer answer;
@@ -357,7 +353,7 @@ CASE(savepoints_live_on) {
     lose_job_of(store);
     recovers("x.db", "storage", 0, RELKVANU_STORE_OK);
     CHECK(recovered.record == id && recovered.savepoints == 1 && recovered.passed == 0, "record %" PRIu64, recovered.record);
-    store = opens_with_manifests();
+    store = new_job_with_manifests();
     CHECK(choice_of(store) == id && list_records("storage") == 3 && records[0].id == savepoint && records[1].id == id, "%zu records",
         records_len);
     uint64_t again = records[2].id;
@@ -374,7 +370,7 @@ CASE(savepoints_live_on) {
 
 /* A job that was rolled back begins again from the savepoint, although a checkpoint completed after it. */
 CASE(a_rolled_back_job) {
-    relkvanu_store *store = opens_with_manifests();
+    relkvanu_store *store = new_job_with_manifests();
     uint64_t first = 0, savepoint = completes(store, RELKVANU_CALL_SAVEPOINT, &first);
     completes(store, RELKVANU_CALL_TRIGGER, NULL);
     CHECK(list_records("storage") == 2 && records[1].is_next, "the checkpoint is the choice");
@@ -384,7 +380,7 @@ CASE(a_rolled_back_job) {
     lose_job_of(store);
     recovers("x.db", "storage", 0, RELKVANU_STORE_OK);
     CHECK(recovered.record == savepoint && recovered.is_savepoint && recovered.savepoints == 0, "record %" PRIu64, recovered.record);
-    store = opens_with_manifests();
+    store = new_job_with_manifests();
     CHECK(report.choice.what == RELKVANU_CHOICE_SAVEPOINT && report.choice.a == savepoint && has_files(store, savepoint, first));
     goes_on(store, 2, term + 1, first + 16);
     relkvanu_store_close(store);
@@ -392,7 +388,7 @@ CASE(a_rolled_back_job) {
 
 /* Numbers of records that failed were told, too. */
 CASE(numbers_that_failed) {
-    relkvanu_store *store = opens_with_manifests();
+    relkvanu_store *store = new_job_with_manifests();
     uint64_t id = completes(store, RELKVANU_CALL_TRIGGER, NULL), last = 0;
     for (int i = 0; i < 1100; i++) {
         relkvanu_store_call calls[] = {{.call = {.kind = RELKVANU_CALL_SAVEPOINT, .now = RELKVANU_STORE_NOW}},
@@ -403,14 +399,14 @@ CASE(numbers_that_failed) {
     CHECK(last == id + 1100 && told_below(id, "\"number\":") > last, "the manifest is behind record %" PRIu64, last);
     lose_job_of(store);
     recovers("x.db", "storage", 0, RELKVANU_STORE_OK);
-    store = opens_with_manifests();
+    store = new_job_with_manifests();
     goes_on(store, last, 1, 1);
     relkvanu_store_close(store);
 }
 
 /* A record of another job in the folder is none of this one's. */
 CASE(another_jobs_manifest) {
-    relkvanu_store *store = opens_with_manifests();
+    relkvanu_store *store = new_job_with_manifests();
     completes(store, RELKVANU_CALL_TRIGGER, NULL);
     relkvanu_store_close(store);
     write_marker("storage", 1, 7);
@@ -430,7 +426,7 @@ static bool has_bytes(const char *folder, uint64_t file, off_t len) {
 
 /* The folder that is made has the record, whatever the job deletes then. */
 CASE(an_export) {
-    relkvanu_store *store = opens_with_manifests();
+    relkvanu_store *store = new_job_with_manifests();
     uint64_t first = 0, savepoint = completes(store, RELKVANU_CALL_SAVEPOINT, NULL), id = completes(store, RELKVANU_CALL_TRIGGER, &first);
     exports("storage", 0, "out", RELKVANU_STORE_OK);
     CHECK(carried.record == id && !carried.is_savepoint && carried.files == 8 && carried.bytes == 36, "record %" PRIu64, carried.record);
@@ -483,7 +479,7 @@ static bool exports_in_time(const char *to) {
 
 /* Manifests end while the folder is listed: an export has the last record that was complete when it began, or a later one, and no savepoint before it. */
 CASE(an_export_beside_a_job) {
-    relkvanu_store *store = opens_with_manifests();
+    relkvanu_store *store = new_job_with_manifests();
     completes(store, RELKVANU_CALL_SAVEPOINT, NULL);
     latest = completes(store, RELKVANU_CALL_TRIGGER, NULL);
     pthread_t job = starts(completes_more, store);
@@ -505,7 +501,7 @@ static relkvanu_store *opens_other(void) {
 
 /* Another job of a record, while the first one runs. Each goes its own way. */
 CASE(an_import) {
-    relkvanu_store *store = opens_with_manifests();
+    relkvanu_store *store = new_job_with_manifests();
     uint64_t first = 0, job[2], id = completes(store, RELKVANU_CALL_TRIGGER, &first);
     memcpy(job, report.job, sizeof job);
     imports("storage", 9, "y.db", "elsewhere", RELKVANU_STORE_ABSENT);
@@ -527,7 +523,7 @@ CASE(an_import) {
 
 /* An import that ended between its two halves goes on; the folder of another job is left alone. */
 CASE(an_import_that_goes_on) {
-    relkvanu_store *store = opens_with_manifests();
+    relkvanu_store *store = new_job_with_manifests();
     uint64_t first = 0, id = completes(store, RELKVANU_CALL_TRIGGER, &first);
     exports("storage", 0, "out", RELKVANU_STORE_OK);
     imports("out", 0, "y.db", "elsewhere", RELKVANU_STORE_OK);
@@ -573,7 +569,7 @@ CASE(a_claim) {
 
 /* A manifest that can't be read may be of the latest record, so nothing is made of an earlier one, unless it is given by its number. */
 CASE(a_latest_manifest_that_is_damaged) {
-    relkvanu_store *store = opens_with_manifests();
+    relkvanu_store *store = new_job_with_manifests();
     uint64_t savepoint = completes(store, RELKVANU_CALL_SAVEPOINT, NULL);
     completes(store, RELKVANU_CALL_TRIGGER, NULL);
     int file = open(in("storage/record-2.manifest"), O_WRONLY | O_CLOEXEC);
@@ -593,7 +589,7 @@ CASE(a_latest_manifest_that_is_damaged) {
 
 /* An import or a claim that passes over a record which lacks a file says so, as a recovery does. */
 CASE(an_import_that_passes_a_record) {
-    relkvanu_store *store = opens_with_manifests();
+    relkvanu_store *store = new_job_with_manifests();
     uint64_t first = 0, savepoint = completes(store, RELKVANU_CALL_SAVEPOINT, NULL);
     completes(store, RELKVANU_CALL_TRIGGER, &first);
     relkvanu_store_close(store);
@@ -606,7 +602,7 @@ CASE(an_import_that_passes_a_record) {
 
 /* A record keeps what it shares with the one that leaves. */
 CASE(a_claim_of_shared_files) {
-    relkvanu_store *store = opens_with_manifests();
+    relkvanu_store *store = new_job_with_manifests();
     uint64_t first = 0;
     completes(store, RELKVANU_CALL_TRIGGER, &first);
     uint64_t savepoint = completes_with(store, RELKVANU_CALL_SAVEPOINT, 0, first, NULL);
@@ -618,7 +614,7 @@ CASE(a_claim_of_shared_files) {
 
 /* The same call goes on where one ended: after the job was made, and before anything has left. An exported folder goes with its last file. */
 CASE(a_claim_that_goes_on) {
-    relkvanu_store *store = opens_with_manifests();
+    relkvanu_store *store = new_job_with_manifests();
     uint64_t first = 0, id = completes(store, RELKVANU_CALL_TRIGGER, &first);
     exports("storage", 0, "out", RELKVANU_STORE_OK);
     relkvanu_store_close(store);
@@ -632,7 +628,7 @@ CASE(a_claim_that_goes_on) {
 
 /* An import, and then a claim of the same record: the old job runs meanwhile, so it is fenced before its files leave. */
 CASE(a_claim_after_an_import) {
-    relkvanu_store *store = opens_with_manifests();
+    relkvanu_store *store = new_job_with_manifests();
     uint64_t first = 0, id = completes(store, RELKVANU_CALL_TRIGGER, &first);
     imports("storage", 0, "y.db", "elsewhere", RELKVANU_STORE_OK);
     puts_file(store, 5000, RELKVANU_STORE_OK);
@@ -644,7 +640,7 @@ CASE(a_claim_after_an_import) {
 
 /* An import that did not end has left an earlier record than the one that is there by now. */
 CASE(a_claim_over_an_earlier_record) {
-    relkvanu_store *store = opens_with_manifests();
+    relkvanu_store *store = new_job_with_manifests();
     uint64_t savepoint = completes(store, RELKVANU_CALL_SAVEPOINT, NULL);
     imports("storage", 0, "none/y.db", "elsewhere", RELKVANU_STORE_FAILED);
     CHECK(exists("elsewhere"), "no folder");
@@ -659,7 +655,7 @@ CASE(a_claim_over_an_earlier_record) {
 
 /* The part of a folder may be the folder to carry from. */
 CASE(an_export_over_itself) {
-    relkvanu_store *store = opens_with_manifests();
+    relkvanu_store *store = new_job_with_manifests();
     relkvanu_store_carried carried;
     uint64_t first = 0;
     completes(store, RELKVANU_CALL_TRIGGER, &first);

@@ -136,12 +136,11 @@ CASE(checks_the_shape) {
 }
 
 CASE(makes_private_files) {
-    static const char *const names[] = {"x.db", "x.db-wal", "x.db-shm", "x.db.lock"};
     umask(0);
     relkvanu_store *store = new_job_alone(0);
     for (size_t i = 0; i < 4; i++) {
         struct stat is;
-        CHECK(stat(in(names[i]), &is) == 0 && (is.st_mode & 0777) == 0600, "%s has the mode %o", names[i], is.st_mode & 0777);
+        CHECK(stat(in(JOB_FILES[i]), &is) == 0 && (is.st_mode & 0777) == 0600, "%s has the mode %o", JOB_FILES[i], is.st_mode & 0777);
     }
     relkvanu_store_close(store);
 }
@@ -173,9 +172,8 @@ static void check_refused(const char *when) {
 
 /* A POSIX lock of this process ends when it closes any descriptor of the file. */
 static void open_elsewhere(void) {
-    static const char *const names[] = {"x.db", "x.db-wal", "x.db-shm", "x.db.lock"};
     for (size_t i = 0; i < 4; i++) {
-        close(open(in(names[i]), O_RDONLY));
+        close(open(in(JOB_FILES[i]), O_RDONLY));
     }
 }
 
