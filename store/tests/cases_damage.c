@@ -113,25 +113,6 @@ CASE(other_answers) {
     free(rows);
 }
 
-/* A log of 20 reservations of one name: another name, and a term that has not begun, which fences the call. */
-CASE(other_names) {
-    relkvanu_store_options options = job_options(RELKVANU_STORE_CREATE, RELKVANU_STORE_NO_IMAGES);
-    relkvanu_store *store = opens(&options, RELKVANU_STORE_OK);
-    for (uint64_t i = 1; i <= CALLS; i++) {
-        CHECK(reserved(store, 1, 1) == i, "name %" PRIu64, i);
-    }
-    relkvanu_store_close(store);
-    replace_last("reserve 1 1", RELKVANU_RESERVED, LAST, 1);
-    refuses(RELKVANU_STORE_DIFFERS, "call 20");
-    CHECK(says("0/56 20 1") && says("0/56 19 1") && says("reserve 1 1"), "%s", report.message);
-    replace_last("reserve 2 1", RELKVANU_RESERVED, CALLS, 1);
-    refuses(RELKVANU_STORE_DIFFERS, "call 20");
-    CHECK(says("7/1 0 0"), "%s", report.message);
-    replace_last("reserve 1 1", RELKVANU_RESERVED, CALLS, 1);
-    relkvanu_store_close(opens_as(&options, RELKVANU_STORE_RECOVER, RELKVANU_STORE_OK));
-    CHECK(report.next_name == CALLS + 1, "next name %" PRIu64, report.next_name);
-}
-
 CASE(damaged_rows) {
     static const struct {
         const char *sql, *words, *back;
