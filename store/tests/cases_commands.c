@@ -72,7 +72,8 @@ static uint64_t completed(relkvanu_store *store, uint64_t term) {
 
 static uint64_t stopping(relkvanu_store *store) {
     relkvanu_store_call call;
-    is_made(relkvanu_store_stop_job(store, &call), &call, RELKVANU_SAVEPOINT_TRIGGERED, call.answer.a, 0);
+    int status = relkvanu_store_stop_job(store, &call);
+    is_made(status, &call, RELKVANU_SAVEPOINT_TRIGGERED, call.answer.a, 0);
     is_in(store, RELKVANU_STORE_PHASE_STOPPING, 0, call.answer.a, 0);
     return call.answer.a;
 }
