@@ -512,10 +512,13 @@ static bool passes(const char *within, const struct test *test) {
 
 int main(int argc, char **argv) {
     unsigned passed = 0, failed = 0;
+    char within[300]; /* a folder of this run: it may be a second try */
     CHECK(argc >= 2, "cases FOLDER [NAME]");
+    snprintf(within, sizeof within, "%s/XXXXXX", argv[1]);
+    CHECK(mkdtemp(within) != NULL, "%s", within);
     for (size_t i = 0; i < cases_len; i++) {
         if (argc < 3 || strcmp(argv[2], cases[i].name) == 0) {
-            bool is_passed = passes(argv[1], &cases[i]);
+            bool is_passed = passes(within, &cases[i]);
             passed += is_passed;
             failed += !is_passed;
         }
