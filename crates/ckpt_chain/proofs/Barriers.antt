@@ -1,20 +1,13 @@
 -- A record that a task has cut, or whose barrier it sent, is one whose barrier it took.
-use Rattle.std.proofs.Common.{◌≡◌, ℕ, Bool, true, false, List, [], ◌∷◌, refl, sym, ap, ◌∙◌, subst, inl, inr, ◌⊎◌, ⊎_elim, cond, arith}
-use Rattle.std.specs.Prelude.{◌&&◌, ◌==◌, nat_lt, slice_get, Option, Some, None, Ok}
-use Rattle.std.specs.List.{list_any}
-use Rattle.std.proofs.lemmas.Bool.{cond_both}
-use Rattle.std.proofs.lemmas.Grind.{common_steps}
-use Rattle.std.proofs.lemmas.Option.{none-some, same_Some}
-use Rattle.ckpt_ids.specs.Ordered.{IsIn}
-use Rattle.ckpt_ids.proofs.OrderedLemmas.{IsIn-append_cases, IsIn-append_left, IsIn-append_right}
-use Rattle.ckpt_align.specs.Alignment.{Alignment, all_released, held_for, is_aligning, is_late, is_open, with_input}
+use Rattle.ckpt_chain.proofs.Names.{◌≡◌, ℕ, Bool, true, false, List, [], ◌∷◌, refl, sym, ap, ◌∙◌, subst, inl, inr, ◌⊎◌, ⊎_elim, cond, arith, ◌&&◌, ◌==◌, nat_lt, slice_get, Option, Some}
+use Rattle.ckpt_chain.proofs.Names.{None, Ok, list_any, cond_both, common_steps, none-some, same_Some, IsIn, IsIn-append_cases, IsIn-append_left, IsIn-append_right, Alignment, all_released}
+use Rattle.ckpt_chain.proofs.Names.{held_for, is_aligning, is_late, is_open, with_input, Input, Open, Held, Item, Element, Barrier, End, Action, Reads, GivesUp, Sends, Ends, after}
+use Rattle.ckpt_chain.proofs.Names.{answer_to, barriers, cut_as, cut_by, has_cut, is_number, is_taken, sent, sent_by, taken, taken_by, Stepped, barrier, element, give_up, if_open, settled}
+use Rattle.ckpt_chain.proofs.Names.{is_number-Some}
 use Rattle.ckpt_align.specs.declared.event.Answer.TheVariants as answer
 use Rattle.ckpt_align.specs.declared.event.Event.TheVariants as event
-use Rattle.ckpt_align.specs.declared.input.Input.{Input}
-use Rattle.ckpt_align.specs.declared.input.Input.TheVariants.{Open, Held, Ended}
-use Rattle.ckpt_align.specs.Histories.{Item, Element, Barrier, End, Action, Reads, GivesUp, Sends, Ends, after, answer_to, barriers, cut_as, cut_by, has_cut, is_number, is_taken, sent, sent_by, taken, taken_by}
-use Rattle.ckpt_align.specs.Steps.{Stepped, barrier, element, give_up, if_open, settled, step}
-use Rattle.ckpt_align.proofs.Carrying.{is_number-Some}
+use Rattle.ckpt_align.specs.declared.input.Input.TheVariants.{Ended}
+use Rattle.ckpt_align.specs.Steps.{step}
 
 -- ONE STEP
 

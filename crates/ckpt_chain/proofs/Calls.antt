@@ -1,26 +1,9 @@
 -- The calls that reach the coordinator below the names, one list of events behind the other.
-use Rattle.std.proofs.Common.{◌≡◌, List, [], ◌∷◌, ◌++◌, refl, sym, ap, ◌∙◌, subst, append_assoc, append-nil, ⊎_elim}
-use Rattle.std.specs.Prelude.{Some}
-use Rattle.std.proofs.lemmas.Option.{none-some, same_Some}
-use Rattle.ckpt_ids.specs.declared.call.Call.{Call}
-use Rattle.ckpt_ids.specs.declared.reply.Answer.{Answer}
-use Rattle.ckpt_model.specs.State.{State}
-use Rattle.ckpt_model.specs.Steps.{step}
-use Rattle.ckpt_model.specs.Histories.{replay}
-use Rattle.ckpt_model.specs.Laws.{along}
-use Rattle.ckpt_terms.specs.declared.call.FencedCall.{FencedCall}
-use Rattle.ckpt_terms.specs.declared.call.FencedCall.TheVariants.{Reserve, Forfeit, Make, Advance}
-use Rattle.ckpt_terms.specs.declared.machine.Machine.{Machine}
+use Rattle.ckpt_chain.proofs.Names.{◌≡◌, List, [], ◌∷◌, ◌++◌, refl, sym, ap, ◌∙◌, subst, append_assoc, append-nil, ⊎_elim, Some, none-some, same_Some, Call, Answer, State, step, replay}
+use Rattle.ckpt_chain.proofs.Names.{along, FencedCall, Reserve, Forfeit, Make, Advance, Machine, Fenced, FencedStepped, fenced_step, passed, restart, core_in, fenced_step_by, AreEvents}
+use Rattle.ckpt_chain.proofs.Names.{Event, Fence, IsEvent, Named, Plain, calls_in, event_step, events_replay, reached, events-push, reaches, IsWithin, AreTurns, Committed, Crashed, Imaged}
+use Rattle.ckpt_chain.proofs.Names.{Looked, Made, Turn, World, goes_on, happens, NoneGoesBack, NeverGoesBack, answered, call_of, its_answer}
 use Rattle.ckpt_terms.specs.declared.machine.Machine.TheVariants as machine
-use Rattle.ckpt_terms.specs.Fencing.{Fenced, FencedStepped, fenced_step, passed, restart}
-use Rattle.ckpt_terms.specs.Machines.{core_in}
-use Rattle.ckpt_terms.proofs.Stepping.{fenced_step_by}
-use Rattle.ckpt_logged.specs.Events.{AreEvents, Event, Fence, IsEvent, Named, Plain, calls_in, event_step, events_replay, reached}
-use Rattle.ckpt_logged.proofs.Asked.{events-push, reaches}
-use Rattle.ckpt_durable.specs.Crashes.{IsWithin}
-use Rattle.ckpt_durable.specs.Groups.{AreTurns, Committed, Crashed, Imaged, Looked, Made, Turn, World, goes_on, happens}
-use Rattle.ckpt_once.specs.Newest.{NoneGoesBack}
-use Rattle.ckpt_chain.specs.Told.{NeverGoesBack, answered, call_of, its_answer}
 
 -- two lists, one after the other
 

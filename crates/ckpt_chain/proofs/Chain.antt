@@ -1,19 +1,8 @@
 -- The chain.
-use Rattle.std.proofs.Common.{List, ◌∙◌}
-use Rattle.ckpt_terms.specs.declared.machine.Machine.{Machine}
-use Rattle.ckpt_logged.specs.Events.{AreEvents, IsWell}
-use Rattle.ckpt_durable.specs.Groups.{AreTurns, Turn, World, synced, world}
-use Rattle.ckpt_durable.proofs.GroupWorlds.{groups_durable}
-use Rattle.ckpt_durable.proofs.Standing.{Stand}
+use Rattle.ckpt_chain.proofs.Names.{List, ◌∙◌, Machine, AreEvents, IsWell, AreTurns, Turn, World, synced, world, groups_durable, Stand, AttemptTold, attempts, Plan, AreAttempts, Attempt}
+use Rattle.ckpt_chain.proofs.Names.{History, Job, AreLast, Sink, published_once, LedgerPublishesOnce, ToldExactlyOnce, ToldIsSeamless}
+use Rattle.ckpt_chain.proofs.{Seamless.agrees, Seamless.are_attempts, Seamless.seamless, Telling.are_last, Telling.are_restarts, Telling.its_events}
 use Rattle.ckpt_ledger.proofs.Restarting as ledger
-use Rattle.ckpt_ledger.specs.Restarts.{AttemptTold, attempts}
-use Rattle.ckpt_once.specs.Choices.{Plan}
-use Rattle.ckpt_once.specs.Jobs.{AreAttempts, Attempt, History, Job}
-use Rattle.ckpt_once.specs.Sinks.{AreLast, Sink}
-use Rattle.ckpt_once.proofs.Publishing.{published_once}
-use Rattle.ckpt_chain.specs.Told.{LedgerPublishesOnce, ToldExactlyOnce, ToldIsSeamless}
-use Rattle.ckpt_chain.proofs.Seamless.{agrees, are_attempts, seamless}
-use Rattle.ckpt_chain.proofs.Telling.{are_last, are_restarts, its_events}
 
 pub told_is_seamless : (m : Machine) (turns : List Turn) (job : Job) (tried : List Attempt) (h : History) → IsWell m → AreTurns turns → ToldIsSeamless m turns job tried h
 told_is_seamless m turns job tried h i are is never told k =

@@ -1,26 +1,12 @@
 -- Restarts to the coordinator's choice, of tasks in loops.
-use Rattle.std.proofs.Common.{◌≡◌, ℕ, List, [], ◌∷◌, sym, ap, subst}
-use Rattle.std.specs.Prelude.{◌==◌}
-use Rattle.std.proofs.lemmas.Bool.{eqb-true}
-use Rattle.ckpt_ids.specs.Records.{Record}
-use Rattle.ckpt_model.specs.State.{Opening, State, opened}
-use Rattle.ckpt_model.specs.Histories.{replay}
-use Rattle.ckpt_model.specs.Laws.{CanOpen, id_of_choice}
-use Rattle.ckpt_model.proofs.Histories.Choice.{chosen_is_done}
-use Rattle.ckpt_model.proofs.Soundness.Histories.{replay_is_sound}
-use Rattle.ckpt_once.specs.Jobs.{AreAttempts, Attempt, IsJob, Job, States, restored}
-use Rattle.ckpt_once.specs.Restarts.{AreChosen, AreRestarts}
-use Rattle.ckpt_once.specs.Sinks.{Sink}
-use Rattle.ckpt_once.proofs.Chosen.{chosen_are_last}
-use Rattle.ckpt_once.proofs.Newer.{found_in}
-use Rattle.ckpt_once.proofs.Publishing.{published_once}
-use Rattle.ckpt_once.proofs.Restarting.{have_cut}
-use Rattle.ckpt_task.specs.Laws.{WasCompletedBy}
-use Rattle.ckpt_task.specs.Loops.{AcceptsTold, AreLoopsAttempts, IsHistoryOfLoops, LoopsAttempt, attempts_of}
-use Rattle.ckpt_task.specs.SinkLoops.{AreGiven, SinkAttempt, loops_of}
-use Rattle.ckpt_task.proofs.LoopLaws.{loops_make_history}
+use Rattle.ckpt_chain.proofs.Names.{◌≡◌, ℕ, List, [], ◌∷◌, sym, ap, subst, ◌==◌, eqb-true, Record, Opening, State, replay, CanOpen, id_of_choice, chosen_is_done, replay_is_sound}
+use Rattle.ckpt_chain.proofs.Names.{AreAttempts, Attempt, IsJob, Job, States, restored, AreChosen, Sink, chosen_are_last, found_in, published_once, have_cut, WasCompletedBy}
+use Rattle.ckpt_chain.proofs.Names.{AreLoopsAttempts, IsHistoryOfLoops, LoopsAttempt, attempts_of, AreGiven, SinkAttempt, loops_of, loops_make_history, AreChosenLoops, ChosenLoopsAreLast}
+use Rattle.ckpt_chain.proofs.Names.{ChosenSinkGivesOnce, LoopsChosen}
+use Rattle.ckpt_model.specs.State.{opened}
+use Rattle.ckpt_once.specs.Restarts.{AreRestarts}
+use Rattle.ckpt_task.specs.Loops.{AcceptsTold}
 use Rattle.ckpt_task.proofs.SinkGiving as sinks
-use Rattle.ckpt_chain.specs.Chosen.{AreChosenLoops, ChosenLoopsAreLast, ChosenSinkGivesOnce, LoopsChosen}
 
 pub are_chosen : (o : Opening) (job : Job) (ones : List LoopsAttempt) → IsJob job → AreChosenLoops o job ones → AreChosen o job (attempts_of ones)
 are_chosen o job [] is k = tt

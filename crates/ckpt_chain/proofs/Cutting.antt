@@ -1,26 +1,9 @@
 -- A completed record since a sound state: each of its subtasks has cut it.
-use Rattle.std.proofs.Common.{◌≡◌, true, List, [], ◌∷◌, ◌++◌, sym, subst, inl, inr, ⊎_elim}
-use Rattle.ckpt_ids.specs.declared.ack.Acked.{Acked}
-use Rattle.ckpt_ids.specs.declared.subtask.SubtaskId.{SubtaskId}
-use Rattle.ckpt_ids.specs.Acknowledged.{acknowledges_before, put_ack}
-use Rattle.ckpt_ids.specs.Ordered.{IsIn}
-use Rattle.ckpt_ids.specs.Records.{IsFull, Record}
-use Rattle.ckpt_ids.specs.Shapes.{subtasks}
-use Rattle.ckpt_ids.proofs.OrderedLemmas.{IsIn-append_cases, IsIn-append_left, IsIn-append_right, IsIn-from_map, IsIn-put_cases}
-use Rattle.ckpt_align.specs.Laws.{HasCut, Network}
-use Rattle.ckpt_align.proofs.Carrying.{global_cut}
-use Rattle.ckpt_model.specs.State.{State, record_of}
-use Rattle.ckpt_model.specs.Histories.{replay}
-use Rattle.ckpt_model.specs.Laws.{accepted_by, along}
-use Rattle.ckpt_model.specs.Soundness.{IsSound}
-use Rattle.ckpt_terms.specs.declared.machine.Machine.{Machine}
+use Rattle.ckpt_chain.proofs.Names.{◌≡◌, true, List, [], ◌∷◌, ◌++◌, sym, subst, inl, inr, ⊎_elim, Acked, SubtaskId, acknowledges_before, put_ack, IsIn, IsFull, Record, subtasks}
+use Rattle.ckpt_chain.proofs.Names.{IsIn-append_cases, IsIn-append_left, IsIn-append_right, IsIn-from_map, IsIn-put_cases, HasCut, Network, global_cut, State, record_of, replay, accepted_by}
+use Rattle.ckpt_chain.proofs.Names.{along, IsSound, Machine, core_in, AreEvents, Event, IsWell, calls_in, events_replay, acks_in, put_all, reaches, replay_well, acknowledged}
+use Rattle.ckpt_chain.proofs.Names.{AcknowledgesCuts, DoneIsConsistent, acknowledgements_of}
 use Rattle.ckpt_terms.specs.declared.machine.Machine.TheVariants as machine
-use Rattle.ckpt_terms.specs.Machines.{core_in}
-use Rattle.ckpt_logged.specs.Events.{AreEvents, Event, IsWell, calls_in, events_replay}
-use Rattle.ckpt_logged.specs.Promises.{acks_in, put_all}
-use Rattle.ckpt_logged.proofs.Asked.{reaches, replay_well}
-use Rattle.ckpt_logged.proofs.Since.{acknowledged}
-use Rattle.ckpt_chain.specs.Since.{AcknowledgesCuts, DoneIsConsistent, acknowledgements_of}
 
 -- the coordinator below the names
 pub core_sound : (m : Machine) → IsWell m → IsSound (core_in m)

@@ -1,16 +1,10 @@
 -- A durable coordinator with names is one that commits in groups.
-use Rattle.std.proofs.Common.{◌≡◌, List, [], ◌∷◌, ◌++◌, map, take, refl, sym, ap, ◌∙◌}
-use Rattle.std.proofs.lemmas.List.{map-append, take-map}
-use Rattle.ckpt_terms.specs.declared.call.FencedAnswer.{FencedAnswer}
-use Rattle.ckpt_terms.specs.declared.call.FencedCall.{FencedCall}
-use Rattle.ckpt_terms.specs.declared.machine.Machine.{Machine}
+use Rattle.ckpt_chain.proofs.Names.{◌≡◌, List, [], ◌∷◌, ◌++◌, map, take, refl, sym, ap, ◌∙◌, map-append, take-map, FencedAnswer, FencedCall, Machine, Fenced, fenced_replay, fenced_step}
+use Rattle.ckpt_chain.proofs.Names.{Named, event_step, events_replay, AreOf, DurableIsGroup, turn_of}
 use Rattle.ckpt_terms.specs.declared.machine.Machine.TheVariants as machine
-use Rattle.ckpt_terms.specs.Fencing.{Fenced, fenced_replay, fenced_step}
 use Rattle.ckpt_logged.specs.Events as logged
-use Rattle.ckpt_logged.specs.Events.{Named, event_step, events_replay}
 use Rattle.ckpt_durable.specs.Crashes.{AreEvents, Committed, Crashed, Event, Made, World, goes_on, happens, started}
 use Rattle.ckpt_durable.specs.Groups as group
-use Rattle.ckpt_chain.specs.Durably.{AreOf, DurableIsGroup, turn_of}
 
 are_of-append : (rs us : List group.Receipt) (ones more : List (FencedCall × FencedAnswer)) → AreOf rs ones → AreOf us more → AreOf (rs ++ us) (ones ++ more)
 are_of-append [] us [] more h k = k

@@ -1,17 +1,7 @@
 -- Restarts to records whose acknowledgements were asked for in their terms.
-use Rattle.std.proofs.Common.{ℕ, List, [], ◌∷◌}
-use Rattle.ckpt_ids.specs.declared.subtask.SubtaskId.{SubtaskId}
-use Rattle.ckpt_align.specs.Laws.{HasCut, Network}
-use Rattle.ckpt_terms.specs.declared.machine.Machine.{Machine}
-use Rattle.ckpt_logged.specs.Events.{AreEvents, Event, IsWell}
-use Rattle.ckpt_durable.specs.Groups.{AreTurns, Turn, World, synced, world}
-use Rattle.ckpt_once.specs.Jobs.{Attempt, History, Job, network, restored}
-use Rattle.ckpt_chain.specs.Since.{AcknowledgesCuts}
-use Rattle.ckpt_chain.specs.Terms.{AcknowledgesInTerm, AreTermRestarts, TermsAreSeamless}
-use Rattle.ckpt_chain.specs.Told.{AreToldRestarts}
-use Rattle.ckpt_chain.proofs.Chain.{told_is_seamless}
-use Rattle.ckpt_chain.proofs.Telling.{its_events, restored_with}
-use Rattle.ckpt_chain.proofs.Terms.{in_term}
+use Rattle.ckpt_chain.proofs.Names.{ℕ, List, [], ◌∷◌, SubtaskId, HasCut, Network, Machine, AreEvents, Event, IsWell, AreTurns, Turn, World, synced, world, Attempt, History, Job, network}
+use Rattle.ckpt_chain.proofs.Names.{restored, AcknowledgesCuts, AcknowledgesInTerm, AreTermRestarts, TermsAreSeamless, AreToldRestarts}
+use Rattle.ckpt_chain.proofs.{Chain.told_is_seamless, Telling.its_events, Telling.restored_with, Terms.in_term}
 
 pub acknowledges_cuts : (n : ℕ) (m : Machine) (log : List Event) (w : Network) → IsWell m → AreEvents log → AcknowledgesInTerm n m log w → AcknowledgesCuts n m log w
 acknowledges_cuts n m log w i are asked = in_term (λ (s : SubtaskId). HasCut n (w.task s)) n m log i are asked

@@ -9,6 +9,7 @@ pub mod InTerms
 pub mod Like
 pub mod Looped
 pub mod Named
+mod Names
 pub mod ReadingBack
 pub mod SameStates
 pub mod Seamless

@@ -1,30 +1,10 @@
 -- What a receipt says in one state it says in each that differs in the order of the fetched files alone.
-use Rattle.std.proofs.Common.{◌≡◌, ℕ, Bool, not, ◌||◌, List, [], ◌∷◌, ◌++◌, refl, sym, ap, ◌∙◌}
-use Rattle.std.specs.Prelude.{filter, Some}
-use Rattle.ckpt_ids.specs.declared.call.Call.{Call}
-use Rattle.ckpt_ids.specs.declared.call.Call.TheVariants.{Ack}
-use Rattle.ckpt_ids.specs.declared.reply.Answer.{Answer}
-use Rattle.ckpt_ids.specs.Records.{Record, is_present, uses}
-use Rattle.ckpt_ids.proofs.OrderedLemmas.{filter-same}
-use Rattle.ckpt_model.specs.Images.{AreAlike, settled}
-use Rattle.ckpt_model.specs.Laws.{along, registered_as, registered_by}
-use Rattle.ckpt_model.specs.State.{State, is_known, record_of}
-use Rattle.ckpt_model.specs.Steps.{step}
-use Rattle.ckpt_model.proofs.Images.Alike.{go_on_alike}
-use Rattle.ckpt_terms.specs.declared.call.FencedCall.{FencedCall}
-use Rattle.ckpt_terms.specs.declared.call.FencedCall.TheVariants.{Make}
-use Rattle.ckpt_terms.specs.declared.machine.Machine.{Machine}
+use Rattle.ckpt_chain.proofs.Names.{◌≡◌, ℕ, Bool, not, ◌||◌, List, [], ◌∷◌, ◌++◌, refl, sym, ap, ◌∙◌, filter, Some, Call, Ack, Answer, Record, is_present, uses, filter-same, AreAlike, along}
+use Rattle.ckpt_chain.proofs.Names.{registered_as, registered_by, State, is_known, record_of, step, go_on_alike, FencedCall, Make, Machine, Fenced, fenced_step, passed, core_in}
+use Rattle.ckpt_chain.proofs.Names.{AreFencedAlike, settled_outbox, goes_on_alike, Event, Fence, Named, Plain, event_step, reached, Receipt, AreMachinesAlike, alike_named, same_core}
+use Rattle.ckpt_chain.proofs.Names.{step_alike, registered_in, Completes, Restores, answered, its_answer}
+use Rattle.ckpt_model.specs.Images.{settled}
 use Rattle.ckpt_terms.specs.declared.machine.Machine.TheVariants as machine
-use Rattle.ckpt_terms.specs.Fencing.{Fenced, fenced_step, passed}
-use Rattle.ckpt_terms.specs.Machines.{core_in}
-use Rattle.ckpt_terms.specs.TermsImages.{AreFencedAlike}
-use Rattle.ckpt_terms.proofs.KnownFiles.{settled_outbox}
-use Rattle.ckpt_terms.proofs.Resuming.{goes_on_alike}
-use Rattle.ckpt_logged.specs.Events.{Event, Fence, Named, Plain, event_step, reached}
-use Rattle.ckpt_durable.specs.Groups.{Receipt}
-use Rattle.ckpt_durable.proofs.Alike.{AreMachinesAlike, alike_named, same_core, step_alike}
-use Rattle.ckpt_chain.specs.Storages.{registered_in}
-use Rattle.ckpt_chain.specs.Told.{Completes, Restores, answered, its_answer}
 
 layer_answer : (m n : Fenced) (call : FencedCall) → AreFencedAlike m n → (fenced_step m call).1 ≡ (fenced_step n call).1
 layer_answer m n call e = let answers = (goes_on_alike m n (call ∷ []) e).answers in cc answers

@@ -1,23 +1,9 @@
 -- Tasks in loops, and their sinks.
-use Rattle.std.proofs.Common.{ℕ, List, [], ◌∷◌, subst}
-use Rattle.ckpt_terms.specs.declared.machine.Machine.{Machine}
-use Rattle.ckpt_logged.specs.Events.{AreEvents, Event, IsWell}
-use Rattle.ckpt_durable.specs.Groups.{AreTurns, Turn, World, synced, world}
-use Rattle.ckpt_durable.proofs.GroupWorlds.{groups_durable}
-use Rattle.ckpt_durable.proofs.Standing.{Stand}
-use Rattle.ckpt_once.specs.Jobs.{AreAttempts, Attempt, IsJob, Job, States, network, restored}
-use Rattle.ckpt_once.specs.Sinks.{AreLast, Sink}
-use Rattle.ckpt_once.proofs.Publishing.{published_once}
-use Rattle.ckpt_task.proofs.LoopLaws.{loops_make_history}
+use Rattle.ckpt_chain.proofs.Names.{ℕ, List, [], ◌∷◌, subst, Machine, AreEvents, Event, IsWell, AreTurns, Turn, World, synced, world, groups_durable, Stand, AreAttempts, Attempt, IsJob, Job}
+use Rattle.ckpt_chain.proofs.Names.{States, network, restored, AreLast, Sink, published_once, loops_make_history, IsHistoryOfLoops, Loops, LoopsAttempt, attempts_of, history_of, AreGiven}
+use Rattle.ckpt_chain.proofs.Names.{SinkAttempt, loops_of, AcceptsTold, AreToldLoops, ToldLoopsAreSeamless, ToldSinkGivesOnce, AcknowledgesCuts, AreToldRestarts}
+use Rattle.ckpt_chain.proofs.{Chain.told_is_seamless, Seamless.are_attempts, Telling.are_last, Telling.are_restarts, Telling.its_events, Telling.restored_with}
 use Rattle.ckpt_task.proofs.SinkGiving as sinks
-use Rattle.ckpt_task.specs.Loops.{IsHistoryOfLoops, Loops, LoopsAttempt, attempts_of, history_of}
-use Rattle.ckpt_task.specs.SinkLoops.{AreGiven, SinkAttempt, loops_of}
-use Rattle.ckpt_chain.specs.Looped.{AcceptsTold, AreToldLoops, ToldLoopsAreSeamless, ToldSinkGivesOnce}
-use Rattle.ckpt_chain.specs.Since.{AcknowledgesCuts}
-use Rattle.ckpt_chain.specs.Told.{AreToldRestarts}
-use Rattle.ckpt_chain.proofs.Chain.{told_is_seamless}
-use Rattle.ckpt_chain.proofs.Seamless.{are_attempts}
-use Rattle.ckpt_chain.proofs.Telling.{are_last, are_restarts, its_events, restored_with}
 
 told_cuts : (id : ℕ) (m : Machine) (events : List Event) (job : Job) (from : States) (e : Loops) → IsHistoryOfLoops job from e
     → AcceptsTold id m events job e → AcknowledgesCuts id m events (network job from (history_of e))

@@ -1,18 +1,10 @@
 -- Calls with names from an opening on: those that reach the coordinator are a history of it.
-use Rattle.std.proofs.Common.{ℕ, List, [], ◌∷◌, subst}
-use Rattle.ckpt_ids.specs.Ordered.{IsIn}
-use Rattle.ckpt_align.specs.Laws.{Network}
+use Rattle.ckpt_chain.proofs.Names.{ℕ, List, [], ◌∷◌, subst, IsIn, Network, Opening, State, FencedCall, core_calls, fenced, AreFencedCalls, CanFence, Plan, Attempt, History, Job, States}
+use Rattle.ckpt_chain.proofs.Names.{restored, AreNamedRestarts, NamedExactlyOnce, NamedIsConsistent, NamedRestartsInvisible, WasNamedDone}
 use Rattle.ckpt_cuts.proofs.Consistency as cuts
-use Rattle.ckpt_model.specs.State.{Opening, State}
-use Rattle.ckpt_terms.specs.declared.call.FencedCall.{FencedCall}
-use Rattle.ckpt_terms.specs.Fencing.{core_calls, fenced}
-use Rattle.ckpt_terms.specs.FencedLaws.{AreFencedCalls, CanFence}
 use Rattle.ckpt_terms.proofs.OnceIssued.{history}
 use Rattle.ckpt_once.proofs.Restarting as once
-use Rattle.ckpt_once.specs.Choices.{Plan}
-use Rattle.ckpt_once.specs.Jobs.{Attempt, History, Job, States, restored}
 use Rattle.ckpt_once.specs.Restarts.{AreRestarts, WasDone}
-use Rattle.ckpt_chain.specs.Named.{AreNamedRestarts, NamedExactlyOnce, NamedIsConsistent, NamedRestartsInvisible, WasNamedDone}
 
 pub consistent : (o : Opening) (first : ℕ) (calls : List FencedCall) (w : Network) → CanFence o first → AreFencedCalls calls → NamedIsConsistent o first calls w
 consistent o first calls w can are r has =

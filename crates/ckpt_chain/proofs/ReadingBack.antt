@@ -1,38 +1,13 @@
 -- What restarts read from files are the snapshots, so failures are invisible.
-use Rattle.std.proofs.Common.{◌≡◌, ℕ, Bool, true, false, List, [], ◌∷◌, ◌++◌, if◌then◌else◌, refl, sym, ap, ◌∙◌, subst, inl, inr, ⊎_elim}
-use Rattle.std.specs.Prelude.{◌==◌, map, Some}
-use Rattle.std.proofs.lemmas.Bool.{eqb-true}
-use Rattle.std.proofs.lemmas.Option.{same_Some}
-use Rattle.ckpt_ids.specs.declared.ack.Acked.{Acked}
-use Rattle.ckpt_ids.specs.declared.subtask.SubtaskId.{SubtaskId}
-use Rattle.ckpt_ids.specs.Ordered.{IsIn}
-use Rattle.ckpt_ids.specs.Records.{IsFull, Record}
-use Rattle.ckpt_ids.specs.Shapes.{same_subtask}
-use Rattle.ckpt_ids.proofs.OrderLemmas.{same_subtask-Decides}
-use Rattle.ckpt_align.specs.Laws.{HasCut, Task}
-use Rattle.ckpt_model.specs.State.{record_of}
-use Rattle.ckpt_model.specs.Soundness.{IsSound}
-use Rattle.ckpt_model.proofs.Histories.Choice.{chosen_is_done}
-use Rattle.ckpt_model.proofs.Records.Counts.{map_same}
-use Rattle.ckpt_terms.specs.declared.machine.Machine.{Machine}
-use Rattle.ckpt_terms.specs.Machines.{core_in}
-use Rattle.ckpt_terms.specs.TermsImages.{machine_settled}
-use Rattle.ckpt_logged.specs.Events.{AreEvents, Event, IsWell, events_replay}
-use Rattle.ckpt_logged.proofs.Asked.{events-split, replay_well}
-use Rattle.ckpt_durable.specs.Groups.{Receipt, synced}
-use Rattle.ckpt_durable.proofs.Standing.{Stand, stand_at}
-use Rattle.ckpt_once.specs.Jobs.{History, IsJob, Job, States, network, restored, snapshots}
-use Rattle.ckpt_once.proofs.Newer.{found_in}
-use Rattle.ckpt_chain.specs.Since.{AcknowledgesCuts, acknowledgements_of}
-use Rattle.ckpt_chain.specs.Storages.{AreAllowed, AreStored, IsThere, Site, begun, site}
-use Rattle.ckpt_chain.specs.Stored.{AreReadBack, NothingIsLost, Place, SavesSnapshots, StoredAttempt, WasReadBack, attempts_in, files_of, now_at, read_from}
-use Rattle.ckpt_chain.specs.Told.{AreToldRestarts}
-use Rattle.ckpt_chain.proofs.Cutting.{ack_of_record, core_sound}
-use Rattle.ckpt_chain.proofs.Like.{moved, restores_like, same_record}
-use Rattle.ckpt_chain.proofs.SameStates.{AreSame, same_history, same_snapshot, same_task}
-use Rattle.ckpt_chain.proofs.Seamless.{are_attempts, seamless}
+use Rattle.ckpt_chain.proofs.Names.{◌≡◌, ℕ, Bool, true, false, List, [], ◌∷◌, ◌++◌, if◌then◌else◌, refl, sym, ap, ◌∙◌, subst, inl, inr, ⊎_elim, ◌==◌, map, Some, eqb-true, same_Some, Acked}
+use Rattle.ckpt_chain.proofs.Names.{SubtaskId, IsIn, IsFull, Record, same_subtask, same_subtask-Decides, HasCut, Task, record_of, IsSound, chosen_is_done, map_same, Machine, core_in}
+use Rattle.ckpt_chain.proofs.Names.{machine_settled, AreEvents, Event, IsWell, events_replay, events-split, replay_well, Receipt, synced, Stand, stand_at, History, IsJob, Job, States}
+use Rattle.ckpt_chain.proofs.Names.{network, restored, snapshots, found_in, AcknowledgesCuts, acknowledgements_of, AreAllowed, AreStored, IsThere, Site, begun, site, AreReadBack}
+use Rattle.ckpt_chain.proofs.Names.{NothingIsLost, Place, SavesSnapshots, StoredAttempt, WasReadBack, attempts_in, files_of, now_at, read_from, AreToldRestarts}
 use Rattle.ckpt_chain.proofs.Storing.{Lasts, allowed-split, durable_at, ever_stays, events_at, files_stay_at, lasts, through-append}
 use Rattle.ckpt_chain.proofs.Telling.{are_last, are_restarts, restored_to, restored_with, stay_accepted}
+use Rattle.ckpt_chain.proofs.{Cutting.ack_of_record, Cutting.core_sound, Like.moved, Like.restores_like, Like.same_record, SameStates.AreSame, SameStates.same_history}
+use Rattle.ckpt_chain.proofs.{SameStates.same_snapshot, SameStates.same_task, Seamless.are_attempts, Seamless.seamless}
 
 -- a subtask that acknowledged has an acknowledgement with these files
 record Acknowledged (t : SubtaskId) (acks : List Acked) : Type 0 where

@@ -1,12 +1,8 @@
 -- A history of a job depends on the states of its own tasks alone.
-use Rattle.std.proofs.Common.{◌≡◌, ℕ, Bool, List, [], ◌∷◌, ◌++◌, if◌then◌else◌, refl, sym, ap, ◌∙◌}
-use Rattle.ckpt_ids.specs.declared.subtask.SubtaskId.{SubtaskId}
-use Rattle.ckpt_ids.specs.Ordered.{IsIn}
-use Rattle.ckpt_align.specs.Alignment.{opened}
-use Rattle.ckpt_align.specs.Histories.{Item, Element, Barrier, End}
-use Rattle.ckpt_align.specs.Laws.{Channel, Task, sent_on, taken_from}
-use Rattle.ckpt_once.specs.Jobs.{By, GivesInOrder, History, IsHistory, IsJob, IsTurnOf, Job, States, before_cuts, has_stopped, network, of, snapshots}
-use Rattle.ckpt_once.specs.Programs.{Turn, Offered, GivenUp, Drawn, Ended, actions, moves_in, state}
+use Rattle.ckpt_chain.proofs.Names.{◌≡◌, ℕ, Bool, List, [], ◌∷◌, ◌++◌, if◌then◌else◌, refl, sym, ap, ◌∙◌, SubtaskId, IsIn, opened, Item, Element, Barrier, End, Channel, Task, sent_on}
+use Rattle.ckpt_chain.proofs.Names.{taken_from, By, GivesInOrder, History, IsHistory, IsJob, IsTurnOf, Job, States, before_cuts, has_stopped, network, of, snapshots, Offered, GivenUp, Drawn}
+use Rattle.ckpt_chain.proofs.Names.{Ended, actions, moves_in, state}
+use Rattle.ckpt_once.specs.Programs.{Turn}
 
 -- the same state of each task of the job
 abbrev pub AreSame : Job → States → States → Type 0

@@ -1,18 +1,7 @@
 -- Restarts to done records since a sound state.
-use Rattle.std.proofs.Common.{ℕ, List, [], ◌∷◌, sym, subst}
-use Rattle.ckpt_ids.specs.declared.subtask.SubtaskId.{SubtaskId}
-use Rattle.ckpt_ids.specs.Ordered.{IsIn}
-use Rattle.ckpt_align.specs.Laws.{HasCut}
-use Rattle.ckpt_terms.specs.declared.machine.Machine.{Machine}
-use Rattle.ckpt_logged.specs.Events.{IsWell}
-use Rattle.ckpt_once.specs.Choices.{Agree, HasNoChoice, Plan}
-use Rattle.ckpt_once.specs.Jobs.{Attempt, AreAttempts, HaveCut, History, IsHistory, IsJob, IsRun, Job, Run, States, network, restored, run_of, run_of_attempts, starts}
-use Rattle.ckpt_once.specs.Restarts.{IsSeamless}
-use Rattle.ckpt_once.specs.Sinks.{AreLast, Sink, published_before, written}
-use Rattle.ckpt_once.proofs.Choosing.{one_output}
-use Rattle.ckpt_once.proofs.Joining.{failures_invisible, is_restored}
-use Rattle.ckpt_once.proofs.Publishing.{published_is_prefix, published_once}
-use Rattle.ckpt_chain.specs.Since.{AreRestarts, ExactlyOnce, RestartsInvisible, WasDone}
+use Rattle.ckpt_chain.proofs.Names.{ℕ, List, [], ◌∷◌, sym, subst, SubtaskId, IsIn, HasCut, Machine, IsWell, Agree, HasNoChoice, Plan, Attempt, AreAttempts, HaveCut, History, IsHistory}
+use Rattle.ckpt_chain.proofs.Names.{IsJob, IsRun, Job, Run, States, network, restored, run_of, run_of_attempts, starts, IsSeamless, AreLast, Sink, published_before, written, one_output}
+use Rattle.ckpt_chain.proofs.Names.{failures_invisible, is_restored, published_is_prefix, published_once, AreRestarts, ExactlyOnce, RestartsInvisible, WasDone}
 use Rattle.ckpt_chain.proofs.Cutting.{has_cut-from_done}
 
 have_cut : (n : ℕ) (m : Machine) (job : Job) (from : States) (h : History) → IsWell m → WasDone n m job from h → HaveCut n job from h

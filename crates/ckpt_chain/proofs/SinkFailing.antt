@@ -1,31 +1,11 @@
 -- A sink that a fault stopped counts as one without a fault, with what it published.
-use Rattle.std.proofs.Common.{◌≡◌, ℕ, ◌+◌, true, false, List, [], ◌∷◌, ◌++◌, if◌then◌else◌, refl, sym, ap, ◌∙◌, subst, inl, inr}
-use Rattle.std.proofs.lemmas.Bool.{cond_both}
-use Rattle.std.specs.Prelude.{Some}
+use Rattle.ckpt_chain.proofs.Names.{◌≡◌, ℕ, ◌+◌, true, false, List, [], ◌∷◌, ◌++◌, if◌then◌else◌, refl, sym, ap, ◌∙◌, subst, inl, inr, cond_both, Some, SubtaskId, IsIn, same_subtask}
+use Rattle.ckpt_chain.proofs.Names.{same_subtask-Decides, opened, Item, Channel, IsTurnOf, Job, States, Program, Sink, runs_more, Counted, begun_restores, faults_count, finishes, going}
+use Rattle.ckpt_chain.proofs.Names.{skips, at_as, IsPart, taken_in, Came, CountAsLoops, CountsAs, HasFailed, AreRuns, HasLooped, KeepsOrder, Looped, Loops, deeds_of, turns_of, Around}
+use Rattle.ckpt_chain.proofs.Names.{HasRun, IsStopped, WasBegun, around, held_after, sink_waits, under, AreSteps, HasSunkOver, Ran, Sinking, Step, WasTold, around_sink, told_of, SinkAt}
+use Rattle.ckpt_chain.proofs.Names.{HasSunkUntilFault, SinkFaultsCount}
 use Rattle.std.proofs.lemmas.List.{append_assoc}
-use Rattle.ckpt_ids.specs.declared.subtask.SubtaskId.{SubtaskId}
-use Rattle.ckpt_ids.specs.Ordered.{IsIn}
-use Rattle.ckpt_ids.specs.Shapes.{same_subtask}
-use Rattle.ckpt_ids.proofs.OrderLemmas.{same_subtask-Decides}
-use Rattle.ckpt_align.specs.Alignment.{opened}
-use Rattle.ckpt_align.specs.Histories.{Item}
-use Rattle.ckpt_align.specs.Laws.{Channel}
-use Rattle.ckpt_once.specs.Jobs.{IsTurnOf, Job, States}
-use Rattle.ckpt_once.specs.Programs.{Program}
-use Rattle.ckpt_once.specs.Sinks.{Sink}
-use Rattle.ckpt_task.proofs.Doing.{runs_more}
-use Rattle.ckpt_task.proofs.Failing.{Counted, begun_restores, faults_count, finishes, going, skips}
-use Rattle.ckpt_task.proofs.Working.{at_as}
-use Rattle.ckpt_task.specs.Deeds.{IsPart, taken_in}
-use Rattle.ckpt_task.specs.declared.deed.Deed.TheVariants.{Came}
-use Rattle.ckpt_task.specs.Faults.{CountAsLoops, CountsAs, HasFailed}
-use Rattle.ckpt_task.specs.Loops.{AreRuns, HasLooped, KeepsOrder, Looped, Loops, deeds_of, turns_of}
 use Rattle.ckpt_task.specs.Engines.{begun}
-use Rattle.ckpt_task.specs.Runs.{Around, HasRun, IsStopped, WasBegun, around, held_after, sink_waits}
-use Rattle.ckpt_task.specs.Saving.{under}
-use Rattle.ckpt_task.specs.SinkLoops.{AreSteps, HasSunkOver, Ran, Sinking, Step, WasTold, around_sink, told_of}
-use Rattle.ckpt_task.specs.SinkTurns.{SinkAt}
-use Rattle.ckpt_chain.specs.SinkFaults.{HasSunkUntilFault, SinkFaultsCount}
 
 -- its steps as runs
 

@@ -1,32 +1,12 @@
 -- Of each live record each file is there.
-use Rattle.std.proofs.Common.{◌≡◌, ℕ, Bool, true, false, eqb, List, [], ◌∷◌, ◌++◌, if◌then◌else◌, take, refl, sym, ap, ◌∙◌, subst, append_assoc, append-nil, take-append-drop, ◌⊎◌, inl, inr, ⊎_elim}
-use Rattle.std.specs.Prelude.{drop, Option, Some, None}
-use Rattle.std.proofs.lemmas.Bool.{cond_both, eqb-true}
-use Rattle.ckpt_ids.specs.declared.call.Call.{Call}
-use Rattle.ckpt_ids.specs.Ordered.{IsIn}
-use Rattle.ckpt_ids.specs.Records.{Record, is_present, uses}
-use Rattle.ckpt_ids.proofs.OrderedLemmas.{IsIn-append_cases, IsIn-append_left, IsIn-append_right}
-use Rattle.ckpt_model.specs.State.{IsUnused, State}
-use Rattle.ckpt_model.specs.Steps.{step}
-use Rattle.ckpt_model.specs.Histories.{replay}
-use Rattle.ckpt_model.specs.Laws.{AreCalls, along, registered_by}
-use Rattle.ckpt_model.specs.Soundness.{IsSound}
-use Rattle.ckpt_model.proofs.Histories.Balance.{absent-from_unused}
-use Rattle.ckpt_model.proofs.Records.Present.{present-from_IsHeld}
-use Rattle.ckpt_model.proofs.Soundness.Calls.{step_keeps}
-use Rattle.ckpt_terms.specs.declared.machine.Machine.{Machine}
-use Rattle.ckpt_terms.specs.Machines.{core_in}
-use Rattle.ckpt_terms.proofs.Known.{present_after}
-use Rattle.ckpt_logged.specs.Events.{AreEvents, Event, IsWell, calls_in, events_replay}
-use Rattle.ckpt_logged.proofs.Asked.{reaches}
-use Rattle.ckpt_durable.specs.Groups.{AreTurns, Committed, Crashed, Imaged, IsDurable, Looked, Made, Receipt, Turn, World, goes_on, happens, started, synced, world}
-use Rattle.ckpt_durable.proofs.Alike.{AreMachinesAlike, same_records}
-use Rattle.ckpt_durable.proofs.GroupWorlds.{group_reads_are_safe, groups_durable}
-use Rattle.ckpt_chain.specs.Storages.{Act, AreAllowed, AreStored, FilesStay, HasWritten, IsAllowed, IsFreeFor, IsThere, IsWritten, MayBeRemoved, Removed, Site, Storage, Turned, Wrote}
-use Rattle.ckpt_chain.specs.Storages.{acted, begun, goes_through, put, registered_in, site}
-use Rattle.ckpt_chain.proofs.Calls.{along_two, are_made, within_are}
-use Rattle.ckpt_chain.proofs.Cutting.{core_sound}
-use Rattle.ckpt_chain.proofs.Like.{same_registered_in}
+use Rattle.ckpt_chain.proofs.Names.{◌≡◌, ℕ, Bool, true, false, eqb, List, [], ◌∷◌, ◌++◌, if◌then◌else◌, take, refl, sym, ap, ◌∙◌, subst, append_assoc, append-nil, take-append-drop, ◌⊎◌, inl}
+use Rattle.ckpt_chain.proofs.Names.{inr, ⊎_elim, drop, Option, Some, None, cond_both, eqb-true, Call, IsIn, Record, is_present, uses, IsIn-append_cases, IsIn-append_left, IsIn-append_right}
+use Rattle.ckpt_chain.proofs.Names.{IsUnused, State, step, replay, AreCalls, along, registered_by, IsSound, absent-from_unused, present-from_IsHeld, step_keeps, Machine, core_in}
+use Rattle.ckpt_chain.proofs.Names.{present_after, AreEvents, Event, IsWell, calls_in, events_replay, reaches, AreTurns, Committed, Crashed, Imaged, IsDurable, Looked, Made, Receipt, Turn}
+use Rattle.ckpt_chain.proofs.Names.{World, goes_on, happens, started, synced, world, AreMachinesAlike, same_records, group_reads_are_safe, groups_durable, Act, AreAllowed, AreStored}
+use Rattle.ckpt_chain.proofs.Names.{FilesStay, HasWritten, IsAllowed, IsFreeFor, IsThere, IsWritten, MayBeRemoved, Removed, Site, Storage, Turned, Wrote, acted, begun, goes_through, put}
+use Rattle.ckpt_chain.proofs.Names.{registered_in, site}
+use Rattle.ckpt_chain.proofs.{Calls.along_two, Calls.are_made, Calls.within_are, Cutting.core_sound, Like.same_registered_in}
 
 -- A STORAGE
 

@@ -1,49 +1,16 @@
 -- What a program was told stands in the synced log: so a restart is to a done record, and to none older than one that it was told of.
-use Rattle.std.proofs.Common.{◌≡◌, ℕ, ◌≤◌, true, List, [], ◌∷◌, ◌++◌, sym, ap, ◌∙◌, subst, append_assoc, ⊎_elim}
-use Rattle.std.proofs.lemmas.Bool.{eqb-true}
-use Rattle.std.specs.Prelude.{◌==◌, Option, Some, unwrap_or}
-use Rattle.ckpt_ids.specs.declared.ack.Acked.{Acked}
-use Rattle.ckpt_ids.specs.declared.call.Call.{Call}
-use Rattle.ckpt_ids.specs.declared.call.Call.TheVariants.{Restore}
+use Rattle.ckpt_chain.proofs.Names.{◌≡◌, ℕ, ◌≤◌, true, List, [], ◌∷◌, ◌++◌, sym, ap, ◌∙◌, subst, append_assoc, ⊎_elim, eqb-true, ◌==◌, Option, Some, unwrap_or, Acked, Call, Restore, Answer}
+use Rattle.ckpt_chain.proofs.Names.{Done, Choice, IsIn, Record, IsIn-append_cases, IsIn-append_left, IsIn-append_right, SubtaskId, subtasks, HasCut, Network, State, choice_of, record_of}
+use Rattle.ckpt_chain.proofs.Names.{step, replay, is_completing, is_accepted, accepted_by, ack_of, along, id_of_choice, IsSound, chosen_is_done, Machine, core_in, machine_settled, AreEvents}
+use Rattle.ckpt_chain.proofs.Names.{Event, IsWell, calls_in, event_step, events_replay, acks_in, events-split, reaches, replay_well, AreTurns, Receipt, Turn, World, started, synced, world}
+use Rattle.ckpt_chain.proofs.Names.{groups_durable, Stand, stand_at, Attempt, Job, States, network, restored, NoneGoesBack, AreLast, choice_is_no_older, found_in, AcknowledgesCuts}
+use Rattle.ckpt_chain.proofs.Names.{AreRestarts, WasDone, acknowledgements_of, AreToldRestarts, Completes, NeverGoesBack, Restores, WasRestored, WasToldOf}
+use Rattle.ckpt_chain.proofs.Calls.{along_two, answered_call, answered_step, are_made, never-split, within_are}
+use Rattle.ckpt_chain.proofs.{Cutting.core_sound, Cutting.each-from_done, Like.completes_like, Like.moved, Like.restores_like, Like.same_record}
 use Rattle.ckpt_ids.specs.declared.call.Target.TheVariants as target
-use Rattle.ckpt_ids.specs.declared.reply.Answer.{Answer}
-use Rattle.ckpt_ids.specs.declared.reply.Answer.TheVariants.{Done}
-use Rattle.ckpt_ids.specs.declared.reply.Choice.{Choice}
 use Rattle.ckpt_ids.specs.declared.reply.Choice.TheVariants as choice
 use Rattle.ckpt_ids.specs.declared.reply.Reply.TheVariants as reply
-use Rattle.ckpt_ids.specs.Ordered.{IsIn}
-use Rattle.ckpt_ids.specs.Records.{Record}
-use Rattle.ckpt_ids.proofs.OrderedLemmas.{IsIn-append_cases, IsIn-append_left, IsIn-append_right}
-use Rattle.ckpt_ids.specs.declared.subtask.SubtaskId.{SubtaskId}
-use Rattle.ckpt_ids.specs.Shapes.{subtasks}
-use Rattle.ckpt_align.specs.Laws.{HasCut, Network}
-use Rattle.ckpt_model.specs.State.{State, choice_of, record_of}
-use Rattle.ckpt_model.specs.Steps.{step}
-use Rattle.ckpt_model.specs.Histories.{replay}
-use Rattle.ckpt_model.specs.Interleavings.{is_completing}
-use Rattle.ckpt_model.specs.Keeping.{is_accepted}
-use Rattle.ckpt_model.specs.Laws.{accepted_by, ack_of, along, id_of_choice}
-use Rattle.ckpt_model.specs.Soundness.{IsSound}
-use Rattle.ckpt_model.proofs.Histories.Choice.{chosen_is_done}
 use Rattle.ckpt_model.proofs.Keeping.Restored.{restores}
-use Rattle.ckpt_terms.specs.declared.machine.Machine.{Machine}
-use Rattle.ckpt_terms.specs.Machines.{core_in}
-use Rattle.ckpt_terms.specs.TermsImages.{machine_settled}
-use Rattle.ckpt_logged.specs.Events.{AreEvents, Event, IsWell, calls_in, event_step, events_replay}
-use Rattle.ckpt_logged.specs.Promises.{acks_in}
-use Rattle.ckpt_logged.proofs.Asked.{events-split, reaches, replay_well}
-use Rattle.ckpt_durable.specs.Groups.{AreTurns, Receipt, Turn, World, started, synced, world}
-use Rattle.ckpt_durable.proofs.GroupWorlds.{groups_durable}
-use Rattle.ckpt_durable.proofs.Standing.{Stand, stand_at}
-use Rattle.ckpt_once.specs.Jobs.{Attempt, Job, States, network, restored}
-use Rattle.ckpt_once.specs.Newest.{NoneGoesBack}
-use Rattle.ckpt_once.specs.Sinks.{AreLast}
-use Rattle.ckpt_once.proofs.Newer.{choice_is_no_older, found_in}
-use Rattle.ckpt_chain.specs.Since.{AcknowledgesCuts, AreRestarts, WasDone, acknowledgements_of}
-use Rattle.ckpt_chain.specs.Told.{AreToldRestarts, Completes, NeverGoesBack, Restores, WasRestored, WasToldOf}
-use Rattle.ckpt_chain.proofs.Calls.{along_two, answered_call, answered_step, are_made, never-split, within_are}
-use Rattle.ckpt_chain.proofs.Cutting.{core_sound, each-from_done}
-use Rattle.ckpt_chain.proofs.Like.{completes_like, moved, restores_like, same_record}
 
 -- THE LOG
 

@@ -1,15 +1,7 @@
 -- Tasks in loops, in their terms.
-use Rattle.std.proofs.Common.{List, [], ◌∷◌}
-use Rattle.ckpt_terms.specs.declared.machine.Machine.{Machine}
-use Rattle.ckpt_logged.specs.Events.{AreEvents, IsWell}
-use Rattle.ckpt_durable.specs.Groups.{AreTurns, Turn, World, synced, world}
-use Rattle.ckpt_once.specs.Jobs.{Job}
-use Rattle.ckpt_task.specs.Loops.{Loops, LoopsAttempt}
-use Rattle.ckpt_chain.specs.Looped.{AcceptsTold, AreToldLoops}
-use Rattle.ckpt_chain.specs.TermLoops.{AreTermLoops, HasToldOf, TellsInTerm, TermLoopsAreSeamless}
-use Rattle.ckpt_chain.proofs.Looped.{told_loops_are_seamless}
-use Rattle.ckpt_chain.proofs.Telling.{its_events, restored_with}
-use Rattle.ckpt_chain.proofs.Terms.{in_term}
+use Rattle.ckpt_chain.proofs.Names.{List, [], ◌∷◌, Machine, AreEvents, IsWell, AreTurns, Turn, World, synced, world, Job, Loops, LoopsAttempt, AcceptsTold, AreToldLoops, AreTermLoops}
+use Rattle.ckpt_chain.proofs.Names.{HasToldOf, TellsInTerm, TermLoopsAreSeamless}
+use Rattle.ckpt_chain.proofs.{Looped.told_loops_are_seamless, Telling.its_events, Telling.restored_with, Terms.in_term}
 
 are_told : (m : Machine) (w : World) (job : Job) (ones : List LoopsAttempt) → IsWell m → AreEvents (synced w) → AreTermLoops m w job ones → AreToldLoops m w job ones
 are_told m w job [] i are told = tt

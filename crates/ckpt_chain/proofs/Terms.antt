@@ -1,40 +1,12 @@
 -- What is accepted for a record was asked for in the term of its trigger.
-use Rattle.std.proofs.Common.{◌≡◌, ℕ, ◌≤◌, Bool, true, false, ◌&&◌, eqb, List, [], ◌∷◌, ◌++◌, if◌then◌else◌, refl, sym, ap, ◌∙◌, subst, append-nil, arith, inl, inr, ◌⊎◌, ⊎_elim}
-use Rattle.std.proofs.lemmas.Bool.{and_parts, eqb-true}
-use Rattle.std.specs.Prelude.{None}
-use Rattle.ckpt_ids.specs.declared.ack.Acked.{Acked}
-use Rattle.ckpt_ids.specs.declared.call.Call.{Call}
-use Rattle.ckpt_ids.specs.declared.call.Call.TheVariants.{Ack}
-use Rattle.ckpt_ids.specs.declared.subtask.SubtaskId.{SubtaskId}
-use Rattle.ckpt_ids.specs.Ascending.{ascending}
-use Rattle.ckpt_ids.specs.Ordered.{IsIn}
-use Rattle.ckpt_ids.proofs.OrderedLemmas.{IsIn-append_cases}
-use Rattle.ckpt_model.specs.State.{State, record_of}
-use Rattle.ckpt_model.specs.Steps.{step}
-use Rattle.ckpt_model.specs.Histories.{replay}
-use Rattle.ckpt_model.specs.Laws.{AreCalls, Part, accepted_by, ack_of, along, is_ack_taken}
-use Rattle.ckpt_model.specs.Soundness.{IsSound}
-use Rattle.ckpt_model.proofs.Histories.Numbers.{next_rises}
-use Rattle.ckpt_model.proofs.Histories.Pinned.{given_is_next}
-use Rattle.ckpt_model.proofs.Soundness.Calls.{step_keeps}
-use Rattle.ckpt_terms.specs.declared.call.FencedCall.{FencedCall}
-use Rattle.ckpt_terms.specs.declared.call.FencedCall.TheVariants.{Reserve, Forfeit, Make, Advance}
-use Rattle.ckpt_terms.specs.declared.machine.Machine.{Machine}
+use Rattle.ckpt_chain.proofs.Names.{◌≡◌, ℕ, ◌≤◌, Bool, true, false, ◌&&◌, eqb, List, [], ◌∷◌, ◌++◌, if◌then◌else◌, refl, sym, ap, ◌∙◌, subst, append-nil, arith, inl, inr, ◌⊎◌, ⊎_elim}
+use Rattle.ckpt_chain.proofs.Names.{and_parts, eqb-true, None, Acked, Call, Ack, SubtaskId, ascending, IsIn, IsIn-append_cases, State, record_of, step, replay, AreCalls, Part, accepted_by}
+use Rattle.ckpt_chain.proofs.Names.{ack_of, along, is_ack_taken, IsSound, next_rises, given_is_next, step_keeps, FencedCall, Reserve, Forfeit, Make, Advance, Machine, Fenced, FencedStepped}
+use Rattle.ckpt_chain.proofs.Names.{fence, fenced_replay, fenced_step, passed, restart, AreFencedCalls, IsFenced, IsFencedCall, given_in, is_taken_in, core_in, one_term, fenced_on}
+use Rattle.ckpt_chain.proofs.Names.{fenced_step_by, AreEvents, Event, Fence, IsEvent, IsWell, Named, Plain, calls_in, event_step, events_replay, named_as, reached, acks_in, events-split}
+use Rattle.ckpt_chain.proofs.Names.{reaches, replay_well, adds_none, none_yet, first_or, steps_as, acknowledgements_of, IsAskedInTerm}
+use Rattle.ckpt_chain.proofs.{Calls.along-append, Calls.calls-append, Cutting.core_sound}
 use Rattle.ckpt_terms.specs.declared.machine.Machine.TheVariants as machine
-use Rattle.ckpt_terms.specs.Fencing.{Fenced, FencedStepped, fence, fenced_replay, fenced_step, passed, restart}
-use Rattle.ckpt_terms.specs.FencedLaws.{AreFencedCalls, IsFenced, IsFencedCall, given_in, is_taken_in}
-use Rattle.ckpt_terms.specs.Machines.{core_in}
-use Rattle.ckpt_terms.proofs.OneTerm.{one_term}
-use Rattle.ckpt_terms.proofs.Stepping.{fenced_on, fenced_step_by}
-use Rattle.ckpt_logged.specs.Events.{AreEvents, Event, Fence, IsEvent, IsWell, Named, Plain, calls_in, event_step, events_replay, named_as, reached}
-use Rattle.ckpt_logged.specs.Promises.{acks_in}
-use Rattle.ckpt_logged.proofs.Asked.{events-split, reaches, replay_well}
-use Rattle.ckpt_logged.proofs.Since.{adds_none, none_yet}
-use Rattle.ckpt_durable.proofs.GroupWorlds.{first_or, steps_as}
-use Rattle.ckpt_chain.specs.Since.{acknowledgements_of}
-use Rattle.ckpt_chain.specs.Terms.{IsAskedInTerm}
-use Rattle.ckpt_chain.proofs.Calls.{along-append, calls-append}
-use Rattle.ckpt_chain.proofs.Cutting.{core_sound}
 
 -- BEFORE THE TRIGGER
 

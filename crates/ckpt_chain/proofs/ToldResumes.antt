@@ -1,27 +1,11 @@
 -- What was told of a job whose checkpoints may overtake.
-use Rattle.std.proofs.Common.{List, [], ◌∷◌, ◌∙◌, refl, sym, ap, subst, inl, inr}
-use Rattle.ckpt_ids.specs.declared.ack.Acked.{Acked}
-use Rattle.ckpt_ids.specs.Ordered.{IsIn}
-use Rattle.ckpt_ids.specs.declared.subtask.SubtaskId.{SubtaskId}
-use Rattle.ckpt_terms.specs.declared.machine.Machine.{Machine}
-use Rattle.ckpt_logged.specs.Events.{AreEvents, IsWell}
-use Rattle.ckpt_durable.specs.Groups.{AreTurns, Turn, World, synced, world}
-use Rattle.ckpt_durable.proofs.GroupWorlds.{groups_durable}
-use Rattle.ckpt_durable.proofs.Standing.{Stand}
-use Rattle.ckpt_once.specs.Jobs.{Job}
+use Rattle.ckpt_chain.proofs.Names.{List, [], ◌∷◌, ◌∙◌, refl, sym, ap, subst, inl, inr, Acked, IsIn, SubtaskId, Machine, AreEvents, IsWell, AreTurns, Turn, World, synced, world}
+use Rattle.ckpt_chain.proofs.Names.{groups_durable, Stand, Job, HasPart, Doings, NeverGoesBack, AreResumes, resumes_invisible, have_parts, was_recorded, acknowledgements_of, begin}
+use Rattle.ckpt_chain.proofs.Names.{is_synced, now, AcknowledgesParts, AreToldResumes, ToldResumesAreSeamless}
+use Rattle.ckpt_chain.proofs.{Worked.accepted_are, Worked.acked, Worked.was_restored, Telling.each_task, Telling.its_events, Telling.none_later}
 use Rattle.ckpt_once.specs.WorkedExamples as worked
-use Rattle.ckpt_unaligned.specs.Laws.{HasPart}
-use Rattle.ckpt_other_cuts.specs.Restarted.{Doings}
-use Rattle.ckpt_chain.specs.Told.{NeverGoesBack}
-use Rattle.ckpt_other_cuts.specs.Resumed.{AreResumes, Attempt}
+use Rattle.ckpt_other_cuts.specs.Resumed.{Attempt}
 use Rattle.ckpt_other_cuts.specs.WorkedRecorders.{attempt, network}
-use Rattle.ckpt_other_cuts.proofs.Resumed.{resumes_invisible}
-use Rattle.ckpt_other_cuts.proofs.WorkedResuming.{have_parts, was_recorded}
-use Rattle.ckpt_chain.specs.Since.{acknowledgements_of}
-use Rattle.ckpt_chain.specs.WorkedExamples.{begin, is_synced, now}
-use Rattle.ckpt_chain.proofs.Worked.{accepted_are, acked, was_restored}
-use Rattle.ckpt_chain.specs.Unaligned.{AcknowledgesParts, AreToldResumes, ToldResumesAreSeamless}
-use Rattle.ckpt_chain.proofs.Telling.{each_task, its_events, none_later}
 
 are_resumes : (m : Machine) (w : World) (job : Job) (its : List Attempt) → IsWell m → AreEvents (synced w) → NeverGoesBack m (synced w) → Stand m (synced w) w.told → AreToldResumes m w job its → AreResumes job its
 are_resumes m w job [] i are never stand told = tt

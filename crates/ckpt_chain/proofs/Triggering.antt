@@ -1,41 +1,17 @@
 -- A record that a task has cut is one of those that the coordinator gave meanwhile.
-use Rattle.std.proofs.Common.{◌≡◌, ℕ, ◌<◌, ◌≤◌, Bool, true, false, List, [], ◌∷◌, ◌++◌, refl, sym, ap, ◌∙◌, subst, inl, inr, ◌⊎◌, ⊎_elim, cond, arith}
-use Rattle.std.specs.Prelude.{◌&&◌, ◌==◌, Option, Some, None}
-use Rattle.std.proofs.lemmas.Bool.{and_parts, eqb-true}
-use Rattle.ckpt_ids.specs.declared.call.Call.{Call}
-use Rattle.ckpt_ids.specs.declared.reply.Answer.{Answer}
-use Rattle.ckpt_ids.specs.declared.reply.Answer.TheVariants.{Done}
+use Rattle.ckpt_chain.proofs.Names.{◌≡◌, ℕ, ◌<◌, ◌≤◌, Bool, true, false, List, [], ◌∷◌, ◌++◌, refl, sym, ap, ◌∙◌, subst, inl, inr, ◌⊎◌, ⊎_elim, cond, arith, ◌&&◌, ◌==◌, Option, Some, None}
+use Rattle.ckpt_chain.proofs.Names.{and_parts, eqb-true, Call, Answer, Done, SubtaskId, IsIn, same_subtask, same_subtask-Decides, IsIn-append_cases, IsIn-append_left, Alignment, opened}
+use Rattle.ckpt_chain.proofs.Names.{Action, Barrier, Ends, GivesUp, Item, Reads, after, answer_to, is_taken, taken, taken_by, Channel, sent_on, taken_from, State, step, along, given_as}
+use Rattle.ckpt_chain.proofs.Names.{given_by, next_rises, given_is_next, Machine, core_in, AreEvents, calls_in, events_replay, events-split, reaches, replay-append, By, GivesInOrder}
+use Rattle.ckpt_chain.proofs.Names.{History, IsFed, IsHistory, IsJob, Job, States, network, of, Drawn, Emitted, Ended, GivenUp, Offered, Program, acts, actions, aligned, emitted_by, move_in}
+use Rattle.ckpt_chain.proofs.Names.{moves_in, sendings, state, taken-append, taken_sendings, history_of, Saved, state_of, under, At, loops_make_history, loops_restore, AreTriggered}
+use Rattle.ckpt_chain.proofs.Names.{CutsAreGiven, HasNoEarlier, OrdersAreOf, Tried, asked, numbers_in, saved_by}
+use Rattle.ckpt_chain.proofs.{Barriers.came-from_cut, Barriers.came-from_sent, Terms.next_grows}
 use Rattle.ckpt_ids.specs.declared.reply.Reply.TheVariants as reply
 use Rattle.ckpt_ids.specs.declared.reply.TickEnd.TheVariants as end
-use Rattle.ckpt_ids.specs.declared.subtask.SubtaskId.{SubtaskId}
-use Rattle.ckpt_ids.specs.Ordered.{IsIn}
-use Rattle.ckpt_ids.specs.Shapes.{same_subtask}
-use Rattle.ckpt_ids.proofs.OrderLemmas.{same_subtask-Decides}
-use Rattle.ckpt_ids.proofs.OrderedLemmas.{IsIn-append_cases, IsIn-append_left}
-use Rattle.ckpt_align.specs.Alignment.{Alignment, opened}
-use Rattle.ckpt_align.specs.Histories.{Action, Barrier, Ends, GivesUp, Item, Reads, after, answer_to, is_taken, replay, taken, taken_by}
-use Rattle.ckpt_align.specs.Laws.{Channel, sent_on, taken_from}
-use Rattle.ckpt_model.specs.State.{State}
-use Rattle.ckpt_model.specs.Steps.{step}
+use Rattle.ckpt_align.specs.Histories.{replay}
 use Rattle.ckpt_model.specs.Histories as model
-use Rattle.ckpt_model.specs.Laws.{along, given_as, given_by}
-use Rattle.ckpt_model.proofs.Histories.Numbers.{next_rises}
-use Rattle.ckpt_model.proofs.Histories.Pinned.{given_is_next}
-use Rattle.ckpt_terms.specs.declared.machine.Machine.{Machine}
-use Rattle.ckpt_terms.specs.Machines.{core_in}
-use Rattle.ckpt_logged.specs.Events.{AreEvents, calls_in, events_replay}
-use Rattle.ckpt_logged.proofs.Asked.{events-split, reaches, replay-append}
-use Rattle.ckpt_once.specs.Jobs.{By, GivesInOrder, History, IsFed, IsHistory, IsJob, Job, States, network, of}
-use Rattle.ckpt_once.specs.Programs.{Drawn, Emitted, Ended, GivenUp, Offered, Program, Turn, acts, actions, aligned, emitted_by, move_in, moves_in, sendings, state, told}
-use Rattle.ckpt_once.proofs.ActionLemmas.{taken-append}
-use Rattle.ckpt_once.proofs.TurnLemmas.{taken_sendings}
-use Rattle.ckpt_task.specs.Loops.{history_of}
-use Rattle.ckpt_task.specs.Saving.{Saved, state_of, under}
-use Rattle.ckpt_task.specs.Turns.{At}
-use Rattle.ckpt_task.proofs.LoopLaws.{loops_make_history, loops_restore}
-use Rattle.ckpt_chain.specs.Triggered.{AreTriggered, CutsAreGiven, HasNoEarlier, OrdersAreOf, Tried, asked, numbers_in, saved_by}
-use Rattle.ckpt_chain.proofs.Barriers.{came-from_cut, came-from_sent}
-use Rattle.ckpt_chain.proofs.Terms.{next_grows}
+use Rattle.ckpt_once.specs.Programs.{Turn, told}
 
 -- WHAT WAS TAKEN WAS OFFERED
 

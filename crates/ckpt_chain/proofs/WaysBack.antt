@@ -1,28 +1,11 @@
 -- If nobody asks for a way back, no call goes back.
-use Rattle.std.proofs.Common.{◌≡◌, true, false, List, [], ◌∷◌, ◌++◌, refl, ap, ◌∙◌, subst, append-nil, inl, inr, ⊎_elim}
-use Rattle.ckpt_ids.specs.declared.call.Call.{Call}
-use Rattle.ckpt_ids.specs.declared.call.Call.TheVariants.{Cancel, Restore}
-use Rattle.ckpt_ids.specs.declared.call.Target.TheVariants as target
-use Rattle.ckpt_ids.specs.Ordered.{IsIn}
-use Rattle.ckpt_ids.proofs.OrderedLemmas.{IsIn-append_left}
-use Rattle.ckpt_model.specs.State.{State}
-use Rattle.ckpt_model.specs.Histories.{replay}
-use Rattle.ckpt_model.specs.Steps.{step}
-use Rattle.ckpt_terms.specs.declared.call.FencedCall.{FencedCall}
-use Rattle.ckpt_terms.specs.declared.call.FencedCall.TheVariants.{Reserve, Forfeit, Make, Advance}
-use Rattle.ckpt_terms.specs.declared.machine.Machine.{Machine}
-use Rattle.ckpt_terms.specs.declared.machine.Machine.TheVariants as machine
-use Rattle.ckpt_terms.specs.Fencing.{Fenced, FencedStepped, fenced_step, passed}
-use Rattle.ckpt_terms.specs.Machines.{core_in}
-use Rattle.ckpt_terms.proofs.Stepping.{fenced_step_by}
-use Rattle.ckpt_logged.specs.Events.{AreEvents, Event, Fence, Named, Plain, calls_in, event_step, reached}
-use Rattle.ckpt_logged.proofs.Asked.{reaches}
-use Rattle.ckpt_durable.specs.Crashes.{IsWithin}
-use Rattle.ckpt_durable.specs.Groups.{AreTurns, Turn, World, synced, world}
-use Rattle.ckpt_durable.proofs.GroupWorlds.{groups_durable}
-use Rattle.ckpt_once.specs.Newest.{NoneGoesBack, goes_back}
-use Rattle.ckpt_chain.specs.Told.{NeverGoesBack, NobodyGoesBack, asks_way_back, call_of, is_way_back}
+use Rattle.ckpt_chain.proofs.Names.{◌≡◌, true, false, List, [], ◌∷◌, ◌++◌, refl, ap, ◌∙◌, subst, append-nil, inl, inr, ⊎_elim, Call, Cancel, Restore, IsIn, IsIn-append_left, State, replay}
+use Rattle.ckpt_chain.proofs.Names.{step, FencedCall, Reserve, Forfeit, Make, Advance, Machine, Fenced, FencedStepped, fenced_step, passed, core_in, fenced_step_by, AreEvents, Event, Fence}
+use Rattle.ckpt_chain.proofs.Names.{Named, Plain, calls_in, event_step, reached, reaches, IsWithin, AreTurns, Turn, World, synced, world, groups_durable, NoneGoesBack, goes_back}
+use Rattle.ckpt_chain.proofs.Names.{NeverGoesBack, NobodyGoesBack, asks_way_back, call_of, is_way_back}
 use Rattle.ckpt_chain.proofs.Telling.{its_events}
+use Rattle.ckpt_ids.specs.declared.call.Target.TheVariants as target
+use Rattle.ckpt_terms.specs.declared.machine.Machine.TheVariants as machine
 
 not_both : true ≡ false → ⊥
 not_both e = cc

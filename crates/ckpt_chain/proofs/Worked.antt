@@ -1,41 +1,16 @@
 -- The worked example meets the premises of the laws.
-use Rattle.std.proofs.Common.{◌≡◌, ℕ, Bool, false, true, List, [], ◌∷◌, refl, sym, ap, ◌∙◌, subst, inl, inr}
-use Rattle.std.specs.Prelude.{Option, Some, None}
-use Rattle.ckpt_ids.specs.declared.ack.Acked.{Acked}
-use Rattle.ckpt_ids.specs.declared.call.Call.TheVariants.{Ack, Tick}
-use Rattle.ckpt_ids.specs.declared.subtask.SubtaskId.{SubtaskId}
+use Rattle.ckpt_chain.proofs.Names.{◌≡◌, ℕ, Bool, false, true, List, [], ◌∷◌, refl, sym, ap, ◌∙◌, subst, inl, inr, Option, Some, None, Acked, Ack, Tick, SubtaskId, IsIn, Record, subtasks}
+use Rattle.ckpt_chain.proofs.Names.{is_checkpoint, record_of, Part, ack_of, step_computes, opening_is_sound, FencedCall, Make, fenced, fenced_step, core_in, Event, Fence, IsWell, named_as}
+use Rattle.ckpt_chain.proofs.Names.{Channel, barrier, settled, AreTold, attempts, AreTurns, Receipt, World, synced, groups_durable, HasNoChoice, IsPlanned, Draws, Takes, AreLast, adder}
+use Rattle.ckpt_chain.proofs.Names.{is_job, job, plan, source, Acknowledges, told_in, failed, opening, AcceptsTold, AreToldLoops, AreRestarts, acknowledgements_of, AreToldRestarts}
+use Rattle.ckpt_chain.proofs.Names.{Completes, NeverGoesBack, Restores, WasRestored, WasToldOf, asks_way_back, call_of, AreTermLoops, HasToldOf, TellsInTerm, adder_acks, begin, calls_late}
+use Rattle.ckpt_chain.proofs.Names.{is_synced, is_told, log, now, reserves, restores, sink, source_acks, ticks, told, turns}
 use Rattle.ckpt_ids.specs.declared.reply.Choice.TheVariants as choice
-use Rattle.ckpt_ids.specs.Ordered.{IsIn}
-use Rattle.ckpt_ids.specs.Records.{Record}
-use Rattle.ckpt_ids.specs.Shapes.{subtasks}
-use Rattle.ckpt_model.specs.State.{is_checkpoint, record_of}
-use Rattle.ckpt_model.specs.Laws.{Part, ack_of}
-use Rattle.ckpt_model.specs.Steps.{step_computes}
-use Rattle.ckpt_model.proofs.Soundness.Histories.{opening_is_sound}
-use Rattle.ckpt_terms.specs.declared.call.FencedCall.{FencedCall}
-use Rattle.ckpt_terms.specs.declared.call.FencedCall.TheVariants.{Make}
-use Rattle.ckpt_terms.specs.Fencing.{fenced, fenced_step}
-use Rattle.ckpt_terms.specs.Machines.{core_in}
-use Rattle.ckpt_logged.specs.Events.{Event, Fence, IsWell, named_as}
-use Rattle.ckpt_align.specs.Laws.{Channel}
-use Rattle.ckpt_align.specs.Steps.{barrier, settled, step}
-use Rattle.ckpt_ledger.specs.Restarts.{AreTold, attempts}
-use Rattle.ckpt_durable.specs.Groups.{AreTurns, Receipt, World, synced}
-use Rattle.ckpt_durable.proofs.GroupWorlds.{groups_durable}
-use Rattle.ckpt_once.specs.Choices.{HasNoChoice, IsPlanned}
-use Rattle.ckpt_once.specs.Programs.{Draws, Takes}
-use Rattle.ckpt_once.specs.Sinks.{AreLast}
-use Rattle.ckpt_once.specs.WorkedExamples.{adder, is_job, job, plan, source}
-use Rattle.ckpt_task.specs.Deeds.{Acknowledges, told_in}
-use Rattle.ckpt_task.specs.WorkedLoops.{failed, opening}
+use Rattle.ckpt_align.specs.Steps.{step}
 use Rattle.ckpt_task.proofs.WorkedLooping as loops
-use Rattle.ckpt_chain.specs.Looped.{AcceptsTold, AreToldLoops}
-use Rattle.ckpt_chain.specs.Since.{AreRestarts, acknowledgements_of}
 use Rattle.ckpt_chain.proofs.Looped as looped
 use Rattle.ckpt_chain.proofs.Telling as telling
-use Rattle.ckpt_chain.specs.Told.{AreToldRestarts, Completes, NeverGoesBack, Restores, WasRestored, WasToldOf, asks_way_back, call_of}
-use Rattle.ckpt_chain.specs.TermLoops.{AreTermLoops, HasToldOf, TellsInTerm}
-use Rattle.ckpt_chain.specs.WorkedExamples.{adder_acks, at, attempt, begin, calls_late, is_synced, is_told, log, now, reserves, restores, sink, source_acks, ticks, told, turns}
+use Rattle.ckpt_chain.specs.WorkedExamples.{at, attempt}
 
 pub is_well : IsWell begin
 is_well = opening_is_sound opening loops.can_open

@@ -1,38 +1,16 @@
 -- The worked loops, turn by turn, meet the premises of laws of cuts and of engines.
-use Rattle.std.proofs.Common.{◌≡◌, List, [], ◌∷◌, refl, sym, subst, arith, inl, inr}
-use Rattle.ckpt_ids.specs.declared.ack.Acked.{Acked}
-use Rattle.ckpt_ids.specs.declared.call.Call.{Call}
-use Rattle.ckpt_ids.specs.declared.call.Call.TheVariants.{Ack, Tick}
-use Rattle.ckpt_ids.specs.declared.subtask.SubtaskId.{SubtaskId}
-use Rattle.ckpt_ids.specs.Ordered.{IsIn}
-use Rattle.ckpt_ids.specs.Shapes.{subtasks}
-use Rattle.ckpt_align.specs.Alignment.{opened}
-use Rattle.ckpt_align.specs.Histories.{Barrier, Element}
-use Rattle.ckpt_align.specs.Laws.{Channel, HasCut, IsConnected, IsInOrder}
-use Rattle.ckpt_align.specs.Steps.{barrier, settled, step}
-use Rattle.ckpt_cuts.specs.Laws.{AcknowledgesCuts, AreChannelsOf}
-use Rattle.ckpt_model.specs.State as model
-use Rattle.ckpt_model.specs.Steps.{step_computes}
-use Rattle.ckpt_model.specs.Histories.{replay}
-use Rattle.ckpt_model.specs.Laws.{accepted_by, along}
-use Rattle.ckpt_once.specs.Jobs.{History, network, of, restored, starts}
-use Rattle.ckpt_once.specs.Programs.{Drawn, Offered}
-use Rattle.ckpt_once.specs.WorkedExamples.{adder, is_job, job, line, source}
-use Rattle.ckpt_task.specs.declared.turn.Outcome.TheVariants as outcome
-use Rattle.ckpt_task.specs.Engines.{IsAtFront, IsWorking, Snapped, engine, snapped}
-use Rattle.ckpt_task.specs.Laws.{AcknowledgesSnapped, AreEngines}
-use Rattle.ckpt_task.specs.Loops.{IsHistoryOfLoops, attempts_of, history_of}
-use Rattle.ckpt_task.specs.Restores.{AreSaved, IsRestored}
-use Rattle.ckpt_task.specs.WorkedLoops.{again, at, attempt, calls, cut_at, failed, opening}
-use Rattle.ckpt_task.proofs.LoopLaws.{loops_make_history}
-use Rattle.ckpt_task.proofs.Looping.{by}
-use Rattle.ckpt_terms.specs.declared.call.FencedCall.{FencedCall}
-use Rattle.ckpt_terms.specs.declared.call.FencedCall.TheVariants.{Make}
-use Rattle.ckpt_terms.specs.Fencing.{core_calls, fenced, fenced_replay, fenced_step}
-use Rattle.ckpt_task.proofs.WorkedLooping as loops
-use Rattle.ckpt_chain.specs.Named.{AreNamedRestarts}
-use Rattle.ckpt_chain.specs.WorkedEngine.{acked, completed, history}
+use Rattle.ckpt_chain.proofs.Names.{◌≡◌, List, [], ◌∷◌, refl, sym, subst, arith, inl, inr, Acked, Call, Ack, Tick, SubtaskId, IsIn, subtasks, opened, Barrier, Element, Channel, HasCut}
+use Rattle.ckpt_chain.proofs.Names.{IsConnected, IsInOrder, barrier, settled, AreChannelsOf, step_computes, replay, accepted_by, along, History, network, of, restored, starts, Drawn}
+use Rattle.ckpt_chain.proofs.Names.{Offered, adder, is_job, job, line, source, IsAtFront, IsWorking, Snapped, engine, snapped, AcknowledgesSnapped, AreEngines, IsHistoryOfLoops, attempts_of}
+use Rattle.ckpt_chain.proofs.Names.{history_of, AreSaved, IsRestored, again, at, calls, cut_at, failed, opening, loops_make_history, by, FencedCall, Make, core_calls, fenced, fenced_replay}
+use Rattle.ckpt_chain.proofs.Names.{fenced_step, AreNamedRestarts, acked, completed, history}
 use Rattle.ckpt_chain.proofs.WorkedProgressing.{are_two}
+use Rattle.ckpt_align.specs.Steps.{step}
+use Rattle.ckpt_cuts.specs.Laws.{AcknowledgesCuts}
+use Rattle.ckpt_model.specs.State as model
+use Rattle.ckpt_task.specs.declared.turn.Outcome.TheVariants as outcome
+use Rattle.ckpt_task.specs.WorkedLoops.{attempt}
+use Rattle.ckpt_task.proofs.WorkedLooping as loops
 
 -- TURNS
 

@@ -1,26 +1,9 @@
 -- The worked examples meet the premises of progress, and of the law of advances.
-use Rattle.std.proofs.Common.{◌≡◌, ℕ, false, true, [], ◌∷◌, refl, sym, ap, subst, arith, inl, inr}
-use Rattle.std.proofs.lemmas.Grind.{common_steps}
-use Rattle.std.specs.Prelude.{Some}
-use Rattle.ckpt_ids.specs.declared.call.Call.TheVariants.{Tick}
-use Rattle.ckpt_ids.specs.declared.subtask.SubtaskId.{SubtaskId}
-use Rattle.ckpt_ids.specs.Ordered.{IsIn}
-use Rattle.ckpt_model.specs.State.{is_known}
-use Rattle.ckpt_model.specs.Steps.{step_computes}
-use Rattle.ckpt_model.specs.Refusals.{pending_of}
-use Rattle.ckpt_model.specs.Laws.{ShareNone}
-use Rattle.ckpt_model.specs.Progress.{AreAllMissing, HasFiles, IsLacking, IsWithin, TimedPart}
-use Rattle.ckpt_model.specs.Soundness.{IsSound}
-use Rattle.ckpt_model.proofs.Soundness.Histories.{replay_is_sound}
-use Rattle.ckpt_once.specs.WorkedExamples.{adder, source}
-use Rattle.ckpt_task.specs.WorkedLoops.{opening}
+use Rattle.ckpt_chain.proofs.Names.{◌≡◌, ℕ, false, true, [], ◌∷◌, refl, sym, ap, subst, arith, inl, inr, common_steps, Some, Tick, SubtaskId, IsIn, is_known, step_computes, pending_of}
+use Rattle.ckpt_chain.proofs.Names.{ShareNone, AreAllMissing, HasFiles, IsLacking, TimedPart, IsSound, replay_is_sound, adder, source, opening, Make, Reserve, fenced, fenced_step, has_ended}
+use Rattle.ckpt_chain.proofs.Names.{CanFence, IsFenced, HasNames, opening_fenced, replay_fenced, advance, holds, lacking, of_adder, of_source, parts, waits}
+use Rattle.ckpt_model.specs.Progress.{IsWithin}
 use Rattle.ckpt_task.proofs.WorkedLooping as loops
-use Rattle.ckpt_terms.specs.declared.call.FencedCall.TheVariants.{Make, Reserve}
-use Rattle.ckpt_terms.specs.Fencing.{fenced, fenced_step, has_ended}
-use Rattle.ckpt_terms.specs.FencedLaws.{CanFence, IsFenced}
-use Rattle.ckpt_terms.specs.NamedProgress.{HasNames}
-use Rattle.ckpt_terms.proofs.Fences.{opening_fenced, replay_fenced}
-use Rattle.ckpt_chain.specs.WorkedProgress.{advance, holds, lacking, of_adder, of_source, parts, waits}
 
 -- without names
 

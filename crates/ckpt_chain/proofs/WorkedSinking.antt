@@ -1,48 +1,23 @@
 -- The worked example of a sink in a loop meets the premises of the laws.
-use Rattle.std.proofs.Common.{◌≡◌, ℕ, ◌+◌, false, List, [], ◌∷◌, ◌++◌, if◌then◌else◌, refl, sym, ap, ◌∙◌, subst, inl, inr}
-use Rattle.std.specs.Prelude.{◌==◌, Some}
+use Rattle.ckpt_chain.proofs.Names.{◌≡◌, ℕ, ◌+◌, false, List, [], ◌∷◌, ◌++◌, if◌then◌else◌, refl, sym, ap, ◌∙◌, subst, inl, inr, ◌==◌, Some, Acked, Ack, Tick, SubtaskId, IsIn, Record}
+use Rattle.ckpt_chain.proofs.Names.{subtasks, Barrier, Element, barrier, settled, record_of, step_computes, replay, accepted_by, along, synced, IsTurnOf, starts, Offered, WasCompleted}
+use Rattle.ckpt_chain.proofs.Names.{adder, job, source, Deed, Acknowledged, SentBarrier, Acknowledges, came_in, taken_in, told_in, AreLooping, HasLooped, KeepsOrder, turns_of, AreFailing}
+use Rattle.ckpt_chain.proofs.Names.{HasFailed, HasLoopedOrFailed, Around, HasRun, HasStopped, HasTurned, Waits, around, held_after, sink_waits, HasSunkOver, HaveGiven, SinkRuns, around_sink}
+use Rattle.ckpt_chain.proofs.Names.{loops_of, at, calls, failed, opening, with_100, not_run_as, run_as, takes_last, AreChosenLoops, AcceptsTold, AreToldLoops, acknowledgements_of}
+use Rattle.ckpt_chain.proofs.Names.{HasSunkUntilFault, is_synced, now, sink, attempt, cutting, did, ending, failing, starting}
+use Rattle.ckpt_chain.proofs.Worked.{acked, checkpoint_in, subtasks_in}
 use Rattle.std.proofs.lemmas.List.{append-nil}
-use Rattle.ckpt_ids.specs.declared.ack.Acked.{Acked}
-use Rattle.ckpt_ids.specs.declared.call.Call.TheVariants.{Ack, Tick}
-use Rattle.ckpt_ids.specs.declared.subtask.SubtaskId.{SubtaskId}
-use Rattle.ckpt_ids.specs.Ordered.{IsIn}
-use Rattle.ckpt_ids.specs.Records.{Record}
-use Rattle.ckpt_ids.specs.Shapes.{subtasks}
-use Rattle.ckpt_align.specs.Histories.{Barrier, Element}
-use Rattle.ckpt_align.specs.Steps.{barrier, settled, step}
+use Rattle.ckpt_align.specs.Steps.{step}
 use Rattle.ckpt_model.specs.State as model
-use Rattle.ckpt_model.specs.State.{record_of}
-use Rattle.ckpt_model.specs.Steps.{step_computes}
-use Rattle.ckpt_model.specs.Histories.{replay}
-use Rattle.ckpt_model.specs.Laws.{accepted_by, along}
-use Rattle.ckpt_durable.specs.Groups.{synced}
-use Rattle.ckpt_once.specs.Jobs.{IsTurnOf, starts}
-use Rattle.ckpt_once.specs.Programs.{Offered, Turn}
-use Rattle.ckpt_once.specs.Restarts.{WasCompleted}
-use Rattle.ckpt_once.specs.WorkedExamples.{adder, job, source}
-use Rattle.ckpt_task.specs.declared.deed.Deed.{Deed}
-use Rattle.ckpt_task.specs.declared.deed.Deed.TheVariants.{Acknowledged, SentBarrier}
+use Rattle.ckpt_once.specs.Programs.{Turn}
 use Rattle.ckpt_task.specs.declared.turn.Next.TheVariants as next
-use Rattle.ckpt_task.specs.Deeds.{Acknowledges, came_in, taken_in, told_in}
 use Rattle.ckpt_task.specs.Engines.{begun}
 use Rattle.ckpt_task.specs.Loops as loop
-use Rattle.ckpt_task.specs.Loops.{AreLooping, HasLooped, KeepsOrder, turns_of}
-use Rattle.ckpt_task.specs.Faults.{AreFailing, HasFailed, HasLoopedOrFailed}
-use Rattle.ckpt_task.specs.Runs.{Around, HasRun, HasStopped, HasTurned, Waits, around, held_after, sink_waits}
-use Rattle.ckpt_task.specs.SinkLoops.{HasSunkOver, HaveGiven, SinkRuns, around_sink, loops_of}
-use Rattle.ckpt_task.specs.WorkedLoops.{at, begin, calls, failed, opening, with_100}
-use Rattle.ckpt_task.proofs.Doing.{not_run_as, run_as, takes_last}
+use Rattle.ckpt_task.specs.WorkedLoops.{begin}
 use Rattle.ckpt_task.proofs.WorkedLooping as loops
-use Rattle.ckpt_chain.specs.Chosen.{AreChosenLoops}
-use Rattle.ckpt_chain.specs.Looped.{AcceptsTold, AreToldLoops}
-use Rattle.ckpt_chain.specs.Since.{acknowledgements_of}
-use Rattle.ckpt_chain.specs.SinkFaults.{HasSunkUntilFault}
 use Rattle.ckpt_chain.specs.WorkedExamples as chain
-use Rattle.ckpt_chain.specs.WorkedExamples.{is_synced, now, sink}
-use Rattle.ckpt_chain.specs.WorkedSink.{attempt, cutting, did, ending, failing, starting}
 use Rattle.ckpt_chain.specs.WorkedSink as worked
 use Rattle.ckpt_chain.proofs.Worked as shown
-use Rattle.ckpt_chain.proofs.Worked.{acked, checkpoint_in, subtasks_in}
 
 -- its run
 

@@ -1,34 +1,15 @@
 -- The worked example with files meets the premises of `nothing_is_lost`.
-use Rattle.std.proofs.Common.{◌≡◌, ℕ, List, [], ◌∷◌, refl, sym, ap, ◌∙◌, subst, inl, inr}
-use Rattle.std.specs.Prelude.{map, Some, None}
-use Rattle.ckpt_ids.specs.declared.ack.Acked.{Acked}
+use Rattle.ckpt_chain.proofs.Names.{◌≡◌, ℕ, List, [], ◌∷◌, refl, sym, ap, ◌∙◌, subst, inl, inr, map, Some, None, Acked, IsIn, Record, subtasks, HasCut, barrier, settled, record_of}
+use Rattle.ckpt_chain.proofs.Names.{step_computes, Machine, Fenced, fenced, fenced_step, core_in, synced, IsHistory, network, restored, snapshots, starts, adder, is_job, job, source}
+use Rattle.ckpt_chain.proofs.Names.{IsHistoryOfLoops, history_of, again, failed, opening, loops_make_history, acknowledgements_of, AreAllowed, AreStored, IsWritten, MayBeRemoved, Storage}
+use Rattle.ckpt_chain.proofs.Names.{begun, put, AreReadBack, SavesSnapshots, attempts_in, now_at, read_from, Completes, NeverGoesBack, Restores, begin, restores, adder_saves, before, found}
+use Rattle.ckpt_chain.proofs.Names.{is_found, nothing, place, reads}
+use Rattle.ckpt_chain.proofs.{Worked.checkpoint_in, Worked.restored_to_one, Worked.subtasks_in, SameStates.AreSame, SameStates.same_history}
 use Rattle.ckpt_ids.specs.declared.reply.Choice.TheVariants as choice
-use Rattle.ckpt_ids.specs.Ordered.{IsIn}
-use Rattle.ckpt_ids.specs.Records.{Record}
-use Rattle.ckpt_ids.specs.Shapes.{subtasks}
-use Rattle.ckpt_align.specs.Laws.{HasCut}
-use Rattle.ckpt_align.specs.Steps.{barrier, settled, step}
-use Rattle.ckpt_model.specs.State.{record_of}
-use Rattle.ckpt_model.specs.Steps.{step_computes}
-use Rattle.ckpt_terms.specs.declared.machine.Machine.{Machine}
+use Rattle.ckpt_align.specs.Steps.{step}
 use Rattle.ckpt_terms.specs.declared.machine.Machine.TheVariants as machine
-use Rattle.ckpt_terms.specs.Fencing.{Fenced, fenced, fenced_step}
-use Rattle.ckpt_terms.specs.Machines.{core_in}
-use Rattle.ckpt_durable.specs.Groups.{synced}
-use Rattle.ckpt_once.specs.Jobs.{IsHistory, network, restored, snapshots, starts}
-use Rattle.ckpt_once.specs.WorkedExamples.{adder, is_job, job, source}
-use Rattle.ckpt_task.specs.Loops.{IsHistoryOfLoops, history_of}
-use Rattle.ckpt_task.specs.WorkedLoops.{again, failed, opening}
-use Rattle.ckpt_task.proofs.LoopLaws.{loops_make_history}
 use Rattle.ckpt_task.proofs.WorkedLooping as loops
-use Rattle.ckpt_chain.specs.Since.{acknowledgements_of}
-use Rattle.ckpt_chain.specs.Storages.{AreAllowed, AreStored, IsWritten, MayBeRemoved, Storage, begun, put}
-use Rattle.ckpt_chain.specs.Stored.{AreReadBack, SavesSnapshots, attempts_in, now_at, read_from}
-use Rattle.ckpt_chain.specs.Told.{Completes, NeverGoesBack, Restores}
-use Rattle.ckpt_chain.specs.WorkedExamples.{begin, restores}
-use Rattle.ckpt_chain.specs.WorkedStorage.{acked, adder_saves, after, at, attempt, before, found, is_found, is_synced, is_told, log, nothing, place, reads}
-use Rattle.ckpt_chain.proofs.Worked.{checkpoint_in, restored_to_one, subtasks_in}
-use Rattle.ckpt_chain.proofs.SameStates.{AreSame, same_history}
+use Rattle.ckpt_chain.specs.WorkedStorage.{acked, after, at, attempt, is_synced, is_told, log}
 
 pub are_stored : AreStored begin nothing
 are_stored f used = absurd cc

@@ -1,21 +1,8 @@
 -- The worked loops meet the premises of `has_no_earlier`.
-use Rattle.std.proofs.Common.{◌≡◌, ℕ, List, [], ◌∷◌, sym, subst, inl, inr, refl, ◌⊎◌}
-use Rattle.std.specs.Prelude.{None}
-use Rattle.ckpt_ids.specs.declared.subtask.SubtaskId.{SubtaskId}
-use Rattle.ckpt_ids.specs.Ordered.{IsIn}
-use Rattle.ckpt_align.specs.Histories.{Barrier, Element}
-use Rattle.ckpt_logged.specs.Events.{AreEvents, events_replay}
-use Rattle.ckpt_once.specs.Jobs.{By, IsFed}
-use Rattle.ckpt_once.specs.Programs.{Drawn, Offered, Turn}
-use Rattle.ckpt_once.specs.WorkedExamples.{adder, job, line, source}
-use Rattle.ckpt_task.specs.Loops.{history_of}
-use Rattle.ckpt_task.specs.Saving.{under}
-use Rattle.ckpt_task.specs.WorkedLoops.{again, failed}
-use Rattle.ckpt_task.proofs.Looping.{by}
+use Rattle.ckpt_chain.proofs.Names.{◌≡◌, ℕ, List, [], ◌∷◌, sym, subst, inl, inr, refl, ◌⊎◌, None, SubtaskId, IsIn, Barrier, Element, AreEvents, events_replay, By, IsFed, Drawn, Offered}
+use Rattle.ckpt_chain.proofs.Names.{adder, job, line, source, history_of, under, again, failed, by, AreTriggered, OrdersAreOf, asked, numbers_in, begin, first, numbers, second}
+use Rattle.ckpt_once.specs.Programs.{Turn}
 use Rattle.ckpt_task.proofs.WorkedLooping as loops
-use Rattle.ckpt_chain.specs.Triggered.{AreTriggered, OrdersAreOf, asked, numbers_in}
-use Rattle.ckpt_chain.specs.WorkedExamples.{begin}
-use Rattle.ckpt_chain.specs.WorkedTriggers.{first, numbers, second}
 
 -- an order of these, if it is one
 abbrev IsOrder : List ℕ → By Turn → Type 0

@@ -1,25 +1,10 @@
 -- Coordinators that differ in the order of the fetched files alone: they stay so, and what is said of one holds of the other.
-use Rattle.std.proofs.Common.{◌≡◌, ℕ, Bool, not, ◌&&◌, ◌||◌, eqb, ltb, [], ◌∷◌, refl, sym, ap, ◌∙◌}
-use Rattle.std.specs.Prelude.{Option, Some, None, cond}
-use Rattle.ckpt_ids.specs.Records.{is_present, uses}
-use Rattle.ckpt_model.specs.State.{State}
-use Rattle.ckpt_model.specs.Images.{AreAlike, settled}
-use Rattle.ckpt_model.proofs.Images.Alike.{go_on_alike}
-use Rattle.ckpt_model.proofs.Images.Settled.{settled_alike}
-use Rattle.ckpt_terms.specs.declared.call.FencedCall.{FencedCall}
-use Rattle.ckpt_terms.specs.declared.call.FencedCall.TheVariants.{Make}
-use Rattle.ckpt_terms.specs.declared.call.TheConstants.{NAMES_END}
-use Rattle.ckpt_terms.specs.declared.machine.FenceFault.{FenceFault}
-use Rattle.ckpt_terms.specs.declared.machine.FenceFault.TheVariants.{BadName, NameInUse}
-use Rattle.ckpt_terms.specs.declared.machine.Machine.{Machine}
+use Rattle.ckpt_durable.proofs.Names.{◌≡◌, ℕ, Bool, not, ◌&&◌, ◌||◌, eqb, ltb, [], ◌∷◌, refl, sym, ap, ◌∙◌, Option, Some, None, cond, is_present, uses, State, AreAlike, settled, go_on_alike}
+use Rattle.ckpt_durable.proofs.Names.{settled_alike, FencedCall, Make, NAMES_END, FenceFault, BadName, NameInUse, Machine, Fenced, is_unspent, may_be_deleted, core_in, fence_fault}
+use Rattle.ckpt_durable.proofs.Names.{has_known_from, AreFencedAlike, fenced_settled, machine_settled, settled_from, settled_outbox, fenced_settled_alike, goes_on_alike, layer, Fence, Named}
+use Rattle.ckpt_durable.proofs.Names.{Plain, event_step, named_from}
 use Rattle.ckpt_terms.specs.declared.machine.Machine.TheVariants as machine
-use Rattle.ckpt_terms.specs.Fencing.{Fenced, is_unspent, may_be_deleted}
-use Rattle.ckpt_terms.specs.Machines.{core_in, fence_fault, has_known_from}
-use Rattle.ckpt_terms.specs.TermsImages.{AreFencedAlike, fenced_settled, machine_settled}
-use Rattle.ckpt_terms.proofs.KnownFiles.{settled_from, settled_outbox}
-use Rattle.ckpt_terms.proofs.Resuming.{fenced_settled_alike, goes_on_alike}
-use Rattle.ckpt_terms.proofs.TermLemmas.{layer}
-use Rattle.ckpt_logged.specs.Events.{Event, Fence, Named, Plain, event_step, named_from}
+use Rattle.ckpt_logged.specs.Events.{Event}
 
 -- the two differ in that order alone
 abbrev pub AreMachinesAlike : Machine → Machine → Type 0

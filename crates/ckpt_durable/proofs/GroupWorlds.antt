@@ -1,26 +1,16 @@
 -- What always holds of a coordinator that commits in groups, its device and its callers.
-use Rattle.std.proofs.Common.{◌≡◌, ℕ, zero, suc, ◌+◌, ◌<◌, ◌≤◌, true, List, [], ◌∷◌, ◌++◌, take, refl, sym, ap, ◌∙◌, subst, append_assoc, append-nil, take-append-drop, arith}
-use Rattle.std.specs.Prelude.{drop, ⊤}
-use Rattle.ckpt_ids.specs.declared.reply.Answer.{Answer}
-use Rattle.ckpt_model.specs.State.{IsUnused, State}
-use Rattle.ckpt_terms.specs.declared.call.FencedAnswer.TheVariants as answer
-use Rattle.ckpt_terms.specs.declared.call.FencedCall.{FencedCall}
-use Rattle.ckpt_terms.specs.declared.call.FencedCall.TheVariants.{Make, Reserve}
-use Rattle.ckpt_terms.specs.declared.machine.Machine.{Machine}
-use Rattle.ckpt_terms.specs.declared.machine.Machine.TheVariants as machine
-use Rattle.ckpt_terms.specs.Fencing.{Fenced, fenced_step, fenced_replay, has_ended}
-use Rattle.ckpt_terms.specs.TermsImages.{AreFencedAlike, machine_settled}
-use Rattle.ckpt_terms.proofs.Classes.{deletions_are_safe}
-use Rattle.ckpt_logged.specs.Events.{AreEvents, Event, Fence, IsWell, Named, Plain, calls_named, event_step, events_replay, named_as}
-use Rattle.ckpt_logged.proofs.Asked.{events-split, replay-append, replay-push, replay_named, replay_well}
-use Rattle.ckpt_durable.specs.Crashes.{IsWithin}
-use Rattle.ckpt_durable.specs.Groups.{AreTurns, BeginsTermsOnce, GivesNamesOnce, HaveNoImage, IsDurable, IsDurableAs, IsExact, KeepsAll, ReadsAreSafe, Receipt, StandAs}
-use Rattle.ckpt_durable.specs.Groups.{Turn, Made, Looked, Committed, Imaged, Crashed, UsesNoneAgain, World, goes_on, happens, started, synced, world}
+use Rattle.ckpt_durable.proofs.Names.{◌≡◌, ℕ, zero, suc, ◌+◌, ◌<◌, ◌≤◌, true, List, [], ◌∷◌, ◌++◌, take, refl, sym, ap, ◌∙◌, subst, append_assoc, append-nil, take-append-drop, arith, drop}
+use Rattle.ckpt_durable.proofs.Names.{⊤, Answer, IsUnused, State, FencedCall, Make, Reserve, Machine, Fenced, fenced_step, fenced_replay, has_ended, AreFencedAlike, machine_settled}
+use Rattle.ckpt_durable.proofs.Names.{deletions_are_safe, Fence, IsWell, Named, Plain, calls_named, event_step, events_replay, named_as, events-split, replay-append, replay-push}
+use Rattle.ckpt_durable.proofs.Names.{replay_named, replay_well, IsWithin, AreTurns, HaveNoImage, IsDurableAs, IsExact, Receipt, StandAs, Turn, Looked, Imaged, synced}
 use Rattle.ckpt_durable.proofs.Alike.{AreMachinesAlike, alike_named, image_alike, same_core, same_deletable, step_alike}
-use Rattle.ckpt_durable.proofs.Lists.{within_both, within_itself, within_take, within_then}
-use Rattle.ckpt_durable.proofs.NamesOnce.{gives, names_rise}
-use Rattle.ckpt_durable.proofs.TermsOnce.{has_term, tells, term_in, terms_rise}
-use Rattle.ckpt_durable.proofs.Standing.{Stand, Two, stand_at, stand_then, stand_two}
+use Rattle.ckpt_durable.proofs.{Lists.within_both, Lists.within_itself, Lists.within_take, Lists.within_then, NamesOnce.gives, NamesOnce.names_rise, TermsOnce.has_term, TermsOnce.tells}
+use Rattle.ckpt_durable.proofs.{TermsOnce.term_in, TermsOnce.terms_rise, Standing.Stand, Standing.Two, Standing.stand_at, Standing.stand_then, Standing.stand_two}
+use Rattle.ckpt_terms.specs.declared.call.FencedAnswer.TheVariants as answer
+use Rattle.ckpt_terms.specs.declared.machine.Machine.TheVariants as machine
+use Rattle.ckpt_logged.specs.Events.{AreEvents, Event}
+use Rattle.ckpt_durable.specs.Groups.{BeginsTermsOnce, GivesNamesOnce, IsDurable, KeepsAll, ReadsAreSafe}
+use Rattle.ckpt_durable.specs.Groups.{Made, Committed, Crashed, UsesNoneAgain, World, goes_on, happens, started, world}
 
 -- A view of coordinators in which those that are seen alike stay so.
 record IsSeen (seen : Machine → Machine) : Type 0 where

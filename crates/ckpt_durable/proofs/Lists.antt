@@ -1,6 +1,5 @@
 -- Lists, some items of which stand in another list in their order.
-use Rattle.std.proofs.Common.{◌≡◌, ℕ, zero, suc, List, [], ◌∷◌, ◌++◌, take, refl, ◌∙◌, inl, inr, ⊎_elim}
-use Rattle.ckpt_durable.specs.Crashes.{IsWithin}
+use Rattle.ckpt_durable.proofs.Names.{◌≡◌, ℕ, zero, suc, List, [], ◌∷◌, ◌++◌, take, refl, ◌∙◌, inl, inr, ⊎_elim, IsWithin}
 
 module _ {X : Type 0} where
   pub within_skip : (xs ys : List X) (y : X) → IsWithin xs ys → IsWithin xs (y ∷ ys)

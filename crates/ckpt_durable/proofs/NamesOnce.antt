@@ -1,15 +1,8 @@
 -- Names that were told.
-use Rattle.std.proofs.Common.{◌≡◌, ℕ, ◌+◌, ◌≤◌, Bool, true, false, List, [], ◌∷◌, ◌++◌, refl, sym, ap, ◌∙◌, subst, ⊎_elim, arith}
-use Rattle.std.proofs.lemmas.Bool.{both_ways}
-use Rattle.ckpt_terms.specs.declared.call.FencedAnswer.{FencedAnswer}
+use Rattle.ckpt_durable.proofs.Names.{◌≡◌, ℕ, ◌+◌, ◌≤◌, Bool, true, false, List, [], ◌∷◌, ◌++◌, refl, sym, ap, ◌∙◌, subst, ⊎_elim, arith, both_ways, FencedAnswer, FencedCall, Reserve}
+use Rattle.ckpt_durable.proofs.Names.{Forfeit, Make, Advance, Fenced, FencedStepped, fenced_step, made, advance_by, fenced_step_by, Event, GivesNamesOnce, IsWithin, along, world}
+use Rattle.ckpt_durable.proofs.{Lists.within_later, Worlds.durable}
 use Rattle.ckpt_terms.specs.declared.call.FencedAnswer.TheVariants as answer
-use Rattle.ckpt_terms.specs.declared.call.FencedCall.{FencedCall}
-use Rattle.ckpt_terms.specs.declared.call.FencedCall.TheVariants.{Reserve, Forfeit, Make, Advance}
-use Rattle.ckpt_terms.specs.Fencing.{Fenced, FencedStepped, fenced_step, made}
-use Rattle.ckpt_terms.proofs.Stepping.{advance_by, fenced_step_by}
-use Rattle.ckpt_durable.specs.Crashes.{Event, GivesNamesOnce, IsWithin, along, world}
-use Rattle.ckpt_durable.proofs.Lists.{within_later}
-use Rattle.ckpt_durable.proofs.Worlds.{durable}
 
 made_names : (m : Fenced) (call : FencedCall) → m.next_name ≤ (made m call).0.next_name
 made_names m (Reserve term count) = omega arith

@@ -1,11 +1,7 @@
 -- What a program does with durable coordinators is a list of events.
-use Rattle.std.proofs.Common.{◌≡◌, ℕ, zero, suc, List, [], ◌∷◌, ◌++◌, take, refl, sym, ap, ◌∙◌, subst, ⊎_elim, append_assoc, append-nil}
-use Rattle.ckpt_terms.specs.declared.call.FencedAnswer.{FencedAnswer}
-use Rattle.ckpt_terms.specs.declared.call.FencedCall.{FencedCall}
-use Rattle.ckpt_terms.specs.Fencing.{Fenced}
-use Rattle.ckpt_terms.specs.FencedLaws.{AreFencedCalls}
-use Rattle.ckpt_durable.specs.Crashes.{AreEvents, Event, Life, Made, Committed, Crashed, World, goes_on, happens, started}
-use Rattle.ckpt_durable.specs.Operations.{Operation, Makes, Commits, FailsToMake, Ends, IsAWorld, Performed, asked, recovered, returned}
+use Rattle.ckpt_durable.proofs.Names.{◌≡◌, ℕ, zero, suc, List, [], ◌∷◌, ◌++◌, take, refl, sym, ap, ◌∙◌, subst, ⊎_elim, append_assoc, append-nil, FencedAnswer, FencedCall, Fenced}
+use Rattle.ckpt_durable.proofs.Names.{AreFencedCalls, AreEvents, Event, Life, Made, Committed, Crashed, World, goes_on, happens, started, Operation, Makes, Commits, FailsToMake, Ends}
+use Rattle.ckpt_durable.proofs.Names.{IsAWorld, Performed, asked, recovered, returned}
 
 -- as many as n of these, and no more than there are
 abbrev at_most : ℕ → List FencedCall → ℕ

@@ -1,9 +1,6 @@
 -- What is read while nothing waits holds through all crashes.
-use Rattle.std.proofs.Common.{◌≡◌, List, [], ◌++◌, sym, ap, ◌∙◌, append-nil}
-use Rattle.ckpt_terms.specs.declared.call.FencedCall.{FencedCall}
-use Rattle.ckpt_terms.specs.Fencing.{Fenced, fenced_replay, may_be_deleted}
-use Rattle.ckpt_terms.specs.FencedLaws.{IsFenced}
-use Rattle.ckpt_durable.specs.Crashes.{AreEvents, Event, ReadsAreSafe, World, world}
+use Rattle.ckpt_durable.proofs.Names.{◌≡◌, List, [], ◌++◌, sym, ap, ◌∙◌, append-nil, FencedCall, Fenced, fenced_replay, may_be_deleted, IsFenced, AreEvents, Event, ReadsAreSafe, World}
+use Rattle.ckpt_durable.proofs.Names.{world}
 use Rattle.ckpt_durable.proofs.Worlds.{durable, uses_none_again}
 
 pub reads_are_safe : (m : Fenced) (events later : List Event) → IsFenced m → AreEvents events → AreEvents later → ReadsAreSafe m events later

@@ -1,10 +1,6 @@
 -- Receipts that are of places of a list, in order.
-use Rattle.std.proofs.Common.{◌≡◌, List, [], ◌∷◌, ◌++◌, sym, ap, ◌∙◌, subst, append_assoc}
-use Rattle.ckpt_terms.specs.declared.machine.Machine.{Machine}
-use Rattle.ckpt_terms.specs.TermsImages.{machine_settled}
-use Rattle.ckpt_logged.specs.Events.{Event, events_replay}
-use Rattle.ckpt_logged.proofs.Asked.{replay-append}
-use Rattle.ckpt_durable.specs.Groups.{Receipt, StandAs}
+use Rattle.ckpt_durable.proofs.Names.{◌≡◌, List, [], ◌∷◌, ◌++◌, sym, ap, ◌∙◌, subst, append_assoc, Machine, machine_settled, events_replay, replay-append, Receipt, StandAs}
+use Rattle.ckpt_logged.specs.Events.{Event}
 
 -- but for the order of the fetched files
 abbrev pub Stand : Machine → List Event → List Receipt → Type 0

@@ -1,17 +1,9 @@
 -- Terms that were told.
-use Rattle.std.proofs.Common.{◌≡◌, ℕ, ◌+◌, ◌<◌, ◌≤◌, max, Bool, true, false, ◌&&◌, if◌then◌else◌, List, [], ◌∷◌, ◌++◌, refl, sym, ap, ◌∙◌, subst, ⊎_elim, arith}
-use Rattle.std.proofs.lemmas.Bool.{both_ways}
-use Rattle.ckpt_ids.specs.declared.reply.Answer.{Answer}
-use Rattle.ckpt_model.specs.Steps.{step}
-use Rattle.ckpt_terms.specs.declared.call.FencedAnswer.{FencedAnswer}
+use Rattle.ckpt_durable.proofs.Names.{◌≡◌, ℕ, ◌+◌, ◌<◌, ◌≤◌, max, Bool, true, false, ◌&&◌, if◌then◌else◌, List, [], ◌∷◌, ◌++◌, refl, sym, ap, ◌∙◌, subst, ⊎_elim, arith, both_ways, Answer}
+use Rattle.ckpt_durable.proofs.Names.{step, FencedAnswer, FencedCall, Reserve, Forfeit, Make, Advance, Fenced, FencedStepped, ends_the_term, fenced_step, has_ended, is_accepted, made}
+use Rattle.ckpt_durable.proofs.Names.{restart, advance_by, fenced_step_by, BeginsTermsOnce, Event, IsWithin, along, world}
+use Rattle.ckpt_durable.proofs.{Lists.within_later, Worlds.durable}
 use Rattle.ckpt_terms.specs.declared.call.FencedAnswer.TheVariants as answer
-use Rattle.ckpt_terms.specs.declared.call.FencedCall.{FencedCall}
-use Rattle.ckpt_terms.specs.declared.call.FencedCall.TheVariants.{Reserve, Forfeit, Make, Advance}
-use Rattle.ckpt_terms.specs.Fencing.{Fenced, FencedStepped, ends_the_term, fenced_step, has_ended, is_accepted, made, restart}
-use Rattle.ckpt_terms.proofs.Stepping.{advance_by, fenced_step_by}
-use Rattle.ckpt_durable.specs.Crashes.{BeginsTermsOnce, Event, IsWithin, along, world}
-use Rattle.ckpt_durable.proofs.Lists.{within_later}
-use Rattle.ckpt_durable.proofs.Worlds.{durable}
 
 rise_if : (b : Bool) (t : ℕ) → t ≤ (if b then t + 1 else t)
 rise_if true t = omega arith

@@ -1,13 +1,8 @@
 -- What always holds of a coordinator, its device and its callers.
-use Rattle.std.proofs.Common.{◌≡◌, ℕ, zero, suc, List, [], ◌∷◌, ◌++◌, take, refl, sym, ap, ◌∙◌, subst, append_assoc, append-nil}
-use Rattle.ckpt_model.specs.State.{IsUnused}
-use Rattle.ckpt_terms.specs.declared.call.FencedAnswer.{FencedAnswer}
-use Rattle.ckpt_terms.specs.declared.call.FencedCall.{FencedCall}
-use Rattle.ckpt_terms.specs.Fencing.{Fenced, fenced_step, fenced_replay}
-use Rattle.ckpt_terms.specs.FencedLaws.{AreFencedCalls, IsFenced}
-use Rattle.ckpt_terms.proofs.Classes.{deletions_are_safe}
-use Rattle.ckpt_terms.proofs.Fences.{fenced_calls-join, fenced_calls-split, fenced_replay-append, replay_fenced}
-use Rattle.ckpt_durable.specs.Crashes.{AreEvents, Event, Life, Made, Committed, Crashed, IsDurable, IsLife, IsWithin, KeepsAll, UsesNoneAgain, World, along, goes_on, happens, lives, on_device, started, world}
+use Rattle.ckpt_durable.proofs.Names.{◌≡◌, ℕ, zero, suc, List, [], ◌∷◌, ◌++◌, take, refl, sym, ap, ◌∙◌, subst, append_assoc, append-nil, IsUnused, FencedAnswer, FencedCall, Fenced}
+use Rattle.ckpt_durable.proofs.Names.{fenced_step, fenced_replay, AreFencedCalls, IsFenced, deletions_are_safe, fenced_calls-join, fenced_calls-split, fenced_replay-append, replay_fenced}
+use Rattle.ckpt_durable.proofs.Names.{AreEvents, Event, Life, Made, Committed, Crashed, IsDurable, IsLife, IsWithin, KeepsAll, UsesNoneAgain, World, along, goes_on, happens, lives}
+use Rattle.ckpt_durable.proofs.Names.{on_device, started, world}
 use Rattle.ckpt_durable.proofs.Lists.{within_both, within_itself, within_take, within_then}
 
 along_append : (m : Fenced) (xs ys : List FencedCall) → along m (xs ++ ys) ≡ along m xs ++ along (fenced_replay m xs) ys

@@ -1,25 +1,10 @@
 -- Lists of what a coordinator was asked.
-use Rattle.std.proofs.Common.{◌≡◌, ℕ, List, [], ◌∷◌, ◌++◌, refl, sym, ap, ◌∙◌}
-use Rattle.std.specs.Prelude.{Option, Some, None}
-use Rattle.ckpt_ids.specs.declared.call.Call.{Call}
-use Rattle.ckpt_model.specs.State.{State}
-use Rattle.ckpt_model.specs.Histories.{replay}
-use Rattle.ckpt_model.specs.Laws.{AreCalls}
-use Rattle.ckpt_model.specs.Soundness.{IsSound}
+use Rattle.ckpt_logged.proofs.Names.{◌≡◌, ℕ, List, [], ◌∷◌, ◌++◌, refl, sym, ap, ◌∙◌, Option, Some, None, Call, State, replay, AreCalls, IsSound, step_keeps, FencedCall, Reserve, Forfeit}
+use Rattle.ckpt_logged.proofs.Names.{Make, Advance, FenceFault, Machine, Fenced, FencedStepped, core_calls, fenced_step, fenced_replay, passed, AreFencedCalls, IsFencedCall, core_in}
+use Rattle.ckpt_logged.proofs.Names.{fence_fault, step_fenced, named_fenced, fenced_step_by, AreEvents, Event, Fence, Named, Plain, IsEvent, IsWell, calls_in, calls_named, event_step}
+use Rattle.ckpt_logged.proofs.Names.{events_replay, named_from, reached}
 use Rattle.ckpt_model.proofs.Histories.Replays as history
-use Rattle.ckpt_model.proofs.Soundness.Calls.{step_keeps}
-use Rattle.ckpt_terms.specs.declared.call.FencedCall.{FencedCall}
-use Rattle.ckpt_terms.specs.declared.call.FencedCall.TheVariants.{Reserve, Forfeit, Make, Advance}
-use Rattle.ckpt_terms.specs.declared.machine.FenceFault.{FenceFault}
-use Rattle.ckpt_terms.specs.declared.machine.Machine.{Machine}
 use Rattle.ckpt_terms.specs.declared.machine.Machine.TheVariants as machine
-use Rattle.ckpt_terms.specs.Fencing.{Fenced, FencedStepped, core_calls, fenced_step, fenced_replay, passed}
-use Rattle.ckpt_terms.specs.FencedLaws.{AreFencedCalls, IsFencedCall}
-use Rattle.ckpt_terms.specs.Machines.{core_in, fence_fault}
-use Rattle.ckpt_terms.proofs.Fences.{step_fenced}
-use Rattle.ckpt_terms.proofs.MachineLemmas.{named_fenced}
-use Rattle.ckpt_terms.proofs.Stepping.{fenced_step_by}
-use Rattle.ckpt_logged.specs.Events.{AreEvents, Event, Fence, Named, Plain, IsEvent, IsWell, calls_in, calls_named, event_step, events_replay, named_from, reached}
 
 -- one more at the end
 

@@ -1,8 +1,5 @@
 -- A coordinator with its events may cross threads.
-use denote.Struct.Declared.{fields}
-use denote.Param.Send.{IsSend, AllSend, sendable, view_send}
-use Rattle.std.proofs.Crossing.{crosses}
-use Rattle.ckpt_core.proofs.Crossings.{declared_send, core_send}
+use Rattle.ckpt_logged.proofs.Names.{fields, IsSend, AllSend, sendable, view_send, crosses, declared_send, core_send}
 use Rattle.ckpt_terms.specs.contracts.names.Names as Names
 use Rattle.ckpt_terms.specs.contracts.terms.Terms as Terms
 use Rattle.ckpt_terms.specs.contracts.terms.Terms.TheInside as InTerms

@@ -1,14 +1,6 @@
 -- One event more, in the list and in the state.
-use Rattle.std.proofs.Common.{◌≡◌, ℕ, List, [], ◌∷◌, ◌++◌, sym, ap, ◌∙◌}
-use Rattle.std.specs.Prelude.{true, Some, None, Result, Ok, Err, is_ok, IfOk, OnOk}
-use Rattle.std.specs.declared.alloc.AllocError.{AllocError}
-use Rattle.ckpt_ids.specs.declared.call.Call.{Call}
-use Rattle.ckpt_terms.specs.declared.call.FencedAnswer.{FencedAnswer}
-use Rattle.ckpt_terms.specs.declared.call.FencedCall.{FencedCall}
-use Rattle.ckpt_terms.specs.declared.machine.Machine.{Machine}
-use Rattle.ckpt_terms.specs.Machines.{core_in, fence_fault, first_names, machine_of, machine_step}
-use Rattle.ckpt_logged.specs.Events.{Event, IsEvent, Fence, Named, Plain, event_step, named_from, named_step}
-use Rattle.ckpt_logged.specs.Chronicles.{IsChronicle}
+use Rattle.ckpt_logged.proofs.Names.{◌≡◌, ℕ, List, [], ◌∷◌, ◌++◌, sym, ap, ◌∙◌, true, Some, None, Result, Ok, Err, is_ok, IfOk, OnOk, AllocError, Call, FencedAnswer, FencedCall, Machine}
+use Rattle.ckpt_logged.proofs.Names.{core_in, fence_fault, first_names, machine_of, machine_step, Event, IsEvent, Fence, Named, Plain, event_step, named_from, named_step, IsChronicle}
 use Rattle.ckpt_logged.proofs.Asked.{events-push, replay-push}
 
 pub entered : (now new begin : Machine) (events more : List Event) (event : Event) → IsChronicle (record { now = now; begin = begin; events = events }) → IsEvent event

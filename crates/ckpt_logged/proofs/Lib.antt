@@ -2,5 +2,6 @@
 pub mod Asked
 pub mod Crossings
 pub mod Entering
+mod Names
 pub mod Shows
 pub mod Since

@@ -1,17 +1,8 @@
 -- A show leaves the coordinator as it was.
-use Rattle.std.proofs.Common.{◌≡◌, ℕ, List, refl, sym, ap, ◌∙◌, subst}
-use Rattle.std.specs.Prelude.{Option, Result, Ok, Err, IfOk, OnErr}
-use Rattle.std.specs.declared.alloc.AllocError.{AllocError}
+use Rattle.ckpt_logged.proofs.Names.{◌≡◌, ℕ, List, refl, sym, ap, ◌∙◌, subst, Option, Result, Ok, Err, IfOk, OnErr, AllocError, Answer, show_stays, State, Stepped, step, Machine, Issued}
+use Rattle.ckpt_logged.proofs.Names.{core_in, machine_of, names_in, Chronicle, IsChronicle, Event}
 use Rattle.ckpt_ids.specs.declared.call.Call.TheVariants as call
-use Rattle.ckpt_ids.specs.declared.reply.Answer.{Answer}
-use Rattle.ckpt_model.proofs.Answering.StepCases.{show_stays}
-use Rattle.ckpt_model.specs.State.{State}
-use Rattle.ckpt_model.specs.Steps.{Stepped, step}
-use Rattle.ckpt_terms.specs.declared.machine.Machine.{Machine}
 use Rattle.ckpt_terms.specs.declared.machine.Machine.TheVariants.{Plain, Fenced}
-use Rattle.ckpt_terms.specs.Machines.{Issued, core_in, machine_of, names_in}
-use Rattle.ckpt_logged.specs.Chronicles.{Chronicle, IsChronicle}
-use Rattle.ckpt_logged.specs.Events.{Event}
 
 pub whole : (k : Machine) → k ≡ machine_of (core_in k) (names_in k)
 whole (Plain m) = refl

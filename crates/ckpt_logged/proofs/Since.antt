@@ -1,35 +1,8 @@
 -- The acknowledgements of each record since any sound state: an opening, the state of an image, or one that calls led to.
-use Rattle.std.proofs.Common.{◌≡◌, ℕ, ◌+◌, ◌<◌, ◌≤◌, eqb, List, [], ◌∷◌, ◌++◌, refl, sym, ap, ◌∙◌, inl, inr, ◌⊎◌, ⊎_elim, arith}
-use Rattle.std.specs.Prelude.{Option, None}
-use Rattle.std.specs.List.{list_any}
-use Rattle.std.proofs.lemmas.Bool.{eq-eqb, ne_eqb}
-use Rattle.std.proofs.lemmas.Grind.{common_steps}
-use Rattle.ckpt_ids.specs.declared.ack.Acked.{Acked}
-use Rattle.ckpt_ids.specs.declared.call.Call.{Call}
-use Rattle.ckpt_ids.specs.declared.call.Call.TheVariants.{Ack}
-use Rattle.ckpt_ids.specs.declared.subtask.SubtaskId.{SubtaskId}
-use Rattle.ckpt_ids.specs.Acknowledged.{put_ack}
-use Rattle.ckpt_ids.specs.Ascending.{ascending}
-use Rattle.ckpt_ids.specs.Counting.{one_if}
-use Rattle.ckpt_ids.specs.Ordered.{IsIn}
-use Rattle.ckpt_ids.specs.Records.{Record}
-use Rattle.ckpt_ids.specs.Shapes.{same_subtask}
-use Rattle.ckpt_ids.proofs.OrderedLemmas.{list_any-none}
-use Rattle.ckpt_ids.proofs.PlaceLemmas.{find-none}
-use Rattle.ckpt_model.specs.State.{State, record_of}
-use Rattle.ckpt_model.specs.Histories.{replay}
-use Rattle.ckpt_model.specs.Laws.{AreCalls, accepted_by, along}
-use Rattle.ckpt_model.specs.Soundness.{IsSound}
-use Rattle.ckpt_model.specs.Steps.{step}
-use Rattle.ckpt_model.proofs.Histories.Choice.{found}
-use Rattle.ckpt_model.proofs.Histories.Moves.{IsMoved, IsTriggered, moved_from}
-use Rattle.ckpt_model.proofs.Histories.Numbers.{next_rises}
-use Rattle.ckpt_model.proofs.Histories.Takings.{taken_from, taken_id}
-use Rattle.ckpt_model.proofs.Records.Once.{times_of-in_order}
-use Rattle.ckpt_model.proofs.Soundness.Calls.{step_keeps}
-use Rattle.ckpt_model.proofs.Stepping.Changes.{IsPassedOver, IsTakenBy, passed_moves}
-use Rattle.ckpt_model.proofs.Stepping.Walk.{step_is}
-use Rattle.ckpt_logged.specs.Promises.{OneOfEach, acks_in, put_all}
+use Rattle.ckpt_logged.proofs.Names.{◌≡◌, ℕ, ◌+◌, ◌<◌, ◌≤◌, eqb, List, [], ◌∷◌, ◌++◌, refl, sym, ap, ◌∙◌, inl, inr, ◌⊎◌, ⊎_elim, arith, Option, None, list_any, eq-eqb, ne_eqb, common_steps}
+use Rattle.ckpt_logged.proofs.Names.{Acked, Call, Ack, SubtaskId, put_ack, ascending, one_if, IsIn, Record, same_subtask, list_any-none, find-none, State, record_of, replay, AreCalls}
+use Rattle.ckpt_logged.proofs.Names.{accepted_by, along, IsSound, step, found, IsMoved, IsTriggered, moved_from, next_rises, taken_from, taken_id, times_of-in_order, step_keeps}
+use Rattle.ckpt_logged.proofs.Names.{IsPassedOver, IsTakenBy, passed_moves, step_is, OneOfEach, acks_in, put_all}
 
 -- what a record is after a call
 

@@ -1,10 +1,6 @@
 -- A member that is put at its place brings no float and no greater depth than its own.
-use Rattle.std.proofs.Common.{◌≡◌, ℕ, ◌≤◌, false, List, refl, arith, Ordering, Less, Equal, Greater, nat_cmp}
-use Rattle.std.proofs.lemmas.Bool.{or_parts}
-use Rattle.std.specs.Cmp.Lexicographic.{slice_cmp}
-use Rattle.std.specs.Ordering.{match_ordering}
-use Rattle.serde_json.specs.Data.{Data, Members, member, no_members, put, depth, members_depth}
-use Rattle.serde_json.specs.Written.{has_float, members_have_float}
+use Rattle.ckpt_names_image.proofs.Names.{◌≡◌, ℕ, ◌≤◌, false, List, refl, arith, Ordering, Less, Equal, Greater, nat_cmp, or_parts, slice_cmp, match_ordering, Data, Members, member}
+use Rattle.ckpt_names_image.proofs.Names.{no_members, put, depth, members_depth, has_float, members_have_float}
 
 float_at : (o : Ordering) (k l : List ℕ) (d e : Data) (ms rest : Members)
     → has_float d ≡ false → has_float e ≡ false → members_have_float ms ≡ false → members_have_float rest ≡ false

@@ -1,24 +1,9 @@
 -- The text that is written for a state with names is read as that state, and not as one without names.
-use Rattle.std.proofs.Common.{◌≡◌, ◌↔◌, ℕ, ◌≤◌, Bool, true, false, eqb, List, map, refl, sym, ap, ◌∙◌, ⊎_elim, arith, Option, Some, None, cond, codes}
-use Rattle.std.specs.Prelude.{option_and_then, option_map}
-use Rattle.std.proofs.lemmas.Bool.{cases_Bool}
-use Rattle.ckpt_model.specs.State.{State}
-use Rattle.ckpt_image.specs.Fits.{Fits}
-use Rattle.ckpt_image.specs.Images.{image_of, image_of_any_version, image_read}
-use Rattle.ckpt_image.specs.Members.{number_of, only, version_of}
-use Rattle.ckpt_image.specs.Written.{image_members}
-use Rattle.ckpt_image.proofs.RoundTrip.{all, members_read_back}
-use Rattle.ckpt_image.proofs.Plain.{image_depth, members_have_no_float, shallow_items}
-use Rattle.ckpt_names_image.specs.Named.{Fenced, Named, Plain, Saved, named_data, named_of, names_data, names_of, saved_of, saved_read, span_data, span_of}
+use Rattle.ckpt_names_image.proofs.Names.{◌≡◌, ◌↔◌, ℕ, ◌≤◌, Bool, true, false, eqb, List, map, refl, sym, ap, ◌∙◌, ⊎_elim, arith, Option, Some, None, cond, codes, option_and_then}
+use Rattle.ckpt_names_image.proofs.Names.{option_map, cases_Bool, State, Fits, image_of, image_of_any_version, image_read, number_of, only, version_of, image_members, all, members_read_back}
+use Rattle.ckpt_names_image.proofs.Names.{image_depth, members_have_no_float, shallow_items, Fenced, Named, Plain, Saved, named_data, named_of, names_data, names_of, saved_of, saved_read}
+use Rattle.ckpt_names_image.proofs.Names.{span_data, span_of, Span, members, no_floats, Data, object, put, depth, items_depth, members_depth, get, max_depth, read, items_of, has_float}
 use Rattle.ckpt_names_image.proofs.Placed.{depth_put, float_put}
-use Rattle.ckpt_terms.specs.declared.names.Span.{Span}
-use Rattle.ckpt_answers.specs.MetadataTexts.{members}
-use Rattle.ckpt_answers.proofs.NoFloats.{no_floats}
-use Rattle.serde_json.specs.Data.{Data, object, put, depth, items_depth, members_depth}
-use Rattle.serde_json.specs.Find.{get}
-use Rattle.serde_json.specs.Read.{max_depth, read}
-use Rattle.serde_json.specs.View.{items_of}
-use Rattle.serde_json.specs.Written.{has_float}
 
 -- ---- it is read back
 

@@ -1,11 +1,7 @@
 -- Lists of actions that go on.
-use Rattle.std.proofs.lemmas.Grind.{common_steps}
-use Rattle.std.proofs.Common.{arith, ◌≡◌, ℕ, Bool, true, false, ◌||◌, List, ◌∷◌, ◌++◌, ◌∙◌, refl, sym, ap, subst, if◌then◌else◌, []}
-use Rattle.std.proofs.lemmas.List.{append-nil, append_assoc}
-use Rattle.ckpt_align.specs.Alignment.{Alignment}
-use Rattle.ckpt_align.specs.Histories.{Item, Action, Reads, GivesUp, Sends, Ends, after, replay, taken, taken_by, sent, sent_by, elements, processed, before_cut, has_cut, has_ended, cut_by, is_number}
-use Rattle.ckpt_align.proofs.ItemLemmas.{elements-append}
-use Rattle.ckpt_once.specs.Jobs.{IsPrefix}
+use Rattle.ckpt_once.proofs.Names.{common_steps, arith, ◌≡◌, ℕ, Bool, true, false, ◌||◌, List, ◌∷◌, ◌++◌, ◌∙◌, refl, sym, ap, subst, if◌then◌else◌, [], append-nil, append_assoc, Alignment}
+use Rattle.ckpt_once.proofs.Names.{Item, Action, Reads, GivesUp, Sends, Ends, after, replay, taken, taken_by, sent, sent_by, elements, processed, before_cut, has_cut, has_ended, cut_by}
+use Rattle.ckpt_once.proofs.Names.{is_number, elements-append, IsPrefix}
 
 pub replay-append : (a : Alignment) (xs ys : List Action) → replay a (xs ++ ys) ≡ replay (replay a xs) ys
 replay-append a [] ys = refl

@@ -1,19 +1,9 @@
 -- Where no task chooses, runs go together.
-use Rattle.std.proofs.Common.{◌≡◌, ℕ, Bool, true, false, List, ◌∷◌, ◌++◌, ◌∙◌, ◌⊎◌, refl, sym, ap, subst, arith, if◌then◌else◌, Option, Some, None, inl, inr, []}
-use Rattle.std.proofs.lemmas.Grind.{common_steps}
-use Rattle.std.proofs.lemmas.Bool.Decides.{Decides-eqb}
-use Rattle.std.proofs.lemmas.List.{append-nil, append_assoc, append_cancel_left}
-use Rattle.ckpt_ids.specs.declared.subtask.SubtaskId.{SubtaskId}
-use Rattle.ckpt_ids.specs.Ordered.{IsIn}
-use Rattle.ckpt_ids.specs.Shapes.{same_subtask}
-use Rattle.ckpt_ids.proofs.OrderLemmas.{same_subtask-Decides}
-use Rattle.ckpt_align.specs.Laws.{Channel}
-use Rattle.ckpt_once.specs.Programs.{Move, Program, Takes, emitted, from_input, on_output, state}
-use Rattle.ckpt_once.specs.Jobs.{By, IsPrefix, IsRun, Job, Run, States, of, put_on, states_after, taken_off}
-use Rattle.ckpt_once.specs.Choices.{GoTogether, HasNoChoice, IsPlanned, OneOutput, Plan}
-use Rattle.ckpt_once.proofs.TurnLemmas.{on_output-append}
-use Rattle.ckpt_once.proofs.Running.{of_here, of_there}
-use Rattle.ckpt_once.proofs.Joining.{emitted-append, from_input-append, put-join}
+use Rattle.ckpt_once.proofs.Names.{◌≡◌, ℕ, Bool, true, false, List, ◌∷◌, ◌++◌, ◌∙◌, ◌⊎◌, refl, sym, ap, subst, arith, if◌then◌else◌, Option, Some, None, inl, inr, [], common_steps}
+use Rattle.ckpt_once.proofs.Names.{Decides-eqb, append-nil, append_assoc, append_cancel_left, SubtaskId, IsIn, same_subtask, same_subtask-Decides, Channel, Move, Program, Takes, emitted}
+use Rattle.ckpt_once.proofs.Names.{from_input, on_output, state, By, IsPrefix, IsRun, Job, Run, States, of, put_on, states_after, taken_off, GoTogether, HasNoChoice, IsPlanned, OneOutput}
+use Rattle.ckpt_once.proofs.Names.{Plan}
+use Rattle.ckpt_once.proofs.{TurnLemmas.on_output-append, Running.of_here, Running.of_there, Joining.emitted-append, Joining.from_input-append, Joining.put-join}
 
 -- what a task emits by moves that go on
 

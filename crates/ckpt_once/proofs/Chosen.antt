@@ -1,19 +1,11 @@
 -- A restart to the coordinator's choice.
-use Rattle.std.proofs.Common.{◌≡◌, ℕ, ◌≤◌, true, List, ◌∷◌, sym, ap, subst, arith, []}
-use Rattle.std.proofs.lemmas.Grind.{common_steps}
-use Rattle.std.specs.Prelude.{◌==◌}
-use Rattle.ckpt_ids.specs.declared.call.Call.{Call}
-use Rattle.ckpt_ids.specs.declared.reply.Choice.TheVariants as choice
-use Rattle.ckpt_cuts.specs.Laws.{AcknowledgesCuts}
-use Rattle.ckpt_model.specs.State.{Opening, State, choice_of, opened}
-use Rattle.ckpt_model.specs.Histories.{replay}
-use Rattle.ckpt_model.specs.Laws.{AreCalls, CanOpen, id_of_choice}
-use Rattle.ckpt_model.proofs.Histories.Choice.{chosen_is_done}
-use Rattle.ckpt_model.proofs.Histories.Replays.{calls-split, replay-append}
-use Rattle.ckpt_model.proofs.Soundness.Histories.{replay_is_sound}
-use Rattle.ckpt_once.specs.Jobs.{Attempt, Job, States, network, restored}
-use Rattle.ckpt_once.specs.Restarts.{ChosenAreLast, WasChosen, WasCompleted, WasDone}
+use Rattle.ckpt_once.proofs.Names.{◌≡◌, ℕ, ◌≤◌, true, List, ◌∷◌, sym, ap, subst, arith, [], common_steps, ◌==◌, Call, AcknowledgesCuts, Opening, State, choice_of, AreCalls, CanOpen}
+use Rattle.ckpt_once.proofs.Names.{id_of_choice, chosen_is_done, calls-split, replay-append, replay_is_sound, Attempt, Job, States, network, restored, ChosenAreLast, WasChosen, WasCompleted}
+use Rattle.ckpt_once.proofs.Names.{WasDone}
 use Rattle.ckpt_once.proofs.Newer.{choice_is_no_older, found_in, same_choice}
+use Rattle.ckpt_ids.specs.declared.reply.Choice.TheVariants as choice
+use Rattle.ckpt_model.specs.State.{opened}
+use Rattle.ckpt_model.specs.Histories.{replay}
 
 same_id : (m n : ℕ) → (m == n) ≡ true → m ≡ n
 same_id m n e = grind (arith, common_steps)

@@ -1,16 +1,8 @@
 -- Runs one behind the other, and any number of failures.
-use Rattle.std.proofs.lemmas.Grind.{common_steps}
-use Rattle.std.proofs.Common.{arith, ◌≡◌, ℕ, Bool, true, false, List, ◌∷◌, ◌++◌, ◌∙◌, refl, ap, subst, if◌then◌else◌, []}
-use Rattle.std.proofs.Math.Path.{fun_ext}
-use Rattle.std.proofs.lemmas.List.{append-nil, append_assoc}
-use Rattle.ckpt_ids.specs.declared.subtask.SubtaskId.{SubtaskId}
-use Rattle.ckpt_ids.specs.Shapes.{same_subtask}
-use Rattle.ckpt_align.specs.Laws.{Channel}
-use Rattle.ckpt_once.specs.Programs.{Move, Takes, Draws, Program, state, emitted, from_input}
-use Rattle.ckpt_once.specs.Jobs.{Job, IsJob, By, Run, History, States, of, IsPrefix, starts, states_after, put_on, taken_off, IsRun, IsQuiet, run_of, before_cuts, Attempt, AreAttempts, restored, run_of_attempts}
-use Rattle.ckpt_once.specs.Laws.{RunsJoin, FailuresInvisible}
-use Rattle.ckpt_once.proofs.TurnLemmas.{on_output-append}
-use Rattle.ckpt_once.proofs.Running.{without_barriers, record_is_of_run}
+use Rattle.ckpt_once.proofs.Names.{common_steps, arith, ◌≡◌, ℕ, Bool, true, false, List, ◌∷◌, ◌++◌, ◌∙◌, refl, ap, subst, if◌then◌else◌, [], fun_ext, append-nil, append_assoc, SubtaskId}
+use Rattle.ckpt_once.proofs.Names.{same_subtask, Channel, Move, Takes, Draws, Program, state, emitted, from_input, Job, IsJob, By, Run, History, States, of, IsPrefix, starts, states_after}
+use Rattle.ckpt_once.proofs.Names.{put_on, taken_off, IsRun, IsQuiet, run_of, before_cuts, Attempt, AreAttempts, restored, run_of_attempts, RunsJoin, FailuresInvisible}
+use Rattle.ckpt_once.proofs.{TurnLemmas.on_output-append, Running.without_barriers, Running.record_is_of_run}
 
 of-append_by : {X : Type 0} (b : Bool) (x : X) (xs ys zs : List X) → zs ≡ xs ++ ys → (if b then x ∷ zs else zs) ≡ (if b then x ∷ xs else xs) ++ ys
 of-append_by true x xs ys zs e = ap (λ l. x ∷ l) e

@@ -1,5 +1,6 @@
 -- The lemmas, and the proofs of functions.
 pub mod ActionLemmas
+mod Names
 pub mod TurnLemmas
 pub mod Running
 pub mod Joining

@@ -1,28 +1,12 @@
 -- A done checkpoint is dropped for newer ones only, unless a call goes back.
-use Rattle.std.proofs.Common.{◌≡◌, ℕ, ◌≤◌, ◌<◌, Bool, true, false, ◌&&◌, nat_lt, nat_le, List, ◌∷◌, ◌∙◌, refl, ap, arith, if◌then◌else◌, find, inl, inr, Option, Some, None, []}
-use Rattle.std.proofs.lemmas.Grind.{common_steps}
-use Rattle.std.specs.Prelude.{◌==◌}
+use Rattle.ckpt_once.proofs.Names.{◌≡◌, ℕ, ◌≤◌, ◌<◌, Bool, true, false, ◌&&◌, nat_lt, nat_le, List, ◌∷◌, ◌∙◌, refl, ap, arith, if◌then◌else◌, find, inl, inr, Option, Some, None, []}
+use Rattle.ckpt_once.proofs.Names.{common_steps, ◌==◌, Call, Ack, Restore, Cancel, Configure, IsIn, Record, IsIn-from_counted, list_any-from_IsIn, State, choice_of, is_checkpoint}
+use Rattle.ckpt_once.proofs.Names.{is_done_checkpoint, Stepped, AreCalls, Part, ack_of, IsCall, IsSound, TakesNewest, has_done_checkpoint, is_accepted, may_drop, newer_than, is_completing}
+use Rattle.ckpt_once.proofs.Names.{configures_now, keeps, leaves_done, takes_newest, step_keeps, ChoiceIsNoOlder, NoneGoesBack, goes_back}
 use Rattle.ckpt_ids.specs.declared.call.Target.TheVariants as target
-use Rattle.ckpt_ids.specs.declared.call.Call.{Call}
-use Rattle.ckpt_ids.specs.declared.call.Call.TheVariants.{Ack, Restore, Cancel, Configure}
 use Rattle.ckpt_ids.specs.declared.reply.Choice.TheVariants as choice
-use Rattle.ckpt_ids.specs.Ordered.{IsIn}
-use Rattle.ckpt_ids.specs.Records.{Record}
-use Rattle.ckpt_ids.proofs.CountLemmas.{IsIn-from_counted}
-use Rattle.ckpt_ids.proofs.OrderedLemmas.{list_any-from_IsIn}
-use Rattle.ckpt_model.specs.State.{State, choice_of, is_checkpoint, is_done_checkpoint}
-use Rattle.ckpt_model.specs.Steps.{Stepped, step}
+use Rattle.ckpt_model.specs.Steps.{step}
 use Rattle.ckpt_model.specs.Histories.{replay}
-use Rattle.ckpt_model.specs.Laws.{AreCalls, Part, ack_of}
-use Rattle.ckpt_model.specs.Soundness.{IsCall, IsSound}
-use Rattle.ckpt_model.specs.Keeping.{TakesNewest, has_done_checkpoint, is_accepted, may_drop, newer_than}
-use Rattle.ckpt_model.specs.Interleavings.{is_completing}
-use Rattle.ckpt_model.proofs.Keeping.Configured.{configures_now}
-use Rattle.ckpt_model.proofs.Keeping.Kept.{keeps}
-use Rattle.ckpt_model.proofs.Keeping.Completed.{leaves_done}
-use Rattle.ckpt_model.proofs.Keeping.Latest.{takes_newest}
-use Rattle.ckpt_model.proofs.Soundness.Calls.{step_keeps}
-use Rattle.ckpt_once.specs.Newest.{ChoiceIsNoOlder, NoneGoesBack, goes_back}
 
 -- a done checkpoint that is no older is live
 abbrev HasNoOlder : ℕ → State → Type 0

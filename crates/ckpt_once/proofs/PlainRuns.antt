@@ -1,25 +1,10 @@
 -- A run is a history without barriers.
-use Rattle.std.proofs.lemmas.Grind.{common_steps}
-use Rattle.std.proofs.Common.{arith, ◌≡◌, ℕ, ◌<◌, Bool, true, false, List, ◌∷◌, ◌++◌, ◌∙◌, refl, sym, ap, subst, if◌then◌else◌, Option, Some, None, replicate, slice_get, []}
-use Rattle.std.specs.Prelude.{◌==◌}
-use Rattle.ckpt_ids.specs.declared.subtask.SubtaskId.{SubtaskId}
-use Rattle.ckpt_ids.specs.Shapes.{same_subtask}
-use Rattle.ckpt_align.specs.declared.input.Input.{Input}
-use Rattle.ckpt_align.specs.declared.input.Input.TheVariants.{Open}
-use Rattle.ckpt_align.specs.Alignment.{Alignment, opened}
-use Rattle.ckpt_align.specs.Steps.{step, element}
-use Rattle.ckpt_align.specs.Histories.{Item, Element, Reads, after, answer_to, is_taken, cut_as, barriers, replay, taken, sent, elements}
-use Rattle.ckpt_align.specs.Laws.{Channel}
-use Rattle.ckpt_align.proofs.ItemLemmas.{elements-append}
-use Rattle.ckpt_ids.proofs.PlaceLemmas.{some_at}
-use Rattle.ckpt_align.proofs.Fitting.{element_reads-other}
-use Rattle.ckpt_align.proofs.InputLemmas.{get-replicate, length-replicate}
-use Rattle.ckpt_align.proofs.Cutting.{reads_cut-element}
-use Rattle.ckpt_once.specs.Programs.{Move, Takes, Draws, Emitted, Program, Turn, told, move_in, aligned, sendings, actions}
-use Rattle.ckpt_once.specs.Jobs.{GivesInOrder, IsHistory, IsJob, IsMoveOf, IsPrefix, IsRun, IsTurnOf, Job, Run, States, network, of, put_on, run_of, taken_off}
-use Rattle.ckpt_once.specs.PlainHistories.{RunIsHistory, history_of, turn_of}
-use Rattle.ckpt_once.proofs.ActionLemmas.{sent-append, taken-append}
-use Rattle.ckpt_once.proofs.Running.{acts_of, put_on_is, taken_off_is}
+use Rattle.ckpt_once.proofs.Names.{common_steps, arith, ◌≡◌, ℕ, ◌<◌, Bool, true, false, List, ◌∷◌, ◌++◌, ◌∙◌, refl, sym, ap, subst, if◌then◌else◌, Option, Some, None, replicate, slice_get}
+use Rattle.ckpt_once.proofs.Names.{[], ◌==◌, SubtaskId, same_subtask, Input, Open, Alignment, opened, step, element, Item, Element, Reads, after, answer_to, is_taken, cut_as, barriers}
+use Rattle.ckpt_once.proofs.Names.{replay, taken, sent, elements, Channel, elements-append, some_at, element_reads-other, get-replicate, length-replicate, reads_cut-element, Move, Takes}
+use Rattle.ckpt_once.proofs.Names.{Draws, Emitted, Program, Turn, told, move_in, aligned, sendings, actions, GivesInOrder, IsHistory, IsJob, IsMoveOf, IsPrefix, IsRun, IsTurnOf, Job, Run}
+use Rattle.ckpt_once.proofs.Names.{States, network, of, put_on, run_of, taken_off, RunIsHistory, history_of, turn_of}
+use Rattle.ckpt_once.proofs.{ActionLemmas.sent-append, ActionLemmas.taken-append, Running.acts_of, Running.put_on_is, Running.taken_off_is}
 
 abbrev turns_of : List Move → List Turn
 turns_of [] = []

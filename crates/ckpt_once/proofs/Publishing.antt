@@ -1,20 +1,11 @@
 -- What sinks publish over any number of failures.
-use Rattle.std.proofs.Common.{◌≡◌, ℕ, ◌≤◌, Bool, true, false, ◌||◌, if◌then◌else◌, List, ◌∷◌, ◌++◌, ◌∙◌, refl, sym, ap, arith, []}
-use Rattle.std.proofs.lemmas.Grind.{common_steps}
-use Rattle.std.proofs.lemmas.List.{append-nil, append_assoc}
-use Rattle.ckpt_ids.specs.Ordered.{IsIn}
-use Rattle.ckpt_align.specs.Alignment.{Alignment, opened}
-use Rattle.ckpt_align.specs.Histories.{Action, Reads, GivesUp, Sends, Ends, after, cut_by, elements, has_cut, has_ended, is_number, sent}
-use Rattle.ckpt_align.specs.Laws.{Channel}
-use Rattle.ckpt_once.specs.Jobs.{Attempt, HaveCut, History, IsPrefix, Job, Run, States, before_cuts, restored, run_of, run_of_attempts, starts}
-use Rattle.ckpt_once.specs.Sinks.{SealedByThen, Sink, Transaction, contents, published, published_before, published_in, sealed, up_to, written}
-use Rattle.ckpt_once.specs.Laws.{PublishedIsPrefix, PublishedOnce}
-use Rattle.ckpt_once.proofs.Running.{acts_of, one_turn_by, put_before_is, put_on_is}
-use Rattle.ckpt_once.proofs.ActionLemmas.{before_stays, stopped}
-use Rattle.ckpt_ids.specs.declared.subtask.SubtaskId.{SubtaskId}
-use Rattle.ckpt_ids.specs.Shapes.{same_subtask}
-use Rattle.ckpt_once.proofs.Joining.{is_restored, put-join}
+use Rattle.ckpt_once.proofs.Names.{◌≡◌, ℕ, ◌≤◌, Bool, true, false, ◌||◌, if◌then◌else◌, List, ◌∷◌, ◌++◌, ◌∙◌, refl, sym, ap, arith, [], common_steps, append-nil, append_assoc, IsIn}
+use Rattle.ckpt_once.proofs.Names.{Alignment, opened, Action, Reads, GivesUp, Sends, Ends, after, cut_by, elements, has_cut, has_ended, is_number, sent, Channel, Attempt, HaveCut, History}
+use Rattle.ckpt_once.proofs.Names.{IsPrefix, Job, Run, States, before_cuts, restored, run_of, run_of_attempts, starts, SealedByThen, Sink, Transaction, contents, published, published_before}
+use Rattle.ckpt_once.proofs.Names.{published_in, sealed, up_to, written, PublishedIsPrefix, PublishedOnce, SubtaskId, same_subtask}
 use Rattle.ckpt_once.proofs.Sealing.{all_sealed, published_begins, published_up_to, sealed_up_to}
+use Rattle.ckpt_once.proofs.{Running.acts_of, Running.one_turn_by, Running.put_before_is, Running.put_on_is, ActionLemmas.before_stays, ActionLemmas.stopped, Joining.is_restored}
+use Rattle.ckpt_once.proofs.Joining.{put-join}
 
 -- a sink's output as that of a channel; its other end does not count
 abbrev channel_of : Sink → Channel

@@ -1,19 +1,7 @@
 -- A done record of a coordinator is one that each task has cut.
-use Rattle.std.proofs.lemmas.Grind.{common_steps}
-use Rattle.std.proofs.Common.{arith, ℕ, List, ◌∷◌, sym, subst, []}
-use Rattle.ckpt_ids.specs.declared.subtask.SubtaskId.{SubtaskId}
-use Rattle.ckpt_ids.specs.Ordered.{IsIn}
-use Rattle.ckpt_model.specs.State.{Opening}
-use Rattle.ckpt_model.specs.Laws.{CanOpen}
-use Rattle.ckpt_align.specs.Laws.{HasCut}
-use Rattle.ckpt_cuts.proofs.Consistency.{has_cut-from_done}
-use Rattle.ckpt_once.specs.Choices.{Agree, Plan}
-use Rattle.ckpt_once.specs.Sinks.{written}
-use Rattle.ckpt_once.proofs.Choosing.{one_output}
-use Rattle.ckpt_once.specs.Jobs.{Attempt, AreAttempts, HaveCut, History, Job, States, network, run_of_attempts, starts}
-use Rattle.ckpt_once.specs.Restarts.{AreRestarts, ExactlyOnce, RestartsInvisible, WasDone}
-use Rattle.ckpt_once.proofs.Joining.{failures_invisible, is_restored}
-use Rattle.ckpt_once.proofs.Publishing.{published_is_prefix, published_once}
+use Rattle.ckpt_once.proofs.Names.{common_steps, arith, ℕ, List, ◌∷◌, sym, subst, [], SubtaskId, IsIn, Opening, CanOpen, HasCut, has_cut-from_done, Agree, Plan, written, Attempt}
+use Rattle.ckpt_once.proofs.Names.{AreAttempts, HaveCut, History, Job, States, network, run_of_attempts, starts, AreRestarts, ExactlyOnce, RestartsInvisible, WasDone}
+use Rattle.ckpt_once.proofs.{Choosing.one_output, Joining.failures_invisible, Joining.is_restored, Publishing.published_is_prefix, Publishing.published_once}
 
 pub have_cut : (n : ℕ) (o : Opening) (job : Job) (from : States) (h : History) → CanOpen o → WasDone n o job from h → HaveCut n job from h
 have_cut n o job from h opens was t has =

@@ -1,21 +1,11 @@
 -- What tasks do in an engine is a run, and so is what they did before their cuts.
-use Rattle.std.proofs.lemmas.Grind.{common_steps}
-use Rattle.std.proofs.Common.{arith, ◌≡◌, ℕ, Bool, true, false, List, ◌∷◌, ◌++◌, ◌∙◌, refl, sym, ap, if◌then◌else◌, Option, Some, None, []}
-use Rattle.std.proofs.lemmas.List.{append-nil, append_assoc}
-use Rattle.ckpt_ids.specs.declared.subtask.SubtaskId.{SubtaskId}
-use Rattle.ckpt_ids.specs.Ordered.{IsIn}
-use Rattle.ckpt_ids.specs.Shapes.{same_subtask}
-use Rattle.ckpt_ids.proofs.OrderLemmas.{same_subtask-Decides}
-use Rattle.ckpt_align.specs.Alignment.{Alignment, opened}
-use Rattle.ckpt_align.specs.Histories.{Item, Element, replay, Barrier, End, Action, is_taken, answer_to, taken, sent, elements, processed, before_cut}
-use Rattle.ckpt_align.specs.Laws.{Channel, Network, IsInOrder, IsConsistent}
-use Rattle.ckpt_align.proofs.Carrying.{global_cut}
-use Rattle.ckpt_align.proofs.ItemLemmas.{elements-append}
-use Rattle.ckpt_once.specs.Programs.{Move, Takes, Turn, Offered, GivenUp, Drawn, Ended, state, move_in, with_one, aligned, moves_in, actions, acts}
-use Rattle.ckpt_once.specs.Jobs.{Job, By, Run, History, States, of, IsPrefix, states_after, put_on, taken_off, IsMoveOf, IsTurnOf, IsRun, network, IsHistory, states_in, as_step, run_of, has_stopped, before_cuts}
-use Rattle.ckpt_once.specs.Laws.{WithoutBarriers, RecordIsOfRun}
-use Rattle.ckpt_once.proofs.ActionLemmas.{stopped, cut_in_order, sent-append}
-use Rattle.ckpt_once.proofs.TurnLemmas.{taken_is, sent_is, turns_before, before_is}
+use Rattle.ckpt_once.proofs.Names.{common_steps, arith, ◌≡◌, ℕ, Bool, true, false, List, ◌∷◌, ◌++◌, ◌∙◌, refl, sym, ap, if◌then◌else◌, Option, Some, None, [], append-nil, append_assoc}
+use Rattle.ckpt_once.proofs.Names.{SubtaskId, IsIn, same_subtask, same_subtask-Decides, Alignment, opened, Item, Element, replay, Barrier, End, Action, is_taken, answer_to, taken, sent}
+use Rattle.ckpt_once.proofs.Names.{elements, processed, before_cut, Channel, Network, IsInOrder, IsConsistent, global_cut, elements-append, Move, Takes, Turn, Offered, GivenUp, Drawn, Ended}
+use Rattle.ckpt_once.proofs.Names.{state, move_in, with_one, aligned, moves_in, actions, acts, Job, By, Run, History, States, of, IsPrefix, states_after, put_on, taken_off, IsMoveOf}
+use Rattle.ckpt_once.proofs.Names.{IsTurnOf, IsRun, network, IsHistory, states_in, as_step, run_of, has_stopped, before_cuts, WithoutBarriers, RecordIsOfRun}
+use Rattle.ckpt_once.proofs.{ActionLemmas.stopped, ActionLemmas.cut_in_order, ActionLemmas.sent-append, TurnLemmas.taken_is, TurnLemmas.sent_is, TurnLemmas.turns_before}
+use Rattle.ckpt_once.proofs.TurnLemmas.{before_is}
 
 -- those of one task
 

@@ -1,17 +1,8 @@
 -- A sink's transactions up to a record have what it wrote before its cut.
-use Rattle.std.proofs.Common.{◌≡◌, ℕ, ◌<◌, ◌≤◌, Bool, true, false, nat_le, List, ◌∷◌, ◌++◌, ◌∙◌, refl, sym, ap, subst, arith, if◌then◌else◌, Option, Some, None, inl, inr, []}
-use Rattle.std.specs.Prelude.{◌==◌}
-use Rattle.std.proofs.lemmas.Bool.{cases_Bool}
-use Rattle.std.proofs.lemmas.Grind.{common_steps}
-use Rattle.std.proofs.lemmas.List.{append-nil, append_assoc}
-use Rattle.ckpt_ids.specs.Ordered.{IsIn}
-use Rattle.ckpt_align.specs.Alignment.{Alignment, opened}
-use Rattle.ckpt_align.specs.Histories.{Action, Reads, GivesUp, Sends, Ends, after, replay, barriers, sent, sent_by, elements, before_cut, has_cut, cut_by, is_number}
-use Rattle.ckpt_align.proofs.Carrying.{is_number-Some}
-use Rattle.ckpt_align.proofs.ItemLemmas.{elements-append}
-use Rattle.ckpt_align.proofs.GoingOn.{cuts_rise}
-use Rattle.ckpt_once.specs.Jobs.{IsPrefix}
-use Rattle.ckpt_once.specs.Sinks.{Transaction, sealed_at, still_open, sealed, up_to, above, contents, published}
+use Rattle.ckpt_once.proofs.Names.{◌≡◌, ℕ, ◌<◌, ◌≤◌, Bool, true, false, nat_le, List, ◌∷◌, ◌++◌, ◌∙◌, refl, sym, ap, subst, arith, if◌then◌else◌, Option, Some, None, inl, inr, [], ◌==◌}
+use Rattle.ckpt_once.proofs.Names.{cases_Bool, common_steps, append-nil, append_assoc, IsIn, Alignment, opened, Action, Reads, GivesUp, Sends, Ends, after, replay, barriers, sent, sent_by}
+use Rattle.ckpt_once.proofs.Names.{elements, before_cut, has_cut, cut_by, is_number, is_number-Some, elements-append, cuts_rise, IsPrefix, Transaction, sealed_at, still_open, sealed, up_to}
+use Rattle.ckpt_once.proofs.Names.{above, contents, published}
 use Rattle.ckpt_once.proofs.ActionLemmas.{replay-append}
 
 -- records are cut in rising order

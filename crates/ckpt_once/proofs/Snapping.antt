@@ -1,18 +1,8 @@
 -- A snapshot is a fold over what comes before the barrier.
-use Rattle.std.proofs.lemmas.Grind.{common_steps}
-use Rattle.std.proofs.Common.{arith, ◌≡◌, ℕ, Bool, true, false, List, ◌∷◌, ◌++◌, ◌∙◌, refl, sym, ap, if◌then◌else◌, inl, inr, []}
-use Rattle.ckpt_ids.specs.declared.subtask.SubtaskId.{SubtaskId}
-use Rattle.ckpt_ids.specs.Ordered.{IsIn}
-use Rattle.ckpt_ids.specs.Shapes.{same_subtask}
-use Rattle.ckpt_ids.proofs.OrderLemmas.{same_subtask-Decides}
-use Rattle.ckpt_align.specs.Histories.{Item}
-use Rattle.ckpt_align.specs.Laws.{Channel}
-use Rattle.ckpt_align.proofs.Carrying.{processed_before}
-use Rattle.ckpt_once.specs.Programs.{Move, Program, Takes, from_input, state}
-use Rattle.ckpt_once.specs.Jobs.{By, History, IsMoveOf, IsRun, Job, Run, States, before_cuts, of, run_of}
-use Rattle.ckpt_once.specs.Snapshots.{SnapshotOfInput, state_over}
-use Rattle.ckpt_once.proofs.Choosing.{takes_one}
-use Rattle.ckpt_once.proofs.Running.{acts_of, record_is_of_run, taken_before_is}
+use Rattle.ckpt_once.proofs.Names.{common_steps, arith, ◌≡◌, ℕ, Bool, true, false, List, ◌∷◌, ◌++◌, ◌∙◌, refl, sym, ap, if◌then◌else◌, inl, inr, [], SubtaskId, IsIn, same_subtask}
+use Rattle.ckpt_once.proofs.Names.{same_subtask-Decides, Item, Channel, processed_before, Move, Program, Takes, from_input, state, By, History, IsMoveOf, IsRun, Job, Run, States}
+use Rattle.ckpt_once.proofs.Names.{before_cuts, of, run_of, SnapshotOfInput, state_over}
+use Rattle.ckpt_once.proofs.{Choosing.takes_one, Running.acts_of, Running.record_is_of_run, Running.taken_before_is}
 
 one_over : (p : Program) (s i : ℕ) (xs : List ℕ) (x : ℕ) → state_over p s i (xs ++ x ∷ []) ≡ p.next (state_over p s i xs) (Takes i x)
 one_over p s i [] x = refl

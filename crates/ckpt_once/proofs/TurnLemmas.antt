@@ -1,14 +1,8 @@
 -- A task's turns, as moves and as actions.
-use Rattle.std.proofs.Common.{◌≡◌, ℕ, Bool, true, false, ◌||◌, List, ◌∷◌, ◌++◌, ◌∙◌, refl, sym, ap, arith, if◌then◌else◌, Option, Some, []}
-use Rattle.std.specs.Prelude.{None, ◌==◌, ◌&&◌}
-use Rattle.std.proofs.lemmas.Bool.{cases_Bool, or_parts}
-use Rattle.std.proofs.lemmas.Grind.{common_steps}
-use Rattle.std.proofs.lemmas.List.{append-nil}
-use Rattle.ckpt_align.specs.Alignment.{Alignment}
-use Rattle.ckpt_align.specs.Histories.{Item, Element, Barrier, End, Action, Reads, GivesUp, after, answer_to, is_taken, cut_as, replay, taken, sent, elements, before_cut, has_cut, has_ended, cut_by, is_number}
-use Rattle.ckpt_align.proofs.Carrying.{elements-barriers}
-use Rattle.ckpt_align.proofs.ItemLemmas.{elements-append}
-use Rattle.ckpt_once.specs.Programs.{Move, Takes, Draws, Emitted, Program, state, emitted, on_output, from_input, Turn, Offered, GivenUp, Drawn, Ended, told, move_in, with_one, aligned, moves_in, emitted_by, sendings, acts, actions}
+use Rattle.ckpt_once.proofs.Names.{◌≡◌, ℕ, Bool, true, false, ◌||◌, List, ◌∷◌, ◌++◌, ◌∙◌, refl, sym, ap, arith, if◌then◌else◌, Option, Some, [], None, ◌==◌, ◌&&◌, cases_Bool, or_parts}
+use Rattle.ckpt_once.proofs.Names.{common_steps, append-nil, Alignment, Item, Element, Barrier, End, Action, Reads, GivesUp, after, answer_to, is_taken, cut_as, replay, taken, sent}
+use Rattle.ckpt_once.proofs.Names.{elements, before_cut, has_cut, has_ended, cut_by, is_number, elements-barriers, elements-append, Move, Takes, Draws, Emitted, Program, state, emitted}
+use Rattle.ckpt_once.proofs.Names.{on_output, from_input, Turn, Offered, GivenUp, Drawn, Ended, told, move_in, with_one, aligned, moves_in, emitted_by, sendings, acts, actions}
 use Rattle.ckpt_once.proofs.ActionLemmas.{replay-append, taken-append, sent-append, stopped, stopped-append, before-append, before_all, before_stays}
 
 -- sending changes nothing in an aligner

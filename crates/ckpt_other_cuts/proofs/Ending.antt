@@ -1,24 +1,11 @@
 -- Tasks that have ended have their part of a record, too.
-use Rattle.std.proofs.lemmas.Grind.{common_steps}
-use Rattle.std.proofs.Common.{arith, ◌≡◌, ℕ, ◌<◌, true, List, ◌++◌, ◌∙◌, sym, ap, inl, inr}
-use Rattle.std.proofs.lemmas.List.{append_assoc}
-use Rattle.ckpt_ids.specs.declared.call.Call.{Call}
-use Rattle.ckpt_ids.specs.declared.subtask.SubtaskId.{SubtaskId}
-use Rattle.ckpt_ids.specs.Ordered.{IsIn}
-use Rattle.ckpt_ids.specs.Records.{Record}
-use Rattle.ckpt_ids.specs.Shapes.{subtasks}
-use Rattle.ckpt_align.specs.Alignment.{Alignment, opened}
-use Rattle.ckpt_align.specs.Histories.{Item, Action, before, before_cut, elements, processed, replay, sent, taken}
-use Rattle.ckpt_align.specs.Laws.{Channel, IsConnected, IsInOrder, Network, Task}
-use Rattle.ckpt_align.proofs.Carrying.{processed_before, sent_before}
-use Rattle.ckpt_model.specs.Laws.{AreCalls, CanOpen}
-use Rattle.ckpt_model.specs.State.{Opening}
+use Rattle.ckpt_other_cuts.proofs.Names.{common_steps, arith, ◌≡◌, ℕ, ◌<◌, true, List, ◌++◌, ◌∙◌, sym, ap, inl, inr, append_assoc, Call, SubtaskId, IsIn, Record, subtasks, Alignment, Item}
+use Rattle.ckpt_other_cuts.proofs.Names.{Action, before, before_cut, elements, processed, replay, sent, taken, Channel, IsConnected, IsInOrder, Network, Task, processed_before, sent_before}
+use Rattle.ckpt_other_cuts.proofs.Names.{AreCalls, CanOpen, Opening, each-from_done, before_begins, taken-append, AcknowledgesParts, DoneIsConsistent, FinishedCut, HasFinished, HasItsPart}
+use Rattle.ckpt_other_cuts.proofs.Stopping.{ends}
+use Rattle.ckpt_align.specs.Alignment.{opened}
 use Rattle.ckpt_model.specs.State as model
 use Rattle.ckpt_model.specs.Histories as history
-use Rattle.ckpt_cuts.proofs.Consistency.{each-from_done}
-use Rattle.ckpt_once.proofs.ActionLemmas.{before_begins, taken-append}
-use Rattle.ckpt_other_cuts.proofs.Stopping.{ends}
-use Rattle.ckpt_other_cuts.specs.Finished.{AcknowledgesParts, DoneIsConsistent, FinishedCut, HasFinished, HasItsPart}
 
 -- what a task that has ended processed is all that its input carries
 finished_before : (n j inputs : ℕ) (actions : List Action) (rest : List Item) → HasFinished n (record { inputs = inputs; actions = actions }) → j < inputs

@@ -1,20 +1,8 @@
 -- A run in a shape is a run of the job of the keys.
-use Rattle.std.proofs.lemmas.Grind.{common_steps}
-use Rattle.std.proofs.Common.{arith, ◌≡◌, ℕ, Bool, true, false, List, ◌∷◌, ◌++◌, ◌∙◌, refl, sym, ap, subst, []}
-use Rattle.std.specs.List.{filter}
-use Rattle.std.proofs.lemmas.Bool.{both_ways, false_from_ne_true}
-use Rattle.std.proofs.lemmas.List.Elements.{filter-append}
-use Rattle.ckpt_ids.specs.declared.subtask.SubtaskId.{SubtaskId}
-use Rattle.ckpt_ids.specs.Ordered.{IsIn}
-use Rattle.ckpt_ids.specs.Shapes.{same_subtask}
-use Rattle.ckpt_ids.proofs.OrderLemmas.{same_subtask-Decides}
-use Rattle.ckpt_align.specs.Laws.{Channel}
-use Rattle.ckpt_once.specs.Programs.{Move, emitted, on_output}
-use Rattle.ckpt_once.specs.Jobs.{By, IsJob, IsPrefix, IsQuiet, IsRun, Job, Run, States, of, put_on, states_after, taken_off}
-use Rattle.ckpt_once.specs.Sinks.{Sink, written}
-use Rattle.ckpt_once.proofs.Joining.{put-join}
-use Rattle.ckpt_once.proofs.Running.{of_here, of_there}
-use Rattle.ckpt_other_cuts.specs.Reshaped.{IsForOwn, IsOfKey, IsRoutedByKey, IsShapeOf, Spread, channel_over, finest, key_states, outlet, sink_over}
+use Rattle.ckpt_other_cuts.proofs.Names.{common_steps, arith, ◌≡◌, ℕ, Bool, true, false, List, ◌∷◌, ◌++◌, ◌∙◌, refl, sym, ap, subst, [], filter, both_ways, false_from_ne_true, filter-append}
+use Rattle.ckpt_other_cuts.proofs.Names.{SubtaskId, IsIn, same_subtask, same_subtask-Decides, Channel, Move, emitted, on_output, By, IsJob, IsPrefix, IsQuiet, IsRun, Job, Run, States, of}
+use Rattle.ckpt_other_cuts.proofs.Names.{put_on, states_after, taken_off, Sink, written, put-join, of_here, of_there, IsForOwn, IsOfKey, IsRoutedByKey, IsShapeOf, Spread, channel_over}
+use Rattle.ckpt_other_cuts.proofs.Names.{finest, key_states, outlet, sink_over}
 
 -- the moves of the keys
 abbrev pub key_run : Job → Spread → States → Run → Run

@@ -2,6 +2,7 @@
 pub mod Ending
 pub mod KeyRuns
 pub mod Losing
+mod Names
 pub mod Redistributing
 pub mod Reshaping
 pub mod Resumed

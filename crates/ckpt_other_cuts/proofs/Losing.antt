@@ -1,23 +1,13 @@
 -- Tasks that do not hold lose nothing.
-use Rattle.std.proofs.lemmas.Grind.{common_steps}
-use Rattle.std.proofs.Common.{arith, ◌≡◌, ℕ, ◌<◌, Bool, true, false, List, ◌∷◌, ◌++◌, ◌∙◌, refl, sym, ap, if◌then◌else◌, Some, []}
-use Rattle.std.specs.Prelude.{◌==◌, ◌&&◌}
-use Rattle.std.proofs.lemmas.Bool.{both_ways}
-use Rattle.std.proofs.lemmas.List.{append-nil, append_assoc}
-use Rattle.ckpt_ids.specs.declared.call.Call.{Call}
-use Rattle.ckpt_align.specs.Alignment.{Alignment, opened}
-use Rattle.ckpt_align.specs.Histories.{Item, Element, Barrier, End, Action, Reads, GivesUp, Sends, Ends, after, answer_to, before, before_cut, cut_by, elements, has_cut, is_number, is_taken, processed, replay, sent, taken, taken_by}
-use Rattle.ckpt_align.specs.Laws.{Channel, HasCut, IsConnected, Network, Task}
-use Rattle.ckpt_align.proofs.Carrying.{is_number-Some, sent_before}
-use Rattle.ckpt_align.proofs.Cutting.{local_cut, reads_cut-element}
-use Rattle.ckpt_align.proofs.ItemLemmas.{elements-append, runs_not_fixed}
-use Rattle.ckpt_cuts.proofs.Consistency.{has_cut-from_done}
-use Rattle.ckpt_model.specs.Laws.{AreCalls, CanOpen}
-use Rattle.ckpt_model.specs.State.{Opening}
-use Rattle.ckpt_once.proofs.Running.{prefix_like}
+use Rattle.ckpt_other_cuts.proofs.Names.{common_steps, arith, ◌≡◌, ℕ, ◌<◌, Bool, true, false, List, ◌∷◌, ◌++◌, ◌∙◌, refl, sym, ap, if◌then◌else◌, Some, [], ◌==◌, ◌&&◌, both_ways, append-nil}
+use Rattle.ckpt_other_cuts.proofs.Names.{append_assoc, Call, Alignment, Item, Element, Barrier, End, Action, GivesUp, Ends, after, answer_to, before, before_cut, cut_by, elements, has_cut}
+use Rattle.ckpt_other_cuts.proofs.Names.{is_number, is_taken, processed, replay, sent, taken, taken_by, Channel, HasCut, IsConnected, Network, Task, is_number-Some, sent_before, local_cut}
+use Rattle.ckpt_other_cuts.proofs.Names.{reads_cut-element, elements-append, runs_not_fixed, has_cut-from_done, AreCalls, CanOpen, Opening, prefix_like, AtLeastOnce, DoneLosesNone}
+use Rattle.ckpt_other_cuts.proofs.Names.{LosesNone, LosesNoneBetween, is_answer, let_by, let_through, has_stop}
 use Rattle.ckpt_other_cuts.proofs.Stopping.{before_begins, closed, runs}
-use Rattle.ckpt_other_cuts.specs.Loose.{AtLeastOnce, DoneLosesNone, IsInOrder, LosesNone, LosesNoneBetween, is_answer, let_by, let_through}
-use Rattle.ckpt_other_cuts.specs.Stops.{has_stop}
+use Rattle.ckpt_align.specs.Alignment.{opened}
+use Rattle.ckpt_align.specs.Histories.{Reads, Sends}
+use Rattle.ckpt_other_cuts.specs.Loose.{IsInOrder}
 
 -- a task that holds and one that does not take the same barriers and ends
 

@@ -1,11 +1,8 @@
 -- Each key's state goes to one new subtask, and goes on there as it would have in the old one.
-use Rattle.std.proofs.lemmas.Grind.{common_steps}
-use Rattle.std.proofs.Common.{◌≡◌, ◌≢◌, ℕ, zero, suc, ◌<◌, Bool, true, false, List, ◌∷◌, ◌++◌, ◌∙◌, refl, sym, ap, if◌then◌else◌, inl, inr, arith, []}
-use Rattle.std.specs.Prelude.{◌==◌}
-use Rattle.std.proofs.lemmas.Bool.{eq-eqb, eqb-false, eqb-true, ne_eqb}
-use Rattle.std.proofs.lemmas.List.{append-nil}
-use Rattle.ckpt_ids.specs.Ordered.{IsIn}
-use Rattle.ckpt_other_cuts.specs.Rescaled.{Entry, IsRecord, IsRouted, IsSplit, KeyStates, Redistributes, Rescaling, RescalingInvisible, RestoresKeys, Split, TwiceIsOnce, Vertex, after, after_one, all, begins, elements_of, emitted_for, entries_of, its_own, joined, loaded, redistributed}
+use Rattle.ckpt_other_cuts.proofs.Names.{common_steps, ◌≡◌, ◌≢◌, ℕ, zero, suc, ◌<◌, Bool, true, false, List, ◌∷◌, ◌++◌, ◌∙◌, refl, sym, ap, if◌then◌else◌, inl, inr, arith, [], ◌==◌, eq-eqb}
+use Rattle.ckpt_other_cuts.proofs.Names.{eqb-false, eqb-true, ne_eqb, append-nil, IsIn, Entry, IsRecord, IsRouted, IsSplit, KeyStates, Redistributes, Rescaling, RescalingInvisible}
+use Rattle.ckpt_other_cuts.proofs.Names.{RestoresKeys, Split, TwiceIsOnce, Vertex, after_one, all, begins, elements_of, emitted_for, entries_of, its_own, joined, loaded, redistributed}
+use Rattle.ckpt_other_cuts.specs.Rescaled.{after}
 
 -- the lists of all subtasks, if all but one have none
 

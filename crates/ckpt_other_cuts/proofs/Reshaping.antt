@@ -1,21 +1,10 @@
 -- Restarts in other shapes, one behind the other.
-use Rattle.std.proofs.Common.{◌≡◌, ℕ, Bool, List, ◌∷◌, ◌++◌, ◌∙◌, refl, sym, ap, []}
-use Rattle.std.specs.List.{filter}
-use Rattle.std.proofs.lemmas.List.{append_assoc}
-use Rattle.std.proofs.lemmas.List.Elements.{filter-append}
-use Rattle.ckpt_ids.specs.declared.subtask.SubtaskId.{SubtaskId}
-use Rattle.ckpt_ids.specs.Ordered.{IsIn}
-use Rattle.ckpt_model.specs.Laws.{CanOpen}
-use Rattle.ckpt_model.specs.State.{Opening}
-use Rattle.ckpt_once.specs.Jobs.{HaveCut, History, IsJob, IsQuiet, IsRun, Job, Run, States, before_cuts, of, run_of, starts, states_after}
-use Rattle.ckpt_once.specs.Programs.{emitted, on_output, state}
-use Rattle.ckpt_once.specs.Sinks.{Sink, published_in, written}
-use Rattle.ckpt_once.proofs.Joining.{is_quiet-join, put-join, runs_join, states-join}
-use Rattle.ckpt_once.proofs.Running.{record_is_of_run, without_barriers}
-use Rattle.ckpt_other_cuts.specs.Reshaped.{AreRestarts, IsBegun, IsShapeOf, ReshapingInvisible, Restart, Spread, Stage, key_states, published_before, published_now, recorded, sink_over}
+use Rattle.ckpt_other_cuts.proofs.Names.{◌≡◌, ℕ, Bool, List, ◌∷◌, ◌++◌, ◌∙◌, refl, sym, ap, [], filter, append_assoc, filter-append, SubtaskId, IsIn, CanOpen, Opening, HaveCut, History}
+use Rattle.ckpt_other_cuts.proofs.Names.{IsJob, IsQuiet, IsRun, Job, Run, States, before_cuts, of, run_of, starts, states_after, emitted, on_output, state, Sink, published_in, written}
+use Rattle.ckpt_other_cuts.proofs.Names.{is_quiet-join, put-join, runs_join, states-join, record_is_of_run, without_barriers, AreRestarts, IsBegun, IsShapeOf, ReshapingInvisible, Restart}
+use Rattle.ckpt_other_cuts.proofs.Names.{Spread, Stage, key_states, published_before, published_now, recorded, sink_over, published_attempt, have_cut}
 use Rattle.ckpt_other_cuts.proofs.KeyRuns.{AgreeOn, channel_of, is_key_quiet, is_key_run, key_run, key_states_after, same_quiet, same_run, written_by_keys}
-use Rattle.ckpt_once.proofs.Publishing.{published_attempt, published_now as published_since}
-use Rattle.ckpt_once.proofs.Restarting.{have_cut}
+use Rattle.ckpt_once.proofs.Publishing.{published_now as published_since}
 
 -- runs one behind the other
 

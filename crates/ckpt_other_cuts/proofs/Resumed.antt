@@ -1,29 +1,16 @@
 -- What a sink sealed up to a record is what it wrote before its snapshot; and so restarts from unaligned records are invisible.
-use Rattle.std.proofs.Common.{arith, lt_irrefl, ◌≡◌, ℕ, ◌<◌, ◌≤◌, Bool, true, false, nat_le, List, [], ◌∷◌, ◌++◌, ◌∙◌, refl, sym, ap, subst, if◌then◌else◌, map, inl, inr, ⊎_elim}
-use Rattle.std.specs.Prelude.{◌&&◌, ◌||◌, ◌==◌, ◌⊎◌}
-use Rattle.std.proofs.lemmas.Bool.{eq-eqb, eqb-true, le-leb, lt-leb, or_left, or_right}
-use Rattle.std.proofs.lemmas.Grind.{common_steps}
-use Rattle.std.proofs.lemmas.List.{append-nil, append_assoc, map-append}
-use Rattle.ckpt_ids.specs.declared.subtask.SubtaskId.{SubtaskId}
-use Rattle.ckpt_ids.specs.Ordered.{IsIn}
-use Rattle.ckpt_ids.specs.Shapes.{same_subtask}
-use Rattle.ckpt_ids.proofs.OrderLemmas.{same_subtask-Decides}
-use Rattle.ckpt_ids.proofs.OrderedLemmas.{IsIn-append_cases, IsIn-append_left, IsIn-append_right}
-use Rattle.ckpt_align.specs.Laws.{Channel}
-use Rattle.ckpt_once.specs.Programs.{Emitted, Move, Program, emitted, on_output, state, with_one}
-use Rattle.ckpt_once.specs.Jobs.{By, IsJob, IsPrefix, Job, Run, States, of, starts, states_after}
-use Rattle.ckpt_once.specs.Sinks.{Sink, Transaction, contents, published, up_to, written}
-use Rattle.ckpt_once.proofs.Running.{of_here, of_there}
-use Rattle.ckpt_once.proofs.Sealing.{contents-append, published_begins, published_up_to}
-use Rattle.ckpt_once.proofs.TurnLemmas.{on_output-append}
-use Rattle.ckpt_unaligned.specs.Laws.{HasPart}
-use Rattle.ckpt_unaligned.specs.Recording.{opened}
-use Rattle.ckpt_other_cuts.specs.Restarted.{AreStretches, Begin, Doing, Doings, Moves, Snaps, Stretch, before_snaps, begin_after, has_snapped, is_snap, kept_moves, moves, run_of_stretches, with_doing}
-use Rattle.ckpt_other_cuts.specs.Restarted as restarted
+use Rattle.ckpt_other_cuts.proofs.Names.{arith, lt_irrefl, ◌≡◌, ℕ, ◌<◌, ◌≤◌, Bool, true, false, nat_le, List, [], ◌∷◌, ◌++◌, ◌∙◌, refl, sym, ap, subst, if◌then◌else◌, map, inl, inr, ⊎_elim}
+use Rattle.ckpt_other_cuts.proofs.Names.{◌&&◌, ◌||◌, ◌==◌, ◌⊎◌, eq-eqb, eqb-true, le-leb, lt-leb, or_left, or_right, common_steps, append-nil, append_assoc, map-append, SubtaskId, IsIn}
+use Rattle.ckpt_other_cuts.proofs.Names.{same_subtask, same_subtask-Decides, IsIn-append_cases, IsIn-append_left, IsIn-append_right, Channel, Emitted, Move, Program, emitted, on_output}
+use Rattle.ckpt_other_cuts.proofs.Names.{state, with_one, By, IsJob, IsPrefix, Job, Run, States, of, starts, states_after, Sink, Transaction, contents, published, up_to, written, of_here}
+use Rattle.ckpt_other_cuts.proofs.Names.{of_there, contents-append, published_begins, published_up_to, on_output-append, HasPart, opened, AreStretches, Begin, Doing, Doings, Moves, Snaps}
+use Rattle.ckpt_other_cuts.proofs.Names.{Stretch, before_snaps, begin_after, has_snapped, is_snap, kept_moves, moves, run_of_stretches, with_doing, AreResumes, Attempt, IsResume}
+use Rattle.ckpt_other_cuts.proofs.Names.{ResumesInvisible, Sealing, sealed_more, sealing, snap_of, snaps_in, stretches}
 use Rattle.ckpt_other_cuts.proofs.Resuming.{is_restored, not_snapped, prefix-behind, recorders_keep_channels, snapped, written-join}
-use Rattle.ckpt_other_cuts.proofs.Resuming as resuming
-use Rattle.ckpt_other_cuts.specs.Resumed.{AreResumes, Attempt, IsResume, ResumesInvisible, Sealing, published_before, published_in, sealed_more, sealing, snap_of, snaps_in, stretches}
 use Rattle.ckpt_other_cuts.proofs.Snapping.{IsRising, part_was_said, said_rises}
+use Rattle.ckpt_other_cuts.specs.Restarted as restarted
+use Rattle.ckpt_other_cuts.proofs.Resuming as resuming
+use Rattle.ckpt_other_cuts.specs.Resumed.{published_before, published_in}
 
 -- LISTS
 

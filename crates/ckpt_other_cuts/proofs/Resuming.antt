@@ -1,24 +1,12 @@
 -- A job that begins from the snapshots of a record, and from what its channels had still to give, goes on with one run.
-use Rattle.std.proofs.Common.{arith, ◌≡◌, ℕ, Bool, true, false, List, [], ◌∷◌, ◌++◌, ◌∙◌, refl, sym, ap, subst, if◌then◌else◌}
-use Rattle.std.specs.Prelude.{◌&&◌}
-use Rattle.std.proofs.Math.Path.{fun_ext}
-use Rattle.std.proofs.lemmas.Bool.{both_ways, or_left, or_parts}
-use Rattle.std.proofs.lemmas.Grind.{common_steps}
-use Rattle.std.proofs.lemmas.List.{append_assoc}
-use Rattle.ckpt_ids.specs.declared.subtask.SubtaskId.{SubtaskId}
-use Rattle.ckpt_ids.specs.Ordered.{IsIn}
-use Rattle.ckpt_ids.specs.Shapes.{same_subtask}
-use Rattle.ckpt_ids.proofs.OrderLemmas.{same_subtask-Decides}
-use Rattle.ckpt_align.specs.Laws.{Channel}
-use Rattle.ckpt_once.specs.Programs.{Emitted, Move, Program, emitted, from_input, on_output, state}
-use Rattle.ckpt_once.specs.Jobs.{By, IsPrefix, IsRun, Job, Run, States, of, put_on, starts, states_after, taken_off}
-use Rattle.ckpt_once.specs.Sinks.{Sink, written}
-use Rattle.ckpt_once.proofs.ActionLemmas.{prefix_trans}
-use Rattle.ckpt_once.proofs.Joining.{emitted-append, from_input-append, put-join, states-join, taken-join}
-use Rattle.ckpt_once.proofs.TurnLemmas.{on_output-append}
-use Rattle.ckpt_unaligned.proofs.Parts.{global_part}
+use Rattle.ckpt_other_cuts.proofs.Names.{arith, ◌≡◌, ℕ, Bool, true, false, List, [], ◌∷◌, ◌++◌, ◌∙◌, refl, sym, ap, subst, if◌then◌else◌, ◌&&◌, fun_ext, both_ways, or_left, or_parts}
+use Rattle.ckpt_other_cuts.proofs.Names.{common_steps, append_assoc, SubtaskId, IsIn, same_subtask, same_subtask-Decides, Channel, Emitted, Move, Program, emitted, from_input, on_output}
+use Rattle.ckpt_other_cuts.proofs.Names.{state, By, IsPrefix, IsRun, Job, Run, States, of, put_on, starts, states_after, taken_off, Sink, written, prefix_trans, emitted-append}
+use Rattle.ckpt_other_cuts.proofs.Names.{from_input-append, put-join, states-join, taken-join, on_output-append, global_part, AreStretches, Begin, Doing, Doings, IsRunFrom, Moves}
+use Rattle.ckpt_other_cuts.proofs.Names.{RecordersKeepChannels, RestartsInvisible, Snaps, Stretch, anew, before_snaps, begin_after, has_snapped, is_snap, kept_moves, moves, run_of_stretches}
+use Rattle.ckpt_other_cuts.proofs.Names.{with_doing}
 use Rattle.ckpt_other_cuts.proofs.KeyRuns.{channel_of}
-use Rattle.ckpt_other_cuts.specs.Restarted.{AreStretches, Begin, Doing, Doings, IsRunFrom, Moves, RecordersKeepChannels, RestartsInvisible, Snaps, Stretch, anew, before_snaps, begin_after, has_snapped, is_snap, kept_moves, moves, published, run_of_stretches, with_doing}
+use Rattle.ckpt_other_cuts.specs.Restarted.{published}
 
 -- what recorders made has the channels
 

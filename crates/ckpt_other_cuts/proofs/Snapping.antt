@@ -1,26 +1,13 @@
 -- A recorder's snapshots are for records with rising numbers, and a record that is whole was snapped.
-use Rattle.std.proofs.Common.{◌≡◌, ℕ, ◌<◌, ◌≤◌, Bool, true, false, List, [], ◌∷◌, ◌++◌, ◌∙◌, refl, sym, ap, subst, arith, inl, inr, ⊎_elim}
-use Rattle.std.specs.Prelude.{◌&&◌, ◌==◌, ◌⊎◌, Option, Some, None, Result, Ok, if◌then◌else◌, nat_lt, not, slice_get}
-use Rattle.std.specs.List.{list_any}
-use Rattle.std.proofs.lemmas.Bool.{and_parts}
-use Rattle.std.proofs.lemmas.Grind.{common_steps}
-use Rattle.std.proofs.lemmas.Option.{none-some, same_Some}
-use Rattle.ckpt_ids.specs.Ordered.{IsIn}
-use Rattle.ckpt_align.specs.declared.event.Refusal.{Refusal}
-use Rattle.ckpt_align.specs.declared.input.Input.{Input}
-use Rattle.ckpt_align.specs.declared.input.Input.TheVariants.{Open, Held, Ended}
-use Rattle.ckpt_align.specs.Alignment.{is_open}
-use Rattle.ckpt_align.specs.Histories.{Element, Barrier, End}
-use Rattle.ckpt_once.specs.Programs.{with_one}
-use Rattle.ckpt_unaligned.specs.declared.answer.Answer.{Answer}
-use Rattle.ckpt_unaligned.specs.declared.answer.Answer.TheVariants.{Process, Record, Hold, Nothing, Wait, Late, Snap, Abandon}
-use Rattle.ckpt_unaligned.specs.declared.answer.Phase.{Phase}
+use Rattle.ckpt_other_cuts.proofs.Names.{◌≡◌, ℕ, ◌<◌, ◌≤◌, Bool, true, false, List, [], ◌∷◌, ◌++◌, ◌∙◌, refl, sym, ap, subst, arith, inl, inr, ⊎_elim, ◌&&◌, ◌==◌, ◌⊎◌, Option, Some, None}
+use Rattle.ckpt_other_cuts.proofs.Names.{Result, Ok, if◌then◌else◌, nat_lt, not, slice_get, list_any, and_parts, common_steps, none-some, same_Some, IsIn, Refusal, Input, Open, Held, Ended}
+use Rattle.ckpt_other_cuts.proofs.Names.{is_open, Element, Barrier, End, with_one, Answer, Process, Hold, Nothing, Wait, Late, Snap, Abandon, Phase, Recorder, begun, delivered, ended}
+use Rattle.ckpt_other_cuts.proofs.Names.{is_idle, is_late, is_recording, opened, overtaken, with_input, Stepped, barrier, element, give_up, if_open, is_free_for, overtake, settled, step}
+use Rattle.ckpt_other_cuts.proofs.Names.{whole, Reads, Overtakes, Sends, done, snap_as, whole_as, HasPart, snaps_said}
+use Rattle.ckpt_unaligned.specs.declared.answer.Answer.TheVariants.{Record}
 use Rattle.ckpt_unaligned.specs.declared.answer.Phase.TheVariants as phase
-use Rattle.ckpt_unaligned.specs.Recording.{Recorder, begun, delivered, ended, is_idle, is_late, is_recording, opened, overtaken, with_input}
-use Rattle.ckpt_unaligned.specs.Steps.{Stepped, barrier, element, give_up, if_open, is_free_for, overtake, settled, step, whole}
-use Rattle.ckpt_unaligned.specs.Histories.{Action, Reads, Overtakes, GivesUp, Sends, Ends, after, answer_to, done, replay, snap_as, whole_as}
-use Rattle.ckpt_unaligned.specs.Laws.{HasPart, Task}
-use Rattle.ckpt_other_cuts.specs.Resumed.{snaps_said}
+use Rattle.ckpt_unaligned.specs.Histories.{Action, GivesUp, Ends, after, answer_to, replay}
+use Rattle.ckpt_unaligned.specs.Laws.{Task}
 
 -- what a recorder's later snapshots are above
 abbrev Above : Phase → ℕ → ℕ → Type 0

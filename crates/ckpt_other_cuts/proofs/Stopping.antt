@@ -1,13 +1,6 @@
 -- What comes before a barrier, and where that ends.
-use Rattle.std.proofs.lemmas.Grind.{common_steps}
-use Rattle.std.proofs.Common.{arith, ◌≡◌, ℕ, Bool, true, false, List, ◌∷◌, ◌++◌, ◌∙◌, refl, sym, ap, if◌then◌else◌, []}
-use Rattle.std.specs.Prelude.{◌==◌}
-use Rattle.std.proofs.lemmas.Bool.{both_ways}
-use Rattle.std.proofs.lemmas.List.{append-nil, append_assoc}
-use Rattle.ckpt_align.specs.Histories.{Item, Element, Barrier, End, before, elements}
-use Rattle.ckpt_align.proofs.ItemLemmas.{Runs, elements-append}
-use Rattle.ckpt_once.specs.Jobs.{IsPrefix}
-use Rattle.ckpt_other_cuts.specs.Stops.{EndsWithout, has_stop}
+use Rattle.ckpt_other_cuts.proofs.Names.{common_steps, arith, ◌≡◌, ℕ, Bool, true, false, List, ◌∷◌, ◌++◌, ◌∙◌, refl, sym, ap, if◌then◌else◌, [], ◌==◌, both_ways, append-nil, append_assoc}
+use Rattle.ckpt_other_cuts.proofs.Names.{Item, Element, Barrier, End, before, elements, Runs, elements-append, IsPrefix, EndsWithout, has_stop}
 
 -- without a stop what follows decides
 runs_by : (n : ℕ) (b s : Bool) (c rest : List Item) → (if b then true else s) ≡ false → (s ≡ false → before n (c ++ rest) ≡ elements c ++ before n rest) → (if b then [] else before n (c ++ rest)) ≡ elements c ++ before n rest

@@ -1,27 +1,12 @@
 -- The worked example of a restore in another shape meets the premises of the law.
-use Rattle.std.proofs.lemmas.Grind.{common_steps}
-use Rattle.std.proofs.Common.{◌≡◌, true, inl, inr, List, ◌∷◌, refl, sym, subst, arith, []}
-use Rattle.ckpt_ids.specs.declared.ack.Acked.{Acked}
-use Rattle.ckpt_ids.specs.declared.numbers.Kind.TheVariants.{Checkpoint}
-use Rattle.ckpt_ids.specs.declared.subtask.SubtaskId.{SubtaskId}
-use Rattle.ckpt_ids.specs.Ordered.{IsIn}
-use Rattle.ckpt_ids.specs.Records.{Record}
-use Rattle.ckpt_align.specs.Histories.{Barrier, Element}
-use Rattle.ckpt_align.specs.Laws.{Channel, HasCut}
-use Rattle.ckpt_align.specs.Steps.{barrier, settled, step}
-use Rattle.ckpt_cuts.specs.Laws.{AcknowledgesCuts}
-use Rattle.ckpt_model.specs.Laws.{CanOpen, accepted_by, along}
-use Rattle.ckpt_model.specs.State.{opened}
-use Rattle.ckpt_model.specs.Steps.{step_computes}
-use Rattle.ckpt_once.specs.Programs.{Draws, Drawn, Move, Offered, Takes, Turn}
-use Rattle.ckpt_once.specs.Jobs.{By, GivesInOrder, History, IsHistory, IsPrefix, IsRun, Run, before_cuts, network, put_on, run_of, starts, taken_off}
-use Rattle.ckpt_once.specs.Restarts.{WasDone}
-use Rattle.ckpt_once.proofs.PlainRuns.{run_is_history}
-use Rattle.ckpt_other_cuts.specs.Reshaped.{AreRestarts, IsBegun, IsEnded, IsRoutedByKey, finest, recorded}
-use Rattle.ckpt_other_cuts.specs.WorkedRestarts.{again, calls, failed, given, opening, reshaped, restart, turn}
-use Rattle.ckpt_other_cuts.specs.WorkedShapes.{by, job, keys, line, part_of, spread, subtask}
-use Rattle.ckpt_other_cuts.proofs.KeyRuns.{finest_is_shape}
+use Rattle.ckpt_other_cuts.proofs.Names.{common_steps, ◌≡◌, true, inl, inr, List, ◌∷◌, refl, sym, subst, arith, [], Acked, Checkpoint, SubtaskId, IsIn, Record, Barrier, Element, Channel}
+use Rattle.ckpt_other_cuts.proofs.Names.{HasCut, AcknowledgesCuts, CanOpen, accepted_by, along, step_computes, Draws, Drawn, Move, Offered, Takes, Turn, By, GivesInOrder, History, IsHistory}
+use Rattle.ckpt_other_cuts.proofs.Names.{IsPrefix, IsRun, Run, before_cuts, network, put_on, run_of, starts, taken_off, WasDone, run_is_history, AreRestarts, IsBegun, IsEnded, IsRoutedByKey}
+use Rattle.ckpt_other_cuts.proofs.Names.{finest, recorded, again, calls, failed, given, opening, reshaped, restart, turn, by, job, keys, line, part_of, spread, subtask}
 use Rattle.ckpt_other_cuts.proofs.WorkedShaping.{each_key, each_line, is_job, one_line, worked_is_job, worked_is_shape}
+use Rattle.ckpt_other_cuts.proofs.KeyRuns.{finest_is_shape}
+use Rattle.ckpt_align.specs.Steps.{barrier, settled, step}
+use Rattle.ckpt_model.specs.State.{opened}
 
 pub can_open : CanOpen opening
 can_open = grind (arith, common_steps)

@@ -1,19 +1,10 @@
 -- What recorders were told in the worked example meets the premises of the law.
-use Rattle.std.proofs.Common.{◌≡◌, ◌<◌, [], ◌∷◌, ◌++◌, ◌∙◌, refl, sym, subst, inl, inr, arith}
-use Rattle.ckpt_ids.specs.declared.subtask.SubtaskId.{SubtaskId}
-use Rattle.ckpt_ids.specs.Ordered.{IsIn}
-use Rattle.ckpt_align.specs.Histories.{Barrier, Element}
-use Rattle.ckpt_once.specs.Jobs.{put_on, taken_off}
-use Rattle.ckpt_once.specs.WorkedExamples.{adder, job, line, source}
-use Rattle.ckpt_unaligned.specs.Histories.{Overtakes, Reads, Sends}
-use Rattle.ckpt_unaligned.specs.Laws.{HasPart, IsInOrder, part_in, sent_before}
-use Rattle.ckpt_unaligned.specs.Recording.{opened}
-use Rattle.ckpt_unaligned.specs.Steps.{barrier, overtake, settled, step}
-use Rattle.ckpt_unaligned.proofs.Parts.{global_part}
-use Rattle.ckpt_other_cuts.specs.Restarted.{anew, kept_moves}
-use Rattle.ckpt_other_cuts.specs.Resumed.{WasRecorded, snaps_in, snaps_said}
-use Rattle.ckpt_other_cuts.specs.WorkedRecorders.{attempt, network}
-use Rattle.ckpt_other_cuts.specs.WorkedResumes.{are_stretches, at_line, stretch}
+use Rattle.ckpt_other_cuts.proofs.Names.{◌≡◌, ◌<◌, [], ◌∷◌, ◌++◌, ◌∙◌, refl, sym, subst, inl, inr, arith, SubtaskId, IsIn, Barrier, Element, put_on, taken_off, adder, source, Overtakes}
+use Rattle.ckpt_other_cuts.proofs.Names.{Reads, Sends, HasPart, part_in, opened, barrier, overtake, settled, step, global_part, anew, kept_moves, WasRecorded, snaps_in, snaps_said, attempt}
+use Rattle.ckpt_other_cuts.proofs.Names.{are_stretches, at_line, stretch}
+use Rattle.ckpt_once.specs.WorkedExamples.{job, line}
+use Rattle.ckpt_unaligned.specs.Laws.{IsInOrder, sent_before}
+use Rattle.ckpt_other_cuts.specs.WorkedRecorders.{network}
 
 pub at_task : (P : SubtaskId → Type 0) → P source → P adder → (t : SubtaskId) → IsIn t job.tasks → P t
 at_task P first second t (inl e) = subst P (sym e) first

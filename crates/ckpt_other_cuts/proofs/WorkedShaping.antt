@@ -1,20 +1,9 @@
 -- The worked example meets the premises of the law of restores in other shapes.
-use Rattle.std.proofs.lemmas.Grind.{common_steps}
-use Rattle.std.proofs.Common.{◌≡◌, ◌∙◌, ◌+◌, ◌*◌, ◌/◌, ◌%◌, ◌==◌, ◌&&◌, ◌<◌, inl, inr, ℕ, zero, suc, if◌then◌else◌, ◌∷◌, refl, sym, ap, subst, arith, []}
-use Rattle.std.specs.List.{filter}
-use Rattle.std.proofs.lemmas.Bool.{both_ways}
-use Rattle.std.proofs.lemmas.Nat.{div-mul-add, mod-mul-add, mod_below}
-use Rattle.ckpt_ids.specs.declared.subtask.SubtaskId.{SubtaskId}
-use Rattle.ckpt_ids.specs.Ordered.{IsIn}
-use Rattle.ckpt_ids.specs.Shapes.{same_subtask}
-use Rattle.ckpt_ids.proofs.OrderLemmas.{same_subtask-Decides}
-use Rattle.ckpt_align.specs.Laws.{Channel}
-use Rattle.ckpt_once.specs.Programs.{Draws, Move, Takes, emitted, on_output, state}
-use Rattle.ckpt_once.specs.Jobs.{By, IsJob, IsMoveOf, IsPrefix, IsRun, Run, of, put_on, run_of, starts, states_after, taken_off}
-use Rattle.ckpt_once.specs.Sinks.{written}
-use Rattle.ckpt_once.proofs.PlainRuns.{run_is_history}
-use Rattle.ckpt_other_cuts.specs.Reshaped.{IsBegun, IsForOwn, IsOfKey, IsRoutedByKey, IsShapeOf, channel_over, emitted_of, recorded, taken_of}
-use Rattle.ckpt_other_cuts.specs.WorkedShapes.{by, is_out_of, job, keys, line, part_of, run, spread, stage, subtask, sum_on, sums}
+use Rattle.ckpt_other_cuts.proofs.Names.{common_steps, ◌≡◌, ◌∙◌, ◌+◌, ◌*◌, ◌/◌, ◌%◌, ◌==◌, ◌&&◌, ◌<◌, inl, inr, ℕ, zero, suc, if◌then◌else◌, ◌∷◌, refl, sym, ap, subst, arith, [], filter}
+use Rattle.ckpt_other_cuts.proofs.Names.{both_ways, div-mul-add, mod-mul-add, mod_below, SubtaskId, IsIn, same_subtask, same_subtask-Decides, Channel, Draws, Move, Takes, emitted, on_output}
+use Rattle.ckpt_other_cuts.proofs.Names.{state, By, IsJob, IsMoveOf, IsPrefix, IsRun, Run, of, put_on, run_of, starts, states_after, taken_off, written, run_is_history, IsBegun, IsForOwn}
+use Rattle.ckpt_other_cuts.proofs.Names.{IsOfKey, IsRoutedByKey, IsShapeOf, channel_over, emitted_of, recorded, taken_of, by, is_out_of, job, keys, line, part_of, run, spread, stage}
+use Rattle.ckpt_other_cuts.proofs.Names.{subtask, sum_on, sums}
 
 -- the tasks and channels of the two jobs
 

@@ -1,27 +1,13 @@
 -- What is done after a turn is what the turn takes, puts and tells.
-use Rattle.std.proofs.Common.{◌≡◌, ℕ, ◌+◌, Bool, true, false, List, ◌∷◌, ◌++◌, ◌∙◌, refl, sym, ap, subst, arith, if◌then◌else◌, Option, Some, None, Ok, Err, inl, inr, []}
-use Rattle.std.specs.Prelude.{◌==◌, ◌&&◌, MatchBool, map, length, Result}
-use Rattle.std.proofs.lemmas.Bool.{both_ways}
-use Rattle.std.proofs.lemmas.Grind.{common_steps}
-use Rattle.std.proofs.lemmas.List.{append-nil, append_assoc}
-use Rattle.ckpt_align.specs.Alignment.{Alignment}
-use Rattle.ckpt_align.specs.Histories.{Item, Element, after, is_taken, sent, taken}
-use Rattle.ckpt_align.specs.declared.event.Answer.{Answer}
-use Rattle.ckpt_align.specs.declared.event.Answer.TheVariants as answer
-use Rattle.ckpt_align.specs.declared.event.Refusal.{Refusal}
-use Rattle.ckpt_once.specs.Programs.{Emitted, Program, Turn, Offered, GivenUp, Drawn, Ended, actions, on_output}
-use Rattle.ckpt_once.specs.Sinks.{Transaction}
-use Rattle.ckpt_once.proofs.TurnLemmas.{taken_sendings}
+use Rattle.ckpt_task.proofs.Names.{◌≡◌, ℕ, ◌+◌, Bool, true, false, List, ◌∷◌, ◌++◌, ◌∙◌, refl, sym, ap, subst, arith, if◌then◌else◌, Option, Some, None, Ok, Err, inl, inr, [], ◌==◌, ◌&&◌}
+use Rattle.ckpt_task.proofs.Names.{MatchBool, map, length, Result, both_ways, common_steps, append-nil, append_assoc, Alignment, Item, Element, after, is_taken, sent, taken, Answer, Refusal}
+use Rattle.ckpt_task.proofs.Names.{Emitted, Program, Turn, Offered, GivenUp, Drawn, Ended, actions, on_output, Transaction, taken_sendings, Deed, Came, Took, Sent, Next, Outcome, Word}
+use Rattle.ckpt_task.proofs.Names.{Declines, after_sends, as_came, came_in, deeds_after, last_on, sent_in, taken_in, told_in, words_of, Around, HasRun, HasTurned, IsKept, IsKeptBy, Kept}
+use Rattle.ckpt_task.proofs.Names.{Waits, acknowledged, kept_in, Saved, At, IsSaved, abandoned_as, abandoned_in, answer_in, as_turn, cut_in, cut_of, is_held, is_left, put_on, puts}
+use Rattle.ckpt_task.proofs.Names.{refusal_as, refusals_of, takes, turned}
 use Rattle.ckpt_task.proofs.Working.{at_as, puts_is, takes_is, turned_is}
-use Rattle.ckpt_task.specs.declared.deed.Deed.{Deed}
-use Rattle.ckpt_task.specs.declared.deed.Deed.TheVariants.{Came, Took, Sent}
-use Rattle.ckpt_task.specs.declared.turn.Next.{Next}
-use Rattle.ckpt_task.specs.declared.turn.Outcome.{Outcome}
+use Rattle.ckpt_align.specs.declared.event.Answer.TheVariants as answer
 use Rattle.ckpt_task.specs.declared.turn.Outcome.TheVariants as outcome
-use Rattle.ckpt_task.specs.Deeds.{Word, Declines, after_sends, as_came, came_in, deeds_after, last_on, sent_in, taken_in, told_in, words_of}
-use Rattle.ckpt_task.specs.Runs.{Around, HasRun, HasTurned, IsKept, IsKeptBy, Kept, Waits, acknowledged, kept_in}
-use Rattle.ckpt_task.specs.Saving.{Saved}
-use Rattle.ckpt_task.specs.Turns.{At, IsSaved, abandoned_as, abandoned_in, answer_in, as_turn, cut_in, cut_of, is_held, is_left, put_on, puts, refusal_as, refusals_of, takes, turned}
 
 -- elements that are sent
 

@@ -1,33 +1,12 @@
 -- What tasks did that faults stopped counts as loops.
-use Rattle.std.proofs.Common.{◌≡◌, ℕ, eqb, ◌+◌, Bool, true, false, List, [], ◌∷◌, ◌++◌, ◌∙◌, refl, sym, ap, subst, if◌then◌else◌, Option, Some, None, inl, inr}
-use Rattle.std.specs.Prelude.{◌==◌, ◌⊎◌}
-use Rattle.std.proofs.lemmas.Bool.{both_ways, cond_both, eqb-true}
-use Rattle.std.proofs.lemmas.List.{append-nil, append_assoc}
-use Rattle.ckpt_ids.specs.declared.subtask.SubtaskId.{SubtaskId}
-use Rattle.ckpt_ids.specs.Ordered.{IsIn}
-use Rattle.ckpt_ids.specs.Shapes.{same_subtask}
-use Rattle.ckpt_ids.proofs.OrderLemmas.{same_subtask-Decides}
-use Rattle.ckpt_align.specs.Alignment.{Alignment, opened}
-use Rattle.ckpt_align.specs.Histories.{Item, has_cut, replay}
+use Rattle.ckpt_task.proofs.Names.{◌≡◌, ℕ, eqb, ◌+◌, Bool, true, false, List, [], ◌∷◌, ◌++◌, ◌∙◌, refl, sym, ap, subst, if◌then◌else◌, Option, Some, None, inl, inr, ◌==◌, ◌⊎◌, both_ways}
+use Rattle.ckpt_task.proofs.Names.{cond_both, eqb-true, append-nil, append_assoc, SubtaskId, IsIn, same_subtask, same_subtask-Decides, Alignment, opened, Item, has_cut, replay, Channel}
+use Rattle.ckpt_task.proofs.Names.{IsJob, Job, States, Ended, Program, Turn, actions, Transaction, aligned_is, Deed, Came, Took, Sent, SentBarrier, SentEnd, Acknowledged, Declined, Next}
+use Rattle.ckpt_task.proofs.Names.{IsPart, IsUnfinished, Word, Acknowledges, as_came, came_in, sent_in, taken_in, told_in, AreFailing, CountAsLoops, CountsAs, FaultsCount, HasFailed}
+use Rattle.ckpt_task.proofs.Names.{HasLoopedOrFailed, KeepsOrder, HasLooped, Looped, Loops, deeds_of, turns_of, Around, IsKeptBy, IsStopped, Kept, WasBegun, around, kept_in, Saved, under}
+use Rattle.ckpt_task.proofs.Names.{At, abandoned_as, answer_in, cut_of}
+use Rattle.ckpt_task.proofs.{Doing.runs_more, Looping.Follows, Looping.follows, Looping.follows_run, Snapping.not_cut_yet, Working.at_as}
 use Rattle.ckpt_align.specs.Histories as item
-use Rattle.ckpt_align.specs.Laws.{Channel}
-use Rattle.ckpt_once.specs.Jobs.{IsJob, Job, States}
-use Rattle.ckpt_once.specs.Programs.{Ended, Program, Turn, actions}
-use Rattle.ckpt_once.specs.Sinks.{Transaction}
-use Rattle.ckpt_once.proofs.TurnLemmas.{aligned_is}
-use Rattle.ckpt_task.proofs.Doing.{runs_more}
-use Rattle.ckpt_task.proofs.Looping.{Follows, follows, follows_run}
-use Rattle.ckpt_task.proofs.Snapping.{not_cut_yet}
-use Rattle.ckpt_task.proofs.Working.{at_as}
-use Rattle.ckpt_task.specs.declared.deed.Deed.{Deed}
-use Rattle.ckpt_task.specs.declared.deed.Deed.TheVariants.{Came, Took, Sent, SentBarrier, SentEnd, Acknowledged, Declined}
-use Rattle.ckpt_task.specs.declared.turn.Next.{Next}
-use Rattle.ckpt_task.specs.Deeds.{IsPart, IsUnfinished, Word, Acknowledges, as_came, came_in, sent_in, taken_in, told_in}
-use Rattle.ckpt_task.specs.Faults.{AreFailing, CountAsLoops, CountsAs, FaultsCount, HasFailed, HasLoopedOrFailed}
-use Rattle.ckpt_task.specs.Loops.{KeepsOrder, HasLooped, Looped, Loops, deeds_of, turns_of}
-use Rattle.ckpt_task.specs.Runs.{Around, IsKeptBy, IsStopped, Kept, WasBegun, around, kept_in}
-use Rattle.ckpt_task.specs.Saving.{Saved, under}
-use Rattle.ckpt_task.specs.Turns.{At, abandoned_as, answer_in, cut_of}
 
 -- what came and was not taken
 

@@ -3,6 +3,7 @@ pub mod Doing
 pub mod Failing
 pub mod LoopLaws
 pub mod Looping
+mod Names
 pub mod Restores
 pub mod Seaming
 pub mod SinkGiving

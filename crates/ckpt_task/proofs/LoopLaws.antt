@@ -1,39 +1,12 @@
 -- What an engine of tasks in loops does.
-use Rattle.std.proofs.lemmas.Grind.{common_steps}
-use Rattle.std.proofs.Common.{arith, ◌≡◌, ℕ, Bool, true, false, List, ◌∷◌, ◌++◌, ◌∙◌, refl, sym, ap, subst, if◌then◌else◌, Option, Some, None, inl, inr, []}
-use Rattle.std.specs.Prelude.{◌⊎◌}
-use Rattle.std.proofs.lemmas.List.{append-nil}
-use Rattle.std.proofs.lemmas.Option.{none-some}
-use Rattle.ckpt_ids.specs.declared.call.Call.{Call}
-use Rattle.ckpt_ids.specs.declared.subtask.SubtaskId.{SubtaskId}
-use Rattle.ckpt_ids.specs.Ordered.{IsIn}
-use Rattle.ckpt_align.specs.Alignment.{Alignment, opened}
-use Rattle.ckpt_align.specs.Histories.{Ends, has_cut, sent, taken}
-use Rattle.ckpt_align.specs.Laws.{Channel}
-use Rattle.ckpt_cuts.specs.Laws.{AcknowledgesCuts}
-use Rattle.ckpt_model.specs.Laws.{CanOpen}
-use Rattle.ckpt_model.specs.State.{Opening}
-use Rattle.ckpt_once.specs.Programs.{Ended, Program, Turn, acts, actions, aligned, moves_in, state}
-use Rattle.ckpt_once.specs.Sinks.{Transaction}
-use Rattle.ckpt_once.specs.Jobs.{IsJob, Job, States, network, of, restored, snapshots}
-use Rattle.ckpt_once.specs.Restarts.{AreRestarts}
-use Rattle.ckpt_once.proofs.ActionLemmas.{sent-append, taken-append}
-use Rattle.ckpt_once.proofs.Restarting.{restarts_invisible}
-use Rattle.ckpt_once.proofs.Running.{before_turns}
+use Rattle.ckpt_task.proofs.Names.{common_steps, arith, ◌≡◌, ℕ, Bool, true, false, List, ◌∷◌, ◌++◌, ◌∙◌, refl, sym, ap, subst, if◌then◌else◌, Option, Some, None, inl, inr, [], ◌⊎◌}
+use Rattle.ckpt_task.proofs.Names.{append-nil, none-some, Call, SubtaskId, IsIn, Alignment, opened, Ends, has_cut, sent, taken, Channel, AcknowledgesCuts, CanOpen, Opening, Ended, Program}
+use Rattle.ckpt_task.proofs.Names.{Turn, acts, actions, aligned, moves_in, state, Transaction, IsJob, Job, States, network, of, restored, snapshots, AreRestarts, sent-append, taken-append}
+use Rattle.ckpt_task.proofs.Names.{restarts_invisible, before_turns, cut_stays, Deed, SentEnd, came_in, sent_in, taken_in, Snapped, snapped_at, snapped_by, AcceptsTold, AreLooping}
+use Rattle.ckpt_task.proofs.Names.{AreLoopsAttempts, AreRuns, IsHistoryOfLoops, Loops, LoopsAreSeamless, LoopsAttempt, LoopsMakeHistory, LoopsRestore, attempts_of, history_of, turns_of}
+use Rattle.ckpt_task.proofs.Names.{AreKept, Around, IsKeptBy, Kept, Waits, kept_in, Saved, state_of, under, At}
 use Rattle.ckpt_task.proofs.Looping.{Carries, Follows, after_more, comes_on, ends_last, follows, is_history, of_later}
-use Rattle.ckpt_task.proofs.Restores.{Comes, adds, snap, stays}
-use Rattle.ckpt_task.proofs.Seaming.{was_done}
-use Rattle.ckpt_once.proofs.Publishing.{cut_stays}
-use Rattle.ckpt_task.proofs.Snapping.{IsSnap, snap_stays, snaps}
-use Rattle.ckpt_task.proofs.Working.{at_of}
-use Rattle.ckpt_task.specs.declared.deed.Deed.{Deed}
-use Rattle.ckpt_task.specs.declared.deed.Deed.TheVariants.{SentEnd}
-use Rattle.ckpt_task.specs.Deeds.{came_in, sent_in, taken_in}
-use Rattle.ckpt_task.specs.Engines.{Snapped, snapped_at, snapped_by}
-use Rattle.ckpt_task.specs.Loops.{AcceptsTold, AreLooping, AreLoopsAttempts, AreRuns, IsHistoryOfLoops, Loops, LoopsAreSeamless, LoopsAttempt, LoopsMakeHistory, LoopsRestore, attempts_of, history_of, turns_of}
-use Rattle.ckpt_task.specs.Runs.{AreKept, Around, IsKeptBy, Kept, Waits, kept_in}
-use Rattle.ckpt_task.specs.Saving.{Saved, state_of, under}
-use Rattle.ckpt_task.specs.Turns.{At}
+use Rattle.ckpt_task.proofs.{Restores.Comes, Restores.adds, Restores.snap, Restores.stays, Seaming.was_done, Snapping.IsSnap, Snapping.snap_stays, Snapping.snaps, Working.at_of}
 
 -- an end changes nothing but that it is put on the outputs
 

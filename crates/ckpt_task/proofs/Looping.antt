@@ -1,33 +1,12 @@
 -- Runs of a task are turns of its history, and the histories of the tasks, one behind the other, are one of the job.
-use Rattle.std.proofs.lemmas.Grind.{common_steps}
-use Rattle.std.proofs.Common.{arith, ◌≡◌, ℕ, Bool, true, false, List, ◌∷◌, ◌++◌, ◌∙◌, refl, sym, ap, subst, Option, Some, None, inl, inr, []}
-use Rattle.std.specs.Prelude.{◌⊎◌, map}
-use Rattle.std.proofs.lemmas.Bool.{both_ways}
-use Rattle.std.proofs.lemmas.List.{append-nil, append_assoc}
-use Rattle.ckpt_ids.specs.declared.subtask.SubtaskId.{SubtaskId}
-use Rattle.ckpt_ids.specs.Ordered.{IsIn}
-use Rattle.ckpt_ids.specs.Shapes.{same_subtask}
-use Rattle.ckpt_ids.proofs.OrderLemmas.{same_subtask-Decides}
-use Rattle.ckpt_align.specs.Alignment.{Alignment, opened}
-use Rattle.ckpt_align.specs.Histories.{Action, Item, has_cut, sent, taken}
-use Rattle.ckpt_align.specs.Laws.{Channel, sent_on}
-use Rattle.ckpt_once.specs.Programs.{Program, Turn, Offered, GivenUp, Drawn, Ended, acts, actions, aligned, moves_in, state, told}
-use Rattle.ckpt_once.specs.Sinks.{Transaction}
-use Rattle.ckpt_once.specs.Jobs.{By, GivesInOrder, History, IsHistory, IsTurnOf, Job, States, network, of}
-use Rattle.ckpt_once.proofs.ActionLemmas.{sent-append, taken-append}
-use Rattle.ckpt_once.proofs.Running.{of_here, of_there}
-use Rattle.ckpt_once.proofs.TurnLemmas.{aligned_is}
-use Rattle.ckpt_once.proofs.Publishing.{cut_stays}
-use Rattle.ckpt_task.proofs.Snapping.{Ends-last, cut_later, not_ended_in, turn_cuts}
-use Rattle.ckpt_task.proofs.Working.{at_as, at_of}
-use Rattle.ckpt_task.specs.declared.deed.Deed.{Deed}
-use Rattle.ckpt_task.specs.declared.deed.Deed.TheVariants.{Came, Took, Sent, SentBarrier, SentEnd, Acknowledged, Declined}
+use Rattle.ckpt_task.proofs.Names.{common_steps, arith, ◌≡◌, ℕ, Bool, true, false, List, ◌∷◌, ◌++◌, ◌∙◌, refl, sym, ap, subst, Option, Some, None, inl, inr, [], ◌⊎◌, map, both_ways}
+use Rattle.ckpt_task.proofs.Names.{append-nil, append_assoc, SubtaskId, IsIn, same_subtask, same_subtask-Decides, Alignment, opened, Action, Item, has_cut, sent, taken, Channel, sent_on}
+use Rattle.ckpt_task.proofs.Names.{Program, Turn, Offered, GivenUp, Drawn, Ended, acts, actions, aligned, moves_in, state, told, Transaction, By, GivesInOrder, History, IsHistory, IsTurnOf}
+use Rattle.ckpt_task.proofs.Names.{Job, States, network, of, sent-append, taken-append, of_here, of_there, aligned_is, cut_stays, Deed, Came, Took, Sent, SentBarrier, SentEnd, Acknowledged}
+use Rattle.ckpt_task.proofs.Names.{Declined, Word, Acknowledges, Declines, came_in, sent_in, taken_in, told_in, has_ended_in, AreRuns, IsDownstreamFirst, one_by_one, AreKept, Around, HasRun}
+use Rattle.ckpt_task.proofs.Names.{IsKeptBy, Kept, Waits, after_turns, At, cut_of}
+use Rattle.ckpt_task.proofs.{Snapping.Ends-last, Snapping.cut_later, Snapping.not_ended_in, Snapping.turn_cuts, Working.at_as, Working.at_of}
 use Rattle.ckpt_task.specs.declared.turn.Next.TheVariants as next
-use Rattle.ckpt_task.specs.Deeds.{Word, Acknowledges, Declines, came_in, sent_in, taken_in, told_in}
-use Rattle.ckpt_task.specs.Engines.{has_ended_in}
-use Rattle.ckpt_task.specs.Loops.{AreRuns, IsDownstreamFirst, one_by_one}
-use Rattle.ckpt_task.specs.Runs.{AreKept, Around, HasRun, IsKeptBy, Kept, Waits, after_turns}
-use Rattle.ckpt_task.specs.Turns.{At, cut_of}
 
 -- turns behind turns
 

@@ -1,20 +1,9 @@
 -- The newest snapshot of a record that a task saved is that of its cut.
-use Rattle.std.proofs.lemmas.Grind.{common_steps}
-use Rattle.std.proofs.Common.{arith, ◌≡◌, ℕ, List, ◌∷◌, ◌++◌, sym, ap, ◌∙◌, inl, inr, []}
-use Rattle.std.specs.Prelude.{Option, Some, None}
-use Rattle.ckpt_ids.specs.Ordered.{IsIn}
-use Rattle.ckpt_ids.proofs.OrderedLemmas.{IsIn-append_right}
-use Rattle.ckpt_ids.specs.declared.subtask.SubtaskId.{SubtaskId}
-use Rattle.ckpt_align.specs.Alignment.{Alignment, opened}
-use Rattle.ckpt_once.specs.Jobs.{History, Job, States, of, snapshots}
-use Rattle.ckpt_once.specs.Programs.{Program, Turn, state}
+use Rattle.ckpt_task.proofs.Names.{common_steps, arith, ◌≡◌, ℕ, List, ◌∷◌, ◌++◌, sym, ap, ◌∙◌, inl, inr, [], Option, Some, None, IsIn, IsIn-append_right, SubtaskId, Alignment, opened}
+use Rattle.ckpt_task.proofs.Names.{History, Job, States, of, snapshots, Program, Turn, state, Snapped, snapped_at, snapped_by, AreSaved, RestoresSnapshot, Saved, state_of, under, At}
+use Rattle.ckpt_task.proofs.Names.{IsSaved, cut_in, Outcome, Moved, Nothing, Cut, Unsaved, Abandoned}
 use Rattle.ckpt_task.proofs.Snapping.{snaps_at_cut}
-use Rattle.ckpt_task.specs.Engines.{Snapped, snapped_at, snapped_by}
-use Rattle.ckpt_task.specs.Restores.{AreSaved, RestoresSnapshot}
-use Rattle.ckpt_task.specs.Saving.{Saved, state_of, under}
-use Rattle.ckpt_task.specs.Turns.{At, IsSaved, cut_in}
-use Rattle.ckpt_task.specs.declared.turn.Outcome.{Outcome}
-use Rattle.ckpt_task.specs.declared.turn.Outcome.TheVariants.{Moved, Held, Nothing, Cut, Unsaved, Abandoned}
+use Rattle.ckpt_task.specs.declared.turn.Outcome.TheVariants.{Held}
 
 abbrev pub snap : ℕ → ℕ → Snapped
 snap n s = record { id = n; state = s }

@@ -1,18 +1,7 @@
 -- Engines of such tasks that restart from done records have invisible failures.
-use Rattle.std.proofs.lemmas.Grind.{common_steps}
-use Rattle.std.proofs.Common.{arith, ℕ, List, ◌∷◌, subst, []}
-use Rattle.ckpt_align.specs.Laws.{HasCut}
-use Rattle.ckpt_cuts.specs.Laws.{AcknowledgesCuts}
-use Rattle.ckpt_ids.specs.declared.call.Call.{Call}
-use Rattle.ckpt_model.specs.Laws.{CanOpen}
-use Rattle.ckpt_model.specs.State.{Opening}
-use Rattle.ckpt_once.proofs.Restarting.{restarts_invisible}
-use Rattle.ckpt_once.specs.Jobs.{Attempt, History, Job, States, network, restored}
-use Rattle.ckpt_once.specs.Restarts.{AreRestarts, WasDone}
-use Rattle.ckpt_task.proofs.Snapping.{snaps_at_cut}
-use Rattle.ckpt_task.proofs.Working.{makes_history}
-use Rattle.ckpt_task.specs.Engines.{IsWorking}
-use Rattle.ckpt_task.specs.Laws.{AcknowledgesSnapped, AreEngines, AreSeamless, WasCompletedBy}
+use Rattle.ckpt_task.proofs.Names.{common_steps, arith, ℕ, List, ◌∷◌, subst, [], HasCut, AcknowledgesCuts, Call, CanOpen, Opening, restarts_invisible, Attempt, History, Job, States, network}
+use Rattle.ckpt_task.proofs.Names.{restored, AreRestarts, WasDone, IsWorking, AcknowledgesSnapped, AreEngines, AreSeamless, WasCompletedBy}
+use Rattle.ckpt_task.proofs.{Snapping.snaps_at_cut, Working.makes_history}
 
 pub was_done : (Premise : ℕ → List Call → Type 0) (n : ℕ) (o : Opening) (job : Job) (from : States) (h : History)
     → ((id : ℕ) (calls : List Call) → Premise id calls → AcknowledgesCuts id o calls (network job from h)) → WasCompletedBy Premise n o job → WasDone n o job from h

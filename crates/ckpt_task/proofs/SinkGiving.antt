@@ -1,35 +1,17 @@
 -- What a sink is given at a restart is what its ledger held back at the cut.
-use Rattle.std.proofs.Common.{◌≡◌, ℕ, ◌≤◌, ◌<◌, eqb, true, false, nat_le, if◌then◌else◌, List, ◌∷◌, ◌++◌, ◌∙◌, map, refl, sym, ap, subst, inl, inr, arith, Option, Some, None, []}
-use Rattle.std.specs.Prelude.{◌⊎◌}
-use Rattle.std.proofs.lemmas.Bool.{cond_both, eqb-true}
-use Rattle.std.proofs.lemmas.Grind.{common_steps}
-use Rattle.std.proofs.lemmas.List.{append-nil, append_assoc, map-append}
-use Rattle.std.proofs.lemmas.Option.{none-some, same_Some}
-use Rattle.ckpt_ids.specs.Ordered.{IsIn}
-use Rattle.ckpt_align.specs.Alignment.{Alignment, opened}
-use Rattle.ckpt_align.specs.Histories.{Action, Ends, GivesUp, Reads, Sends, after, cut_by, elements, has_cut, has_ended, replay, sent_by}
-use Rattle.ckpt_align.proofs.GoingOn.{cuts_rise}
-use Rattle.ckpt_ledger.specs.Laws.{AreMomentsOf}
-use Rattle.ckpt_ledger.specs.Ledgers.{Acts, Entry, Held, Moment, Told, acts, after_entries, all_published, completed, entries, nothing, told_of}
-use Rattle.ckpt_ledger.proofs.Publishing.{writes_held}
-use Rattle.ckpt_ledger.proofs.Restarting.{acts-append, published-append, published_then, with_word}
-use Rattle.ckpt_once.specs.Jobs.{History, Job, States, network, of}
-use Rattle.ckpt_once.specs.Programs.{Program, Turn, Offered, GivenUp, Drawn, Ended, acts as acts_in, actions, emitted_by, sendings, told}
-use Rattle.ckpt_once.specs.Sinks.{Sink, Transaction, above, contents, published_before, published_in, up_to}
-use Rattle.ckpt_once.proofs.ActionLemmas.{replay-append}
-use Rattle.ckpt_task.proofs.LoopLaws.{loops_make_history}
-use Rattle.ckpt_task.proofs.Looping.{comes_on}
+use Rattle.ckpt_task.proofs.Names.{◌≡◌, ℕ, ◌≤◌, ◌<◌, eqb, true, false, nat_le, if◌then◌else◌, List, ◌∷◌, ◌++◌, ◌∙◌, map, refl, sym, ap, subst, inl, inr, arith, Option, Some, None, [], ◌⊎◌}
+use Rattle.ckpt_task.proofs.Names.{cond_both, eqb-true, common_steps, append-nil, append_assoc, map-append, none-some, same_Some, IsIn, Alignment, opened, Action, Ends, GivesUp, Reads}
+use Rattle.ckpt_task.proofs.Names.{Sends, after, cut_by, elements, has_cut, has_ended, replay, sent_by, cuts_rise, AreMomentsOf, Acts, Entry, Held, Moment, Told, after_entries}
+use Rattle.ckpt_task.proofs.Names.{all_published, completed, entries, nothing, told_of, writes_held, acts-append, published-append, published_then, with_word, History, Job, States, network}
+use Rattle.ckpt_task.proofs.Names.{of, Program, Turn, Offered, GivenUp, Drawn, Ended, actions, emitted_by, sendings, told, Sink, Transaction, above, contents, published_before, published_in}
+use Rattle.ckpt_task.proofs.Names.{up_to, replay-append, cut_stays, came_in, Looped, Loops, attempts_of, history_of, turns_of, AreKept, Around, IsKeptBy, Kept, after_turns, held_after}
+use Rattle.ckpt_task.proofs.Names.{kept_in, sink_waits, Saved, under, waiting_of, AreSteps, HasGiven, IsToldOf, Ran, SinkAttempt, SinkGivesOnce, SinkGivesOverRestarts, SinkRuns, Sinking}
+use Rattle.ckpt_task.proofs.Names.{Step, WasTold, around_sink, from_of, loops_of, At, abandoned_as, answer_in, cut_of}
 use Rattle.ckpt_task.proofs.SinkLooping.{IsTold, entries-append, held-append, held_at, told_first, told_reaches, told_run, told_word}
-use Rattle.ckpt_once.proofs.Publishing.{cut_stays}
-use Rattle.ckpt_task.proofs.Snapping.{cut_later, is_cut_by, not_ended_in}
-use Rattle.ckpt_task.proofs.Turning.{cut_moves_none}
-use Rattle.ckpt_task.specs.Deeds.{came_in}
-use Rattle.ckpt_task.specs.Loops.{Looped, Loops, attempts_of, history_of, turns_of}
-use Rattle.ckpt_task.specs.Runs.{AreKept, Around, IsKeptBy, Kept, after_turns, held_after, kept_in, sink_waits}
-use Rattle.ckpt_task.specs.Saving.{Saved, under, waiting_of}
-use Rattle.ckpt_task.specs.SinkLoops.{AreSteps, HasGiven, IsToldOf, Ran, SinkAttempt, SinkGivesOnce, SinkGivesOverRestarts, SinkRuns, Sinking, Step, WasTold, around_sink, from_of, loops_of}
+use Rattle.ckpt_task.proofs.{LoopLaws.loops_make_history, Looping.comes_on, Snapping.cut_later, Snapping.is_cut_by, Snapping.not_ended_in, Turning.cut_moves_none}
+use Rattle.ckpt_ledger.specs.Ledgers.{acts}
+use Rattle.ckpt_once.specs.Programs.{acts as acts_in}
 use Rattle.ckpt_task.specs.SinkLoops as sinks
-use Rattle.ckpt_task.specs.Turns.{At, abandoned_as, answer_in, cut_of}
 
 -- TRANSACTIONS UP TO A RECORD
 

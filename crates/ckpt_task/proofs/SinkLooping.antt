@@ -1,27 +1,13 @@
 -- What a sink in a loop publishes is what its ledger was told to.
-use Rattle.std.proofs.lemmas.Grind.{common_steps}
-use Rattle.std.proofs.Common.{arith, ◌≡◌, ℕ, true, List, ◌∷◌, ◌++◌, ◌∙◌, map, refl, sym, ap, subst, Option, Some, None, []}
-use Rattle.std.proofs.lemmas.List.{append-nil, append_assoc, map-append}
-use Rattle.ckpt_align.specs.Alignment.{Alignment, opened}
-use Rattle.ckpt_align.specs.Histories.{Action, after, cut_by, elements, has_cut, replay, sent_by}
-use Rattle.ckpt_ledger.specs.Ledgers.{Acts, Completes, Entry, HaveBeenCut, Held, Moment, Told, Writes, acts, after_entries, after_entry, all_published, completed, entries, nothing, told_of}
-use Rattle.ckpt_ledger.proofs.Publishing.{publishes_as_sink}
-use Rattle.ckpt_ledger.proofs.Restarting.{acts-append, been_cut, completed-append, entries_with, published-append, with_word}
-use Rattle.ckpt_once.specs.Jobs.{Job, States, of}
-use Rattle.ckpt_once.specs.Programs.{Program, Turn, actions}
-use Rattle.ckpt_once.specs.Sinks.{Sink, contents, published_in, up_to}
-use Rattle.ckpt_once.proofs.ActionLemmas.{replay-append}
-use Rattle.ckpt_once.proofs.TurnLemmas.{aligned_is}
-use Rattle.ckpt_task.proofs.LoopLaws.{loops_make_history}
-use Rattle.ckpt_task.proofs.Looping.{Follows, actions_more, follows_first, follows_run}
-use Rattle.ckpt_task.proofs.Working.{at_of}
-use Rattle.ckpt_task.specs.Deeds.{came_in}
-use Rattle.ckpt_task.specs.Loops.{Looped, Loops, history_of, turns_of}
-use Rattle.ckpt_task.specs.Runs.{Around, after_turns, held_after, sink_waits}
-use Rattle.ckpt_task.specs.SinkLoops.{AreSteps, IsToldOf, Ran, SinkPublishes, SinkRuns, Sinking, Step, WasTold, around_sink}
+use Rattle.ckpt_task.proofs.Names.{common_steps, arith, ◌≡◌, ℕ, true, List, ◌∷◌, ◌++◌, ◌∙◌, map, refl, sym, ap, subst, Option, Some, None, [], append-nil, append_assoc, map-append}
+use Rattle.ckpt_task.proofs.Names.{Alignment, opened, Action, after, cut_by, elements, has_cut, replay, sent_by, Acts, Completes, Entry, HaveBeenCut, Held, Moment, Told, Writes}
+use Rattle.ckpt_task.proofs.Names.{after_entries, after_entry, all_published, completed, entries, nothing, told_of, publishes_as_sink, acts-append, been_cut, completed-append, entries_with}
+use Rattle.ckpt_task.proofs.Names.{published-append, with_word, Job, States, of, Program, Turn, actions, Sink, contents, published_in, up_to, replay-append, aligned_is, came_in, Looped}
+use Rattle.ckpt_task.proofs.Names.{Loops, history_of, turns_of, Around, after_turns, held_after, sink_waits, AreSteps, IsToldOf, Ran, SinkPublishes, SinkRuns, Sinking, Step, WasTold}
+use Rattle.ckpt_task.proofs.Names.{around_sink, SinkAt, At}
+use Rattle.ckpt_task.proofs.{LoopLaws.loops_make_history, Looping.Follows, Looping.actions_more, Looping.follows_first, Looping.follows_run, Working.at_of}
+use Rattle.ckpt_ledger.specs.Ledgers.{acts}
 use Rattle.ckpt_task.specs.SinkLoops as sinks
-use Rattle.ckpt_task.specs.SinkTurns.{SinkAt}
-use Rattle.ckpt_task.specs.Turns.{At}
 
 -- entries one behind the other
 

@@ -1,14 +1,7 @@
 -- A run of a sink is that of its task, with its ledger.
-use Rattle.std.proofs.lemmas.Grind.{common_steps}
-use Rattle.std.proofs.Common.{arith, ◌≡◌, ℕ, ◌+◌, List, ◌∷◌, ◌∙◌, refl, sym, ap}
-use Rattle.ckpt_ledger.specs.Ledgers.{Held}
-use Rattle.ckpt_once.specs.Programs.{Program, Turn}
-use Rattle.ckpt_once.specs.Sinks.{Transaction}
-use Rattle.ckpt_task.proofs.Doing.{not_run_as, run_as}
-use Rattle.ckpt_task.proofs.Stopping.{stopped_as}
-use Rattle.ckpt_task.specs.Runs.{Around, HasStopped, HasSunk, HasSunkOnce, IsStopped, after_turns, held_after, sink_waits}
-use Rattle.ckpt_task.specs.SinkTurns.{SinkAt, after_turn}
-use Rattle.ckpt_task.specs.Turns.{At}
+use Rattle.ckpt_task.proofs.Names.{common_steps, arith, ◌≡◌, ℕ, ◌+◌, List, ◌∷◌, ◌∙◌, refl, sym, ap, Held, Program, Turn, Transaction, Around, HasStopped, HasSunk, HasSunkOnce, IsStopped}
+use Rattle.ckpt_task.proofs.Names.{after_turns, held_after, sink_waits, SinkAt, after_turn, At}
+use Rattle.ckpt_task.proofs.{Doing.not_run_as, Doing.run_as, Stopping.stopped_as}
 
 same_ledger : (p : Program) (m l : SinkAt) (turns : List Turn) (turn : Turn) → l.task ≡ after_turns p m.task turns → l.held ≡ held_after p m turns → l.output ≡ m.output → after_turn p l turn ≡ held_after p m (turn ∷ turns)
 same_ledger p m l turns turn task held output = grind (arith, common_steps)

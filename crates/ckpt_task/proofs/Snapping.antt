@@ -1,23 +1,9 @@
 -- A snapshot that a task took is its state before its cut.
-use Rattle.std.proofs.Common.{◌≡◌, ℕ, ◌<◌, Bool, true, false, List, ◌∷◌, ◌++◌, ◌∙◌, refl, sym, ap, subst, arith, if◌then◌else◌, Option, Some, None, inl, inr, []}
-use Rattle.std.proofs.lemmas.Bool.{both_ways, or_from}
-use Rattle.std.proofs.lemmas.Grind.{common_steps}
-use Rattle.ckpt_ids.specs.declared.subtask.SubtaskId.{SubtaskId}
-use Rattle.ckpt_ids.specs.Ordered.{IsIn}
-use Rattle.ckpt_ids.specs.Shapes.{same_subtask}
-use Rattle.ckpt_align.specs.Alignment.{Alignment, opened}
-use Rattle.ckpt_align.specs.Histories.{Action, Reads, GivesUp, Sends, Ends, after, cut_by, has_cut, has_ended, is_number, replay}
-use Rattle.ckpt_align.proofs.GoingOn.{cuts_rise}
-use Rattle.ckpt_ledger.proofs.Timely.{Found, found}
-use Rattle.ckpt_once.specs.Programs.{Emitted, Program, Turn, Offered, GivenUp, Drawn, Ended, actions, aligned, moves_in, sendings, state, told}
-use Rattle.ckpt_once.specs.Jobs.{By, History, Job, States, of}
-use Rattle.ckpt_once.proofs.ActionLemmas.{stopped}
-use Rattle.ckpt_once.proofs.Running.{before_turns}
-use Rattle.ckpt_once.proofs.TurnLemmas.{aligned_is, has_ended_sendings, turns_all, turns_before}
-use Rattle.ckpt_task.specs.Engines.{IsWorking, Snapped, has_ended_in, snapped_at, snapped_by}
-use Rattle.ckpt_task.specs.Laws.{SnapsAtCut}
-use Rattle.ckpt_task.specs.Turns.{cut_of}
-use Rattle.ckpt_once.proofs.Publishing.{cut_stays}
+use Rattle.ckpt_task.proofs.Names.{◌≡◌, ℕ, ◌<◌, Bool, true, false, List, ◌∷◌, ◌++◌, ◌∙◌, refl, sym, ap, subst, arith, if◌then◌else◌, Option, Some, None, inl, inr, [], both_ways, or_from}
+use Rattle.ckpt_task.proofs.Names.{common_steps, SubtaskId, IsIn, same_subtask, Alignment, opened, Action, Reads, GivesUp, Sends, Ends, after, cut_by, has_cut, has_ended, is_number, replay}
+use Rattle.ckpt_task.proofs.Names.{cuts_rise, Found, found, Emitted, Program, Turn, Offered, GivenUp, Drawn, Ended, actions, aligned, moves_in, sendings, state, told, By, History, Job}
+use Rattle.ckpt_task.proofs.Names.{States, of, stopped, before_turns, aligned_is, has_ended_sendings, turns_all, turns_before, IsWorking, Snapped, has_ended_in, snapped_at, snapped_by}
+use Rattle.ckpt_task.proofs.Names.{SnapsAtCut, cut_of, cut_stays}
 
 -- a task that has ended takes no turn
 

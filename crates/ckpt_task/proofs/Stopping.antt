@@ -1,19 +1,9 @@
 -- What a fault leaves of a turn.
-use Rattle.std.proofs.lemmas.Grind.{common_steps}
-use Rattle.std.proofs.Common.{arith, ◌≡◌, ℕ, ◌<◌, List, ◌∷◌, ◌++◌, ◌∙◌, refl, sym, ap, subst, false, true, Ok, Err, inl, inr, drop, length, slice_index_or, []}
-use Rattle.std.specs.Prelude.{OnErr, Result}
-use Rattle.std.proofs.lemmas.Bool.{both_ways}
-use Rattle.std.proofs.lemmas.List.{append_assoc, at_drop_more}
-use Rattle.ckpt_once.specs.Programs.{Emitted, Program, Turn}
-use Rattle.ckpt_once.specs.Sinks.{Transaction}
+use Rattle.ckpt_task.proofs.Names.{common_steps, arith, ◌≡◌, ℕ, ◌<◌, List, ◌∷◌, ◌++◌, ◌∙◌, refl, sym, ap, subst, false, true, Ok, Err, inl, inr, drop, length, slice_index_or, [], OnErr}
+use Rattle.ckpt_task.proofs.Names.{Result, both_ways, append_assoc, at_drop_more, Emitted, Program, Turn, Transaction, Deed, Took, Sent, SentBarrier, Acknowledged, Declined, Outcome, IsPart}
+use Rattle.ckpt_task.proofs.Names.{IsUndone, IsUnfinished, after_sends, came_in, deeds_after, taken_in, Around, IsStopped, is_held}
 use Rattle.ckpt_task.proofs.Doing.{came_sends, taken_sends}
-use Rattle.ckpt_task.specs.declared.deed.Deed.{Deed}
-use Rattle.ckpt_task.specs.declared.deed.Deed.TheVariants.{Took, Sent, SentBarrier, Acknowledged, Declined}
-use Rattle.ckpt_task.specs.declared.turn.Outcome.{Outcome}
 use Rattle.ckpt_task.specs.declared.turn.Outcome.TheVariants as outcome
-use Rattle.ckpt_task.specs.Deeds.{IsPart, IsUndone, IsUnfinished, after_sends, came_in, deeds_after, taken_in}
-use Rattle.ckpt_task.specs.Runs.{Around, IsStopped}
-use Rattle.ckpt_task.specs.Turns.{is_held}
 
 -- elements that are sent, the newest first
 

@@ -1,27 +1,13 @@
 -- One turn of the code is one of `ckpt_once`.
-use Rattle.std.proofs.Common.{◌≡◌, ℕ, Bool, true, false, List, ◌∷◌, ◌++◌, ◌∙◌, refl, sym, ap, subst, arith, if◌then◌else◌, Option, Some, None, Ok, inl, inr, []}
-use Rattle.std.specs.Prelude.{◌==◌, ◌⊎◌, ◌≢◌, map, slice_get}
-use Rattle.std.proofs.lemmas.Bool.{both_ways}
-use Rattle.std.proofs.lemmas.Grind.{common_steps}
-use Rattle.ckpt_align.specs.Alignment.{Alignment}
-use Rattle.ckpt_align.specs.Histories.{Item, Element, Barrier, End, Reads, after, answer_to, barriers, cut_as, elements, sent}
-use Rattle.ckpt_align.specs.Steps.{element, step}
-use Rattle.ckpt_align.specs.declared.event.Answer.{Answer}
+use Rattle.ckpt_task.proofs.Names.{◌≡◌, ℕ, Bool, true, false, List, ◌∷◌, ◌++◌, ◌∙◌, refl, sym, ap, subst, arith, if◌then◌else◌, Option, Some, None, Ok, inl, inr, [], ◌==◌, ◌⊎◌, ◌≢◌, map}
+use Rattle.ckpt_task.proofs.Names.{slice_get, both_ways, common_steps, Alignment, Item, Element, Barrier, End, Reads, after, answer_to, barriers, cut_as, elements, sent, element, step}
+use Rattle.ckpt_task.proofs.Names.{Answer, Input, reads_cut-element, element_reads-other, Acts, Entry, Held, Writes, after_entries, entries, told_of, Emitted, Program, Turn, Offered}
+use Rattle.ckpt_task.proofs.Names.{GivenUp, Drawn, Ended, acts, emitted_by, move_in, moves_in, on_output, sendings, state, with_one, Transaction, Saved, SinkAt, after_outcome, after_turn}
+use Rattle.ckpt_task.proofs.Names.{At, IsSaved, IsToldAs, abandoned_in, cut_in, cut_of, emitted_in, is_held, is_unsaved, put_on, puts, Outcome, elements_barriers}
 use Rattle.ckpt_align.specs.declared.event.Answer.TheVariants as answer
 use Rattle.ckpt_align.specs.declared.event.Event.TheVariants as event
-use Rattle.ckpt_align.specs.declared.input.Input.{Input}
 use Rattle.ckpt_align.specs.declared.input.Input.TheVariants as input
-use Rattle.ckpt_align.proofs.Cutting.{reads_cut-element}
-use Rattle.ckpt_align.proofs.Fitting.{element_reads-other}
-use Rattle.ckpt_ledger.specs.Ledgers.{Acts, Entry, Held, Writes, after_entries, entries, told_of}
-use Rattle.ckpt_once.specs.Programs.{Emitted, Program, Turn, Offered, GivenUp, Drawn, Ended, acts, emitted_by, move_in, moves_in, on_output, sendings, state, with_one}
-use Rattle.ckpt_once.specs.Sinks.{Transaction}
-use Rattle.ckpt_task.specs.Saving.{Saved}
-use Rattle.ckpt_task.specs.SinkTurns.{SinkAt, after_outcome, after_turn}
-use Rattle.ckpt_task.specs.Turns.{At, IsSaved, IsToldAs, abandoned_in, cut_in, cut_of, emitted_in, is_held, is_unsaved, put_on, puts}
-use Rattle.ckpt_task.specs.declared.turn.Outcome.{Outcome}
 use Rattle.ckpt_task.specs.declared.turn.Outcome.TheVariants as outcome
-use Rattle.ckpt_once.proofs.Sealing.{elements_barriers}
 
 -- an element is processed or held, and changes nothing in the aligner
 

@@ -1,32 +1,12 @@
 -- The worked loops meet the premises of the law of failures.
-use Rattle.std.proofs.lemmas.Grind.{common_steps}
-use Rattle.std.proofs.Common.{◌≡◌, ℕ, ◌+◌, ◌==◌, false, true, if◌then◌else◌, List, ◌∷◌, ◌++◌, refl, sym, ap, subst, inl, inr, arith, []}
-use Rattle.std.proofs.lemmas.List.{append-nil}
-use Rattle.ckpt_ids.specs.declared.ack.Acked.{Acked}
-use Rattle.ckpt_ids.specs.declared.numbers.Kind.TheVariants.{Checkpoint}
-use Rattle.ckpt_ids.specs.declared.subtask.SubtaskId.{SubtaskId}
-use Rattle.ckpt_ids.specs.Ordered.{IsIn}
-use Rattle.ckpt_ids.specs.Records.{Record}
-use Rattle.ckpt_align.specs.Histories.{Barrier, Element}
-use Rattle.ckpt_align.specs.Laws.{Channel}
-use Rattle.ckpt_align.specs.Steps.{barrier, settled, step}
-use Rattle.ckpt_model.specs.Laws.{CanOpen, accepted_by, along}
-use Rattle.ckpt_model.specs.State as model
-use Rattle.ckpt_model.specs.Steps.{step_computes}
-use Rattle.ckpt_once.specs.Jobs.{IsTurnOf, restored, starts}
-use Rattle.ckpt_once.specs.Programs.{Drawn, Offered, Turn}
-use Rattle.ckpt_once.specs.Sinks.{AreLast}
-use Rattle.ckpt_once.specs.WorkedExamples.{adder, job, line, source}
+use Rattle.ckpt_task.proofs.Names.{common_steps, ◌≡◌, ℕ, ◌+◌, ◌==◌, false, true, if◌then◌else◌, List, ◌∷◌, ◌++◌, refl, sym, ap, subst, inl, inr, arith, [], append-nil, Acked, Checkpoint}
+use Rattle.ckpt_task.proofs.Names.{SubtaskId, IsIn, Record, Barrier, Element, Channel, barrier, settled, step, CanOpen, accepted_by, along, step_computes, IsTurnOf, restored, starts, Drawn}
+use Rattle.ckpt_task.proofs.Names.{Offered, Turn, AreLast, adder, job, line, source, Came, Sent, Took, Acknowledges, came_in, taken_in, told_in, begun, WasCompletedBy, AcceptsTold}
+use Rattle.ckpt_task.proofs.Names.{AreLooping, AreLoopsAttempts, HasLooped, IsDownstreamFirst, KeepsOrder, attempts_of, turns_of, Around, HasRun, HasTurned, around, waits_none, takes}
+use Rattle.ckpt_task.proofs.Names.{adder_again, adder_did, after_100, again, at, attempt, begin, calls, failed, going, opening, source_again, source_did, with_100}
 use Rattle.ckpt_task.proofs.Doing.{has_not_run, runs_more, takes_last}
-use Rattle.ckpt_task.specs.declared.deed.Deed.TheVariants.{Came, Sent, Took}
+use Rattle.ckpt_model.specs.State as model
 use Rattle.ckpt_task.specs.declared.turn.Next.TheVariants as next
-use Rattle.ckpt_task.specs.Deeds.{Acknowledges, came_in, taken_in, told_in}
-use Rattle.ckpt_task.specs.Engines.{begun}
-use Rattle.ckpt_task.specs.Laws.{WasCompletedBy}
-use Rattle.ckpt_task.specs.Loops.{AcceptsTold, AreLooping, AreLoopsAttempts, HasLooped, IsDownstreamFirst, KeepsOrder, attempts_of, turns_of}
-use Rattle.ckpt_task.specs.Runs.{Around, HasRun, HasTurned, around, waits_none}
-use Rattle.ckpt_task.specs.Turns.{takes}
-use Rattle.ckpt_task.specs.WorkedLoops.{adder_again, adder_did, after_100, again, at, attempt, begin, calls, failed, going, opening, source_again, source_did, with_100}
 
 pub can_open : CanOpen opening
 can_open = grind (arith, common_steps)

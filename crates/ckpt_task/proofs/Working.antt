@@ -1,24 +1,9 @@
 -- What an engine does with tasks over channels is a history.
-use Rattle.std.proofs.Common.{◌≡◌, ℕ, Bool, true, false, List, ◌∷◌, ◌++◌, ◌∙◌, refl, sym, ap, subst, arith, if◌then◌else◌, Option, Some, None, []}
-use Rattle.std.specs.Prelude.{drop, length, ◌==◌, ◌&&◌}
-use Rattle.std.proofs.lemmas.Bool.{eqb-true}
-use Rattle.std.proofs.lemmas.Grind.{common_steps}
-use Rattle.std.proofs.lemmas.List.{append-nil, append_assoc}
-use Rattle.ckpt_ids.specs.declared.subtask.SubtaskId.{SubtaskId}
-use Rattle.ckpt_ids.specs.Ordered.{IsIn}
-use Rattle.ckpt_ids.specs.Shapes.{same_subtask}
-use Rattle.ckpt_ids.proofs.OrderLemmas.{same_subtask-Decides}
-use Rattle.ckpt_align.specs.Alignment.{Alignment, opened}
-use Rattle.ckpt_align.specs.Histories.{Item, after, sent, taken}
-use Rattle.ckpt_align.specs.Laws.{Channel, sent_on, taken_from}
-use Rattle.ckpt_once.specs.Programs.{Move, Program, Turn, Offered, GivenUp, Drawn, Ended, actions, aligned, move_in, moves_in, state, with_one}
-use Rattle.ckpt_once.specs.Jobs.{By, History, IsHistory, Job, States, network, of}
-use Rattle.ckpt_once.proofs.ActionLemmas.{sent-append, taken-append}
-use Rattle.ckpt_once.proofs.Running.{of_here, of_there}
-use Rattle.ckpt_once.proofs.TurnLemmas.{aligned_is, taken_sendings}
-use Rattle.ckpt_task.specs.Engines.{IsAtFront, IsWorking, engine, put_by, taken_by}
-use Rattle.ckpt_task.specs.Laws.{MakesHistory}
-use Rattle.ckpt_task.specs.Turns.{At, puts, takes, turned}
+use Rattle.ckpt_task.proofs.Names.{◌≡◌, ℕ, Bool, true, false, List, ◌∷◌, ◌++◌, ◌∙◌, refl, sym, ap, subst, arith, if◌then◌else◌, Option, Some, None, [], drop, length, ◌==◌, ◌&&◌, eqb-true}
+use Rattle.ckpt_task.proofs.Names.{common_steps, append-nil, append_assoc, SubtaskId, IsIn, same_subtask, same_subtask-Decides, Alignment, opened, Item, after, sent, taken, Channel, sent_on}
+use Rattle.ckpt_task.proofs.Names.{taken_from, Move, Program, Turn, Offered, GivenUp, Drawn, Ended, actions, aligned, move_in, moves_in, state, with_one, By, History, IsHistory, Job, States}
+use Rattle.ckpt_task.proofs.Names.{network, of, sent-append, taken-append, of_here, of_there, aligned_is, taken_sendings, IsAtFront, IsWorking, engine, put_by, taken_by, MakesHistory, At}
+use Rattle.ckpt_task.proofs.Names.{puts, takes, turned}
 
 -- a task after turns
 

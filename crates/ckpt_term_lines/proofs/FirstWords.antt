@@ -1,23 +1,12 @@
 -- What the first word says: a line that scripts do not have is none of a script.
-use Rattle.std.proofs.Common.{◌≡◌, ℕ, Bool, true, false, cond, List, [], ◌∷◌, Option, Some, None, Result, Ok, Err, refl, sym, ap, ◌∙◌}
-use Rattle.std.specs.Prelude.{find}
-use Rattle.std.specs.Str.{bytes_eq}
-use Rattle.std.specs.Str.Lines.{strip_carriage_return}
-use Rattle.std.proofs.lemmas.Slice.Eq.{bytes_eq-Decides}
-use Rattle.ckpt_lines.specs.declared.fault.LineFault.{LineFault}
+use Rattle.ckpt_term_lines.proofs.Names.{◌≡◌, ℕ, Bool, true, false, cond, List, [], ◌∷◌, Option, Some, None, Result, Ok, Err, refl, sym, ap, ◌∙◌, find, bytes_eq, strip_carriage_return}
+use Rattle.ckpt_term_lines.proofs.Names.{bytes_eq-Decides, LineFault, Call, Line, keyword_of, begins_with_a_list, begins_with_a_number, is_too_long, line_of, number_place, reading, words_of}
+use Rattle.ckpt_term_lines.proofs.Names.{TermKeyword, Fence, Reserve, Forfeit, In, Trigger, Configure, Advance, term_keyword_of, term_keywords, term_spelling, TermBegins, in_takes_memory}
+use Rattle.ckpt_term_lines.proofs.Names.{made_line, plain_row, script_row, term_line_of, term_reading, without_term, reaches_names}
 use Rattle.ckpt_lines.specs.declared.fault.LineFault.TheVariants as fault
-use Rattle.ckpt_ids.specs.declared.call.Call.{Call}
-use Rattle.ckpt_lines.specs.declared.line.Line.{Line}
 use Rattle.ckpt_lines.specs.declared.line.Line.TheVariants as script
 use Rattle.ckpt_terms.specs.declared.call.FencedCall.TheVariants as call
 use Rattle.ckpt_term_lines.specs.declared.line.TermLine.TheVariants as term_line
-use Rattle.ckpt_lines.specs.Keywords.{keyword_of}
-use Rattle.ckpt_lines.specs.Reading.{begins_with_a_list, begins_with_a_number, is_too_long, line_of, number_place, reading}
-use Rattle.ckpt_lines.specs.Words.{words_of}
-use Rattle.ckpt_term_lines.specs.declared.keyword.TermKeyword.{TermKeyword}
-use Rattle.ckpt_term_lines.specs.declared.keyword.TermKeyword.TheVariants.{Fence, Reserve, Forfeit, In, Trigger, Configure, Advance}
-use Rattle.ckpt_term_lines.specs.TermKeywords.{term_keyword_of, term_keywords, term_spelling}
-use Rattle.ckpt_term_lines.specs.TermReading.{TermBegins, in_takes_memory, made_line, plain_row, script_row, term_line_of, term_reading, without_term, reaches_names}
 
 -- what is found passes the test
 passes : {X : Type 0} (p : X → Bool) (xs : List X) (x : X) → find p xs ≡ Some x → p x ≡ true

@@ -1,15 +1,10 @@
 -- The reading of a line never says that memory ran out.
-use Rattle.std.proofs.Common.{◌≡◌, ◌≢◌, ℕ, false, List, [], ◌∷◌, Option, Some, None, Err, refl}
-use Rattle.std.specs.Str.Lines.{strip_carriage_return}
+use Rattle.ckpt_term_lines.proofs.Names.{◌≡◌, ◌≢◌, ℕ, false, List, [], ◌∷◌, Option, Some, None, Err, refl, strip_carriage_return, each, is_memory, is_too_long, line_of, only_number}
+use Rattle.ckpt_term_lines.proofs.Names.{settings, number, words_of, NoMemory, bind, either, line_of-no_memory, number_then, numbers-no_memory, only-no_memory, settings-no_memory}
+use Rattle.ckpt_term_lines.proofs.Names.{TermKeyword, term_keyword_of, configure_row, fence_row, forfeit_row, in_row, made_line, made_row, name_places, plain_row, reserve_row, script_row}
+use Rattle.ckpt_term_lines.proofs.Names.{term_line_of, term_reading, term_row, term_row_of, trigger_row, advance_row}
 use Rattle.ckpt_lines.specs.declared.fault.LineFault.TheVariants as fault
-use Rattle.ckpt_lines.specs.Reading.{each, is_memory, is_too_long, line_of, only_number, settings}
-use Rattle.ckpt_lines.specs.Values.{number}
-use Rattle.ckpt_lines.specs.Words.{words_of}
-use Rattle.ckpt_lines.proofs.ReadingLaws.{NoMemory, bind, either, line_of-no_memory, number_then, numbers-no_memory, only-no_memory, settings-no_memory}
-use Rattle.ckpt_term_lines.specs.declared.keyword.TermKeyword.{TermKeyword}
 use Rattle.ckpt_term_lines.specs.declared.keyword.TermKeyword.TheVariants as keyword
-use Rattle.ckpt_term_lines.specs.TermKeywords.{term_keyword_of}
-use Rattle.ckpt_term_lines.specs.TermReading.{configure_row, fence_row, forfeit_row, in_row, made_line, made_row, name_places, plain_row, reserve_row, script_row, term_line_of, term_reading, term_row, term_row_of, trigger_row, advance_row}
 
 fence-no_memory : (words : List (List ℕ)) → NoMemory (fence_row words)
 unfolding fence_row

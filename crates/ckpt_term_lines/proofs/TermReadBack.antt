@@ -1,28 +1,15 @@
 -- The line of each call is read as that call.
-use Rattle.std.proofs.Common.{◌≡◌, ℕ, Bool, true, false, eqb, length, List, [], ◌∷◌, ◌++◌, Ok, refl, sym, ap, subst, append_assoc}
-use Rattle.std.proofs.lemmas.Bool.{eqb-true, le-ltb}
-use Rattle.std.specs.Prelude.{map, flat_map, codes, decimal}
-use Rattle.ckpt_ids.specs.declared.call.Call.{Call}
-use Rattle.ckpt_lines.specs.declared.limits.TheConstants.{LONGEST_LINE}
-use Rattle.ckpt_lines.specs.declared.line.Line.{Line}
+use Rattle.ckpt_term_lines.proofs.Names.{◌≡◌, ℕ, Bool, true, false, eqb, length, List, [], ◌∷◌, ◌++◌, Ok, refl, sym, ap, subst, append_assoc, eqb-true, le-ltb, map, flat_map, codes, decimal}
+use Rattle.ckpt_term_lines.proofs.Names.{Call, LONGEST_LINE, Line, Configuration, IsWithinLimits, limits_hold, spaced, Fits, FitsCall, call_text, settings_text, Each, IsWritten, each_next}
+use Rattle.ckpt_term_lines.proofs.Names.{from_all, next, no_strip, plain_by, each-numbers, number_place-decimal, plain_number, plain_numbers, stays, Says, configure_parts, configure_written}
+use Rattle.ckpt_term_lines.proofs.Names.{is_scripted, one, only, parts_4, says_call, settings_read, settings_words, trigger_written, IsAscending, FencedCall, TermLine, term_keyword_of}
+use Rattle.ckpt_term_lines.proofs.Names.{configure_row, fence_row, forfeit_row, in_row, made_line, reserve_row, term_line_of, term_reading, term_row, trigger_row, without_term, advance_row}
+use Rattle.ckpt_term_lines.proofs.Names.{FitsTermCall, IsTermReadAs, fence_text, made_text, term_text}
+use Rattle.ckpt_term_lines.proofs.FirstWords.{as_script, as_script_in}
 use Rattle.ckpt_lines.specs.declared.line.Line.TheVariants as script
 use Rattle.ckpt_ids.specs.declared.call.Call.TheVariants as made
-use Rattle.ckpt_ids.specs.Configuration.{Configuration, IsWithinLimits}
-use Rattle.ckpt_ids.proofs.LimitLemmas.{limits_hold}
-use Rattle.ckpt_answers.specs.Texts.{spaced}
-use Rattle.ckpt_lines.specs.CallTexts.{Fits, FitsCall, call_text, settings_text}
-use Rattle.ckpt_lines.proofs.LineLemmas.{Each, IsWritten, each_next, from_all, next, no_strip, plain_by}
-use Rattle.ckpt_lines.proofs.NumberWords.{each-numbers, number_place-decimal, plain_number, plain_numbers, stays}
-use Rattle.ckpt_lines.proofs.ReadBack.{Says, configure_parts, configure_written, is_scripted, one, only, parts_4, says_call, settings_read, settings_words, trigger_written}
-use Rattle.ckpt_ids.specs.Ascending.{IsAscending}
-use Rattle.ckpt_terms.specs.declared.call.FencedCall.{FencedCall}
 use Rattle.ckpt_terms.specs.declared.call.FencedCall.TheVariants as call
-use Rattle.ckpt_term_lines.specs.declared.line.TermLine.{TermLine}
 use Rattle.ckpt_term_lines.specs.declared.line.TermLine.TheVariants as line
-use Rattle.ckpt_term_lines.specs.TermKeywords.{term_keyword_of}
-use Rattle.ckpt_term_lines.specs.TermReading.{configure_row, fence_row, forfeit_row, in_row, made_line, reserve_row, term_line_of, term_reading, term_row, trigger_row, without_term, advance_row}
-use Rattle.ckpt_term_lines.specs.TermTexts.{FitsTermCall, IsTermReadAs, fence_text, made_text, term_text}
-use Rattle.ckpt_term_lines.proofs.FirstWords.{as_script, as_script_in}
 
 -- The text has words that are read as this line.
 record TermSays (read : TermLine) (text : List ℕ) : Type 0 where

@@ -1,12 +1,8 @@
 -- The first name that is in no range, name after name.
-use Rattle.std.proofs.Common.{◌≡◌, ℕ, zero, suc, ◌<◌, Bool, true, false, not, eqb, List, [], ◌∷◌, take, get_or, length, sym, ap, ◌∙◌, arith}
-use Rattle.std.specs.Prelude.{Option, Some, None, find, is_some, IfSome}
-use Rattle.std.specs.List.{list_any}
-use Rattle.std.proofs.lemmas.Bool.{cond-true, cond-false, or_parts}
-use Rattle.ckpt_terms.specs.declared.names.Span.{Span}
-use Rattle.ckpt_terms.specs.Spans.{HasAt, in_span, names_of}
-use Rattle.ckpt_terms.proofs.SpanLemmas.{in_spans}
-use Rattle.ckpt_terms.proofs.RangeLemmas.{found_is}
+use Rattle.ckpt_terms.proofs.Names.{◌≡◌, ℕ, zero, suc, ◌<◌, Bool, true, false, not, eqb, List, [], ◌∷◌, take, get_or, length, sym, ap, ◌∙◌, arith, Option, Some, None, is_some, IfSome}
+use Rattle.ckpt_terms.proofs.Names.{list_any, cond-true, cond-false, or_parts, Span, HasAt, in_span, names_of}
+use Rattle.ckpt_terms.proofs.{SpanLemmas.in_spans, RangeLemmas.found_is}
+use Rattle.std.specs.Prelude.{find}
 
 abbrev pub is_absent : List ℕ → ℕ → Bool
 is_absent names f = not (list_any (λ g. eqb f g) names)

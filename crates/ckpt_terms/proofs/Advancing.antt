@@ -1,16 +1,8 @@
 -- From an accepted advance on, terms and names are above those that it was given.
-use Rattle.std.proofs.Common.{◌≡◌, ℕ, ◌<◌, ◌≤◌, max, Bool, true, false, ◌&&◌, List, [], ◌∷◌, refl, ap, arith}
-use Rattle.std.proofs.lemmas.Bool.{both_ways}
-use Rattle.ckpt_model.specs.Steps.{Stepped, step}
-use Rattle.ckpt_terms.specs.declared.call.FencedCall.{FencedCall}
-use Rattle.ckpt_terms.specs.declared.call.FencedCall.TheVariants.{Reserve, Forfeit, Make, Advance}
-use Rattle.ckpt_terms.specs.Fencing.{Fenced, FencedStepped, fenced_replay, fenced_step, has_ended, is_accepted, made, raised, restart}
-use Rattle.ckpt_terms.specs.FencedLaws.{AreFencedCalls, IsFenced}
-use Rattle.ckpt_terms.specs.TermsImages.{fenced_answers}
-use Rattle.ckpt_terms.specs.Advancing.{AdvancesAll, IsAbove, StaysAbove}
-use Rattle.ckpt_terms.proofs.Fences.{step_fenced}
-use Rattle.ckpt_terms.proofs.Stepping.{advance_by, fenced_step_by, made_later}
-use Rattle.ckpt_terms.proofs.Zombies.{make_ended}
+use Rattle.ckpt_terms.proofs.Names.{◌≡◌, ℕ, ◌<◌, ◌≤◌, max, Bool, true, false, ◌&&◌, List, [], ◌∷◌, refl, ap, arith, both_ways, Stepped, step, FencedCall, Reserve, Forfeit, Make, Advance}
+use Rattle.ckpt_terms.proofs.Names.{Fenced, FencedStepped, fenced_replay, fenced_step, has_ended, is_accepted, made, raised, restart, AreFencedCalls, IsFenced, fenced_answers, AdvancesAll}
+use Rattle.ckpt_terms.proofs.Names.{IsAbove, StaysAbove}
+use Rattle.ckpt_terms.proofs.{Fences.step_fenced, Stepping.advance_by, Stepping.fenced_step_by, Stepping.made_later, Zombies.make_ended}
 
 -- an answer and the state after it, above these floors
 record IsStepAbove (top first : ℕ) (x : FencedStepped) : Type 0 where

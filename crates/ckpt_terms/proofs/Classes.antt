@@ -1,22 +1,9 @@
 -- Each number is in one class, garbage stays so, and what may be deleted is used no more.
-use Rattle.std.proofs.Common.{◌≡◌, ℕ, ◌+◌, ◌<◌, ◌≤◌, Bool, true, false, not, ◌&&◌, ltb, leb, List, ◌++◌, inl, inr, ⊎_elim, arith}
-use Rattle.std.proofs.lemmas.Bool.{cases_Bool, both_ways, not-true, and_parts, and_from, or_cases, or_parts, not_from_false, ltb-true, ltb-false, leb-true, leb-false}
-use Rattle.ckpt_ids.specs.Counting.{one_if, times}
-use Rattle.ckpt_ids.specs.Ordered.{IsIn}
-use Rattle.ckpt_ids.specs.Records.{uses, is_present}
-use Rattle.ckpt_ids.proofs.CountLemmas.{one_if-true, one_if-false, times-append}
-use Rattle.ckpt_ids.proofs.AscendingLemmas.{numbers_in_order}
-use Rattle.ckpt_ids.proofs.OrderedLemmas.{IsIn-from_test, not_in-from_test, AreDistinct-from_order}
-use Rattle.ckpt_model.specs.State.{is_known, in_outbox}
-use Rattle.ckpt_model.proofs.Records.Lists.{outbox_of}
-use Rattle.ckpt_model.proofs.Histories.Balance.{unused-from_absent}
-use Rattle.ckpt_model.proofs.Histories.Balances.{times_none, times_once}
-use Rattle.ckpt_terms.specs.declared.call.FencedCall.{FencedCall}
-use Rattle.ckpt_terms.specs.Fencing.{Fenced, fenced_replay, is_unspent, is_garbage, may_be_deleted}
-use Rattle.ckpt_terms.specs.FencedLaws.{AreFencedCalls, IsFenced, GarbageForGood, DeletionsAreSafe}
-use Rattle.ckpt_terms.proofs.Known.{known-from_outbox}
-use Rattle.ckpt_terms.proofs.Stepping.{IsOpen, IsLater}
-use Rattle.ckpt_terms.proofs.Fences.{replay_later}
+use Rattle.ckpt_terms.proofs.Names.{◌≡◌, ℕ, ◌+◌, ◌<◌, ◌≤◌, Bool, true, false, not, ◌&&◌, ltb, leb, List, ◌++◌, inl, inr, ⊎_elim, arith, cases_Bool, both_ways, not-true, and_parts, and_from}
+use Rattle.ckpt_terms.proofs.Names.{or_cases, or_parts, not_from_false, ltb-true, ltb-false, leb-true, leb-false, one_if, times, IsIn, uses, is_present, one_if-true, one_if-false}
+use Rattle.ckpt_terms.proofs.Names.{times-append, numbers_in_order, IsIn-from_test, not_in-from_test, AreDistinct-from_order, is_known, in_outbox, outbox_of, unused-from_absent, times_none}
+use Rattle.ckpt_terms.proofs.Names.{times_once, FencedCall, Fenced, fenced_replay, is_unspent, is_garbage, may_be_deleted, AreFencedCalls, IsFenced, GarbageForGood, DeletionsAreSafe}
+use Rattle.ckpt_terms.proofs.{Known.known-from_outbox, Stepping.IsOpen, Stepping.IsLater, Fences.replay_later}
 
 -- garbage, by its three parts
 pub garbage_from : (m : Fenced) (f : ℕ) → (IsOpen m f → ⊥) → is_known m.core f ≡ false → is_garbage m f ≡ true

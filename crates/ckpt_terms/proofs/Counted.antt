@@ -1,16 +1,9 @@
 -- How many names ranges have that are read one after the other, and why other ranges are refused.
-use Rattle.std.proofs.Common.{◌≡◌, ℕ, zero, suc, ◌+◌, ◌-◌, ◌<◌, ◌≤◌, ltb, List, [], ◌∷◌, ◌++◌, take, drop, get_or, length, refl, sym, ap, subst, ◌∙◌, ⊎_elim, arith, length-append}
-use Rattle.std.proofs.lemmas.Bool.{lt-ltb}
-use Rattle.std.proofs.lemmas.List.{take_all, take_more}
-use Rattle.std.proofs.lemmas.List.Elements.{All-get_or, All-append, All-cons, All-nil}
-use Rattle.ckpt_ids.specs.Ascending.{IsAscendingSet}
-use Rattle.ckpt_ids.specs.Ordered.{IsIn}
-use Rattle.ckpt_ids.proofs.OrderedLemmas.{IsIn-append_cases, IsIn-append_left, IsIn-append_right, IsInOrder-append}
-use Rattle.ckpt_terms.specs.declared.names.Span.{Span}
-use Rattle.ckpt_terms.specs.Spans.{row, names_of, AreRanges, AreRangesBelow}
-use Rattle.ckpt_terms.proofs.Stepping.{row_ascends}
+use Rattle.ckpt_terms.proofs.Names.{◌≡◌, ℕ, zero, suc, ◌+◌, ◌-◌, ◌<◌, ◌≤◌, ltb, List, [], ◌∷◌, ◌++◌, take, drop, get_or, length, refl, sym, ap, subst, ◌∙◌, ⊎_elim, arith, length-append}
+use Rattle.ckpt_terms.proofs.Names.{lt-ltb, take_all, take_more, All-get_or, All-append, All-cons, All-nil, IsAscendingSet, IsIn, IsIn-append_cases, IsIn-append_left, IsIn-append_right}
+use Rattle.ckpt_terms.proofs.Names.{IsInOrder-append, Span, row, names_of, AreRanges, AreRangesBelow}
 use Rattle.ckpt_terms.proofs.SpanLemmas.{names_at, names_push, row-bounds, row-from_bounds, append_rises}
-use Rattle.ckpt_terms.proofs.RangeLemmas.{length-row}
+use Rattle.ckpt_terms.proofs.{Stepping.row_ascends, RangeLemmas.length-row}
 
 -- ranges with this many names, of which the greatest is the one before this end
 pub record AreCounted (spans : List Span) (end held : ℕ) : Type 0 where

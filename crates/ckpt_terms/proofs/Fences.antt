@@ -1,10 +1,6 @@
 -- What always holds, and what stays so, over every list of calls.
-use Rattle.std.proofs.Common.{◌≡◌, refl, ℕ, List, [], ◌∷◌, ◌++◌, arith}
-use Rattle.ckpt_model.specs.State.{Opening}
-use Rattle.ckpt_model.proofs.Soundness.Histories.{opening_is_sound}
-use Rattle.ckpt_terms.specs.declared.call.FencedCall.{FencedCall}
-use Rattle.ckpt_terms.specs.Fencing.{Fenced, fenced, FencedStepped, fenced_step, fenced_replay}
-use Rattle.ckpt_terms.specs.FencedLaws.{CanFence, IsFencedCall, AreFencedCalls, IsFenced}
+use Rattle.ckpt_terms.proofs.Names.{◌≡◌, refl, ℕ, List, [], ◌∷◌, ◌++◌, arith, Opening, opening_is_sound, FencedCall, Fenced, fenced, FencedStepped, fenced_step, fenced_replay, CanFence}
+use Rattle.ckpt_terms.proofs.Names.{IsFencedCall, AreFencedCalls, IsFenced}
 use Rattle.ckpt_terms.proofs.Stepping.{fenced_step_by, IsLater, later_itself, later_then, made_later, made_keeps}
 
 pub step_fenced : (m : Fenced) (call : FencedCall) → IsFencedCall call → IsFenced m → IsFenced (fenced_step m call).0

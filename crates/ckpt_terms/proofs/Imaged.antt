@@ -1,26 +1,10 @@
 -- The layer of an image is sound exactly if what is tested of it holds, where the coordinator is.
-use Rattle.std.proofs.Common.{◌≡◌, ℕ, ◌<◌, ◌≤◌, ◌^◌, Bool, true, false, not, ◌&&◌, ltb, List, [], ◌∷◌, ◌++◌, refl, sym, ap, subst, ◌∙◌, inl, inr, ⊎_elim}
-use Rattle.std.specs.List.{list_all}
-use Rattle.std.proofs.lemmas.Bool.{cases_Bool, both_ways, and_parts, and_from, ltb-true, lt-ltb, not_from_false, not_from_true, or_cases}
-use Rattle.std.proofs.lemmas.List.Folds.{list_all-map}
-use Rattle.ckpt_ids.specs.declared.ack.Acked.{Acked}
-use Rattle.ckpt_ids.specs.Ascending.{IsAscendingSet}
-use Rattle.ckpt_ids.specs.Ordered.{IsIn}
-use Rattle.ckpt_ids.specs.Records.{Record, uses, is_present}
-use Rattle.ckpt_ids.proofs.OrderedLemmas.{IsIn-append_cases, IsIn-append_left, IsIn-append_right, IsIn-from_test, test-from_IsIn}
-use Rattle.ckpt_model.specs.Images.{CanHold, record_in, settled}
-use Rattle.ckpt_model.specs.State.{State, in_outbox, is_known}
-use Rattle.ckpt_model.specs.Refusals.{is_cancelled}
-use Rattle.ckpt_model.specs.Soundness.{IsSound}
-use Rattle.ckpt_model.proofs.Records.Present.{IsHeld, IsHeld-from_present, present-from_IsHeld}
-use Rattle.ckpt_terms.specs.declared.image.TermsImage.{TermsImage}
-use Rattle.ckpt_terms.specs.Fencing.{Fenced, is_unspent}
-use Rattle.ckpt_terms.specs.FencedLaws.{IsFenced}
-use Rattle.ckpt_terms.specs.Spent.{files_are_spent, is_spent, record_is_spent}
-use Rattle.ckpt_terms.specs.TermsImages.{CanHoldFenced, fenced_in, fenced_settled}
-use Rattle.ckpt_terms.proofs.Known.{known-from_outbox, known-from_present}
-use Rattle.ckpt_terms.proofs.Resuming.{settled_fenced}
-use Rattle.ckpt_terms.proofs.TermLemmas.{layer}
+use Rattle.ckpt_terms.proofs.Names.{◌≡◌, ℕ, ◌<◌, ◌≤◌, ◌^◌, Bool, true, false, not, ◌&&◌, ltb, List, [], ◌∷◌, ◌++◌, refl, sym, ap, subst, ◌∙◌, inl, inr, ⊎_elim, list_all, cases_Bool}
+use Rattle.ckpt_terms.proofs.Names.{both_ways, and_parts, and_from, ltb-true, lt-ltb, not_from_false, not_from_true, or_cases, list_all-map, Acked, IsAscendingSet, IsIn, Record, uses}
+use Rattle.ckpt_terms.proofs.Names.{is_present, IsIn-append_cases, IsIn-append_left, IsIn-append_right, IsIn-from_test, test-from_IsIn, CanHold, record_in, settled, State, in_outbox}
+use Rattle.ckpt_terms.proofs.Names.{is_known, is_cancelled, IsSound, IsHeld, IsHeld-from_present, present-from_IsHeld, TermsImage, Fenced, is_unspent, IsFenced, files_are_spent, is_spent}
+use Rattle.ckpt_terms.proofs.Names.{record_is_spent, CanHoldFenced, fenced_in, fenced_settled}
+use Rattle.ckpt_terms.proofs.{Known.known-from_outbox, Known.known-from_present, Resuming.settled_fenced, TermLemmas.layer}
 
 -- what all elements pass, each passes
 passes_at : {X : Type 0} (p : X → Bool) (x : X) (xs : List X) → list_all p xs ≡ true → IsIn x xs → p x ≡ true

@@ -1,14 +1,8 @@
 -- Ranges as few as can be.
-use Rattle.std.proofs.Common.{◌≡◌, ℕ, zero, suc, ◌+◌, ◌-◌, ◌<◌, ◌≤◌, false, eqb, List, [], ◌∷◌, ◌++◌, take, drop, get_or, length, refl, sym, ap, subst, ◌∙◌, arith}
-use Rattle.std.specs.List.{All, range_with_len}
-use Rattle.std.proofs.lemmas.Bool.{cond-true, cond-false, cond_both, eqb-true, eqb-false, eq-eqb, ne_eqb}
-use Rattle.std.proofs.lemmas.List.{append-nil, append_assoc, take_all, take_more}
-use Rattle.std.proofs.lemmas.List.Elements.{All-get_or, All-head, All-tail, All-cons, All-nil}
-use Rattle.ckpt_ids.specs.Ascending.{IsAscendingSet}
-use Rattle.ckpt_ids.specs.Ordered.{IsIn}
-use Rattle.ckpt_ids.proofs.OrderedLemmas.{IsIn-append_left, IsIn-append_right}
-use Rattle.ckpt_terms.specs.declared.names.Span.{Span}
-use Rattle.ckpt_terms.specs.Spans.{AreApart, AreRanges, EndsBefore, joined, names_of, ranges_of, row, with_first}
+use Rattle.ckpt_terms.proofs.Names.{◌≡◌, ℕ, zero, suc, ◌+◌, ◌-◌, ◌<◌, ◌≤◌, false, eqb, List, [], ◌∷◌, ◌++◌, take, drop, get_or, length, refl, sym, ap, subst, ◌∙◌, arith, All, range_with_len}
+use Rattle.ckpt_terms.proofs.Names.{cond-true, cond-false, cond_both, eqb-true, eqb-false, eq-eqb, ne_eqb, append-nil, append_assoc, take_all, take_more, All-get_or, All-head, All-tail}
+use Rattle.ckpt_terms.proofs.Names.{All-cons, All-nil, IsAscendingSet, IsIn, IsIn-append_left, IsIn-append_right, Span, AreApart, AreRanges, EndsBefore, joined, names_of, ranges_of, row}
+use Rattle.ckpt_terms.proofs.Names.{with_first}
 use Rattle.ckpt_terms.proofs.SpanLemmas.{append_rises, names_at, names_push, range_split, row-from_bounds, span}
 
 abbrev IsSome_range : Span → Type 0

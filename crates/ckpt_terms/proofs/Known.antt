@@ -1,23 +1,8 @@
 -- Which files a step of the coordinator can make known: those that were known, and the fresh ones of an accepted acknowledgement.
-use Rattle.std.proofs.Common.{◌≡◌, ℕ, ◌+◌, ◌<◌, Bool, true, false, not, List, [], ◌++◌, refl, ap, ◌⊎◌, inl, inr, ⊎_elim, arith}
-use Rattle.std.specs.List.{filter}
-use Rattle.std.proofs.lemmas.Bool.{or_cases, or_left, or_right, cond_both}
-use Rattle.ckpt_ids.specs.declared.call.Call.{Call}
-use Rattle.ckpt_ids.specs.declared.call.Call.TheVariants.{Ack}
+use Rattle.ckpt_terms.proofs.Names.{◌≡◌, ℕ, ◌+◌, ◌<◌, Bool, true, false, not, List, [], ◌++◌, refl, ap, ◌⊎◌, inl, inr, ⊎_elim, arith, filter, or_cases, or_left, or_right, cond_both, Call}
+use Rattle.ckpt_terms.proofs.Names.{Ack, Answer, Done, one_if, times, IsIn, uses, is_present, IsIn-from_times, times-from_IsIn, IsIn-from_filter, IsIn-from_test, test-from_IsIn, State}
+use Rattle.ckpt_terms.proofs.Names.{is_known, in_outbox, step, IsSound, registered_as, registered_by, handed_by, deleted_by, new_by, is_ack_taken, step_settled, fresh_of, is_accepted}
 use Rattle.ckpt_ids.specs.declared.reply.Reply.TheVariants as reply
-use Rattle.ckpt_ids.specs.declared.reply.Answer.{Answer}
-use Rattle.ckpt_ids.specs.declared.reply.Answer.TheVariants.{Done}
-use Rattle.ckpt_ids.specs.Counting.{one_if, times}
-use Rattle.ckpt_ids.specs.Ordered.{IsIn}
-use Rattle.ckpt_ids.specs.Records.{uses, is_present}
-use Rattle.ckpt_ids.proofs.CountLemmas.{IsIn-from_times, times-from_IsIn}
-use Rattle.ckpt_ids.proofs.OrderedLemmas.{IsIn-from_filter, IsIn-from_test, test-from_IsIn}
-use Rattle.ckpt_model.specs.State.{State, is_known, in_outbox}
-use Rattle.ckpt_model.specs.Steps.{step}
-use Rattle.ckpt_model.specs.Soundness.{IsSound}
-use Rattle.ckpt_model.specs.Laws.{registered_as, registered_by, handed_by, deleted_by, new_by, is_ack_taken}
-use Rattle.ckpt_model.proofs.Histories.StepBalances.{step_settled}
-use Rattle.ckpt_terms.specs.Fencing.{fresh_of, is_accepted}
 
 -- a file in the outbox is known, and so is a present one
 pub known-from_outbox : (m : State) (f : ℕ) → IsIn f (m.waiting ++ m.taken) → is_known m f ≡ true

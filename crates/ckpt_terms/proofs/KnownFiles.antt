@@ -1,19 +1,8 @@
 -- The files that a coordinator knows, as one list, and the test whether one of them has a number or a greater one.
-use Rattle.std.proofs.Common.{◌≡◌, ℕ, ◌<◌, Bool, true, false, ◌||◌, eqb, leb, ltb, List, [], ◌∷◌, ◌++◌, map, refl, sym, ap, ◌∙◌, inl, inr, ⊎_elim}
-use Rattle.std.specs.List.{list_any, flat_map}
-use Rattle.std.proofs.lemmas.Bool.{cases_Bool, or_cases, leb-false}
-use Rattle.std.proofs.lemmas.List.Folds.{list_any-append}
-use Rattle.ckpt_ids.specs.declared.ack.Acked.{Acked}
-use Rattle.ckpt_ids.specs.Ascending.{ascending}
-use Rattle.ckpt_ids.specs.Ordered.{IsIn}
-use Rattle.ckpt_ids.specs.Records.{Record, uses, is_present}
-use Rattle.ckpt_ids.proofs.OrderedLemmas.{IsIn-append_left, IsIn-append_right, IsIn-flat_map, IsIn-from_in_order, IsIn-in_order, IsIn-from_list_any, IsIn-from_test, list_any-from_IsIn, list_any-none}
-use Rattle.ckpt_ids.proofs.OrderedLemmas.{fails-from_list_any}
-use Rattle.ckpt_model.specs.declared.image.Image.{Image}
-use Rattle.ckpt_model.specs.Images.{record_in, settled, state_in}
-use Rattle.ckpt_model.specs.State.{State, is_known, in_outbox}
-use Rattle.ckpt_model.proofs.Records.Present.{Holds, IsHeld, IsHeld-from_present}
-use Rattle.ckpt_terms.specs.Machines.{files_by, has_known_from, known_files}
+use Rattle.ckpt_terms.proofs.Names.{◌≡◌, ℕ, ◌<◌, Bool, true, false, ◌||◌, eqb, leb, ltb, List, [], ◌∷◌, ◌++◌, map, refl, sym, ap, ◌∙◌, inl, inr, ⊎_elim, list_any, flat_map, cases_Bool}
+use Rattle.ckpt_terms.proofs.Names.{or_cases, leb-false, list_any-append, Acked, ascending, IsIn, Record, uses, is_present, IsIn-append_left, IsIn-append_right, IsIn-flat_map}
+use Rattle.ckpt_terms.proofs.Names.{IsIn-from_in_order, IsIn-in_order, IsIn-from_list_any, IsIn-from_test, list_any-from_IsIn, list_any-none, fails-from_list_any, Image, record_in, settled}
+use Rattle.ckpt_terms.proofs.Names.{state_in, State, is_known, in_outbox, Holds, IsHeld, IsHeld-from_present, files_by, has_known_from, known_files}
 
 any_flat : {X Y : Type 0} (p : Y → Bool) (f : X → List Y) (xs : List X) → list_any p (flat_map f xs) ≡ list_any (λ x. list_any p (f x)) xs
 any_flat p f [] = refl

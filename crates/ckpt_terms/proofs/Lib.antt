@@ -12,6 +12,7 @@ pub mod MachineLemmas
 pub mod Known
 pub mod Modes
 pub mod NamedProgress
+mod Names
 pub mod OnceIssued
 pub mod OneTerm
 pub mod RangeLemmas

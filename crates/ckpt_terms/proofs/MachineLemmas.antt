@@ -1,24 +1,11 @@
 -- What a call without a term does, with names and without.
-use Rattle.std.proofs.Common.{◌≡◌, ℕ, ◌+◌, ◌≤◌, ◌^◌, Bool, true, false, ◌||◌, ltb, eqb, ◌&&◌, List, [], refl, sym, ap, subst, ◌∙◌, arith}
-use Rattle.std.specs.Prelude.{Some, None, cond}
-use Rattle.std.proofs.lemmas.Bool.{cond-false, or_parts, ltb-false, eqb-false, ne_eqb, le-ltb}
-use Rattle.ckpt_ids.specs.declared.call.Call.{Call}
-use Rattle.ckpt_ids.specs.declared.call.Call.TheVariants.{Ack, Decline, Restore, Cancel}
-use Rattle.ckpt_model.specs.State.{State, Opening, opened}
-use Rattle.ckpt_model.specs.Soundness.{IsSound}
-use Rattle.ckpt_model.specs.Steps.{Stepped, step}
-use Rattle.ckpt_terms.specs.declared.call.FencedCall.TheVariants.{Make}
-use Rattle.ckpt_terms.specs.declared.call.FencedAnswer.{FencedAnswer}
+use Rattle.ckpt_terms.proofs.Names.{◌≡◌, ℕ, ◌+◌, ◌≤◌, ◌^◌, Bool, true, false, ◌||◌, ltb, eqb, ◌&&◌, List, [], refl, sym, ap, subst, ◌∙◌, arith, Some, None, cond, cond-false, or_parts}
+use Rattle.ckpt_terms.proofs.Names.{ltb-false, eqb-false, ne_eqb, le-ltb, Call, Ack, Decline, Restore, Cancel, State, Opening, opened, IsSound, Stepped, step, Make, FencedAnswer, BadName}
+use Rattle.ckpt_terms.proofs.Names.{NameInUse, Machine, Fenced, FencedStepped, ends_the_term, fence, fenced_step, fresh_of, is_accepted, unspent_after, CanFence, IsFenced, MakesStep}
+use Rattle.ckpt_terms.proofs.Names.{fence_fault, has_known_from, is_free, machine_step, names_in, passes}
+use Rattle.ckpt_terms.proofs.{KnownFiles.known_below, Stepping.fenced_on, TermLemmas.layer, TermLemmas.stays}
 use Rattle.ckpt_terms.specs.declared.call.FencedAnswer.TheVariants as answer
-use Rattle.ckpt_terms.specs.declared.machine.FenceFault.TheVariants.{BadName, NameInUse}
-use Rattle.ckpt_terms.specs.declared.machine.Machine.{Machine}
 use Rattle.ckpt_terms.specs.declared.machine.Machine.TheVariants as machine
-use Rattle.ckpt_terms.specs.Fencing.{Fenced, FencedStepped, ends_the_term, fence, fenced_step, fresh_of, is_accepted, unspent_after}
-use Rattle.ckpt_terms.specs.FencedLaws.{CanFence, IsFenced}
-use Rattle.ckpt_terms.specs.Machines.{MakesStep, fence_fault, has_known_from, is_free, machine_step, names_in, passes}
-use Rattle.ckpt_terms.proofs.KnownFiles.{known_below}
-use Rattle.ckpt_terms.proofs.Stepping.{fenced_on}
-use Rattle.ckpt_terms.proofs.TermLemmas.{layer, stays}
 
 -- a call that needs no term and ends none
 

@@ -1,22 +1,11 @@
 -- Only a cancel ends a job for good.
-use Rattle.std.proofs.Common.{◌≡◌, ℕ, ◌+◌, max, Bool, true, ◌&&◌, ltb, eqb, List, ◌++◌, refl, ◌⊎◌, inl, inr}
-use Rattle.std.specs.Prelude.{count_by, Option, Some, None}
-use Rattle.std.proofs.lemmas.Bool.{false≢true, cond_both}
-use Rattle.ckpt_ids.specs.declared.subtask.SubtaskId.{SubtaskId}
-use Rattle.ckpt_ids.specs.declared.call.Call.{Call}
-use Rattle.ckpt_ids.specs.declared.call.Call.TheVariants.{Tick, Savepoint, Ack, Decline, Dispose, Restore, Cancel, Take, Deleted, Undeleted, Show, Count, Trigger, Configure}
-use Rattle.ckpt_ids.specs.declared.call.Target.{Target}
-use Rattle.ckpt_ids.specs.Records.{Record, acknowledged, missing}
-use Rattle.ckpt_ids.specs.Ascending.{ascending}
-use Rattle.ckpt_rules.specs.Trigger.{hold}
-use Rattle.ckpt_rules.specs.declared.hold.Hold.{Hold}
-use Rattle.ckpt_rules.specs.declared.hold.Hold.TheVariants.{Interval, AtOnce, Pause, Go}
-use Rattle.ckpt_model.specs.State.{State, is_checkpoint, is_expired, drop}
-use Rattle.ckpt_model.specs.Refusals.{is_cancelled, moment_of, pending_of}
-use Rattle.ckpt_model.specs.Steps.{Stepped, with_records, replaced, superseded, dropped_by, pending_checkpoints, failures_with, fails_the_job, triggered, failed_over, start_or_hold, after_expiry}
-use Rattle.ckpt_model.specs.Steps.{tick, completed_with, acknowledged_in, ack, decline, decline_pending, dropping, dispose, restore, restarted, cancel, take_files, with_config, configure, show, effect, at_moment, step}
-use Rattle.ckpt_model.proofs.Answering.StepCases.{step_by}
-use Rattle.ckpt_terms.specs.Fencing.{ends_the_term, is_accepted}
+use Rattle.ckpt_terms.proofs.Names.{◌≡◌, ℕ, ◌+◌, max, Bool, true, ◌&&◌, ltb, eqb, List, ◌++◌, refl, ◌⊎◌, inl, inr, count_by, Option, Some, None, false≢true, cond_both, SubtaskId, Call, Tick}
+use Rattle.ckpt_terms.proofs.Names.{Savepoint, Ack, Decline, Dispose, Restore, Cancel, Take, Deleted, Undeleted, Show, Count, Trigger, Configure, Target, Record, acknowledged, missing}
+use Rattle.ckpt_terms.proofs.Names.{ascending, hold, Hold, Interval, AtOnce, Pause, Go, State, is_checkpoint, is_expired, is_cancelled, moment_of, pending_of, Stepped, with_records}
+use Rattle.ckpt_terms.proofs.Names.{replaced, superseded, dropped_by, pending_checkpoints, failures_with, fails_the_job, triggered, failed_over, start_or_hold, after_expiry, tick}
+use Rattle.ckpt_terms.proofs.Names.{completed_with, acknowledged_in, ack, decline, decline_pending, dropping, dispose, restore, restarted, cancel, take_files, with_config, configure, show}
+use Rattle.ckpt_terms.proofs.Names.{effect, at_moment, step, step_by, ends_the_term, is_accepted}
+use Rattle.ckpt_model.specs.State.{drop}
 
 -- not cancelled, or as before
 abbrev GoesOn : State → Stepped → Type 0

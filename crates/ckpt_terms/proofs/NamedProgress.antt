@@ -1,23 +1,10 @@
 -- Acknowledgements in the term that runs, with names that it holds, reach the coordinator.
-use Rattle.std.proofs.Common.{◌≡◌, ℕ, ◌+◌, Bool, true, false, not, ◌&&◌, eqb, List, [], ◌∷◌, map, refl, sym, ap, ◌∙◌, ⊎_elim, inl, inr}
-use Rattle.std.specs.Prelude.{Some, None}
-use Rattle.std.specs.List.{list_any, filter, find}
-use Rattle.std.proofs.lemmas.Bool.{cases_Bool, and_right, cond-false, cond_both, eq-eqb, not_from_false}
-use Rattle.ckpt_ids.specs.Ordered.{IsIn}
-use Rattle.ckpt_ids.specs.Records.{Record}
-use Rattle.ckpt_ids.proofs.OrderedLemmas.{IsIn-filter, IsIn-from_test, list_any-none, test-from_IsIn}
-use Rattle.ckpt_ids.proofs.PlaceLemmas.{find-none}
-use Rattle.ckpt_model.specs.Histories.{answers}
-use Rattle.ckpt_model.specs.Progress.{AreOfDifferent, TimedPart, ack_at}
-use Rattle.ckpt_model.specs.Steps.{Stepped, step}
-use Rattle.ckpt_model.proofs.Reordering.Progress.{completes}
-use Rattle.ckpt_terms.specs.declared.call.FencedRefusal.TheVariants.{OldTerm}
-use Rattle.ckpt_terms.specs.declared.call.FencedAnswer.TheVariants as answer
-use Rattle.ckpt_terms.specs.Fencing.{Fenced, FencedStepped, after_call, fence, fenced_step, is_accepted, is_unspent, not_reserved}
-use Rattle.ckpt_terms.specs.FencedLaws.{IsFenced}
-use Rattle.ckpt_terms.specs.NamedProgress.{CompletesInTerm, ack_in}
-use Rattle.ckpt_terms.specs.TermsImages.{fenced_answers}
+use Rattle.ckpt_terms.proofs.Names.{◌≡◌, ℕ, ◌+◌, Bool, true, false, not, ◌&&◌, eqb, List, [], ◌∷◌, map, refl, sym, ap, ◌∙◌, ⊎_elim, inl, inr, Some, None, list_any, filter, find, cases_Bool}
+use Rattle.ckpt_terms.proofs.Names.{and_right, cond-false, cond_both, eq-eqb, not_from_false, IsIn, Record, IsIn-filter, IsIn-from_test, list_any-none, test-from_IsIn, find-none, answers}
+use Rattle.ckpt_terms.proofs.Names.{AreOfDifferent, TimedPart, ack_at, Stepped, step, completes, OldTerm, Fenced, FencedStepped, after_call, fence, fenced_step, is_accepted, is_unspent}
+use Rattle.ckpt_terms.proofs.Names.{not_reserved, IsFenced, CompletesInTerm, ack_in, fenced_answers}
 use Rattle.ckpt_terms.proofs.Stepping.{fenced_on}
+use Rattle.ckpt_terms.specs.declared.call.FencedAnswer.TheVariants as answer
 
 -- one is let through
 let_in : (m : Fenced) (term id : ℕ) (t : TimedPart) → term ≡ m.term → ((f : ℕ) → IsIn f t.part.fresh → IsIn f m.unspent) → fence m (ack_in term id t) ≡ None

@@ -1,21 +1,9 @@
 -- The calls that reach the coordinator never report a deleted file as new again.
-use Rattle.std.proofs.Common.{◌≡◌, ℕ, List, [], ◌∷◌, ◌++◌, refl, sym, subst, inl, ⊎_elim}
-use Rattle.std.specs.Prelude.{◌↔◌}
-use Rattle.ckpt_ids.specs.declared.call.Call.{Call}
-use Rattle.ckpt_ids.specs.Ordered.{IsIn}
-use Rattle.ckpt_ids.proofs.OrderedLemmas.{IsIn-append_cases}
-use Rattle.ckpt_model.specs.State.{IsUnused, State, Opening, opened}
-use Rattle.ckpt_model.specs.Histories.{replay}
-use Rattle.ckpt_model.specs.Laws.{AreCalls, NoneAgain, along, handed_by, registered_by, deleted_by}
-use Rattle.ckpt_model.proofs.Histories.Balance.{handed}
-use Rattle.ckpt_terms.specs.declared.call.FencedCall.{FencedCall}
-use Rattle.ckpt_terms.specs.declared.call.FencedCall.TheVariants.{Reserve, Forfeit, Make, Advance}
-use Rattle.ckpt_terms.specs.Fencing.{Fenced, fenced, made, passed, FencedStepped, fenced_replay, core_calls, restart}
-use Rattle.ckpt_terms.specs.FencedLaws.{CanFence, AreFencedCalls, IsFenced, IssuesOnce, IssuedOnce}
-use Rattle.ckpt_terms.proofs.Known.{new_fresh, deleted_known}
+use Rattle.ckpt_terms.proofs.Names.{◌≡◌, ℕ, List, [], ◌∷◌, ◌++◌, refl, sym, subst, inl, ⊎_elim, ◌↔◌, Call, IsIn, IsIn-append_cases, IsUnused, State, Opening, opened, replay, AreCalls}
+use Rattle.ckpt_terms.proofs.Names.{NoneAgain, along, handed_by, registered_by, deleted_by, handed, FencedCall, Reserve, Forfeit, Make, Advance, Fenced, fenced, made, passed, FencedStepped}
+use Rattle.ckpt_terms.proofs.Names.{fenced_replay, core_calls, restart, CanFence, AreFencedCalls, IsFenced, IssuesOnce, IssuedOnce}
 use Rattle.ckpt_terms.proofs.Stepping.{fenced_step_by, fresh_unspent, IsOpen, IsLater, made_later, made_keeps}
-use Rattle.ckpt_terms.proofs.Fences.{opening_fenced}
-use Rattle.ckpt_terms.proofs.Classes.{known_closed}
+use Rattle.ckpt_terms.proofs.{Known.new_fresh, Known.deleted_known, Fences.opening_fenced, Classes.known_closed}
 
 -- the calls that reach the coordinator are a history of it, which leaves it as the layer's core
 pub history : (m : Fenced) (calls : List FencedCall) → AreFencedCalls calls → AreCalls (core_calls m calls) × ((fenced_replay m calls).core ≡ replay m.core (core_calls m calls))

@@ -1,31 +1,12 @@
 -- Each accepted acknowledgement of a pending record was made in the term of its trigger.
-use Rattle.std.proofs.Common.{◌≡◌, ℕ, ◌+◌, ◌<◌, true, false, not, ◌&&◌, eqb, List, [], ◌∷◌, refl, sym, ap, ◌∙◌, ⊎_elim, arith}
-use Rattle.std.specs.Prelude.{Option, None, max}
-use Rattle.std.proofs.lemmas.Bool.{cases_Bool, both_ways, and_parts, and_from, not-true, not-false, not_from_false, eqb-true, cond_both}
-use Rattle.std.proofs.lemmas.Grind.{common_steps}
-use Rattle.ckpt_ids.specs.declared.call.Call.{Call}
-use Rattle.ckpt_ids.specs.declared.call.Call.TheVariants.{Restore, Cancel}
-use Rattle.ckpt_ids.specs.declared.call.Target.{Target}
+use Rattle.ckpt_terms.proofs.Names.{◌≡◌, ℕ, ◌+◌, ◌<◌, true, false, not, ◌&&◌, eqb, List, [], ◌∷◌, refl, sym, ap, ◌∙◌, ⊎_elim, arith, Option, None, max, cases_Bool, both_ways, and_parts}
+use Rattle.ckpt_terms.proofs.Names.{and_from, not-true, not-false, not_from_false, eqb-true, cond_both, common_steps, Call, Restore, Cancel, Target, IsIn, Record, State, Stepped, cancel}
+use Rattle.ckpt_terms.proofs.Names.{cancelled, effect, restarted, restore, rolled_back, step, Part, ack_of, is_ack_taken, step_by, IsIn-from_changed, IsTriggered, next_rises, given_is_next}
+use Rattle.ckpt_terms.proofs.Names.{step_came, IsPassedOver, IsTakenBy, step_is, FencedCall, Reserve, Forfeit, Make, Advance, OldTerm, Fenced, FencedStepped, ends_the_term, fence}
+use Rattle.ckpt_terms.proofs.Names.{fenced_replay, fenced_step, is_accepted, is_of_task, made, restart, AreFencedCalls, IsFenced, IsFencedCall, OneTerm, given_in, is_taken_in}
+use Rattle.ckpt_terms.proofs.{Fences.replay_fenced, Fences.step_fenced, Stepping.advance_by, Stepping.fenced_step_by, Stepping.none_else}
 use Rattle.ckpt_ids.specs.declared.call.Target.TheVariants as target
-use Rattle.ckpt_ids.specs.Ordered.{IsIn}
-use Rattle.ckpt_ids.specs.Records.{Record}
-use Rattle.ckpt_model.specs.State.{State, drop}
-use Rattle.ckpt_model.specs.Steps.{Stepped, cancel, cancelled, effect, restarted, restore, rolled_back, step}
-use Rattle.ckpt_model.specs.Laws.{Part, ack_of, is_ack_taken}
-use Rattle.ckpt_model.proofs.Answering.StepCases.{step_by}
-use Rattle.ckpt_model.proofs.Records.Counts.{IsIn-from_changed}
-use Rattle.ckpt_model.proofs.Histories.Moves.{IsTriggered}
-use Rattle.ckpt_model.proofs.Histories.Numbers.{next_rises}
-use Rattle.ckpt_model.proofs.Histories.Pinned.{given_is_next, step_came}
-use Rattle.ckpt_model.proofs.Stepping.Changes.{IsPassedOver, IsTakenBy}
-use Rattle.ckpt_model.proofs.Stepping.Walk.{step_is}
-use Rattle.ckpt_terms.specs.declared.call.FencedCall.{FencedCall}
-use Rattle.ckpt_terms.specs.declared.call.FencedCall.TheVariants.{Reserve, Forfeit, Make, Advance}
-use Rattle.ckpt_terms.specs.declared.call.FencedRefusal.TheVariants.{OldTerm}
-use Rattle.ckpt_terms.specs.Fencing.{Fenced, FencedStepped, ends_the_term, fence, fenced_replay, fenced_step, is_accepted, is_of_task, made, restart}
-use Rattle.ckpt_terms.specs.FencedLaws.{AreFencedCalls, IsFenced, IsFencedCall, OneTerm, given_in, is_taken_in}
-use Rattle.ckpt_terms.proofs.Fences.{replay_fenced, step_fenced}
-use Rattle.ckpt_terms.proofs.Stepping.{advance_by, fenced_step_by, none_else}
+use Rattle.ckpt_model.specs.State.{drop}
 
 -- an accepted restore leaves nothing pending
 restored_is_idle : (m : State) (t : Target) (shape : Option (List ℕ)) (y : Record) → IsIn y (restore m t shape).0.records → y.done ≡ true

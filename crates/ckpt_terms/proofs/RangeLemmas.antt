@@ -1,22 +1,13 @@
 -- Where a name is in ranges, and what is left of them without it.
-use Rattle.std.proofs.Common.{◌≡◌, ℕ, zero, suc, ◌+◌, ◌-◌, ◌<◌, ◌≤◌, true, false, not, ◌||◌, ltb, leb, eqb, List, [], ◌∷◌, ◌++◌, take, drop, get_or, set, length, refl, sym, ap, subst, ◌∙◌, inl}
-use Rattle.std.proofs.Common.{⊎_elim, arith, length-append}
-use Rattle.std.specs.Prelude.{Option, Some, None, is_some, IfSome}
-use Rattle.std.specs.List.{All, list_any, range_with_len}
-use Rattle.std.proofs.lemmas.Bool.{cases_Bool, both_ways, ne_eqb, and_from, le-leb, lt-ltb, and_parts, ltb-true, ltb-false, leb-true}
-use Rattle.std.proofs.lemmas.List.{append_assoc, length-set, take-append-drop, set_split, take-set, drop-set}
-use Rattle.std.proofs.lemmas.List.Elements.{All-head, All-tail, All-get_or, All-from_get_or, All-append, All-take, All-drop, All-set, All-cons}
-use Rattle.std.proofs.lemmas.List.Folds.{list_any_none, list_any_at, list_any-append}
-use Rattle.ckpt_ids.specs.Ordered.{IsIn}
-use Rattle.ckpt_ids.specs.Ascending.{IsAscendingSet}
-use Rattle.ckpt_ids.proofs.PlaceLemmas.{get_or_any}
-use Rattle.ckpt_ids.proofs.OrderedLemmas.{IsIn-append_right, IsIn-append_left, ComesBefore-at, IsInOrder-filter, filter-all, test-from_IsIn}
-use Rattle.ckpt_terms.specs.declared.names.Span.{Span}
-use Rattle.ckpt_terms.specs.Fencing.{without_all}
-use Rattle.ckpt_terms.specs.Spans.{row, in_span, joined, names_of, AreRanges, AreKept, HasAt, IsCut}
-use Rattle.ckpt_terms.proofs.SpanLemmas.{span, row-from_bounds, row_empty, row_split, in_spans, added_rises, added_is, without-append, without_below, without_above, without_itself, append_rises}
+use Rattle.ckpt_terms.proofs.Names.{◌≡◌, ℕ, zero, suc, ◌+◌, ◌-◌, ◌<◌, ◌≤◌, true, false, not, ◌||◌, ltb, leb, eqb, List, [], ◌∷◌, ◌++◌, take, drop, get_or, set, length, refl, sym, ap, subst}
+use Rattle.ckpt_terms.proofs.Names.{◌∙◌, inl, ⊎_elim, arith, length-append, Option, Some, None, is_some, IfSome, All, list_any, range_with_len, cases_Bool, both_ways, ne_eqb, and_from}
+use Rattle.ckpt_terms.proofs.Names.{le-leb, lt-ltb, and_parts, ltb-true, ltb-false, leb-true, append_assoc, length-set, take-append-drop, set_split, take-set, drop-set, All-head, All-tail}
+use Rattle.ckpt_terms.proofs.Names.{All-get_or, All-from_get_or, All-append, All-take, All-drop, All-set, All-cons, list_any_none, list_any_at, list_any-append, IsIn, IsAscendingSet}
+use Rattle.ckpt_terms.proofs.Names.{get_or_any, IsIn-append_right, IsIn-append_left, ComesBefore-at, IsInOrder-filter, filter-all, test-from_IsIn, Span, without_all, row, in_span, joined}
+use Rattle.ckpt_terms.proofs.Names.{names_of, AreRanges, AreKept, HasAt, IsCut}
+use Rattle.ckpt_terms.proofs.SpanLemmas.{span, row-from_bounds, row_empty, row_split, in_spans, added_rises, added_is, without-append, without_below, without_above, without_itself}
+use Rattle.ckpt_terms.proofs.SpanLemmas.{append_rises, names_append, names_at, rises_behind}
 use Rattle.ckpt_terms.proofs.JoinLemmas.{joined_names, joined_some}
-use Rattle.ckpt_terms.proofs.SpanLemmas.{names_append, names_at, rises_behind}
 
 -- each range has a name
 abbrev pub HaveNames : List Span → Type 0

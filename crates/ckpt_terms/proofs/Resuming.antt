@@ -1,32 +1,12 @@
 -- No answer of the layer depends on the order in which files were fetched.
-use Rattle.std.proofs.Common.{◌≡◌, ℕ, ◌+◌, ◌^◌, true, false, not, ◌&&◌, ◌||◌, ltb, eqb, List, [], ◌∷◌, ◌++◌, refl, sym, ap, subst, ◌∙◌, ⊎_elim}
-use Rattle.std.specs.Prelude.{Option, Some, None, cond}
-use Rattle.std.proofs.lemmas.Bool.{cases_Bool, both_ways, or_cases}
-use Rattle.ckpt_ids.specs.declared.reply.Answer.{Answer}
-use Rattle.ckpt_ids.specs.declared.reply.Answer.TheVariants.{Done, Refused}
-use Rattle.ckpt_ids.specs.Ascending.{ascending}
-use Rattle.ckpt_ids.specs.Ordered.{IsIn}
-use Rattle.ckpt_ids.specs.Records.{uses, is_present}
-use Rattle.ckpt_ids.proofs.OrderedLemmas.{IsIn-append_cases, IsIn-append_left, IsIn-append_right, IsIn-from_in_order, IsIn-from_test}
-use Rattle.ckpt_model.specs.State.{State, is_known, in_outbox}
-use Rattle.ckpt_model.specs.Refusals.{is_cancelled}
-use Rattle.ckpt_model.specs.Soundness.{IsSound}
-use Rattle.ckpt_model.specs.Steps.{Stepped, step}
-use Rattle.ckpt_model.specs.Images.{AreAlike, GoesOnAs, CanHold, settled}
-use Rattle.ckpt_model.proofs.Images.Alike.{go_on_alike}
-use Rattle.ckpt_model.proofs.Images.Settled.{settled_can_hold, settled_alike}
-use Rattle.ckpt_terms.specs.declared.call.FencedCall.{FencedCall}
-use Rattle.ckpt_terms.specs.declared.call.FencedCall.TheVariants.{Reserve, Forfeit, Make, Advance}
-use Rattle.ckpt_terms.specs.declared.call.FencedRefusal.{FencedRefusal}
-use Rattle.ckpt_terms.specs.declared.call.FencedRefusal.TheVariants.{OldTerm, Ended, BadCount, NamesUsedUp}
-use Rattle.ckpt_terms.specs.declared.call.FencedAnswer.{FencedAnswer}
+use Rattle.ckpt_terms.proofs.Names.{◌≡◌, ℕ, ◌+◌, ◌^◌, true, false, not, ◌&&◌, ◌||◌, ltb, eqb, List, [], ◌∷◌, ◌++◌, refl, sym, ap, subst, ◌∙◌, ⊎_elim, Option, Some, None, cond, cases_Bool}
+use Rattle.ckpt_terms.proofs.Names.{both_ways, or_cases, Answer, Done, Refused, ascending, IsIn, uses, is_present, IsIn-append_cases, IsIn-append_left, IsIn-append_right, IsIn-from_in_order}
+use Rattle.ckpt_terms.proofs.Names.{IsIn-from_test, State, is_known, in_outbox, is_cancelled, IsSound, Stepped, step, AreAlike, GoesOnAs, CanHold, settled, go_on_alike, settled_can_hold}
+use Rattle.ckpt_terms.proofs.Names.{settled_alike, FencedCall, Reserve, Forfeit, Make, Advance, FencedRefusal, OldTerm, Ended, BadCount, NamesUsedUp, FencedAnswer, Fenced, ends_the_term}
+use Rattle.ckpt_terms.proofs.Names.{is_accepted, fence, unspent_after, after_call, advanced, restart, FencedStepped, made, unless_fenced, fenced_step, fenced_replay, IsFenced}
+use Rattle.ckpt_terms.proofs.Names.{fenced_answers, fenced_settled, AreFencedAlike, FencedGoesOnAs, CanHoldFenced, IsFencedCut}
+use Rattle.ckpt_terms.proofs.{Fences.fenced_replay-append, Known.known-from_outbox, Known.known-from_present, TermLemmas.layer}
 use Rattle.ckpt_terms.specs.declared.call.FencedAnswer.TheVariants as answer
-use Rattle.ckpt_terms.specs.Fencing.{Fenced, ends_the_term, is_accepted, fence, unspent_after, after_call, advanced, restart, FencedStepped, made, unless_fenced, fenced_step, fenced_replay}
-use Rattle.ckpt_terms.specs.FencedLaws.{IsFenced}
-use Rattle.ckpt_terms.specs.TermsImages.{fenced_answers, fenced_settled, AreFencedAlike, FencedGoesOnAs, CanHoldFenced, IsFencedCut}
-use Rattle.ckpt_terms.proofs.Fences.{fenced_replay-append}
-use Rattle.ckpt_terms.proofs.Known.{known-from_outbox, known-from_present}
-use Rattle.ckpt_terms.proofs.TermLemmas.{layer}
 
 -- alike by their parts
 alike_by : (m n : Fenced) → AreAlike m.core n.core → m.term ≡ n.term → m.next_name ≡ n.next_name → m.unspent ≡ n.unspent → AreFencedAlike m n

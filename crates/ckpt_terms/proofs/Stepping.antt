@@ -1,29 +1,14 @@
 -- What one call of a fenced coordinator changes.
-use Rattle.std.proofs.Common.{◌≡◌, ℕ, zero, suc, ◌+◌, ◌<◌, ◌≤◌, ◌^◌, Bool, true, false, not, ◌&&◌, ◌||◌, ltb, leb, eqb, List, [], ◌++◌, refl, ap, ◌∙◌, ◌⊎◌, inl, inr, ⊎_elim, arith}
-use Rattle.std.specs.Prelude.{Option, Some, None, cond, max}
-use Rattle.std.specs.List.{list_any, filter, find, range_with_len}
-use Rattle.std.proofs.lemmas.Bool.{cases_Bool, both_ways, and_parts, and_from, or_parts, cond_both, ltb-false, lt-ltb, leb-false, lt-leb, cond-true, cond-false}
-use Rattle.ckpt_ids.specs.declared.call.Call.{Call}
-use Rattle.ckpt_ids.specs.Ordered.{IsIn}
-use Rattle.ckpt_ids.specs.Ascending.{IsAscendingSet}
-use Rattle.ckpt_ids.specs.Records.{uses, is_present}
-use Rattle.ckpt_ids.proofs.OrderedLemmas.{IsIn-append_cases, IsIn-from_filter, IsIn-from_test, test-from_IsIn, IsInOrder-append, IsInOrder-filter, ComesBefore-from}
-use Rattle.ckpt_model.specs.State.{is_known}
-use Rattle.ckpt_model.specs.Refusals.{is_cancelled}
-use Rattle.ckpt_model.specs.Steps.{Stepped, step}
-use Rattle.ckpt_model.specs.Laws.{registered_by}
-use Rattle.ckpt_model.proofs.Records.Counts.{fails-from_find}
-use Rattle.ckpt_model.proofs.Soundness.Calls.{step_keeps}
-use Rattle.ckpt_terms.specs.declared.call.FencedCall.{FencedCall}
-use Rattle.ckpt_terms.specs.declared.call.FencedCall.TheVariants.{Reserve, Forfeit, Make, Advance}
-use Rattle.ckpt_terms.specs.declared.call.FencedRefusal.{FencedRefusal}
-use Rattle.ckpt_terms.specs.declared.call.FencedRefusal.TheVariants.{OldTerm, Ended, BadCount, NamesUsedUp, TermsUsedUp, BadName}
+use Rattle.ckpt_terms.proofs.Names.{◌≡◌, ℕ, zero, suc, ◌+◌, ◌<◌, ◌≤◌, ◌^◌, Bool, true, false, not, ◌&&◌, ◌||◌, ltb, leb, eqb, List, [], ◌++◌, refl, ap, ◌∙◌, ◌⊎◌, inl, inr, ⊎_elim, arith}
+use Rattle.ckpt_terms.proofs.Names.{Option, Some, None, cond, max, list_any, filter, find, range_with_len, cases_Bool, both_ways, and_parts, and_from, or_parts, cond_both, ltb-false, lt-ltb}
+use Rattle.ckpt_terms.proofs.Names.{leb-false, lt-leb, cond-true, cond-false, Call, IsIn, IsAscendingSet, uses, is_present, IsIn-append_cases, IsIn-from_filter, IsIn-from_test}
+use Rattle.ckpt_terms.proofs.Names.{test-from_IsIn, IsInOrder-append, IsInOrder-filter, ComesBefore-from, is_known, is_cancelled, Stepped, step, registered_by, fails-from_find, step_keeps}
+use Rattle.ckpt_terms.proofs.Names.{FencedCall, Reserve, Forfeit, Make, Advance, FencedRefusal, OldTerm, Ended, BadCount, NamesUsedUp, TermsUsedUp, Fenced, is_unspent, is_of_task, fresh_of}
+use Rattle.ckpt_terms.proofs.Names.{ends_the_term, is_accepted, not_reserved, fence, without_all, unspent_after, after_call, FencedStepped, made, raised, restart, unless_fenced, fenced_step}
+use Rattle.ckpt_terms.proofs.Names.{IsFencedCall, IsFenced}
+use Rattle.ckpt_terms.proofs.{Modes.cancelled_by, Known.present_after, Known.known_after, Known.registered_fresh}
+use Rattle.ckpt_terms.specs.declared.call.FencedRefusal.TheVariants.{BadName}
 use Rattle.ckpt_terms.specs.declared.call.FencedAnswer.TheVariants as answer
-use Rattle.ckpt_terms.specs.Fencing.{Fenced, is_unspent, is_of_task, fresh_of, ends_the_term, is_accepted, not_reserved, fence, without_all, unspent_after, after_call, FencedStepped, made, raised, restart}
-use Rattle.ckpt_terms.specs.Fencing.{unless_fenced, fenced_step}
-use Rattle.ckpt_terms.specs.FencedLaws.{IsFencedCall, IsFenced}
-use Rattle.ckpt_terms.proofs.Modes.{cancelled_by}
-use Rattle.ckpt_terms.proofs.Known.{present_after, known_after, registered_fresh}
 
 -- what holds of a refusal by the layer and of a call that is made holds of the step
 pub fenced_step_by : (m : Fenced) (call : FencedCall) (P : FencedStepped → Type 0) → ((why : FencedRefusal) → P (m, answer.Fenced why)) → (fence m call ≡ None → P (made m call))

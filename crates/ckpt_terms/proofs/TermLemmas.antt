@@ -1,22 +1,9 @@
 -- What the code of a fenced coordinator does, in the words of its step.
-use Rattle.std.proofs.Common.{◌≡◌, ℕ, ◌+◌, true, false, not, eqb, List, [], ◌++◌, refl, sym, ap, subst, ◌∙◌}
-use Rattle.std.specs.Prelude.{Some, None, max}
-use Rattle.std.specs.List.{list_any, range_with_len}
-use Rattle.std.proofs.lemmas.Bool.{cond-true, cond-false, not_from_false, not_from_true, eq-eqb, ne_eqb}
-use Rattle.ckpt_ids.specs.declared.call.Call.{Call}
-use Rattle.ckpt_ids.proofs.OrderedLemmas.{filter-all}
-use Rattle.ckpt_model.specs.State.{State}
-use Rattle.ckpt_model.specs.Steps.{Stepped, step}
-use Rattle.ckpt_terms.specs.declared.call.FencedCall.TheVariants.{Reserve, Forfeit, Make, Advance}
-use Rattle.ckpt_terms.specs.declared.call.FencedRefusal.TheVariants.{OldTerm}
-use Rattle.ckpt_terms.specs.declared.call.FencedAnswer.TheVariants as answer
-use Rattle.ckpt_terms.specs.Fencing.{Fenced, fence, fenced_step, without_all, unspent_after, after_call, advanced, restart, fresh_of, ends_the_term}
-use Rattle.ckpt_terms.specs.FencedLaws.{IsFenced}
-use Rattle.ckpt_model.specs.Soundness.{IsCall}
-use Rattle.ckpt_ids.specs.declared.reply.Answer.{Answer}
-use Rattle.ckpt_ids.specs.declared.reply.Answer.TheVariants.{Done}
-use Rattle.ckpt_ids.specs.declared.reply.Reply.{Reply}
+use Rattle.ckpt_terms.proofs.Names.{◌≡◌, ℕ, ◌+◌, true, false, not, eqb, List, [], ◌++◌, refl, sym, ap, subst, ◌∙◌, Some, None, max, list_any, range_with_len, cond-true, cond-false}
+use Rattle.ckpt_terms.proofs.Names.{not_from_false, not_from_true, eq-eqb, ne_eqb, Call, filter-all, State, Stepped, step, Reserve, Forfeit, Make, Advance, OldTerm, Fenced, fence}
+use Rattle.ckpt_terms.proofs.Names.{fenced_step, without_all, unspent_after, after_call, advanced, restart, fresh_of, ends_the_term, IsFenced, IsCall, Answer, Done, Reply}
 use Rattle.ckpt_terms.proofs.Stepping.{fenced_off, fenced_on, reserve_keeps, forfeit_keeps, make_keeps, advance_keeps}
+use Rattle.ckpt_terms.specs.declared.call.FencedAnswer.TheVariants as answer
 
 abbrev pub layer : State → ℕ → ℕ → List ℕ → Fenced
 layer core term next_name unspent = record { core = core; term = term; next_name = next_name; unspent = unspent }

@@ -1,22 +1,10 @@
 -- What an accepted restore or cancel leaves: no held name, and no task whose calls change anything.
-use Rattle.std.proofs.Common.{◌≡◌, ℕ, ◌+◌, ◌<◌, ◌≤◌, max, Bool, true, false, not, ◌&&◌, eqb, List, [], refl, ap, subst, ◌∙◌, ◌⊎◌, inl, inr, ⊎_elim, arith}
-use Rattle.std.specs.Prelude.{Some}
-use Rattle.std.proofs.lemmas.Bool.{cases_Bool, both_ways, and_parts, and_from, ne_eqb, not_from_false, cond-true, cond_both}
-use Rattle.ckpt_ids.specs.Ordered.{IsIn}
-use Rattle.ckpt_ids.specs.declared.call.Call.{Call}
-use Rattle.ckpt_model.specs.State.{is_known}
-use Rattle.ckpt_model.specs.Steps.{Stepped, step}
-use Rattle.ckpt_terms.specs.declared.call.FencedCall.{FencedCall}
-use Rattle.ckpt_terms.specs.declared.call.FencedCall.TheVariants.{Reserve, Forfeit, Make, Advance}
-use Rattle.ckpt_terms.specs.declared.call.FencedRefusal.{FencedRefusal}
-use Rattle.ckpt_terms.specs.declared.call.FencedRefusal.TheVariants.{OldTerm}
+use Rattle.ckpt_terms.proofs.Names.{◌≡◌, ℕ, ◌+◌, ◌<◌, ◌≤◌, max, Bool, true, false, not, ◌&&◌, eqb, List, [], refl, ap, subst, ◌∙◌, ◌⊎◌, inl, inr, ⊎_elim, arith, Some, cases_Bool, both_ways}
+use Rattle.ckpt_terms.proofs.Names.{and_parts, and_from, ne_eqb, not_from_false, cond-true, cond_both, IsIn, Call, is_known, Stepped, step, FencedCall, Reserve, Forfeit, Make, Advance}
+use Rattle.ckpt_terms.proofs.Names.{FencedRefusal, OldTerm, is_garbage, Fenced, is_of_task, ends_the_term, is_accepted, has_ended, fence, unspent_after, without_all, fresh_of, made, raised}
+use Rattle.ckpt_terms.proofs.Names.{restart, FencedStepped, fenced_step, fenced_replay, AreFencedCalls, IsFenced, is_from_task, term_of, ZombiesAreFenced, SweepIsExact, CancelledIsSwept}
+use Rattle.ckpt_terms.proofs.{Stepping.advance_by, Stepping.fenced_step_by, Stepping.fenced_off, Stepping.IsOpen, Fences.step_fenced, Fences.replay_later, Classes.garbage_from}
 use Rattle.ckpt_terms.specs.declared.call.FencedAnswer.TheVariants as answer
-use Rattle.ckpt_terms.specs.Fencing.{is_garbage, Fenced, is_of_task, ends_the_term, is_accepted, has_ended, fence, unspent_after, without_all, fresh_of, made, raised, restart, FencedStepped, fenced_step}
-use Rattle.ckpt_terms.specs.Fencing.{fenced_replay}
-use Rattle.ckpt_terms.specs.FencedLaws.{AreFencedCalls, IsFenced, is_from_task, term_of, ZombiesAreFenced, SweepIsExact, CancelledIsSwept}
-use Rattle.ckpt_terms.proofs.Stepping.{advance_by, fenced_step_by, fenced_off, IsOpen}
-use Rattle.ckpt_terms.proofs.Fences.{step_fenced, replay_later}
-use Rattle.ckpt_terms.proofs.Classes.{garbage_from}
 
 -- what a call leaves that ends the term
 pub make_ended : (m : Fenced) (term : ℕ) (end : Call) → (is_accepted (step m.core end).1 && ends_the_term end) ≡ true

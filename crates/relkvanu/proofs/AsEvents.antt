@@ -1,28 +1,11 @@
 -- A call that was made through a handle is one event, that of its line.
-use Rattle.std.proofs.Common.{◌≡◌, ℕ, Bool, true, false, ◌||◌, ltb, eqb, length, refl, sym, ap, ◌∙◌}
-use Rattle.std.specs.Prelude.{Option, is_none, if◌then◌else◌}
-use Rattle.std.proofs.lemmas.Bool.{cond_both}
-use Rattle.ckpt_ids.specs.declared.call.Call.{Call}
-use Rattle.ckpt_ids.specs.declared.call.Call.TheVariants.{Tick, Savepoint, Ack, Decline, Dispose, Restore, Cancel, Take, Deleted, Undeleted, Show, Count, Trigger, Configure}
-use Rattle.ckpt_model.specs.State.{State}
-use Rattle.ckpt_model.specs.Steps.{Stepped, step}
-use Rattle.ckpt_terms.specs.declared.call.FencedCall.{FencedCall}
-use Rattle.ckpt_terms.specs.declared.call.FencedCall.TheVariants.{Reserve, Forfeit, Make, Advance}
-use Rattle.ckpt_terms.specs.declared.machine.Machine.{Machine}
+use Rattle.relkvanu.proofs.Names.{◌≡◌, ℕ, Bool, true, false, ◌||◌, ltb, eqb, length, refl, sym, ap, ◌∙◌, Option, is_none, if◌then◌else◌, cond_both, Call, Tick, Savepoint, Ack, Decline}
+use Rattle.relkvanu.proofs.Names.{Dispose, Restore, Cancel, Take, Deleted, Undeleted, Show, Count, Trigger, Configure, State, Stepped, step, FencedCall, Reserve, Forfeit, Make, Advance}
+use Rattle.relkvanu.proofs.Names.{Machine, MakesStep, Issued, core_in, is_free, machine_of, machine_step, names_in, passes_on, Named, Plain, show_stays, Answer, Asked, files_in, call_step}
+use Rattle.relkvanu.proofs.Names.{term_step, IsEventOf, asked_event, asked_step, call_made, core_step, line_call_step, named_step, plain_step, answer_told, too_short}
 use Rattle.ckpt_terms.specs.declared.machine.Machine.TheVariants as machine
-use Rattle.ckpt_terms.specs.Machines.{MakesStep, Issued, core_in, is_free, machine_of, machine_step, names_in}
-use Rattle.ckpt_terms.proofs.MachineLemmas.{passes_on}
-use Rattle.ckpt_logged.specs.Events.{Named, Plain}
-use Rattle.ckpt_model.proofs.Answering.StepCases.{show_stays}
 use Rattle.ckpt_logged.proofs.Shows.{whole}
-use Rattle.relkvanu.specs.declared.answer.Answer.{Answer}
-use Rattle.relkvanu.specs.declared.asked.Asked.{Asked}
 use Rattle.relkvanu.specs.declared.asked.Asked.TheVariants as ask
-use Rattle.relkvanu.specs.Buffers.{files_in}
-use Rattle.relkvanu.specs.Fenced.{call_step, term_step}
-use Rattle.relkvanu.specs.Groups.{IsEventOf, asked_event}
-use Rattle.relkvanu.specs.Lines.{asked_step, call_made, core_step, line_call_step, named_step, plain_step}
-use Rattle.relkvanu.specs.Told.{answer_told, too_short}
 
 -- of two choices by one condition
 both_if : {X Y : Type 0} (P : X → Y → Type 0) (b : Bool) (a c : X) (e f : Y) → (b ≡ true → P a e) → (b ≡ false → P c f) → P (if b then a else c) (if b then e else f)

@@ -1,13 +1,7 @@
 -- The answer of a take.
-use Rattle.std.proofs.Common.{◌≡◌, refl, sym, ap, ◌∙◌, subst, arith}
-use Rattle.std.specs.Prelude.{◌≤◌, ℕ, min, Option, None, length}
-use Rattle.std.proofs.lemmas.List.{length-take}
+use Rattle.relkvanu.proofs.Names.{◌≡◌, refl, sym, ap, ◌∙◌, subst, arith, ◌≤◌, ℕ, min, Option, None, length, length-take, refusal, State, step, effect, take_files, unless_refused, files_in}
 use Rattle.ckpt_ids.specs.declared.reply.Refusal.{Refusal as Why}
 use Rattle.ckpt_ids.specs.declared.call.Call.TheVariants as call
-use Rattle.ckpt_model.specs.Refusals.{refusal}
-use Rattle.ckpt_model.specs.State.{State}
-use Rattle.ckpt_model.specs.Steps.{step, effect, take_files, unless_refused}
-use Rattle.relkvanu.specs.Buffers.{files_in}
 
 takes_some : (m : State) (n : ℕ) → refusal m (call.Take n) ≡ None → length (files_in (step m (call.Take n)).1) ≡ min n (length m.waiting)
 unfolding step effect take_files

@@ -1,25 +1,10 @@
 -- What fields and lists ask for is an event: a call that can be made, or a first name.
-use Rattle.std.proofs.Common.{◌≡◌, ℕ, zero, suc, Bool, true, ◌&&◌, eqb, List, [], ◌∷◌, length, sum, subst}
-use Rattle.std.specs.Prelude.{⊤, get_or, nat_le, ◌==◌, Option, Some, None, Result, Ok, Err, if◌then◌else◌}
-use Rattle.std.specs.List.{list_all}
-use Rattle.std.proofs.lemmas.Bool.{and_parts, cond_both, leb-true}
-use Rattle.std.proofs.lemmas.List.Sums.{AllPass-from_list_all}
-use Rattle.ckpt_ids.specs.Configuration.{Configuration, IsWithinLimits, configured, is_within_limits}
-use Rattle.ckpt_ids.specs.Ascending.{ascending}
-use Rattle.ckpt_ids.specs.Shapes.{IsShape, is_shape}
-use Rattle.ckpt_ids.specs.declared.call.Call.{Call}
-use Rattle.ckpt_ids.specs.declared.limits.TheConstants.{LEAST_INTERVAL, LONGEST_DURATION, MOST_AT_ONCE, MOST_RETAINED, MOST_SUBTASKS, MOST_TOLERABLE, MOST_VERTICES}
-use Rattle.ckpt_logged.specs.Events.{Event, IsEvent, Named, Plain}
-use Rattle.ckpt_model.specs.Soundness.{IsCall}
-use Rattle.ckpt_terms.specs.Machines.{is_free}
-use Rattle.ckpt_terms.specs.declared.call.FencedCall.TheVariants.{Reserve, Forfeit, Make, Advance}
-use Rattle.relkvanu.specs.Calls.{restore_of}
-use Rattle.relkvanu.specs.Groups.{asked_event}
-use Rattle.relkvanu.specs.Told.{bad_shape}
-use Rattle.relkvanu.specs.Writing.{bad_kind, call_given, configuration_in, configuring, given, kinds, restore_in, with_term}
-use Rattle.relkvanu.specs.declared.asked.Asked.{Asked}
+use Rattle.relkvanu.proofs.Names.{◌≡◌, ℕ, zero, suc, Bool, true, ◌&&◌, eqb, List, [], ◌∷◌, length, sum, subst, ⊤, get_or, nat_le, ◌==◌, Option, Some, None, Result, Ok, Err, if◌then◌else◌}
+use Rattle.relkvanu.proofs.Names.{list_all, and_parts, cond_both, leb-true, AllPass-from_list_all, Configuration, IsWithinLimits, configured, is_within_limits, ascending, IsShape, is_shape}
+use Rattle.relkvanu.proofs.Names.{Call, LEAST_INTERVAL, LONGEST_DURATION, MOST_AT_ONCE, MOST_RETAINED, MOST_SUBTASKS, MOST_TOLERABLE, MOST_VERTICES, Event, IsEvent, Named, Plain, IsCall}
+use Rattle.relkvanu.proofs.Names.{is_free, Reserve, Forfeit, Make, Advance, restore_of, asked_event, bad_shape, bad_kind, call_given, configuration_in, configuring, given, kinds, restore_in}
+use Rattle.relkvanu.proofs.Names.{with_term, Asked, CallFields}
 use Rattle.relkvanu.specs.declared.asked.Asked.TheVariants as ask
-use Rattle.relkvanu.specs.declared.writing.CallFields.{CallFields}
 
 -- ---- tests that pass say what they test
 

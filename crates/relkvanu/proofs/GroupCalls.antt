@@ -1,26 +1,11 @@
 -- What a call through a group is among the operations of a program: a question, a look, or nothing.
-use Rattle.std.proofs.Common.{◌≡◌, ◌≢◌, ℕ, Bool, true, false, ◌||◌, ltb, eqb, List, length, set, refl, sym, ap, ◌∙◌, subst}
-use Rattle.std.specs.Prelude.{◌==◌, if◌then◌else◌, Some, Result, Ok, Err}
-use Rattle.std.proofs.lemmas.Bool.{cond_both, eq-eqb, eqb-true, true≢false}
-use Rattle.ckpt_durable.specs.Groups.{Committed, Looked, Made, lives}
-use Rattle.ckpt_lines.specs.declared.limits.TheConstants.{LONGEST_LINE}
-use Rattle.ckpt_logged.proofs.Shows.{whole}
-use Rattle.ckpt_logged.specs.Events.{Event, IsEvent, event_step}
-use Rattle.ckpt_terms.specs.Machines.{core_in, machine_of, names_in}
-use Rattle.ckpt_terms.specs.declared.machine.Machine.{Machine}
+use Rattle.relkvanu.proofs.Names.{◌≡◌, ◌≢◌, ℕ, Bool, true, false, ◌||◌, ltb, eqb, List, length, set, refl, sym, ap, ◌∙◌, subst, ◌==◌, if◌then◌else◌, Some, Result, Ok, Err, cond_both, eq-eqb}
+use Rattle.relkvanu.proofs.Names.{eqb-true, true≢false, Committed, Looked, Made, lives, LONGEST_LINE, Event, IsEvent, event_step, core_in, machine_of, names_in, Machine, bad_line, IsHandled}
+use Rattle.relkvanu.proofs.Names.{machine_in, Asks, AsksByLine, Does, Has, IsLeftBy, Looks, LooksAtCall, Program, Syncs, IsRoom, all_told, asked_event, group_with, held_with, one_more}
+use Rattle.relkvanu.proofs.Names.{receipt_of, tells, why_full, asked_step, said_step, to_make, bad_argument, done, no_memory, too_short_for, SaysBack, asked_text, Answer, Asked, Group}
+use Rattle.relkvanu.proofs.Names.{Handle}
 use Rattle.relkvanu.proofs.AsEvents.{asked_is}
-use Rattle.relkvanu.specs.Asking.{bad_line}
-use Rattle.relkvanu.specs.Fenced.{IsHandled, machine_in}
-use Rattle.relkvanu.specs.GroupPrograms.{Asks, AsksByLine, Does, Has, IsLeftBy, Looks, LooksAtCall, Program, Syncs}
-use Rattle.relkvanu.specs.Groups.{IsRoom, all_told, asked_event, group_with, held_with, one_more, receipt_of, tells, why_full}
-use Rattle.relkvanu.specs.Lines.{asked_step, said_step}
-use Rattle.relkvanu.specs.Making.{to_make}
-use Rattle.relkvanu.specs.Told.{bad_argument, done, no_memory, too_short_for}
-use Rattle.relkvanu.specs.Writing.{SaysBack, asked_text}
-use Rattle.relkvanu.specs.declared.answer.Answer.{Answer}
-use Rattle.relkvanu.specs.declared.asked.Asked.{Asked}
-use Rattle.relkvanu.specs.declared.group.Group.{Group}
-use Rattle.relkvanu.specs.declared.handle.Handle.{Handle}
+use Rattle.ckpt_logged.proofs.Shows.{whole}
 
 -- what is made is what was given, or nothing is
 abbrev IsMade : Result Asked ℕ → Result Asked Answer → Type 0

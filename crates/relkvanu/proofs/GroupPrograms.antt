@@ -1,15 +1,10 @@
 -- What a program does with a handle and a group is a list of turns, and it tells what is synced.
-use Rattle.std.proofs.Common.{◌≡◌, ℕ, zero, suc, ◌+◌, ◌-◌, ◌<◌, ◌≤◌, true, false, leb, ltb, List, [], ◌∷◌, ◌++◌, map, set, take, length, refl, sym, ap, ◌∙◌, subst, append_assoc, append-nil, length-append, arith}
-use Rattle.std.specs.Prelude.{Some, slice_get}
-use Rattle.std.proofs.lemmas.Bool.{and_parts, leb-true, ltb-true}
-use Rattle.std.proofs.lemmas.List.{take_more_set}
-use Rattle.ckpt_durable.specs.Groups.{AreTurns, Life, Receipt, Made, Looked, Committed, Imaged, Crashed, Turn, World, goes_on, happens, lives, started, world}
-use Rattle.ckpt_terms.specs.declared.machine.Machine.{Machine}
-use Rattle.relkvanu.specs.declared.answer.Answer.{Answer}
-use Rattle.relkvanu.specs.declared.group.Group.{Group}
-use Rattle.relkvanu.specs.Groups.{IsRoom, all_told, bad_receipt, fresh, is_told, one_more, told_by}
-use Rattle.relkvanu.specs.GroupPrograms.{AreAsked, Held, Notes, Operation, Asks, Looks, Syncs, Images, Ends, Performed, Performs, Program, TellsItsOwn, TellsWhatIsSynced, noted, nothing, one_noted, program, receipts}
-use Rattle.relkvanu.specs.Told.{bad_argument}
+use Rattle.relkvanu.proofs.Names.{◌≡◌, ℕ, zero, suc, ◌+◌, ◌-◌, ◌<◌, ◌≤◌, true, false, leb, ltb, List, [], ◌∷◌, ◌++◌, map, set, take, length, refl, sym, ap, ◌∙◌, subst, append_assoc}
+use Rattle.relkvanu.proofs.Names.{append-nil, length-append, arith, Some, slice_get, and_parts, leb-true, ltb-true, take_more_set, AreTurns, Life, Receipt, Made, Looked, Committed, Imaged}
+use Rattle.relkvanu.proofs.Names.{Crashed, Turn, World, goes_on, happens, lives, started, world, Machine, Answer, Group, IsRoom, all_told, bad_receipt, fresh, is_told, one_more, told_by}
+use Rattle.relkvanu.proofs.Names.{AreAsked, Notes, Operation, Asks, Looks, Syncs, Images, Ends, Performed, Performs, Program, TellsItsOwn, TellsWhatIsSynced, noted, one_noted, program}
+use Rattle.relkvanu.proofs.Names.{receipts, bad_argument}
+use Rattle.relkvanu.specs.GroupPrograms.{Held, nothing}
 
 abbrev answers : List Held → List Answer
 answers held = map (λ h. h.0) held

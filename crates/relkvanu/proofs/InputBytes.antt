@@ -1,14 +1,7 @@
 -- The inputs that the bytes of a memory are.
-use Rattle.std.proofs.Common.{◌≡◌, ℕ, zero, suc, ◌+◌, ◌<◌, Bool, true, false, eqb, List, [], ◌∷◌, length, get_or, take, drop, map, refl, ap, ◌∙◌, arith}
-use Rattle.std.proofs.lemmas.Grind.{common_steps, drop_more_same}
-use Rattle.std.proofs.lemmas.Bool.{ne_eqb}
-use Rattle.std.proofs.lemmas.List.{map-set, take_more, drop_more, take_more_set, drop-set-lt}
-use Rattle.std.specs.Prelude.{slice_set, replicate}
-use Rattle.std.specs.List.{list_any}
-use Rattle.ckpt_align.specs.declared.input.Input.{Input}
-use Rattle.ckpt_align.specs.declared.input.Input.TheVariants.{Open, Held, Ended}
-use Rattle.ckpt_align.specs.Alignment.{is_held, is_open, released}
-use Rattle.relkvanu.specs.Aligning.{input_of}
+use Rattle.relkvanu.proofs.Names.{◌≡◌, ℕ, zero, suc, ◌+◌, ◌<◌, Bool, true, false, eqb, List, [], ◌∷◌, length, get_or, take, drop, map, refl, ap, ◌∙◌, arith, common_steps, drop_more_same}
+use Rattle.relkvanu.proofs.Names.{ne_eqb, map-set, take_more, drop_more, take_more_set, drop-set-lt, slice_set, replicate, list_any, Input, Open, Held, Ended, is_held, is_open, released}
+use Rattle.relkvanu.proofs.Names.{input_of}
 
 held_one : (byte : ℕ) → is_held (input_of byte) ≡ eqb byte 1
 held_one zero = refl

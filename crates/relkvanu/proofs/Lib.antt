@@ -6,6 +6,7 @@ pub mod GivenEvents
 pub mod GroupCalls
 pub mod GroupPrograms
 pub mod InputBytes
+mod Names
 pub mod Openings
 pub mod Saves
 pub mod SayingLemmas

@@ -1,23 +1,9 @@
 -- Each line of an opening is no longer than the three together, and an opening without a fault can be opened, and is sound.
-use Rattle.std.proofs.Common.{◌≡◌, ℕ, ◌+◌, ◌≤◌, Bool, true, false, eqb, ltb, List, ◌++◌, length, ap, ◌∙◌, subst, arith}
-use Rattle.std.specs.Prelude.{◌||◌, if◌then◌else◌, Option, Some, None}
+use Rattle.relkvanu.proofs.Names.{◌≡◌, ℕ, ◌+◌, ◌≤◌, Bool, true, false, eqb, ltb, List, ◌++◌, length, ap, ◌∙◌, subst, arith, ◌||◌, if◌then◌else◌, Option, Some, None, OpenFault, BadFirst}
+use Rattle.relkvanu.proofs.Names.{CanOpen, open_fault, IsSound, Opening, opened, opening_is_sound, in_bounds, NAMES_END, fenced, terms_fault, opening_fenced, config_text, job_text}
+use Rattle.relkvanu.proofs.Names.{start_text, IsWell, newline, opening_text}
 use Rattle.std.proofs.lemmas.List.{length-append}
-use Rattle.ckpt_model.specs.declared.faults.OpenFault.{OpenFault}
-use Rattle.ckpt_model.specs.declared.faults.OpenFault.TheVariants.{BadFirst}
-use Rattle.ckpt_model.specs.Laws.{CanOpen}
-use Rattle.ckpt_model.specs.Opening.{open_fault}
-use Rattle.ckpt_model.specs.Soundness.{IsSound}
-use Rattle.ckpt_model.specs.State.{Opening, opened}
-use Rattle.ckpt_model.proofs.Soundness.Histories.{opening_is_sound}
-use Rattle.ckpt_model.proofs.Soundness.Opening.{in_bounds}
-use Rattle.ckpt_terms.specs.declared.call.TheConstants.{NAMES_END}
 use Rattle.ckpt_terms.specs.declared.machine.Machine.TheVariants as machine
-use Rattle.ckpt_terms.specs.Fencing.{fenced}
-use Rattle.ckpt_terms.specs.TermsOpening.{terms_fault}
-use Rattle.ckpt_terms.proofs.Fences.{opening_fenced}
-use Rattle.ckpt_lines.specs.CallTexts.{config_text, job_text, start_text}
-use Rattle.ckpt_logged.specs.Events.{IsWell}
-use Rattle.relkvanu.specs.Writing.{newline, opening_text}
 
 three : (a b c : List ℕ) → length (a ++ newline ++ b ++ newline ++ c ++ newline) ≡ length a + 1 + length b + 1 + length c + 1
 three a b c =

@@ -1,22 +1,10 @@
 -- What a save writes is the text of an image, and opens a handle with what was saved.
-use Rattle.std.proofs.Common.{◌≡◌, ℕ, List, refl, sym, ap, ◌∙◌, subst}
-use Rattle.std.specs.Prelude.{Some, None, take}
-use Rattle.core.specs.Str.{IsUtf8}
-use Rattle.ckpt_model.specs.Images.{CanHold, settled, state_in}
-use Rattle.ckpt_model.specs.State.{State}
-use Rattle.ckpt_image.specs.Images.{image_read}
-use Rattle.ckpt_names_image.specs.Named.{Fenced, Named, Plain, Saved, named_in, saved_read}
-use Rattle.ckpt_names_image.proofs.RoundTrips.{plain_text_back}
-use Rattle.ckpt_terms.specs.declared.image.TermsImage.{TermsImage}
+use Rattle.relkvanu.proofs.Names.{◌≡◌, ℕ, List, refl, sym, ap, ◌∙◌, subst, Some, None, take, IsUtf8, CanHold, settled, state_in, State, image_read, Fenced, Saved, named_in, saved_read}
+use Rattle.relkvanu.proofs.Names.{plain_text_back, TermsImage, Span, issued_by, ranges_of, CanOpenFenced, fenced_in, fenced_settled, IsWell, Answer, CanBeOpened, OpensAgain, Tells}
+use Rattle.relkvanu.proofs.Names.{fenced_from, image_by, image_with, opened_with}
+use Rattle.ckpt_names_image.specs.Named.{Named, Plain}
 use Rattle.ckpt_terms.specs.declared.machine.Machine.TheVariants as machine
-use Rattle.ckpt_terms.specs.declared.names.Span.{Span}
 use Rattle.ckpt_terms.specs.Fencing as fencing
-use Rattle.ckpt_terms.specs.Machines.{issued_by}
-use Rattle.ckpt_terms.specs.Spans.{ranges_of}
-use Rattle.ckpt_terms.specs.TermsImages.{CanOpenFenced, fenced_in, fenced_settled}
-use Rattle.ckpt_logged.specs.Events.{IsWell}
-use Rattle.relkvanu.specs.declared.answer.Answer.{Answer}
-use Rattle.relkvanu.specs.Images.{CanBeOpened, OpensAgain, Tells, fenced_from, image_by, image_with, opened_with}
 
 -- the coordinator of a text that describes one is sound
 pub told_well : (bytes : List ℕ) (s : Saved) → Tells bytes s → IsWell (opened_with s)

@@ -1,30 +1,12 @@
 -- The fields and the lists of what is asked for give it, and the line that is written for it asks for it.
-use Rattle.std.proofs.Common.{◌≡◌, ℕ, Bool, true, false, List, [], ◌∷◌, Ok, refl, sym, ap, ◌∙◌}
-use Rattle.std.specs.Prelude.{◌==◌, nat_le, Option, Some, None, Result}
-use Rattle.std.proofs.lemmas.Bool.{cond-false}
-use Rattle.std.specs.Int.{from_bool}
-use Rattle.ckpt_ids.specs.Ascending.{IsAscending, ascending}
-use Rattle.ckpt_ids.specs.Configuration.{Configuration, IsWithinLimits}
-use Rattle.ckpt_ids.specs.Shapes.{IsShape, is_shape}
-use Rattle.ckpt_ids.specs.declared.call.Call.{Call}
+use Rattle.relkvanu.proofs.Names.{◌≡◌, ℕ, Bool, true, false, List, [], ◌∷◌, Ok, refl, sym, ap, ◌∙◌, ◌==◌, nat_le, Option, Some, None, Result, cond-false, from_bool, IsAscending, ascending}
+use Rattle.relkvanu.proofs.Names.{Configuration, IsWithinLimits, IsShape, is_shape, Call, Target, SubtaskId, ascending_already, limits_hold, shape_holds, is_new_shape, parallelisms, Reserve}
+use Rattle.relkvanu.proofs.Names.{Forfeit, Make, Advance, Answer, Asked, CallFields, asked_by, said, shape_of, target_of, CallHasLists, HasLists, call_fields, call_first, call_has_no_fields}
+use Rattle.relkvanu.proofs.Names.{call_second, fields_of, first_of, has_no_fields, second_of, settings_of, target_number, ReadsBack, SaysBack, call_given, configuration_in, configuring}
+use Rattle.relkvanu.proofs.Names.{given, line_of_asked}
 use Rattle.ckpt_ids.specs.declared.call.Call.TheVariants as call
-use Rattle.ckpt_ids.specs.declared.call.Target.{Target}
 use Rattle.ckpt_ids.specs.declared.call.Target.TheVariants as target
-use Rattle.ckpt_ids.specs.declared.subtask.SubtaskId.{SubtaskId}
-use Rattle.ckpt_ids.proofs.AscendingLemmas.{ascending_already}
-use Rattle.ckpt_ids.proofs.LimitLemmas.{limits_hold, shape_holds}
-use Rattle.ckpt_lines.specs.Reading.{is_new_shape}
-use Rattle.ckpt_lines.specs.CallTexts.{parallelisms}
-use Rattle.ckpt_terms.specs.declared.call.FencedCall.TheVariants.{Reserve, Forfeit, Make, Advance}
-use Rattle.relkvanu.specs.declared.answer.Answer.{Answer}
-use Rattle.relkvanu.specs.declared.asked.Asked.{Asked}
 use Rattle.relkvanu.specs.declared.asked.Asked.TheVariants as ask
-use Rattle.relkvanu.specs.declared.writing.CallFields.{CallFields}
-use Rattle.relkvanu.specs.Asking.{asked_by, said}
-use Rattle.relkvanu.specs.Calls.{shape_of, target_of}
-use Rattle.relkvanu.specs.Saying.{CallHasLists, HasLists, call_fields, call_first, call_has_no_fields, call_second, fields_of, first_of}
-use Rattle.relkvanu.specs.Saying.{has_no_fields, second_of, settings_of, target_number}
-use Rattle.relkvanu.specs.Writing.{ReadsBack, SaysBack, call_given, configuration_in, configuring, given, line_of_asked}
 
 ack_given : (term now id : ℕ) (s : SubtaskId) (fresh reused : List ℕ) → IsAscending fresh → IsAscending reused
     → call_given (call_fields term (call.Ack now id s fresh reused)) fresh reused ≡ Ok (call.Ack now id s fresh reused)

@@ -1,22 +1,9 @@
 -- A take of no file leaves the coordinator as it was.
-use Rattle.std.proofs.Common.{◌≡◌, ℕ, zero, suc, not, eqb, List, [], ◌++◌, take, refl, sym, ap, ◌∙◌, append-nil}
-use Rattle.std.specs.Prelude.{Option, Some, None, drop}
-use Rattle.std.specs.List.{list_any}
-use Rattle.ckpt_ids.specs.declared.call.Call.TheVariants.{Take}
-use Rattle.ckpt_ids.specs.declared.reply.Answer.TheVariants.{Done, Refused}
-use Rattle.ckpt_ids.specs.declared.reply.Refusal.{Refusal}
-use Rattle.ckpt_ids.proofs.OrderedLemmas.{filter-all}
-use Rattle.ckpt_model.specs.Refusals.{refusal}
-use Rattle.ckpt_model.specs.State.{State}
-use Rattle.ckpt_model.specs.Steps.{Stepped, effect, step, take_files, unless_refused}
-use Rattle.ckpt_logged.specs.Events.{Plain, event_step}
-use Rattle.ckpt_terms.specs.declared.call.FencedCall.TheVariants.{Make}
-use Rattle.ckpt_terms.specs.declared.machine.Machine.{Machine}
+use Rattle.relkvanu.proofs.Names.{◌≡◌, ℕ, zero, suc, not, eqb, List, [], ◌++◌, take, refl, sym, ap, ◌∙◌, append-nil, Option, Some, None, drop, list_any, Take, Done, Refused, Refusal}
+use Rattle.relkvanu.proofs.Names.{filter-all, refusal, State, Stepped, effect, step, take_files, unless_refused, Plain, event_step, Make, Machine, FencedStepped, after_call, core_in}
+use Rattle.relkvanu.proofs.Names.{fenced_step_by, layer}
 use Rattle.ckpt_terms.specs.declared.machine.Machine.TheVariants as machine
-use Rattle.ckpt_terms.specs.Fencing.{Fenced, FencedStepped, after_call}
-use Rattle.ckpt_terms.specs.Machines.{core_in}
-use Rattle.ckpt_terms.proofs.Stepping.{fenced_step_by}
-use Rattle.ckpt_terms.proofs.TermLemmas.{layer}
+use Rattle.ckpt_terms.specs.Fencing.{Fenced}
 
 drop_none : (n : ℕ) → ◌≡◌ {A = List ℕ} (drop n []) []
 drop_none zero = refl

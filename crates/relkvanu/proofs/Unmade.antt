@@ -1,41 +1,18 @@
 -- A call whose answer does not say that it was made leaves the coordinator as it was.
-use Rattle.std.proofs.Common.{◌≡◌, ◌≢◌, ℕ, ◌+◌, max, Bool, true, false, ◌&&◌, ltb, eqb, List, ◌++◌, refl, sym, ap, ◌∙◌, ◌⊎◌, inl, inr}
-use Rattle.std.specs.Prelude.{count_by, unwrap_or, length, Option, Some, None}
-use Rattle.std.proofs.lemmas.Bool.{cond_both}
-use Rattle.std.proofs.lemmas.Bool.Decides.{eqb_tells}
-use Rattle.ckpt_ids.specs.declared.subtask.SubtaskId.{SubtaskId}
-use Rattle.ckpt_ids.specs.declared.call.Call.{Call}
-use Rattle.ckpt_ids.specs.declared.call.Call.TheVariants.{Tick, Savepoint, Ack, Decline, Dispose, Restore, Cancel, Take, Deleted, Undeleted, Show, Count, Trigger, Configure}
-use Rattle.ckpt_ids.specs.declared.call.Target.{Target}
-use Rattle.ckpt_ids.specs.declared.reply.Choice.{Choice}
+use Rattle.relkvanu.proofs.Names.{◌≡◌, ◌≢◌, ℕ, ◌+◌, max, Bool, true, false, ◌&&◌, ltb, eqb, List, ◌++◌, refl, sym, ap, ◌∙◌, ◌⊎◌, inl, inr, count_by, unwrap_or, length, Option, Some, None}
+use Rattle.relkvanu.proofs.Names.{cond_both, eqb_tells, SubtaskId, Call, Tick, Savepoint, Ack, Decline, Dispose, Restore, Cancel, Take, Deleted, Undeleted, Show, Count, Trigger, Configure}
+use Rattle.relkvanu.proofs.Names.{Target, Choice, Record, acknowledged, missing, ascending, hold, Hold, Interval, AtOnce, Pause, Go, State, choice_of, is_checkpoint, is_expired, record_of}
+use Rattle.relkvanu.proofs.Names.{released_by, moment_of, pending_of, Stepped, with_records, with_base, replaced, dropped_by, rolled_back, pending_checkpoints, failures_with, fails_the_job}
+use Rattle.relkvanu.proofs.Names.{start_or_hold, after_expiry, failed_over, tick, completed_with, acknowledged_in, ack, decline, decline_pending, dropping, dispose, restore, restarted}
+use Rattle.relkvanu.proofs.Names.{cancel, configure, take_files, show, effect, at_moment, step, step_by, FencedCall, Reserve, Forfeit, Make, Advance, FenceFault, Machine, FencedStepped}
+use Rattle.relkvanu.proofs.Names.{fenced_step, is_accepted, made, restart, core_in, fence_fault, is_free, machine_of, names_in, fenced_step_by, named_from, Answer, Asked, files_in, IsTaken}
+use Rattle.relkvanu.proofs.Names.{call_step, count_of, fence_told, fenced_told, term_step, asked_step, call_made, core_step, line_call_step, named_step, plain_step, answer_told, no_memory}
+use Rattle.relkvanu.proofs.Names.{restore_told, too_short}
 use Rattle.ckpt_ids.specs.declared.reply.Choice.TheVariants as choice
-use Rattle.ckpt_ids.specs.Records.{Record, acknowledged, missing}
-use Rattle.ckpt_ids.specs.Ascending.{ascending}
-use Rattle.ckpt_rules.specs.Trigger.{hold}
-use Rattle.ckpt_rules.specs.declared.hold.Hold.{Hold}
-use Rattle.ckpt_rules.specs.declared.hold.Hold.TheVariants.{Interval, AtOnce, Pause, Go}
-use Rattle.ckpt_model.specs.State.{State, choice_of, drop, is_checkpoint, is_expired, record_of, released_by}
-use Rattle.ckpt_model.specs.Refusals.{moment_of, pending_of}
-use Rattle.ckpt_model.specs.Steps.{Stepped, with_records, with_base, replaced, dropped_by, rolled_back, pending_checkpoints, failures_with, fails_the_job}
-use Rattle.ckpt_model.specs.Steps.{start_or_hold, after_expiry, failed_over, tick, completed_with, acknowledged_in, ack, decline, decline_pending, dropping, dispose}
-use Rattle.ckpt_model.specs.Steps.{restore, restarted, cancel, configure, take_files, show, effect, at_moment, step}
-use Rattle.ckpt_model.proofs.Answering.StepCases.{step_by}
-use Rattle.ckpt_terms.specs.declared.call.FencedCall.{FencedCall}
-use Rattle.ckpt_terms.specs.declared.call.FencedCall.TheVariants.{Reserve, Forfeit, Make, Advance}
-use Rattle.ckpt_terms.specs.declared.machine.FenceFault.{FenceFault}
-use Rattle.ckpt_terms.specs.declared.machine.Machine.{Machine}
+use Rattle.ckpt_model.specs.State.{drop}
 use Rattle.ckpt_terms.specs.declared.machine.Machine.TheVariants as machine
-use Rattle.ckpt_terms.specs.Fencing.{Fenced, FencedStepped, fenced_step, is_accepted, made, restart}
-use Rattle.ckpt_terms.specs.Machines.{core_in, fence_fault, is_free, machine_of, names_in}
-use Rattle.ckpt_terms.proofs.Stepping.{fenced_step_by}
-use Rattle.ckpt_logged.specs.Events.{named_from}
-use Rattle.relkvanu.specs.declared.answer.Answer.{Answer}
-use Rattle.relkvanu.specs.declared.asked.Asked.{Asked}
+use Rattle.ckpt_terms.specs.Fencing.{Fenced}
 use Rattle.relkvanu.specs.declared.asked.Asked.TheVariants as ask
-use Rattle.relkvanu.specs.Buffers.{files_in}
-use Rattle.relkvanu.specs.Fenced.{IsTaken, call_step, count_of, fence_told, fenced_told, term_step}
-use Rattle.relkvanu.specs.Lines.{asked_step, call_made, core_step, line_call_step, named_step, plain_step}
-use Rattle.relkvanu.specs.Told.{answer_told, no_memory, restore_told, too_short}
 use Rattle.ckpt_logged.proofs.Shows.{whole}
 
 -- the call was made, and the answer says so

@@ -1,31 +1,13 @@
 -- The machine value of a handle, and what it owns. Assumes `Logic`.
-use Rattle.std.proofs.Common.{◌≡◌, ℕ, List, [], ◌∷◌, ◌++◌, refl, sym, subst}
-use seplogic.Ra.Ura.{Ura}
+use Rattle.relkvanu.proofs.Names.{◌≡◌, ℕ, List, [], ◌∷◌, ◌++◌, refl, sym, subst, Ura, Val, vstruct, vcons, vnil, of_list, SProp, ent, id⊢, guard, never, via, fst∗, snd∗, guard_i, Fml, Logic}
+use Rattle.relkvanu.proofs.Names.{sem, Item, Goal, Seq, Step, ‵, ◌$◌, fsplit, fjoin, fpick, fpack, feq_i, feq_l, use1, learn, fact_use, RattleType, Valss, RawPtr, lone, Ptr, block_ptr}
+use Rattle.relkvanu.proofs.Names.{null_ptr, ptr_val, in_a_block, Testable, nothing, within, shape, points_to, ghosts, dealloc_token-Testable, box_owns, State, Issued, Chronicle, IsHeld}
+use Rattle.relkvanu.proofs.Names.{heap, kept}
 use mir.Raw.{raw as bare}
-use mir.Val.{Val, vstruct, vcons, vnil, of_list}
-use base.Logic.{SProp, ent, id⊢, guard, never, via, fst∗, snd∗, guard_i}
-use base.Fml.{Fml}
-use types.Logic.{Logic, sem}
-use types.Kit.{Item, Goal, Seq, Step, step, ‵, given, ◌$◌, drop, fsplit, fjoin, fpick, fpack, feq_i, feq_l, use1, learn}
-use contract.Monad.{fact_use}
-use denote.RattleType.{RattleType, Valss}
-use denote.Builtin.{RawPtr}
-use denote.Memory.{lone}
-use denote.RawPtr.{Ptr, block_ptr, null_ptr, ptr_val, in_a_block, Testable}
-use denote.Steps.{nothing}
-use denote.Struct.Struct.{within}
-use denote.Struct.Owning.{shape}
-use Rattle.core.specs.Ptr.{points_to}
+use types.Kit.{step, given, drop}
 use Rattle.std.specs.declared.option.Option.{Option}
 use Rattle.std.specs.declared.option.Option.TheVariants.{None, Some}
-use Rattle.std.specs.contracts.impls.GlobalAllocator.TheImpl.{ghosts}
-use Rattle.std.proofs.GlobalToken.{dealloc_token-Testable}
-use Rattle.std_alloc.specs.Box.Ownership.{box_owns}
-use Rattle.ckpt_model.specs.State.{State}
-use Rattle.ckpt_terms.specs.Machines.{Issued}
 use Rattle.ckpt_logged.specs.contracts.logged.Logged as logged
-use Rattle.ckpt_logged.specs.Chronicles.{Chronicle}
-use Rattle.relkvanu.specs.Kept.{IsHeld, heap, kept}
 use Rattle.relkvanu.specs.contracts.handle.Handle as handle
 
 abbrev pub word : Val → Val

@@ -1,6 +1,5 @@
 -- Answers the goals of `worked_fault`.
-use Rattle.ckpt_chain.proofs.Worked.{is_task}
-use Rattle.ckpt_chain.proofs.WorkedSinking.{are_failing, until}
+use Rattle.ckpt_chain.proofs.{Worked.is_task, WorkedSinking.are_failing, WorkedSinking.until}
 use Rattle.ckpt_chain.proofs.chosen.worked_fault.Goals as goal
 
 pub returns : goal.returns

@@ -1,12 +1,7 @@
 -- Answers the goals of `worked_sink`.
-use Rattle.std.proofs.Common.{[], ◌∷◌}
-use Rattle.ckpt_once.specs.WorkedExamples.{is_job, job}
-use Rattle.ckpt_task.specs.SinkLoops.{loops_of}
-use Rattle.ckpt_task.specs.WorkedLoops.{opening}
-use Rattle.ckpt_task.proofs.WorkedLooping.{can_open}
-use Rattle.ckpt_chain.specs.WorkedSink.{attempt}
-use Rattle.ckpt_chain.proofs.Choosing as choosing
+use Rattle.ckpt_chain.proofs.Names.{[], ◌∷◌, is_job, job, loops_of, opening, can_open, attempt}
 use Rattle.ckpt_chain.proofs.WorkedSinking.{are_chosen, are_told, have_given, is_looping}
+use Rattle.ckpt_chain.proofs.Choosing as choosing
 use Rattle.ckpt_chain.proofs.chosen.worked_sink.Goals as goal
 
 pub returns : goal.returns

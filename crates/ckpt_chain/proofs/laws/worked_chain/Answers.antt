@@ -1,6 +1,5 @@
 -- Answers the goals of `worked_chain`.
-use Rattle.ckpt_once.specs.WorkedExamples.{is_job}
-use Rattle.ckpt_task.proofs.WorkedLooping.{again_looping}
+use Rattle.ckpt_chain.proofs.Names.{is_job, again_looping}
 use Rattle.ckpt_chain.proofs.Worked.{are_last, are_restarts, are_told, are_turns, in_terms, is_task, is_well, ledger_told, never_goes_back, no_choice, nobody_asks, since}
 use Rattle.ckpt_chain.proofs.laws.worked_chain.Goals as goal
 

@@ -1,5 +1,5 @@
 -- Answers the goals of `worked_engine`.
-use Rattle.ckpt_task.proofs.WorkedLooping.{are_last}
+use Rattle.ckpt_chain.proofs.Names.{are_last}
 use Rattle.ckpt_chain.proofs.WorkedEngines.{acknowledged, are_channels, are_engines, are_saved, is_live, is_restored, is_working, named}
 use Rattle.ckpt_chain.proofs.WorkedProgressing.{can_fence}
 use Rattle.ckpt_chain.proofs.progress.worked_engine.Goals as goal

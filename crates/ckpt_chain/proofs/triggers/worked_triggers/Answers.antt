@@ -1,6 +1,5 @@
 -- Answers the goals of `worked_triggers`.
-use Rattle.std.proofs.Common.{inl, inr, refl}
-use Rattle.ckpt_once.specs.WorkedExamples.{is_job}
+use Rattle.ckpt_chain.proofs.Names.{inl, inr, refl, is_job}
 use Rattle.ckpt_chain.proofs.WorkedTriggering.{are_events, are_triggered}
 use Rattle.ckpt_chain.proofs.triggers.worked_triggers.Goals as goal
 

@@ -1,8 +1,6 @@
 -- Answers the goals of `worked_told_resumes`.
-use Rattle.ckpt_once.specs.WorkedExamples.{is_job}
-use Rattle.ckpt_other_cuts.specs.WorkedResumes.{is_run_from}
-use Rattle.ckpt_chain.proofs.ToldResumes.{worked_told}
-use Rattle.ckpt_chain.proofs.Worked.{are_turns, is_well, never_goes_back}
+use Rattle.ckpt_chain.proofs.Names.{is_job, is_run_from}
+use Rattle.ckpt_chain.proofs.{ToldResumes.worked_told, Worked.are_turns, Worked.is_well, Worked.never_goes_back}
 use Rattle.ckpt_chain.proofs.unaligned.worked_told_resumes.Goals as goal
 
 pub returns : goal.returns

@@ -1,10 +1,5 @@
 -- Answers the goals of `replay`.
-use Rattle.std.proofs.Common.{◌≡◌, ◌∙◌, ◌+◌, ◌++◌, ◌∷◌, [], ℕ, List, take, ap, sym}
-use Rattle.std.proofs.lemmas.List.{take_more}
-use Rattle.ckpt_terms.specs.declared.call.FencedCall.{FencedCall}
-use Rattle.ckpt_terms.specs.declared.call.FencedAnswer.{FencedAnswer}
-use Rattle.ckpt_terms.specs.Fencing.{Fenced, fenced_replay, fenced_step}
-use Rattle.ckpt_terms.proofs.Fences.{fenced_replay-append}
+use Rattle.ckpt_durable.proofs.Names.{◌≡◌, ◌∙◌, ◌+◌, ◌++◌, ◌∷◌, [], ℕ, List, take, ap, sym, take_more, FencedCall, FencedAnswer, Fenced, fenced_replay, fenced_step, fenced_replay-append}
 use Rattle.ckpt_durable.proofs.durable.replay.Goals as goal
 
 pub loop-call-preserved : goal.loop-call-preserved

@@ -1,6 +1,5 @@
 -- The loop invariant of `replay`.
-use Rattle.std.proofs.Common.{◌≡◌, take}
-use Rattle.ckpt_terms.specs.Fencing.{fenced_replay}
+use Rattle.ckpt_durable.proofs.Names.{◌≡◌, take, fenced_replay}
 use Rattle.ckpt_durable.proofs.durable.replay.Given as goal
 
 abbrev pub invariant-loop-call : goal.invariant-loop-call

@@ -1,5 +1,5 @@
 -- Answers the goals of `pair`.
-use Rattle.std.proofs.Common.{◌≡◌, length, rules, arith}
+use Rattle.ckpt_names_image.proofs.Names.{◌≡◌, length, rules, arith}
 use Rattle.ckpt_names_image.proofs.Spans.{other_items}
 use Rattle.ckpt_names_image.proofs.reading.pair.Goals as goal
 

@@ -1,7 +1,5 @@
 -- The loop invariants of `spans`.
-use Rattle.std.proofs.Common.{◌≡◌}
-use Rattle.ckpt_image.proofs.Items.{left, with_front}
-use Rattle.ckpt_names_image.specs.Named.{span_of}
+use Rattle.ckpt_names_image.proofs.Names.{◌≡◌, left, with_front, span_of}
 use Rattle.ckpt_names_image.proofs.reading.spans.Given as goal
 
 abbrev pub invariant-loop-item : goal.invariant-loop-item

@@ -1,10 +1,6 @@
 -- Answers the goals of `image_value`.
-use Rattle.std.proofs.Common.{ap, codes, ◌∙◌}
-use Rattle.ckpt_names_image.specs.Named.{named_data, named_in, names_data}
+use Rattle.ckpt_names_image.proofs.Names.{ap, codes, ◌∙◌, named_data, named_in, names_data, object, put, members_view, view-Object}
 use Rattle.ckpt_names_image.proofs.writing.image_value.Goals as goal
-use Rattle.serde_json.specs.Data.{object, put}
-use Rattle.serde_json.specs.View.{members_view}
-use Rattle.serde_json.proofs.Views.{view-Object}
 
 pub returns-clause-value : goal.returns-clause-value
 unfolding named_data

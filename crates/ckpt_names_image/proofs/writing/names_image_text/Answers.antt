@@ -1,13 +1,8 @@
 -- Answers the goals of `names_image_text`.
-use Rattle.std.proofs.Common.{◌∙◌, ap, sym, subst, ◌≤◌, Some}
-use Rattle.std.specs.Prelude.{option_and_then}
-use Rattle.std.proofs.lemmas.Result.{IfOk-weaker}
-use Rattle.ckpt_names_image.specs.Named.{named_bytes, named_in, saved_of, saved_read}
+use Rattle.ckpt_names_image.proofs.Names.{◌∙◌, ap, sym, subst, ◌≤◌, Some, option_and_then, IfOk-weaker, named_bytes, named_in, saved_of, saved_read, Data, depth, max_depth, compact_text}
+use Rattle.ckpt_names_image.proofs.Names.{has_float}
 use Rattle.ckpt_names_image.proofs.RoundTrips.{named_has_no_float, named_is_shallow, saved_back}
 use Rattle.ckpt_names_image.proofs.writing.names_image_text.Goals as goal
-use Rattle.serde_json.specs.Data.{Data, depth}
-use Rattle.serde_json.specs.Read.{max_depth}
-use Rattle.serde_json.specs.Written.{compact_text, has_float}
 
 pub returns-clause-text : goal.returns-clause-text
 unfolding named_bytes

@@ -1,13 +1,8 @@
 -- Answers the goals of `carry_out`.
-use Rattle.std.proofs.Common.{List, refl}
-use Rattle.ckpt_ids.proofs.ResultLemmas.{on_each_error}
+use Rattle.ckpt_task.proofs.Names.{List, refl, on_each_error, Deed, Acknowledged, Declined, Outcome, IsPart, IsUndone, deeds_after}
 use Rattle.ckpt_task.proofs.Stopping.{abandoned_stopped, as_outcome, cut_barrier_stopped, cut_stopped, on_err, take_stopped, unsaved_barrier_stopped, unsaved_stopped}
 use Rattle.ckpt_task.proofs.runner.carry_out.Goals as goal
-use Rattle.ckpt_task.specs.declared.deed.Deed.{Deed}
-use Rattle.ckpt_task.specs.declared.deed.Deed.TheVariants.{Acknowledged, Declined}
-use Rattle.ckpt_task.specs.declared.turn.Outcome.{Outcome}
 use Rattle.ckpt_task.specs.declared.turn.Outcome.TheVariants as outcome
-use Rattle.ckpt_task.specs.Deeds.{IsPart, IsUndone, deeds_after}
 
 pub returns-in_err-take-in-Moved-clause-stopped : goal.returns-in_err-take-in-Moved-clause-stopped
 returns-in_err-take-in-Moved-clause-stopped g c =

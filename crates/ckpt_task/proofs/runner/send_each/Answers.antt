@@ -1,10 +1,7 @@
 -- Answers the goals of `send_each`.
-use Rattle.std.proofs.Common.{List}
-use Rattle.ckpt_ids.proofs.ResultLemmas.{on_each_error}
+use Rattle.ckpt_task.proofs.Names.{List, on_each_error, Deed, IsUnfinished, after_sends}
 use Rattle.ckpt_task.proofs.Stopping.{send_stopped}
 use Rattle.ckpt_task.proofs.runner.send_each.Goals as goal
-use Rattle.ckpt_task.specs.declared.deed.Deed.{Deed}
-use Rattle.ckpt_task.specs.Deeds.{IsUnfinished, after_sends}
 
 pub returns-in_err-send-clause-stopped : goal.returns-in_err-send-clause-stopped
 returns-in_err-send-clause-stopped g c =

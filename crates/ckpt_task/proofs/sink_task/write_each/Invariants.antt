@@ -1,7 +1,5 @@
 -- The loop of `write_each`.
-use Rattle.std.proofs.Common.{◌≡◌, drop, map}
-use Rattle.ckpt_ledger.specs.Ledgers.{Writes, after_entries}
-use Rattle.ckpt_once.specs.Programs.{on_output}
+use Rattle.ckpt_task.proofs.Names.{◌≡◌, drop, map, Writes, after_entries, on_output}
 use Rattle.ckpt_task.proofs.sink_task.write_each.Given as goal
 
 abbrev pub invariant-loop-one : goal.invariant-loop-one

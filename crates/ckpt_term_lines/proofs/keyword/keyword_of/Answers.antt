@@ -1,9 +1,5 @@
 -- Answers the goals of `keyword_of`.
-use Rattle.std.proofs.Common.{◌∙◌, rules, tests}
-use Rattle.std.proofs.lemmas.Iterator.{YieldsList-from_slice}
-use Rattle.std.proofs.lemmas.Iterator.Search.{find_from_yields_List}
-use Rattle.std.specs.Str.{bytes_eq}
-use Rattle.ckpt_term_lines.specs.TermKeywords.{term_keyword_of, term_keywords, term_spelling}
+use Rattle.ckpt_term_lines.proofs.Names.{◌∙◌, rules, tests, YieldsList-from_slice, find_from_yields_List, bytes_eq, term_keyword_of, term_keywords, term_spelling}
 use Rattle.ckpt_term_lines.proofs.keyword.keyword_of.Goals as goal
 
 pub returns : goal.returns

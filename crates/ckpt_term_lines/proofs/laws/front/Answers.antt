@@ -1,12 +1,7 @@
 -- Answers the goals of `front`.
-use Rattle.std.proofs.Common.{◌≡◌, ℕ, ◌+◌, ◌<◌, ◌≤◌, true, false, List, length, take, ap, sym, ◌∙◌, ⊎_elim, arith, min}
-use Rattle.std.proofs.lemmas.Bool.{cases_Bool, ltb-true, ltb-false, lt-ltb, cond-true}
-use Rattle.std.proofs.lemmas.List.{take_all, length-take}
-use Rattle.std.specs.Prelude.{Err}
-use Rattle.ckpt_lines.specs.declared.limits.TheConstants.{LONGEST_LINE}
-use Rattle.ckpt_lines.specs.Reading.{is_too_long}
+use Rattle.ckpt_term_lines.proofs.Names.{◌≡◌, ℕ, ◌+◌, ◌<◌, ◌≤◌, true, false, List, length, take, ap, sym, ◌∙◌, ⊎_elim, arith, min, cases_Bool, ltb-true, ltb-false, lt-ltb, cond-true}
+use Rattle.ckpt_term_lines.proofs.Names.{take_all, length-take, Err, LONGEST_LINE, is_too_long, term_reading}
 use Rattle.ckpt_lines.specs.declared.fault.LineFault.TheVariants as fault
-use Rattle.ckpt_term_lines.specs.TermReading.{term_reading}
 use Rattle.ckpt_term_lines.proofs.laws.front.Goals as goal
 
 too_long : (line : List ℕ) → is_too_long line ≡ true → term_reading line ≡ Err fault.TooLong

@@ -1,8 +1,5 @@
 -- Answers the goals of `forfeit`.
-use Rattle.std.proofs.Common.{◌≡◌, ◌∙◌}
-use Rattle.std.proofs.lemmas.Result.{err_from_is_err_and}
-use Rattle.ckpt_lines.specs.Reading.{begins_with_a_number}
-use Rattle.ckpt_term_lines.specs.TermReading.{reaches_names}
+use Rattle.ckpt_term_lines.proofs.Names.{◌≡◌, ◌∙◌, err_from_is_err_and, begins_with_a_number, reaches_names}
 use Rattle.ckpt_term_lines.proofs.FirstWords.{names_after_term}
 use Rattle.ckpt_term_lines.proofs.rows.forfeit.Goals as goal
 

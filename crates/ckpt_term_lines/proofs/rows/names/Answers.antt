@@ -1,15 +1,7 @@
 -- Answers the goals of `names`.
-use Rattle.std.proofs.Common.{◌≡◌, ℕ, List, Ok, Err, inl, inr, refl, sym, ap, ◌∙◌}
-use Rattle.std.specs.Option.{ok_or}
-use Rattle.std.proofs.lemmas.Result.{err_from_is_err_and}
-use Rattle.ckpt_ids.specs.Ascending.{ascending}
-use Rattle.ckpt_lines.specs.declared.fault.LineFault.{LineFault}
+use Rattle.ckpt_term_lines.proofs.Names.{◌≡◌, ℕ, List, Ok, Err, inl, inr, refl, sym, ap, ◌∙◌, ok_or, err_from_is_err_and, ascending, LineFault, each, number, goes_on, fails, is_done}
+use Rattle.ckpt_term_lines.proofs.Names.{with_front, with_front-nil, begun, name_places}
 use Rattle.ckpt_lines.specs.declared.fault.LineFault.TheVariants as fault
-use Rattle.ckpt_lines.specs.Reading.{each}
-use Rattle.ckpt_lines.specs.Values.{number}
-use Rattle.ckpt_lines.proofs.EachLemmas.{goes_on, fails, is_done, with_front, with_front-nil}
-use Rattle.ckpt_lines.proofs.ListLemmas.{begun}
-use Rattle.ckpt_term_lines.specs.TermReading.{name_places}
 use Rattle.ckpt_term_lines.proofs.rows.names.Goals as goal
 
 names_fail : (words : List (List ℕ)) (why : LineFault) → each number words ≡ Err why → name_places words ≡ Err why

@@ -1,9 +1,5 @@
 -- The loop invariants of `names`.
-use Rattle.std.proofs.Common.{◌≡◌, length}
-use Rattle.ckpt_lines.specs.Reading.{each}
-use Rattle.ckpt_lines.specs.Values.{number}
-use Rattle.ckpt_lines.proofs.EachLemmas.{with_front}
-use Rattle.ckpt_lines.proofs.ListLemmas.{HasBegun}
+use Rattle.ckpt_term_lines.proofs.Names.{◌≡◌, length, each, number, with_front, HasBegun}
 use Rattle.ckpt_term_lines.proofs.rows.names.Given as goal
 
 abbrev pub invariant-loop-word : goal.invariant-loop-word

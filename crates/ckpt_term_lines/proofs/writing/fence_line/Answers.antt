@@ -1,6 +1,5 @@
 -- Answers the goals of `fence_line`.
-use Rattle.std.proofs.Common.{rules}
-use Rattle.ckpt_term_lines.specs.TermTexts.{fence_text}
+use Rattle.ckpt_term_lines.proofs.Names.{rules, fence_text}
 use Rattle.ckpt_term_lines.proofs.TermReadBack.{reads_fence}
 use Rattle.ckpt_term_lines.proofs.writing.fence_line.Goals as goal
 

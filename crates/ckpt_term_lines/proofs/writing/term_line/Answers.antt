@@ -1,5 +1,5 @@
 -- Answers the goals of `term_line`.
-use Rattle.std.proofs.Common.{rules}
+use Rattle.ckpt_term_lines.proofs.Names.{rules}
 use Rattle.ckpt_term_lines.proofs.TermReadBack.{reads}
 use Rattle.ckpt_term_lines.proofs.writing.term_line.Goals as goal
 

@@ -1,10 +1,7 @@
 -- Answers the goals of `write_names`.
-use Rattle.std.proofs.Common.{sym, ◌∙◌, append_assoc, arith}
-use Rattle.ckpt_answers.specs.Texts.{spaced}
-use Rattle.ckpt_answers.proofs.ListLemmas.{flat_map-take-next, none_within-absurd}
-use Rattle.ckpt_lines.proofs.PieceLemmas.{fit-next}
-use Rattle.ckpt_term_lines.proofs.writing.write_names.Goals as goal
+use Rattle.ckpt_term_lines.proofs.Names.{sym, ◌∙◌, append_assoc, arith, spaced, flat_map-take-next, none_within-absurd, fit-next}
 use Rattle.ckpt_term_lines.proofs.writing.write_names.Goals.{in-Some+in_ok-write_number, in_default}
+use Rattle.ckpt_term_lines.proofs.writing.write_names.Goals as goal
 
 pub loop-place-preserved : goal.loop-place-preserved
 loop-place-preserved c =

@@ -1,8 +1,5 @@
 -- The loop invariants of `write_names`.
-use Rattle.std.proofs.Common.{◌≡◌, ◌++◌, take, string_bytes}
-use Rattle.std.specs.Prelude.{All, flat_map}
-use Rattle.ckpt_answers.specs.Texts.{spaced}
-use Rattle.ckpt_lines.specs.CallTexts.{Fits}
+use Rattle.ckpt_term_lines.proofs.Names.{◌≡◌, ◌++◌, take, string_bytes, All, flat_map, spaced, Fits}
 use Rattle.ckpt_term_lines.proofs.writing.write_names.Given as goal
 
 abbrev pub invariant-loop-place : goal.invariant-loop-place

@@ -1,8 +1,7 @@
 -- Answers the goals of `count_names`.
-use Rattle.std.proofs.Common.{◌≤◌, ◌<◌, List, get_or, arith}
-use Rattle.ckpt_terms.specs.declared.names.Span.{Span}
-use Rattle.ckpt_terms.proofs.SpanLemmas.{span}
+use Rattle.ckpt_terms.proofs.Names.{◌≤◌, ◌<◌, List, get_or, arith, Span}
 use Rattle.ckpt_terms.proofs.Counted.{none_counted, more_counted, all_counted, is_some, is_behind, ends_within}
+use Rattle.ckpt_terms.proofs.SpanLemmas.{span}
 use Rattle.ckpt_terms.proofs.image.count_names.Goals as goal
 
 pub loop-span-init : goal.loop-span-init

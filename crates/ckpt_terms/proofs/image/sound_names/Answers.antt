@@ -1,13 +1,6 @@
 -- Answers the goals of `sound_names`.
-use Rattle.std.proofs.Common.{◌≡◌, ◌<◌, ℕ, List, length, sym, ap, subst, ◌∙◌, arith}
-use Rattle.std.proofs.lemmas.Bool.{both_ways}
-use Rattle.ckpt_ids.specs.Ordered.{IsIn}
-use Rattle.ckpt_terms.specs.declared.names.Span.{Span}
-use Rattle.ckpt_terms.specs.Fencing.{Fenced}
-use Rattle.ckpt_terms.specs.Spans.{AreRanges, AreRangesBelow, names_of}
-use Rattle.ckpt_terms.specs.TermsImages.{fenced_in}
-use Rattle.ckpt_terms.proofs.Counted.{no_names}
-use Rattle.ckpt_terms.proofs.Imaged.{fenced_tested, same_files, tested_fenced}
+use Rattle.ckpt_terms.proofs.Names.{◌≡◌, ◌<◌, ℕ, List, length, sym, ap, subst, ◌∙◌, arith, both_ways, IsIn, Span, Fenced, AreRanges, AreRangesBelow, names_of, fenced_in}
+use Rattle.ckpt_terms.proofs.{Counted.no_names, Imaged.fenced_tested, Imaged.same_files, Imaged.tested_fenced}
 use Rattle.ckpt_terms.proofs.image.sound_names.Goals as goal
 
 pub returns-in_err-held-clause-none : goal.returns-in_err-held-clause-none

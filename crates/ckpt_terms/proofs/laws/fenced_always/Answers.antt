@@ -1,6 +1,5 @@
 -- Answers the goals of `fenced_always`.
-use Rattle.ckpt_terms.proofs.Fences.{always, opening_fenced, replay_fenced}
-use Rattle.ckpt_terms.proofs.MachineLemmas.{named_fenced}
+use Rattle.ckpt_terms.proofs.{Fences.always, Fences.opening_fenced, Fences.replay_fenced, MachineLemmas.named_fenced}
 use Rattle.ckpt_terms.proofs.laws.fenced_always.Goals as goal
 
 pub returns-clause-opening : goal.returns-clause-opening

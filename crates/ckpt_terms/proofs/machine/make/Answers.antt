@@ -1,11 +1,5 @@
 -- Answers the goals of `make`.
-use Rattle.std.proofs.Common.{◌≡◌, sym, ap, ◌∙◌}
-use Rattle.std.specs.Prelude.{Some, Err}
-use Rattle.ckpt_ids.specs.declared.reply.Answer.TheVariants.{Refused}
-use Rattle.ckpt_model.specs.State.{State}
-use Rattle.ckpt_model.specs.Refusals.{refusal}
-use Rattle.ckpt_model.specs.Steps.{Stepped, step}
-use Rattle.ckpt_model.proofs.Answering.StepCases.{step_refused}
+use Rattle.ckpt_terms.proofs.Names.{◌≡◌, sym, ap, ◌∙◌, Some, Err, Refused, State, refusal, Stepped, step, step_refused}
 use Rattle.ckpt_terms.specs.declared.call.FencedAnswer.TheVariants as answer
 use Rattle.ckpt_terms.specs.declared.machine.Machine.TheVariants as machine
 use Rattle.ckpt_terms.proofs.machine.make.Goals as goal

@@ -1,8 +1,6 @@
 -- Answers the goals of `terms_over`.
-use Rattle.std.proofs.Common.{ℕ, List, sym, subst}
-use Rattle.ckpt_terms.specs.FencedLaws.{IsFenced}
-use Rattle.ckpt_terms.proofs.MachineLemmas.{named_fenced}
-use Rattle.ckpt_terms.proofs.TermLemmas.{layer}
+use Rattle.ckpt_terms.proofs.Names.{ℕ, List, sym, subst, IsFenced}
+use Rattle.ckpt_terms.proofs.{MachineLemmas.named_fenced, TermLemmas.layer}
 use Rattle.ckpt_terms.proofs.machine.terms_over.Goals as goal
 
 pub of-requires : goal.of-requires

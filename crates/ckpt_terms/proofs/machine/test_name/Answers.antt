@@ -1,13 +1,8 @@
 -- Answers the goals of `test_name`.
-use Rattle.std.proofs.Common.{◌≡◌, ℕ, Bool, true, false, ◌||◌, eqb, ltb, ◌≤◌, ◌^◌, sym, ap, ◌∙◌}
-use Rattle.std.specs.Prelude.{Some, None, cond}
-use Rattle.std.proofs.lemmas.Bool.{le-ltb, ne_eqb, or_from}
-use Rattle.ckpt_model.specs.Images.{settled, state_in}
-use Rattle.ckpt_model.specs.State.{State}
-use Rattle.ckpt_terms.specs.declared.machine.FenceFault.TheVariants.{BadName, NameInUse}
-use Rattle.ckpt_terms.specs.declared.machine.Machine.TheVariants as machine
-use Rattle.ckpt_terms.specs.Machines.{fence_fault, has_known_from}
+use Rattle.ckpt_terms.proofs.Names.{◌≡◌, ℕ, Bool, true, false, ◌||◌, eqb, ltb, ◌≤◌, ◌^◌, sym, ap, ◌∙◌, Some, None, cond, le-ltb, ne_eqb, or_from, settled, state_in, State, BadName}
+use Rattle.ckpt_terms.proofs.Names.{NameInUse, fence_fault, has_known_from}
 use Rattle.ckpt_terms.proofs.KnownFiles.{settled_from}
+use Rattle.ckpt_terms.specs.declared.machine.Machine.TheVariants as machine
 use Rattle.ckpt_terms.proofs.machine.test_name.Goals as goal
 
 -- of a first name within its limits, the test of the files decides

@@ -1,8 +1,6 @@
 -- Answers the goals of `fewest`.
-use Rattle.std.proofs.Common.{◌+◌, ℕ, List, take, subst, sym, arith}
-use Rattle.ckpt_terms.specs.declared.names.Span.{Span}
-use Rattle.ckpt_terms.proofs.JoinLemmas.{AreFewest, all_read, fewest_of, one_more}
-use Rattle.ckpt_terms.proofs.SpanLemmas.{span}
+use Rattle.ckpt_terms.proofs.Names.{◌+◌, ℕ, List, take, subst, sym, arith, Span}
+use Rattle.ckpt_terms.proofs.{JoinLemmas.AreFewest, JoinLemmas.all_read, JoinLemmas.fewest_of, JoinLemmas.one_more, SpanLemmas.span}
 use Rattle.ckpt_terms.proofs.names.fewest.Goals as goal
 
 pub loop-span-preserved : goal.loop-span-preserved

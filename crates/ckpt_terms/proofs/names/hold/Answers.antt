@@ -1,10 +1,6 @@
 -- Answers the goals of `hold`.
-use Rattle.std.proofs.Common.{ℕ, List, sym, ap, ◌∙◌, eqb}
-use Rattle.std.specs.List.{list_any}
-use Rattle.ckpt_terms.specs.declared.names.Span.{Span}
-use Rattle.ckpt_terms.specs.Spans.{names_of}
-use Rattle.ckpt_terms.proofs.SpanLemmas.{in_spans}
-use Rattle.ckpt_terms.proofs.RangeLemmas.{found_is}
+use Rattle.ckpt_terms.proofs.Names.{ℕ, List, sym, ap, ◌∙◌, eqb, list_any, Span, names_of}
+use Rattle.ckpt_terms.proofs.{SpanLemmas.in_spans, RangeLemmas.found_is}
 use Rattle.ckpt_terms.proofs.names.hold.Goals as goal
 
 pub returns : goal.returns

@@ -1,8 +1,5 @@
 -- Answers the goals of `join`.
-use Rattle.std.proofs.Common.{◌≡◌, ◌++◌, ◌∷◌, [], List, ap, ◌∙◌, arith, vec_len}
-use Rattle.core.specs.Option.{option_to_list}
-use Rattle.std.specs.Prelude.{Option}
-use Rattle.ckpt_terms.specs.declared.names.Span.{Span}
+use Rattle.ckpt_terms.proofs.Names.{◌≡◌, ◌++◌, ◌∷◌, [], List, ap, ◌∙◌, arith, vec_len, option_to_list, Option, Span}
 use Rattle.ckpt_terms.proofs.JoinLemmas.{join_none, join_off, join_on}
 use Rattle.ckpt_terms.proofs.names.join.Goals as goal
 

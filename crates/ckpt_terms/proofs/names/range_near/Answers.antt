@@ -1,7 +1,6 @@
 -- Answers the goals of `range_near`.
-use Rattle.std.proofs.Common.{arith, ◌∙◌, sym}
-use Rattle.ckpt_terms.proofs.SpanLemmas.{span}
-use Rattle.ckpt_terms.proofs.RangeLemmas.{at_place}
+use Rattle.ckpt_terms.proofs.Names.{arith, ◌∙◌, sym}
+use Rattle.ckpt_terms.proofs.{SpanLemmas.span, RangeLemmas.at_place}
 use Rattle.ckpt_terms.proofs.names.range_near.Goals as goal
 
 pub returns-then-has-clause-some : goal.returns-then-has-clause-some

@@ -1,11 +1,6 @@
 -- Answers the goals of `range_with`.
-use Rattle.std.proofs.Common.{rules, of_calls, ℕ, List, leb, get_or, arith, ◌∙◌, sym}
-use Rattle.std.proofs.lemmas.Bool.{leb-true, leb-false}
-use Rattle.std.proofs.lemmas.Fn.{always_returns_same}
-use Rattle.std.proofs.lemmas.List.Sorted.{IsPartitionedBy-leb}
-use Rattle.ckpt_terms.specs.declared.names.Span.{Span}
-use Rattle.ckpt_terms.proofs.SpanLemmas.{span}
-use Rattle.ckpt_terms.proofs.RangeLemmas.{at_place, ends_rise, none_has}
+use Rattle.ckpt_terms.proofs.Names.{rules, of_calls, ℕ, List, leb, get_or, arith, ◌∙◌, sym, leb-true, leb-false, always_returns_same, IsPartitionedBy-leb, Span}
+use Rattle.ckpt_terms.proofs.{SpanLemmas.span, RangeLemmas.at_place, RangeLemmas.ends_rise, RangeLemmas.none_has}
 use Rattle.ckpt_terms.proofs.names.range_with.Goals as goal
 
 pub returns-then-place-spans-clause-none : goal.returns-then-place-spans-clause-none

@@ -1,7 +1,6 @@
 -- Answers the goals of `has_known_from`.
-use Rattle.std.proofs.Common.{arith}
-use Rattle.ckpt_terms.proofs.KnownFiles.{in_image}
-use Rattle.ckpt_terms.proofs.scan.has_known_from.Goals.{then-any_used_from, else-any_used_from}
+use Rattle.ckpt_terms.proofs.Names.{arith}
+use Rattle.ckpt_terms.proofs.{KnownFiles.in_image, scan.has_known_from.Goals.then-any_used_from, scan.has_known_from.Goals.else-any_used_from}
 use Rattle.ckpt_terms.proofs.scan.has_known_from.Goals as goal
 
 pub returns-then-any_from : goal.returns-then-any_from

@@ -1,11 +1,7 @@
 -- Answers the goals of `end`.
-use Rattle.std.proofs.Common.{◌≡◌, ◌∙◌, ap, List, Ok}
-use Rattle.ckpt_align.specs.Alignment.{Alignment, with_input}
-use Rattle.ckpt_align.specs.Steps.{settled}
-use Rattle.ckpt_align.specs.declared.input.Input.{Input}
-use Rattle.ckpt_align.specs.declared.input.Input.TheVariants.{Ended}
-use Rattle.relkvanu.specs.Aligning.{alignment_in}
+use Rattle.relkvanu.proofs.Names.{◌≡◌, ◌∙◌, ap, List, Ok, Alignment, with_input, Input, Ended, alignment_in}
 use Rattle.relkvanu.proofs.InputBytes.{set_in}
+use Rattle.ckpt_align.specs.Steps.{settled}
 use Rattle.relkvanu.proofs.aligning.end.Goals as goal
 
 pub returns-clause-state : goal.returns-clause-state

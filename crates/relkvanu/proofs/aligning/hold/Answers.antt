@@ -1,6 +1,5 @@
 -- Answers the goals of `hold`.
-use Rattle.std.proofs.Common.{ap, List}
-use Rattle.ckpt_align.specs.declared.input.Input.{Input}
+use Rattle.relkvanu.proofs.Names.{ap, List, Input}
 use Rattle.relkvanu.proofs.InputBytes.{set_in}
 use Rattle.relkvanu.proofs.aligning.hold.Goals as goal
 

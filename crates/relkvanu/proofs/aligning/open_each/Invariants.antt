@@ -1,8 +1,5 @@
 -- The loop invariant of `open_each`.
-use Rattle.std.proofs.Common.{◌≡◌, map, take, length}
-use Rattle.std.specs.Prelude.{replicate}
-use Rattle.ckpt_align.specs.declared.input.Input.TheVariants.{Open}
-use Rattle.relkvanu.specs.Aligning.{input_of}
+use Rattle.relkvanu.proofs.Names.{◌≡◌, map, take, length, replicate, Open, input_of}
 use Rattle.relkvanu.proofs.aligning.open_each.Given as goal
 
 -- the inputs so far are open

@@ -1,7 +1,5 @@
 -- The loop invariant of `release`.
-use Rattle.std.proofs.Common.{◌≡◌, map, take, drop}
-use Rattle.ckpt_align.specs.Alignment.{released}
-use Rattle.relkvanu.specs.Aligning.{input_of}
+use Rattle.relkvanu.proofs.Names.{◌≡◌, map, take, drop, released, input_of}
 use Rattle.relkvanu.proofs.aligning.release.Given as goal
 
 -- the inputs so far are released, and the bytes that are left are as they were

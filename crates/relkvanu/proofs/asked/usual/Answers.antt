@@ -1,13 +1,7 @@
 -- Answers the goals of `usual`.
-use Rattle.std.proofs.Common.{◌≡◌, ℕ, List, Ok, refl}
-use Rattle.std.specs.Prelude.{IfSome, None, Option, Some}
-use Rattle.ckpt_ids.specs.declared.call.Call.{Call}
+use Rattle.relkvanu.proofs.Names.{◌≡◌, ℕ, List, Ok, refl, IfSome, None, Option, Some, Call, reading, Make, extends_line, said}
 use Rattle.ckpt_lines.specs.declared.line.Line.TheVariants as line
-use Rattle.ckpt_lines.specs.Reading.{reading}
-use Rattle.ckpt_terms.specs.declared.call.FencedCall.TheVariants.{Make}
-use Rattle.ckpt_term_lines.proofs.FirstWords.{extends_line}
 use Rattle.relkvanu.specs.declared.asked.Asked.TheVariants as ask
-use Rattle.relkvanu.specs.Asking.{said}
 use Rattle.relkvanu.proofs.asked.usual.Goals as goal
 
 -- a line of a script that says a call asks for it, without a term

@@ -1,6 +1,5 @@
 -- Answers the goals of `relkvanu_take`.
-use Rattle.std.proofs.Common.{length}
-use Rattle.ckpt_terms.specs.Machines.{core_in}
+use Rattle.relkvanu.proofs.Names.{length, core_in}
 use Rattle.relkvanu.proofs.Given.{take_at_most}
 use Rattle.relkvanu.proofs.buffers.relkvanu_take.Goals as goal
 

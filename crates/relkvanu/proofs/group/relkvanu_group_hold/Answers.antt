@@ -1,7 +1,6 @@
 -- Answers the goals of `relkvanu_group_hold`.
-use Rattle.std.proofs.Common.{sym, ap, ◌∙◌}
+use Rattle.relkvanu.proofs.Names.{sym, ap, ◌∙◌, Answer}
 use Rattle.relkvanu.proofs.GroupCalls.{full_is_told, one_look, one_made}
-use Rattle.relkvanu.specs.declared.answer.Answer.{Answer}
 use Rattle.relkvanu.proofs.group.relkvanu_group_hold.Goals as goal
 
 pub returns-in-Some-clause-looks : goal.returns-in-Some-clause-looks

@@ -1,11 +1,6 @@
 -- Answers the goals of `relkvanu_group_make`.
-use Rattle.std.proofs.Common.{length, take, sym, ap, ◌∙◌}
-use Rattle.relkvanu.proofs.GivenEvents.{given_is_event}
-use Rattle.relkvanu.proofs.GroupCalls.{asks, full_is_told, idles, looks, made_is, stays}
-use Rattle.relkvanu.specs.Groups.{held_answer}
-use Rattle.relkvanu.specs.Making.{making}
-use Rattle.relkvanu.specs.Writing.{given}
-use Rattle.relkvanu.specs.declared.answer.Answer.{Answer}
+use Rattle.relkvanu.proofs.Names.{length, take, sym, ap, ◌∙◌, held_answer, making, given, Answer}
+use Rattle.relkvanu.proofs.{GivenEvents.given_is_event, GroupCalls.asks, GroupCalls.full_is_told, GroupCalls.idles, GroupCalls.looks, GroupCalls.made_is, GroupCalls.stays}
 use Rattle.relkvanu.proofs.group.relkvanu_group_make.Goals as goal
 
 pub returns-in-Some-clause-asks : goal.returns-in-Some-clause-asks

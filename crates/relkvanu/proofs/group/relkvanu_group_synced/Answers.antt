@@ -1,5 +1,5 @@
 -- Answers the goals of `relkvanu_group_synced`.
-use Rattle.std.proofs.Common.{rules, false, ◌≡◌}
+use Rattle.relkvanu.proofs.Names.{rules, false, ◌≡◌}
 use Rattle.relkvanu.proofs.GroupCalls.{one_sync}
 use Rattle.relkvanu.proofs.group.relkvanu_group_synced.Goals as goal
 

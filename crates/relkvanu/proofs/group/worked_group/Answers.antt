@@ -1,10 +1,7 @@
 -- Answers the goals of `worked_group`: each operation was performed.
-use Rattle.std.proofs.Common.{◌<◌, ℕ, false, List, [], ◌∷◌, refl, arith}
-use Rattle.ckpt_durable.specs.Groups.{Turn, Committed, Crashed, Looked, Made, world}
-use Rattle.relkvanu.specs.declared.answer.Answer.{Answer}
-use Rattle.relkvanu.specs.Groups.{IsRoom}
-use Rattle.relkvanu.specs.GroupPrograms.{AreAsked, Performed, Program, nothing, program}
-use Rattle.relkvanu.specs.WorkedGroup.{acks, begin, buffer, completed, fresh_choice, last, notes, operations, ticks, triggered}
+use Rattle.relkvanu.proofs.Names.{◌<◌, ℕ, false, List, [], ◌∷◌, refl, arith, Turn, Committed, Crashed, Looked, Made, world, Answer, IsRoom, AreAsked, Performed, Program, program, acks}
+use Rattle.relkvanu.proofs.Names.{begin, buffer, completed, fresh_choice, last, notes, operations, ticks, triggered}
+use Rattle.relkvanu.specs.GroupPrograms.{nothing}
 use Rattle.relkvanu.proofs.group.worked_group.Goals as goal
 
 -- after these turns

@@ -1,9 +1,7 @@
 -- Answers the goals of `save_from`.
-use Rattle.std.proofs.Common.{ℕ, List, sym, subst}
-use Rattle.ckpt_model.specs.Images.{settled}
-use Rattle.ckpt_names_image.specs.Named.{Plain}
-use Rattle.relkvanu.specs.Images.{Tells}
+use Rattle.relkvanu.proofs.Names.{ℕ, List, sym, subst, settled, Tells}
 use Rattle.relkvanu.proofs.Saves.{plain_opens}
+use Rattle.ckpt_names_image.specs.Named.{Plain}
 use Rattle.relkvanu.proofs.images.save_from.Goals as goal
 
 pub returns-in-Ok-clause-opens : goal.returns-in-Ok-clause-opens

@@ -1,6 +1,5 @@
 -- Answers the goals of `save_image`.
-use Rattle.std.proofs.Common.{◌∙◌, ap}
-use Rattle.ckpt_names_image.specs.Named.{Fenced, named_in, saved_read}
+use Rattle.relkvanu.proofs.Names.{◌∙◌, ap, Fenced, named_in, saved_read}
 use Rattle.relkvanu.proofs.Saves.{named_tells}
 use Rattle.relkvanu.proofs.images.save_image.Goals as goal
 

@@ -1,8 +1,5 @@
 -- Answers the goals of `text_of`.
-use Rattle.std.proofs.lemmas.Result.{IfOk-weaker}
-use Rattle.std.proofs.lemmas.Str.{IsUtf8-string_bytes}
-use Rattle.std.specs.Prelude.{string_bytes}
-use Rattle.ckpt_model.specs.Images.{settled, state_in}
+use Rattle.relkvanu.proofs.Names.{IfOk-weaker, IsUtf8-string_bytes, string_bytes, settled, state_in}
 use Rattle.relkvanu.proofs.Saves.{plain_tells}
 use Rattle.relkvanu.proofs.images.text_of.Goals as goal
 

@@ -1,6 +1,5 @@
 -- Answers the goals of `make_fitting`.
-use Rattle.std.proofs.Common.{length, ap}
-use Rattle.ckpt_logged.specs.Chronicles.{Chronicle}
+use Rattle.relkvanu.proofs.Names.{length, ap, Chronicle}
 use Rattle.relkvanu.proofs.Unmade.{unmade_leaves}
 use Rattle.relkvanu.proofs.making.make_fitting.Goals as goal
 

@@ -1,6 +1,5 @@
 -- Answers the goals of `relkvanu_make`.
-use Rattle.std.proofs.Common.{take}
-use Rattle.relkvanu.specs.Writing.{given}
+use Rattle.relkvanu.proofs.Names.{take, given}
 use Rattle.relkvanu.proofs.SayingLemmas.{says_back}
 use Rattle.relkvanu.proofs.making.relkvanu_make.Goals as goal
 

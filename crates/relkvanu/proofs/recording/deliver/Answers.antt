@@ -1,11 +1,5 @@
 -- Answers the goals of `deliver`.
-use Rattle.std.proofs.Common.{◌∙◌, List, ap, map}
-use Rattle.std.specs.Prelude.{slice_set}
-use Rattle.ckpt_align.specs.declared.input.Input.{Input}
-use Rattle.ckpt_align.specs.declared.input.Input.TheVariants.{Held}
-use Rattle.ckpt_unaligned.specs.declared.answer.Phase.{Phase}
-use Rattle.relkvanu.specs.Aligning.{input_of}
-use Rattle.relkvanu.specs.Recording.{phase_of}
+use Rattle.relkvanu.proofs.Names.{◌∙◌, List, ap, map, slice_set, Input, Held, Phase, input_of, phase_of}
 use Rattle.relkvanu.proofs.InputBytes.{set_in}
 use Rattle.relkvanu.proofs.recording.deliver.Goals as goal
 

@@ -1,11 +1,8 @@
 -- Answers the goals of `end`.
-use Rattle.std.proofs.Common.{◌∙◌, List, ap}
-use Rattle.ckpt_align.specs.declared.input.Input.{Input}
-use Rattle.ckpt_unaligned.specs.Recording.{Recorder}
+use Rattle.relkvanu.proofs.Names.{◌∙◌, List, ap, Input, Recorder, phase_of}
+use Rattle.relkvanu.proofs.InputBytes.{set_in}
 use Rattle.ckpt_unaligned.specs.Steps.{settled}
 use Rattle.relkvanu.specs.declared.recording.Recorder as memory
-use Rattle.relkvanu.specs.Recording.{phase_of}
-use Rattle.relkvanu.proofs.InputBytes.{set_in}
 use Rattle.relkvanu.proofs.recording.end.Goals as goal
 
 abbrev with_inputs : memory.Recorder → List Input → Recorder

@@ -1,6 +1,5 @@
 -- Answers the goals of `relkvanu_call_line`.
-use Rattle.std.proofs.Common.{List, ℕ, take, rules}
-use Rattle.relkvanu.specs.Writing.{ReadsBack, given}
+use Rattle.relkvanu.proofs.Names.{List, ℕ, take, rules, ReadsBack, given}
 use Rattle.relkvanu.proofs.SayingLemmas.{says_back}
 use Rattle.relkvanu.proofs.writing.relkvanu_call_line.Goals as goal
 

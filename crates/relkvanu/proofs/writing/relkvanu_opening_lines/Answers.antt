@@ -1,8 +1,5 @@
 -- Answers the goals of `relkvanu_opening_lines`.
-use Rattle.std.proofs.Common.{◌≤◌, ◌∙◌, ℕ, List, length, subst}
-use Rattle.ckpt_lines.specs.declared.limits.TheConstants.{LONGEST_LINE}
-use Rattle.relkvanu.specs.Opening.{opening_of}
-use Rattle.relkvanu.specs.Writing.{opening_text}
+use Rattle.relkvanu.proofs.Names.{◌≤◌, ◌∙◌, ℕ, List, length, subst, LONGEST_LINE, opening_of, opening_text}
 use Rattle.relkvanu.proofs.Openings.{lines_fit}
 use Rattle.relkvanu.proofs.writing.relkvanu_opening_lines.Goals as goal
 

@@ -1,10 +1,5 @@
 -- Answers the goals of `Durable::make_metered`.
-use Rattle.std.proofs.Common.{◌≡◌, ◌∙◌, ◌++◌, ◌∷◌, [], List, true, ap, ap₂, refl, sym}
-use Rattle.std.proofs.lemmas.Bool.{both_ways}
-use Rattle.ckpt_terms.specs.declared.call.FencedCall.{FencedCall}
-use Rattle.ckpt_terms.specs.declared.call.FencedAnswer.{FencedAnswer}
-use Rattle.ckpt_terms.specs.Fencing.{Fenced, fenced_step}
-use Rattle.ckpt_durable.specs.Crashes.{Life}
+use Rattle.ckpt_durable.proofs.Names.{◌≡◌, ◌∙◌, ◌++◌, ◌∷◌, [], List, true, ap, ap₂, refl, sym, both_ways, FencedCall, FencedAnswer, Fenced, fenced_step, Life}
 use Rattle.ckpt_durable.proofs.Worlds.{made_life}
 use Rattle.ckpt_durable.proofs.durable.Durable.make_metered.Goals as goal
 

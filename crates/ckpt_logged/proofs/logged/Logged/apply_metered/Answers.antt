@@ -1,7 +1,5 @@
 -- Answers the goals of `Logged::apply_metered`.
-use Rattle.std.proofs.Common.{◌≡◌, true, [], ◌∷◌, ◌++◌, rules}
-use Rattle.std.specs.Prelude.{is_ok}
-use Rattle.ckpt_logged.specs.Events.{Plain}
+use Rattle.ckpt_logged.proofs.Names.{◌≡◌, true, [], ◌∷◌, ◌++◌, rules, is_ok, Plain}
 use Rattle.ckpt_logged.proofs.Entering.{entered, made_plain}
 use Rattle.ckpt_logged.proofs.logged.Logged.apply_metered.Goals as goal
 

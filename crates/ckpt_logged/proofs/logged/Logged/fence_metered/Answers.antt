@@ -1,8 +1,5 @@
 -- Answers the goals of `Logged::fence_metered`.
-use Rattle.std.proofs.Common.{◌≡◌, [], ◌∷◌, ◌++◌, rules}
-use Rattle.std.specs.Prelude.{None}
-use Rattle.ckpt_terms.specs.Machines.{fence_fault}
-use Rattle.ckpt_logged.specs.Events.{Fence}
+use Rattle.ckpt_logged.proofs.Names.{◌≡◌, [], ◌∷◌, ◌++◌, rules, None, fence_fault, Fence}
 use Rattle.ckpt_logged.proofs.Entering.{entered, fenced_as}
 use Rattle.ckpt_logged.proofs.logged.Logged.fence_metered.Goals as goal
 

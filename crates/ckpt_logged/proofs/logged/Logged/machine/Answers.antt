@@ -1,40 +1,14 @@
 -- Answers the goals of `Logged::machine`.
-use Rattle.std.proofs.Common.{◌≡◌, ℕ, true, false, List, [], ◌∷◌, ◌++◌, refl, sym, subst, ap, ◌∙◌, ◌⊎◌, arith}
-use Rattle.std.specs.Prelude.{Some, ◌↔◌}
-use Rattle.ckpt_ids.specs.declared.call.Call.{Call}
-use Rattle.ckpt_ids.specs.declared.call.Call.TheVariants.{Ack}
-use Rattle.ckpt_ids.specs.declared.reply.Refusal.TheVariants.{FileGone}
-use Rattle.ckpt_ids.specs.Ordered.{IsIn}
-use Rattle.ckpt_ids.specs.Records.{is_present, uses}
-use Rattle.ckpt_model.specs.State.{IsUnused, State, in_outbox}
-use Rattle.ckpt_model.specs.Histories.{replay}
-use Rattle.ckpt_model.specs.Laws.{AreCalls, NoneAgain, ack_of, along, deleted_by, handed_by, registered_by}
-use Rattle.ckpt_model.specs.Refusals.{refusal}
-use Rattle.ckpt_model.specs.Soundness.{IsSound}
-use Rattle.ckpt_model.specs.Steps.{step}
-use Rattle.ckpt_model.proofs.Histories.Numbers.{numbers_from}
-use Rattle.ckpt_terms.specs.declared.call.FencedCall.{FencedCall}
-use Rattle.ckpt_terms.specs.declared.call.FencedCall.TheVariants.{Make}
-use Rattle.ckpt_terms.specs.declared.machine.Machine.{Machine}
-use Rattle.ckpt_terms.specs.declared.machine.Machine.TheVariants as machine
-use Rattle.ckpt_terms.specs.Fencing.{Fenced, core_calls, fenced_replay}
-use Rattle.ckpt_terms.specs.FencedLaws.{AreFencedCalls, IsFenced}
-use Rattle.ckpt_terms.specs.Machines.{core_in}
-use Rattle.ckpt_logged.specs.Events.{AreEvents, Event, IsWell, calls_in, calls_named, events_replay}
-use Rattle.ckpt_logged.specs.Chronicles.{Chronicle, IsChronicle, calls_of}
-use Rattle.ckpt_logged.specs.Promises.{AreAccounted, AreAcknowledged, AreDeletedSafely, AreHandedOut, AreIssuedOnce, HaveOneTerm, IsBalanced, LeaksNone}
-use Rattle.ckpt_logged.specs.Promises.{NeverAgain, OneOfEach, PinsHold, SavepointsStay, UsesNoMore}
-use Rattle.ckpt_logged.proofs.Asked as asked
+use Rattle.ckpt_logged.proofs.Names.{◌≡◌, ℕ, true, false, List, [], ◌∷◌, ◌++◌, refl, sym, subst, ap, ◌∙◌, ◌⊎◌, arith, Some, ◌↔◌, Call, Ack, FileGone, IsIn, is_present, uses, IsUnused, State}
+use Rattle.ckpt_logged.proofs.Names.{in_outbox, replay, AreCalls, NoneAgain, ack_of, along, deleted_by, handed_by, registered_by, refusal, IsSound, step, numbers_from, FencedCall, Make}
+use Rattle.ckpt_logged.proofs.Names.{Machine, Fenced, core_calls, fenced_replay, AreFencedCalls, IsFenced, core_in, AreEvents, Event, IsWell, calls_in, calls_named, events_replay, Chronicle}
+use Rattle.ckpt_logged.proofs.Names.{IsChronicle, calls_of, AreAccounted, AreAcknowledged, AreDeletedSafely, AreHandedOut, AreIssuedOnce, HaveOneTerm, IsBalanced, LeaksNone, NeverAgain}
+use Rattle.ckpt_logged.proofs.Names.{OneOfEach, PinsHold, SavepointsStay, UsesNoMore, accounted_from, balance_from, flow_from, handed_before, handed_from, in_one_place, choice_stands}
+use Rattle.ckpt_logged.proofs.Names.{pinned_from, calls-split, replay-append, savepoint_stays_along, takes_newest, replay_keeps, fenced_calls-split}
 use Rattle.ckpt_logged.proofs.Asked.{events-split, reached_named, reaches, replay_named, replay_well}
-use Rattle.ckpt_model.proofs.Histories.Balance.{accounted_from, balance_from, flow_from, handed_before, handed_from, in_one_place}
-use Rattle.ckpt_model.proofs.Histories.Choice.{choice_stands}
-use Rattle.ckpt_model.proofs.Histories.Pinned.{pinned_from}
-use Rattle.ckpt_model.proofs.Histories.Replays.{calls-split, replay-append}
-use Rattle.ckpt_model.proofs.Histories.Savepoints.{savepoint_stays_along}
-use Rattle.ckpt_model.proofs.Keeping.Latest.{takes_newest}
-use Rattle.ckpt_model.proofs.Soundness.Histories.{replay_keeps}
-use Rattle.ckpt_terms.proofs.Fences.{fenced_calls-split}
 use Rattle.ckpt_logged.proofs.Since.{acknowledged, one_of_each}
+use Rattle.ckpt_terms.specs.declared.machine.Machine.TheVariants as machine
+use Rattle.ckpt_logged.proofs.Asked as asked
 use Rattle.ckpt_logged.proofs.logged.Logged.machine.Goals as goal
 
 its : (c : goal.After-self) → IsChronicle c.args.self.now

@@ -1,7 +1,5 @@
 -- Answers the goals of `Logged::make_metered`.
-use Rattle.std.proofs.Common.{◌≡◌, true, [], ◌∷◌, ◌++◌, rules}
-use Rattle.std.specs.Prelude.{is_ok}
-use Rattle.ckpt_logged.specs.Events.{Named}
+use Rattle.ckpt_logged.proofs.Names.{◌≡◌, true, [], ◌∷◌, ◌++◌, rules, is_ok, Named}
 use Rattle.ckpt_logged.proofs.Entering.{entered, made_named}
 use Rattle.ckpt_logged.proofs.logged.Logged.make_metered.Goals as goal
 

@@ -1,10 +1,7 @@
 -- Answers the goals of `run`.
-use Rattle.std.proofs.Common.{rules, ◌≡◌, ℕ, refl, subst}
-use Rattle.ckpt_ids.proofs.ResultLemmas.{on_each_error}
-use Rattle.ckpt_task.proofs.Doing.{by_true}
-use Rattle.ckpt_task.proofs.Sinking.{has_not_sunk, sink_stops, sinks_more}
+use Rattle.ckpt_task.proofs.Names.{rules, ◌≡◌, ℕ, refl, subst, on_each_error, Around, HasStopped, HasSunk, around, sink_waits}
+use Rattle.ckpt_task.proofs.{Doing.by_true, Sinking.has_not_sunk, Sinking.sink_stops, Sinking.sinks_more}
 use Rattle.ckpt_task.proofs.sink_task.SinkTask.run.Goals as goal
-use Rattle.ckpt_task.specs.Runs.{Around, HasStopped, HasSunk, around, sink_waits}
 
 pub loop-done-init : goal.loop-done-init
 loop-done-init g c =

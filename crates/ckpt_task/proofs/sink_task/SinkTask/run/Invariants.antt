@@ -1,6 +1,6 @@
 -- The loop of `run`.
 use Rattle.ckpt_task.proofs.sink_task.SinkTask.run.Given as goal
-use Rattle.ckpt_task.specs.Runs.{HasSunk, around}
+use Rattle.ckpt_task.proofs.Names.{HasSunk, around}
 
 abbrev pub invariant-loop-done : goal.invariant-loop-done
 invariant-loop-done g l =

@@ -1,18 +1,8 @@
 -- Answers the goals of `run_once`.
-use Rattle.std.proofs.Common.{◌≡◌, ◌∙◌, List, ◌∷◌, ap, refl, subst, sym, inr}
-use Rattle.ckpt_ledger.specs.Ledgers.{Held}
-use Rattle.ckpt_once.specs.Programs.{Program, Turn}
-use Rattle.ckpt_ids.proofs.ResultLemmas.{on_each_error}
+use Rattle.ckpt_task.proofs.Names.{◌≡◌, ◌∙◌, List, ◌∷◌, ap, refl, subst, sym, inr, Held, Program, Turn, on_each_error, Deed, Came, IsPart, deeds_after, Around, IsStopped, around, SinkAt}
+use Rattle.ckpt_task.proofs.Names.{after_turn, IsSaved, Next, Outcome}
 use Rattle.ckpt_task.proofs.Doing.{came_next, has_turned, turned_as}
 use Rattle.ckpt_task.proofs.sink_task.SinkTask.run_once.Goals as goal
-use Rattle.ckpt_task.specs.declared.deed.Deed.{Deed}
-use Rattle.ckpt_task.specs.declared.deed.Deed.TheVariants.{Came}
-use Rattle.ckpt_task.specs.Deeds.{IsPart, deeds_after}
-use Rattle.ckpt_task.specs.Runs.{Around, IsStopped, around}
-use Rattle.ckpt_task.specs.SinkTurns.{SinkAt, after_turn}
-use Rattle.ckpt_task.specs.Turns.{IsSaved}
-use Rattle.ckpt_task.specs.declared.turn.Next.{Next}
-use Rattle.ckpt_task.specs.declared.turn.Outcome.{Outcome}
 
 pub returns-clause-turned : goal.returns-clause-turned
 returns-clause-turned g c =

@@ -1,11 +1,7 @@
 -- Answers the goals of `turn`.
-use Rattle.std.proofs.Common.{◌≡◌, ◌∙◌, List, ap, subst}
-use Rattle.ckpt_once.specs.Sinks.{Transaction}
+use Rattle.ckpt_task.proofs.Names.{◌≡◌, ◌∙◌, List, ap, subst, Transaction, Saved, SinkAt, after_turn, At, IsSaved, as_turn}
 use Rattle.ckpt_task.proofs.Turning.{enters_turn, saved_before}
 use Rattle.ckpt_task.proofs.sink_task.SinkTask.turn.Goals as goal
-use Rattle.ckpt_task.specs.Saving.{Saved}
-use Rattle.ckpt_task.specs.SinkTurns.{SinkAt, after_turn}
-use Rattle.ckpt_task.specs.Turns.{At, IsSaved, as_turn}
 
 pub returns-in-Ok-enter-clause-ledger : goal.returns-in-Ok-enter-clause-ledger
 returns-in-Ok-enter-clause-ledger g c =

@@ -1,12 +1,8 @@
 -- Answers the goals of `element`.
-use Rattle.std.proofs.Common.{rules, ◌≡◌, ◌∙◌, Ok, ap, sym}
-use Rattle.ckpt_align.specs.Alignment.{Alignment}
-use Rattle.ckpt_align.specs.Steps.{step}
-use Rattle.ckpt_align.specs.declared.event.Answer.TheVariants.{Hold}
-use Rattle.ckpt_align.specs.declared.event.Event.TheVariants.{Element}
+use Rattle.ckpt_task.proofs.Names.{rules, ◌≡◌, ◌∙◌, Ok, ap, sym, Alignment, step, Hold, At}
 use Rattle.ckpt_task.proofs.Turning.{element_held, element_put, element_stays}
+use Rattle.ckpt_align.specs.declared.event.Event.TheVariants.{Element}
 use Rattle.ckpt_task.proofs.task.Task.element.Goals as goal
-use Rattle.ckpt_task.specs.Turns.{At}
 
 pub returns-in_default : goal.returns-in_default
 returns-in_default g c =

@@ -1,8 +1,7 @@
 -- Answers the goals of `run`.
-use Rattle.std.proofs.Common.{refl, []}
+use Rattle.ckpt_task.proofs.Names.{refl, [], Around, around, waits_none}
 use Rattle.ckpt_task.proofs.Doing.{by_true, has_not_run, runs_more}
 use Rattle.ckpt_task.proofs.task.Task.run.Goals as goal
-use Rattle.ckpt_task.specs.Runs.{Around, around, waits_none}
 
 pub loop-done-init : goal.loop-done-init
 loop-done-init g c =

@@ -1,6 +1,6 @@
 -- The loop of `run`.
 use Rattle.ckpt_task.proofs.task.Task.run.Given as goal
-use Rattle.ckpt_task.specs.Runs.{HasRun, around, waits_none}
+use Rattle.ckpt_task.proofs.Names.{HasRun, around, waits_none}
 
 abbrev pub invariant-loop-done : goal.invariant-loop-done
 invariant-loop-done g l =

@@ -1,15 +1,8 @@
 -- Answers the goals of `run_once`.
-use Rattle.std.proofs.Common.{◌≡◌, ◌∙◌, List, ◌∷◌, ap, refl, subst, sym, inr, []}
-use Rattle.ckpt_ids.proofs.ResultLemmas.{on_each_error}
+use Rattle.ckpt_task.proofs.Names.{◌≡◌, ◌∙◌, List, ◌∷◌, ap, refl, subst, sym, inr, [], on_each_error, Deed, Came, IsPart, deeds_after, Around, IsStopped, around, as_turn, turned, Next}
+use Rattle.ckpt_task.proofs.Names.{Outcome}
 use Rattle.ckpt_task.proofs.Doing.{came_next, has_turned, same_at}
 use Rattle.ckpt_task.proofs.task.Task.run_once.Goals as goal
-use Rattle.ckpt_task.specs.declared.deed.Deed.{Deed}
-use Rattle.ckpt_task.specs.declared.deed.Deed.TheVariants.{Came}
-use Rattle.ckpt_task.specs.Deeds.{IsPart, deeds_after}
-use Rattle.ckpt_task.specs.Runs.{Around, IsStopped, around}
-use Rattle.ckpt_task.specs.Turns.{as_turn, turned}
-use Rattle.ckpt_task.specs.declared.turn.Next.{Next}
-use Rattle.ckpt_task.specs.declared.turn.Outcome.{Outcome}
 
 pub returns-clause-turned : goal.returns-clause-turned
 returns-clause-turned g c =

@@ -1,8 +1,7 @@
 -- Answers the goals of `turn`.
-use Rattle.std.proofs.Common.{[]}
+use Rattle.ckpt_task.proofs.Names.{[], as_turn}
 use Rattle.ckpt_task.proofs.Turning.{saved_before}
 use Rattle.ckpt_task.proofs.task.Task.turn.Goals as goal
-use Rattle.ckpt_task.specs.Turns.{as_turn}
 
 pub returns-in-Ok-clause-snapshot : goal.returns-in-Ok-clause-snapshot
 returns-in-Ok-clause-snapshot g c =

@@ -1,14 +1,7 @@
 -- Answers the goals of `Machine::apply_metered`.
-use Rattle.std.proofs.Common.{◌≡◌, true, sym, ap, subst}
-use Rattle.std.specs.Prelude.{IfOk, Result, Ok, Err}
-use Rattle.ckpt_ids.specs.declared.call.Call.{Call}
-use Rattle.ckpt_terms.specs.declared.call.FencedAnswer.{FencedAnswer}
-use Rattle.ckpt_terms.specs.declared.call.FencedCall.TheVariants.{Make}
-use Rattle.ckpt_terms.specs.declared.machine.Machine.{Machine}
-use Rattle.ckpt_terms.specs.declared.machine.Machine.TheVariants as machine
-use Rattle.ckpt_terms.specs.Fencing.{Fenced, FencedStepped, fenced_step}
-use Rattle.ckpt_terms.specs.Machines.{MakesStep, names_in, passes}
+use Rattle.ckpt_terms.proofs.Names.{◌≡◌, true, sym, ap, subst, IfOk, Result, Ok, Err, Call, FencedAnswer, Make, Machine, Fenced, FencedStepped, fenced_step, MakesStep, names_in, passes}
 use Rattle.ckpt_terms.proofs.MachineLemmas.{passed_on}
+use Rattle.ckpt_terms.specs.declared.machine.Machine.TheVariants as machine
 use Rattle.ckpt_terms.proofs.machine.Machine.apply_metered.Goals as goal
 
 -- what the layer has done, in the words of a coordinator with names

@@ -1,11 +1,6 @@
 -- Answers the goals of `Names::add_metered`.
-use Rattle.std.proofs.Common.{◌≡◌, ◌<◌, ◌≤◌, ◌+◌, ◌++◌, ℕ, List, length, arith, refl, sym, subst, ap, ◌∙◌, vec_len, vec_capacity}
-use Rattle.std.specs.List.{range_with_len}
-use Rattle.ckpt_ids.specs.Ordered.{IsIn}
-use Rattle.ckpt_terms.specs.declared.names.Span.{Span}
-use Rattle.ckpt_terms.specs.Spans.{AreKept, joined, names_of}
-use Rattle.ckpt_terms.proofs.SpanLemmas.{few_between, span}
-use Rattle.ckpt_terms.proofs.RangeLemmas.{fewer, added, joined_is}
+use Rattle.ckpt_terms.proofs.Names.{◌≡◌, ◌<◌, ◌≤◌, ◌+◌, ◌++◌, ℕ, List, length, arith, refl, sym, subst, ap, ◌∙◌, vec_len, vec_capacity, range_with_len, IsIn, Span, AreKept, joined, names_of}
+use Rattle.ckpt_terms.proofs.{SpanLemmas.few_between, SpanLemmas.span, RangeLemmas.fewer, RangeLemmas.added, RangeLemmas.joined_is}
 use Rattle.ckpt_terms.proofs.names.Names.add_metered.Goals as goal
 
 -- all names are below the first of the new ones, so they are no more than that

@@ -1,11 +1,5 @@
 -- Answers the goals of `Names::first_absent`.
-use Rattle.std.proofs.Common.{◌≡◌, ℕ, Bool, false, not, ◌||◌, List, get_or, sym, ap, subst, ◌∙◌, arith}
-use Rattle.std.specs.Prelude.{Option, Some, is_some}
-use Rattle.std.specs.List.{list_any}
-use Rattle.std.proofs.lemmas.List.{take_all}
-use Rattle.std.proofs.lemmas.List.Folds.{list_any_more}
-use Rattle.ckpt_ids.proofs.PlaceLemmas.{find-none}
-use Rattle.ckpt_terms.specs.declared.names.Span.{Span}
+use Rattle.ckpt_terms.proofs.Names.{◌≡◌, ℕ, Bool, false, not, ◌||◌, List, get_or, sym, ap, subst, ◌∙◌, arith, Option, Some, is_some, list_any, take_all, list_any_more, find-none, Span}
 use Rattle.ckpt_terms.proofs.Absent.{absent_is, find_first, is_absent}
 use Rattle.ckpt_terms.proofs.names.Names.first_absent.Goals as goal
 

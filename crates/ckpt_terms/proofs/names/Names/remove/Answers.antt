@@ -1,9 +1,5 @@
 -- Answers the goals of `Names::remove`.
-use Rattle.std.proofs.Common.{◌≡◌, ℕ, List, [], ◌∷◌, false, subst}
-use Rattle.std.specs.List.{list_any}
-use Rattle.ckpt_terms.specs.declared.names.Span.{Span}
-use Rattle.ckpt_terms.specs.Fencing.{without_all}
-use Rattle.ckpt_terms.specs.Spans.{in_span, names_of}
+use Rattle.ckpt_terms.proofs.Names.{◌≡◌, ℕ, List, [], ◌∷◌, false, subst, list_any, Span, without_all, in_span, names_of}
 use Rattle.ckpt_terms.proofs.RangeLemmas.{absent_stays}
 use Rattle.ckpt_terms.proofs.names.Names.remove.Goals as goal
 

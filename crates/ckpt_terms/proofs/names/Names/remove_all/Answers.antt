@@ -1,9 +1,6 @@
 -- Answers the goals of `Names::remove_all`.
-use Rattle.std.proofs.Common.{ℕ, List, [], ◌∷◌, ◌++◌, take, sym, ap, ◌∙◌, arith}
-use Rattle.std.proofs.lemmas.List.{take_more}
-use Rattle.ckpt_terms.specs.Fencing.{without_all}
-use Rattle.ckpt_terms.proofs.SpanLemmas.{without_above}
-use Rattle.ckpt_terms.proofs.RangeLemmas.{without_more}
+use Rattle.ckpt_terms.proofs.Names.{ℕ, List, [], ◌∷◌, ◌++◌, take, sym, ap, ◌∙◌, arith, take_more, without_all}
+use Rattle.ckpt_terms.proofs.{SpanLemmas.without_above, RangeLemmas.without_more}
 use Rattle.ckpt_terms.proofs.names.Names.remove_all.Goals as goal
 
 pub loop-name-init : goal.loop-name-init

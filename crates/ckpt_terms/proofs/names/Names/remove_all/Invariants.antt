@@ -1,6 +1,5 @@
 -- The loop of `Names::remove_all`.
-use Rattle.std.proofs.Common.{◌≡◌, take}
-use Rattle.ckpt_terms.specs.Fencing.{without_all}
+use Rattle.ckpt_terms.proofs.Names.{◌≡◌, take, without_all}
 use Rattle.ckpt_terms.proofs.names.Names.remove_all.Given as goal
 
 abbrev pub invariant-loop-name : goal.invariant-loop-name

@@ -1,16 +1,8 @@
 -- Answers the goals of `Terms::advance`.
-use Rattle.std.proofs.Common.{◌≡◌, ℕ, ◌+◌, sym, subst, ap, ◌∙◌, None}
-use Rattle.std.specs.Prelude.{Some, Err}
-use Rattle.ckpt_ids.specs.declared.reply.Answer.TheVariants.{Done, Refused}
-use Rattle.ckpt_model.specs.State.{State}
-use Rattle.ckpt_model.specs.Refusals.{refusal}
-use Rattle.ckpt_model.specs.Steps.{step}
-use Rattle.ckpt_model.proofs.Answering.StepCases.{step_refused}
-use Rattle.ckpt_terms.specs.declared.call.FencedCall.TheVariants.{Advance}
+use Rattle.ckpt_terms.proofs.Names.{◌≡◌, ℕ, ◌+◌, sym, subst, ap, ◌∙◌, None, Some, Err, Done, Refused, State, refusal, step, step_refused, Advance, Fenced, advance_fault, fence, fenced_step}
+use Rattle.ckpt_terms.proofs.Names.{restart}
+use Rattle.ckpt_terms.proofs.{Stepping.fenced_off, TermLemmas.advance_done, TermLemmas.advance_done_fenced, TermLemmas.advance_on, TermLemmas.layer}
 use Rattle.ckpt_terms.specs.declared.call.FencedAnswer.TheVariants as answer
-use Rattle.ckpt_terms.specs.Fencing.{Fenced, advance_fault, fence, fenced_step, restart}
-use Rattle.ckpt_terms.proofs.Stepping.{fenced_off}
-use Rattle.ckpt_terms.proofs.TermLemmas.{advance_done, advance_done_fenced, advance_on, layer}
 use Rattle.ckpt_terms.proofs.terms.Terms.advance.Goals as goal
 
 pub returns-in-Some : goal.returns-in-Some

@@ -1,10 +1,7 @@
 -- Answers the goals of `Terms::forfeit`.
-use Rattle.std.proofs.Common.{◌≡◌, subst}
-use Rattle.ckpt_terms.specs.declared.call.FencedCall.TheVariants.{Forfeit}
-use Rattle.ckpt_terms.specs.declared.call.FencedRefusal.TheVariants.{OldTerm}
-use Rattle.ckpt_terms.specs.declared.call.FencedAnswer.TheVariants as answer
-use Rattle.ckpt_terms.specs.Fencing.{Fenced, fenced_step}
+use Rattle.ckpt_terms.proofs.Names.{◌≡◌, subst, Forfeit, OldTerm, Fenced, fenced_step}
 use Rattle.ckpt_terms.proofs.TermLemmas.{layer, forfeit_off, forfeit_on, forfeit_fenced}
+use Rattle.ckpt_terms.specs.declared.call.FencedAnswer.TheVariants as answer
 use Rattle.ckpt_terms.proofs.terms.Terms.forfeit.Goals as goal
 
 pub returns-then-term-self : goal.returns-then-term-self

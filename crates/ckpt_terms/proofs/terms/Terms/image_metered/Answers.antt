@@ -1,10 +1,6 @@
 -- Answers the goals of `Terms::image_metered`.
-use Rattle.std.proofs.Common.{◌≡◌, ap, ◌∙◌}
-use Rattle.ckpt_model.specs.Images.{settled, state_in}
-use Rattle.ckpt_terms.proofs.Imaged.{saved_is, saved_can_hold}
-use Rattle.ckpt_terms.proofs.TermLemmas.{layer}
-use Rattle.ckpt_terms.specs.Fencing.{Fenced}
-use Rattle.ckpt_terms.specs.Spans.{names_of}
+use Rattle.ckpt_terms.proofs.Names.{◌≡◌, ap, ◌∙◌, settled, state_in, Fenced, names_of}
+use Rattle.ckpt_terms.proofs.{Imaged.saved_is, Imaged.saved_can_hold, TermLemmas.layer}
 use Rattle.ckpt_terms.proofs.terms.Terms.image_metered.Goals as goal
 
 pub returns-clause-good : goal.returns-clause-good

@@ -1,11 +1,6 @@
 -- Answers the goals of `Terms::keyed`.
-use Rattle.std.proofs.Common.{ℕ, List, sym, subst, arith}
-use Rattle.ckpt_model.specs.Laws.{CanOpen}
-use Rattle.ckpt_model.specs.State.{State, Opening, opened}
-use Rattle.ckpt_terms.specs.FencedLaws.{CanFence, IsFenced}
-use Rattle.ckpt_terms.proofs.Fences.{opening_fenced}
-use Rattle.ckpt_model.proofs.Soundness.Opening.{InBounds, in_bounds}
-use Rattle.ckpt_terms.proofs.TermLemmas.{layer}
+use Rattle.ckpt_terms.proofs.Names.{ℕ, List, sym, subst, arith, CanOpen, State, Opening, opened, CanFence, IsFenced, InBounds, in_bounds}
+use Rattle.ckpt_terms.proofs.{Fences.opening_fenced, TermLemmas.layer}
 use Rattle.ckpt_terms.proofs.terms.Terms.keyed.Goals as goal
 
 pub invariant_of-result : goal.invariant_of-result

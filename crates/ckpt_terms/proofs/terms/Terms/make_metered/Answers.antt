@@ -1,16 +1,7 @@
 -- Answers the goals of `Terms::make_metered`.
-use Rattle.std.proofs.Common.{◌≡◌, refl, sym, subst, ap, ◌∙◌, None, Some}
-use Rattle.std.specs.Prelude.{Err}
-use Rattle.ckpt_ids.specs.declared.reply.Answer.TheVariants.{Done, Refused}
-use Rattle.ckpt_model.specs.State.{State}
-use Rattle.ckpt_model.specs.Refusals.{refusal}
-use Rattle.ckpt_model.specs.Steps.{step}
-use Rattle.ckpt_model.proofs.Answering.StepCases.{step_refused}
-use Rattle.ckpt_terms.specs.declared.call.FencedCall.TheVariants.{Make}
+use Rattle.ckpt_terms.proofs.Names.{◌≡◌, refl, sym, subst, ap, ◌∙◌, None, Some, Err, Done, Refused, State, refusal, step, step_refused, Make, Fenced, fence, fenced_step}
+use Rattle.ckpt_terms.proofs.{Stepping.fenced_off, TermLemmas.layer, TermLemmas.make_on, TermLemmas.make_fenced}
 use Rattle.ckpt_terms.specs.declared.call.FencedAnswer.TheVariants as answer
-use Rattle.ckpt_terms.specs.Fencing.{Fenced, fence, fenced_step}
-use Rattle.ckpt_terms.proofs.Stepping.{fenced_off}
-use Rattle.ckpt_terms.proofs.TermLemmas.{layer, make_on, make_fenced}
 use Rattle.ckpt_terms.proofs.terms.Terms.make_metered.Goals as goal
 
 pub returns-in-Some-clause-done : goal.returns-in-Some-clause-done

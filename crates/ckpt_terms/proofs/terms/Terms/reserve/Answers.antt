@@ -1,10 +1,7 @@
 -- Answers the goals of `Terms::reserve`.
-use Rattle.std.proofs.Common.{◌≡◌, ◌+◌, sym, subst, ◌∙◌, None}
-use Rattle.ckpt_terms.specs.declared.call.FencedCall.TheVariants.{Reserve}
+use Rattle.ckpt_terms.proofs.Names.{◌≡◌, ◌+◌, sym, subst, ◌∙◌, None, Reserve, Fenced, fence, fenced_step}
+use Rattle.ckpt_terms.proofs.{Stepping.fenced_off, TermLemmas.layer, TermLemmas.reserve_on, TermLemmas.reserve_fenced}
 use Rattle.ckpt_terms.specs.declared.call.FencedAnswer.TheVariants as answer
-use Rattle.ckpt_terms.specs.Fencing.{Fenced, fence, fenced_step}
-use Rattle.ckpt_terms.proofs.Stepping.{fenced_off}
-use Rattle.ckpt_terms.proofs.TermLemmas.{layer, reserve_on, reserve_fenced}
 use Rattle.ckpt_terms.proofs.terms.Terms.reserve.Goals as goal
 
 pub returns-in-Some-clause-done : goal.returns-in-Some-clause-done

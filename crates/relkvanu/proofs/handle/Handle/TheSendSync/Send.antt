@@ -1,22 +1,10 @@
 -- A handle is the same for every thread: it owns the coordinator's box, and a coordinator may go to another thread.
+use Rattle.relkvanu.proofs.Names.{full_share, Keyless, lone, Ptr, block_ptr, null_ptr, IsSend, part_keyless, ghosts, frees, box_owns, State, Issued, logged_send, Chronicle, heap, kept}
+use Rattle.relkvanu.proofs.Names.{the_row}
+use Rattle.relkvanu.proofs.Words.{R}
 use mir.Raw.{raw}
-use base.Fraction.{full_share}
-use base.Shift.{Keyless}
-use denote.Memory.{lone}
-use denote.RawPtr.{Ptr, block_ptr, null_ptr}
-use denote.Param.Send.{IsSend, part_keyless}
 use Rattle.std.specs.declared.option.Option.{Option}
 use Rattle.std.specs.declared.option.Option.TheVariants.{None, Some}
-use Rattle.std.specs.contracts.impls.GlobalAllocator.TheImpl.{ghosts}
-use Rattle.std.proofs.Crossing.{frees}
-use Rattle.std_alloc.specs.Box.Ownership.{box_owns}
-use Rattle.ckpt_model.specs.State.{State}
-use Rattle.ckpt_terms.specs.Machines.{Issued}
-use Rattle.ckpt_logged.proofs.Crossings.{logged_send}
-use Rattle.ckpt_logged.specs.Chronicles.{Chronicle}
-use Rattle.relkvanu.specs.Kept.{heap, kept}
-use Rattle.relkvanu.specs.contracts.handle.Handle.{the_row}
-use Rattle.relkvanu.proofs.Words.{R}
 
 boxed_keyless : (p : Ptr) (x : R.Denot) → Keyless (box_owns (ghosts.dealloc_token heap) R p x)
 boxed_keyless null_ptr x = (tt, frees.frees heap (raw (lone R.mir)) null_ptr)

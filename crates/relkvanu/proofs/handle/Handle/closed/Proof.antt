@@ -1,28 +1,11 @@
 -- `closed` writes the null pointer, which owns nothing.
-use Rattle.std.proofs.Common.{◌≡◌, [], ◌∷◌, refl, lit<}
-use mir.Val.{Val}
-use base.Logic.{SProp, emp}
-use base.Fml.{ftrue}
-use types.Kit.{‵, raw, ◌⊛◌, ◌$◌, ◌∵◌, !, qed, by, keep, fpack, split, use0}
-use types.Run.{lit, no_more, and_then, returns, enter}
-use types.ByLocal.{alloc_all, pass_all, free_all, look_at, sets}
-use types.Part.{agg}
-use contract.Monad.{fact, fact_i}
-use contract.Running.{tables}
-use denote.RattleType.{owns}
-use denote.Signature.{types_at}
-use denote.RawPtr.{null_ptr, ptr_val}
-use denote.Steps.{nothing}
-use denote.Triple.Walked.{walk_of}
+use Rattle.relkvanu.proofs.Names.{◌≡◌, [], ◌∷◌, refl, lit<, Val, SProp, emp, ftrue, ‵, raw, ◌⊛◌, ◌$◌, ◌∵◌, !, qed, by, keep, fpack, split, use0, lit, no_more, and_then, returns, enter}
+use Rattle.relkvanu.proofs.Names.{alloc_all, pass_all, free_all, look_at, sets, agg, fact, fact_i, tables, owns, types_at, null_ptr, ptr_val, nothing, walk_of, proved_at, leaves, State}
+use Rattle.relkvanu.proofs.Names.{Issued, IsHeld}
+use Rattle.relkvanu.proofs.{Words.R, Words.word, Words.handle_in, handle.Handle.closed.Statement.statement}
 use Rattle.std.specs.declared.option.Option.{Option}
 use Rattle.std.specs.declared.option.Option.TheVariants.{None}
-use Rattle.std.proofs.raw_atomic.Walks.{proved_at, leaves}
-use Rattle.ckpt_model.specs.State.{State}
-use Rattle.ckpt_terms.specs.Machines.{Issued}
-use Rattle.relkvanu.specs.Kept.{IsHeld}
-use Rattle.relkvanu.proofs.Words.{R, word, handle_in}
 use Rattle.relkvanu.specs.contracts.handle.Handle.closed as f
-use Rattle.relkvanu.proofs.handle.Handle.closed.Statement.{statement}
 use Rattle.relkvanu.proofs.handle.Handle.closed.Code as code
 
 pub closed_spec : {M : Type 1} → statement M

@@ -1,40 +1,17 @@
 -- `into_raw` tests whether the pointer is null. If it is not, it has the box.
-use Rattle.std.proofs.Common.{◌≡◌, List, [], ◌∷◌, ◌++◌, refl, sym, ap, ◌∙◌, subst, lit<}
-use mir.Val.{Val, vptr, vcons, vnil}
-use base.Logic.{SProp, ent, emp, id⊢}
-use base.Fml.{ftrue}
-use prog.Wp.{WpFn}
-use types.Kit.{‵, raw, ◌⊛◌, at_ret, ◌$◌, ◌∵◌, !, qed, by, move, keep, split, fsplit, fjoin, suffices, use0, use1, rewrite}
-use types.Run.{stop, fld, lit, of_opd, bin, no_more, and_then, first, branches, exec, returns, enter}
-use types.ByLocal.{alloc_all, pass_all, free_all, look_at, get, get_in, sets, sets_last, env}
-use types.Part.{agg, sub, whole}
-use types.Match.{live}
-use contract.Monad.{fact, fact_i}
-use contract.Running.{tables}
-use denote.Exit.{yes}
-use denote.RattleType.{RattleType, owns}
-use denote.Signature.{types_at, type_at, plain}
-use denote.Param.{layout}
-use denote.RawPtr.{Ptr, block_ptr, null_ptr, ptr_val, tests_null}
-use denote.Steps.{nothing}
-use denote.Triple.Walked.{Stays, stay_dropped, walk_of, Goes-dropped}
-use Rattle.core.proofs.alloc.Shapes.{after}
-use Rattle.core.proofs.cell.Inside.{Good, one}
-use Rattle.core.proofs.option.Made.{Some-of, none_of}
-use Rattle.std.specs.Option.{option_map}
+use Rattle.relkvanu.proofs.Names.{◌≡◌, List, [], ◌∷◌, ◌++◌, refl, sym, ap, ◌∙◌, subst, lit<, Val, vptr, vcons, vnil, SProp, ent, emp, id⊢, ftrue, WpFn, ‵, raw, ◌⊛◌, at_ret, ◌$◌, ◌∵◌, !, qed}
+use Rattle.relkvanu.proofs.Names.{by, move, keep, split, fsplit, fjoin, suffices, use0, use1, rewrite, stop, fld, lit, of_opd, bin, no_more, and_then, first, branches, exec, returns, enter}
+use Rattle.relkvanu.proofs.Names.{alloc_all, pass_all, free_all, look_at, get, get_in, sets, sets_last, env, agg, sub, whole, live, fact, fact_i, tables, yes, RattleType, owns, types_at}
+use Rattle.relkvanu.proofs.Names.{type_at, plain, layout, Ptr, block_ptr, null_ptr, ptr_val, tests_null, nothing, Stays, stay_dropped, walk_of, Goes-dropped, after, Good, one, Some-of}
+use Rattle.relkvanu.proofs.Names.{none_of, option_map, ghosts, proved_at, leaves, and_tt, IsHeld}
+use Rattle.relkvanu.proofs.{BoxWords.Apart, BoxWords.word as pair, BoxWords.word_fits, BoxWords.apart_in, Words.R, Words.word, Words.handle_out, Words.either}
+use Rattle.relkvanu.proofs.handle.Handle.into_raw.Statement.{statement}
 use Rattle.std.specs.contracts.alloc.Global as heap
 use Rattle.std.proofs.alloc.Global.TheLaws as heap_laws
 use Rattle.std.specs.declared.option.Option.{Option}
 use Rattle.std.specs.declared.option.Option.TheVariants.{None, Some}
-use Rattle.std.specs.contracts.impls.GlobalAllocator.TheImpl.{ghosts}
-use Rattle.std.proofs.raw_atomic.Walks.{proved_at, leaves}
-use Rattle.std_alloc.proofs.ResultValues.{and_tt}
-use Rattle.relkvanu.proofs.BoxWords.{Apart, word as pair, word_fits, apart_in}
-use Rattle.relkvanu.proofs.Words.{R, word, handle_out, either}
-use Rattle.relkvanu.specs.Kept.{IsHeld}
 use Rattle.relkvanu.specs.contracts.handle.Handle as handle
 use Rattle.relkvanu.specs.contracts.handle.Handle.into_raw as f
-use Rattle.relkvanu.proofs.handle.Handle.into_raw.Statement.{statement}
 use Rattle.relkvanu.proofs.handle.Handle.into_raw.Code as code
 
 pub into_raw_spec : {M : Type 1} → statement M

@@ -1,34 +1,15 @@
 -- `of` keeps the pointer of the box. The allocator takes no bytes, and there is only one.
-use Rattle.std.proofs.Common.{List, [], ◌∷◌, ◌++◌, refl, sym, subst}
-use mir.Val.{Val, vptr}
-use base.Logic.{SProp, ent, emp, id⊢}
-use base.Fml.{ftrue}
-use prog.Wp.{WpFn}
-use types.Kit.{‵, raw, ◌⊛◌, ◌$◌, ◌∵◌, !, qed, by, move, keep, split, fsplit, fjoin, suffices, fpack, use0}
-use types.Run.{stop, fld, of_opd, no_more, and_then, returns, enter}
-use types.ByLocal.{alloc_all, pass_all, free_all, look_at, get, get_in, sets}
-use types.Part.{agg, sub, whole}
-use contract.Monad.{fact, fact_i}
-use contract.Running.{tables}
-use denote.Exit.{yes}
-use denote.RattleType.{RattleType, owns}
-use denote.Signature.{types_at, plain}
-use denote.RawPtr.{block_ptr}
-use denote.Steps.{nothing}
-use denote.Triple.Walked.{Stays, stay_dropped, walk_of, Goes-dropped}
+use Rattle.relkvanu.proofs.Names.{List, [], ◌∷◌, ◌++◌, refl, sym, subst, Val, vptr, SProp, ent, emp, id⊢, ftrue, WpFn, ‵, raw, ◌⊛◌, ◌$◌, ◌∵◌, !, qed, by, move, keep, split, fsplit, fjoin}
+use Rattle.relkvanu.proofs.Names.{suffices, fpack, use0, stop, fld, of_opd, no_more, and_then, returns, enter, alloc_all, pass_all, free_all, look_at, get, get_in, sets, agg, sub, whole}
+use Rattle.relkvanu.proofs.Names.{fact, fact_i, tables, yes, RattleType, owns, types_at, plain, block_ptr, nothing, Stays, stay_dropped, walk_of, Goes-dropped, ghosts, proved_at, leaves}
+use Rattle.relkvanu.proofs.Names.{State, Issued, core_in, names_in, IsHeld}
+use Rattle.relkvanu.proofs.{BoxWords.Apart, BoxWords.word as pair, BoxWords.word_fits, BoxWords.apart_out, Words.R, Words.boxed, Words.word, Words.handle_in}
+use Rattle.relkvanu.proofs.handle.Handle.of.Statement.{statement}
 use Rattle.std.specs.contracts.alloc.Global as heap
 use Rattle.std.proofs.alloc.Global.TheLaws as heap_laws
 use Rattle.std.specs.declared.option.Option.{Option}
 use Rattle.std.specs.declared.option.Option.TheVariants.{Some}
-use Rattle.std.specs.contracts.impls.GlobalAllocator.TheImpl.{ghosts}
-use Rattle.std.proofs.raw_atomic.Walks.{proved_at, leaves}
-use Rattle.relkvanu.proofs.BoxWords.{Apart, word as pair, word_fits, apart_out}
-use Rattle.ckpt_model.specs.State.{State}
-use Rattle.ckpt_terms.specs.Machines.{Issued, core_in, names_in}
-use Rattle.relkvanu.specs.Kept.{IsHeld}
-use Rattle.relkvanu.proofs.Words.{R, boxed, word, handle_in}
 use Rattle.relkvanu.specs.contracts.handle.Handle.of as f
-use Rattle.relkvanu.proofs.handle.Handle.of.Statement.{statement}
 use Rattle.relkvanu.proofs.handle.Handle.of.Code as code
 
 pub of_spec : {M : Type 1} → statement M
