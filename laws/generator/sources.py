@@ -44,14 +44,15 @@ class Source:
         self.decls.append(decl)
 
     def use(self, text, line):
-        """Reads `use MODULE.{NAME, NAME as NAME}` or `use MODULE as NAME`."""
+        """Reads `use MODULE.{NAME, MODULE.NAME, NAME as NAME}` or `use MODULE as NAME`."""
         match = re.fullmatch(r"(?:pub |ghost )*use ([\w.]+?)(?:\.\{(.*)\}| as (\w+));?", text.strip())
         need(match, (self.path, line), f"unknown use: {text}")
         module, names, alias = match.groups()
         if alias:
             self.aliases[alias] = module
-        for name, here in re.findall(r"([^ ,]+)(?: as ([^ ,]+))?", names or ""):
-            self.uses[here or name] = (module, name)
+        for whole, here in re.findall(r"([^ ,]+)(?: as ([^ ,]+))?", names or ""):
+            at, _, name = f"{module}.{whole}".rpartition(".")
+            self.uses[here or name] = (at, name)
 
 
 class Library:

@@ -1,13 +1,9 @@
 -- Restarts to the coordinator's choice, of tasks that run in loops, and what a sink among them gives.
 use Rattle.std.specs.Prelude.{◌≡◌, ℕ, Some, List, [], ◌∷◌}
-use Rattle.ckpt_ids.specs.declared.call.Call.{Call}
+use Rattle.ckpt_ids.specs.{declared.call.Call.Call, Ordered.IsIn, Records.Record, Shapes.subtasks}
 use Rattle.ckpt_ids.specs.declared.reply.Choice.TheVariants as choice
-use Rattle.ckpt_ids.specs.Ordered.{IsIn}
-use Rattle.ckpt_ids.specs.Records.{Record}
-use Rattle.ckpt_ids.specs.Shapes.{subtasks}
 use Rattle.ckpt_model.specs.State.{Opening, choice_of, opened, record_of}
-use Rattle.ckpt_model.specs.Histories.{replay}
-use Rattle.ckpt_model.specs.Laws.{AreCalls}
+use Rattle.ckpt_model.specs.{Histories.replay, Laws.AreCalls}
 use Rattle.ckpt_once.specs.Jobs.{IsJob, Job, restored, run_of_attempts, starts}
 use Rattle.ckpt_once.specs.Restarts.{WasCompleted}
 use Rattle.ckpt_once.specs.Sinks.{AreLast, Sink, written}

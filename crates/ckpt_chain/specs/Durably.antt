@@ -1,9 +1,7 @@
 -- A durable coordinator with names, as `Durable` is, is one that commits in groups. So what is said of groups holds of it.
 use Rattle.std.specs.Prelude.{◌≡◌, List, [], ◌∷◌, map, ⊤}
-use Rattle.ckpt_terms.specs.declared.call.FencedAnswer.{FencedAnswer}
-use Rattle.ckpt_terms.specs.declared.call.FencedCall.{FencedCall}
+use Rattle.ckpt_terms.specs.{declared.call.FencedAnswer.FencedAnswer, declared.call.FencedCall.FencedCall, Fencing.Fenced, Fencing.fenced_step}
 use Rattle.ckpt_terms.specs.declared.machine.Machine.TheVariants as machine
-use Rattle.ckpt_terms.specs.Fencing.{Fenced, fenced_step}
 use Rattle.ckpt_logged.specs.Events.{Named}
 use Rattle.ckpt_durable.specs.Crashes.{AreEvents, Committed, Crashed, Event, Made, World, world}
 use Rattle.ckpt_durable.specs.Groups as group

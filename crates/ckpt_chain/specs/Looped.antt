@@ -1,18 +1,15 @@
 -- The same of tasks that run in loops, and of the sinks among them.
 use Rattle.std.specs.Prelude.{ℕ, List, [], ◌∷◌}
-use Rattle.ckpt_ids.specs.declared.ack.Acked.{Acked}
-use Rattle.ckpt_ids.specs.Ordered.{IsIn}
+use Rattle.ckpt_ids.specs.{declared.ack.Acked.Acked, Ordered.IsIn}
 use Rattle.ckpt_terms.specs.declared.machine.Machine.{Machine}
 use Rattle.ckpt_logged.specs.Events.{Event}
 use Rattle.ckpt_durable.specs.Groups.{Turn, World, synced, world}
 use Rattle.ckpt_once.specs.Jobs.{IsJob, Job, restored, run_of_attempts, starts}
-use Rattle.ckpt_once.specs.Restarts.{IsSeamless}
-use Rattle.ckpt_once.specs.Sinks.{Sink, written}
+use Rattle.ckpt_once.specs.{Restarts.IsSeamless, Sinks.Sink, Sinks.written}
 use Rattle.ckpt_task.specs.Deeds.{Acknowledges, told_in}
 use Rattle.ckpt_task.specs.Loops.{AreLooping, Loops, LoopsAttempt, attempts_of, history_of}
 use Rattle.ckpt_task.specs.SinkLoops.{AreGiven, HaveGiven, SinkAttempt, loops_of}
-use Rattle.ckpt_chain.specs.Since.{acknowledgements_of}
-use Rattle.ckpt_chain.specs.Told.{NeverGoesBack, WasRestored}
+use Rattle.ckpt_chain.specs.{Since.acknowledgements_of, Told.NeverGoesBack, Told.WasRestored}
 
 -- Each acknowledgement of a record that stands accepted in the log is one that a task of the job told.
 abbrev pub AcceptsTold : ℕ → Machine → List Event → Job → Loops → Type 0

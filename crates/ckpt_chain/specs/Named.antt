@@ -1,14 +1,11 @@
 -- The same of calls with names from an opening on, by way of the calls that reach the coordinator below the names.
 use Rattle.std.specs.Prelude.{◌≡◌, ℕ, true, List, [], ◌∷◌}
-use Rattle.ckpt_ids.specs.Ordered.{IsIn}
-use Rattle.ckpt_ids.specs.Records.{Record}
-use Rattle.ckpt_ids.specs.Shapes.{subtasks}
+use Rattle.ckpt_ids.specs.{Ordered.IsIn, Records.Record, Shapes.subtasks}
 use Rattle.ckpt_align.specs.Laws.{IsConsistent, Network}
 use Rattle.ckpt_cuts.specs.Laws.{AcknowledgesCuts, AreChannelsOf}
 use Rattle.ckpt_model.specs.State.{Opening}
-use Rattle.ckpt_terms.specs.declared.call.FencedCall.{FencedCall}
+use Rattle.ckpt_terms.specs.{declared.call.FencedCall.FencedCall, FencedLaws.AreFencedCalls, FencedLaws.CanFence}
 use Rattle.ckpt_terms.specs.Fencing.{core_calls, fenced, fenced_replay}
-use Rattle.ckpt_terms.specs.FencedLaws.{AreFencedCalls, CanFence}
 use Rattle.ckpt_once.specs.Choices.{Agree, HasNoChoice, Plan}
 use Rattle.ckpt_once.specs.Jobs.{Attempt, History, IsHistory, IsJob, IsRun, Job, Run, States, network, restored, starts}
 use Rattle.ckpt_once.specs.Restarts.{IsSeamless}

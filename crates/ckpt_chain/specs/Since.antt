@@ -1,15 +1,10 @@
 -- Records of a coordinator, with names or without, since a sound state: an opening, the state of an image, or one that calls led to.
 use Rattle.std.specs.Prelude.{◌≡◌, ℕ, true, List, [], ◌∷◌, ◌++◌}
-use Rattle.ckpt_ids.specs.declared.ack.Acked.{Acked}
-use Rattle.ckpt_ids.specs.Ordered.{IsIn}
-use Rattle.ckpt_ids.specs.Records.{Record}
-use Rattle.ckpt_ids.specs.Shapes.{subtasks}
+use Rattle.ckpt_ids.specs.{declared.ack.Acked.Acked, Ordered.IsIn, Records.Record, Shapes.subtasks}
 use Rattle.ckpt_align.specs.Laws.{HasCut, IsConsistent, Network}
 use Rattle.ckpt_cuts.specs.Laws.{AreChannelsOf}
-use Rattle.ckpt_model.specs.State.{record_of}
-use Rattle.ckpt_model.specs.Laws.{accepted_by, along}
-use Rattle.ckpt_terms.specs.declared.machine.Machine.{Machine}
-use Rattle.ckpt_terms.specs.Machines.{core_in}
+use Rattle.ckpt_model.specs.{State.record_of, Laws.accepted_by, Laws.along}
+use Rattle.ckpt_terms.specs.{declared.machine.Machine.Machine, Machines.core_in}
 use Rattle.ckpt_logged.specs.Events.{AreEvents, Event, calls_in, events_replay}
 use Rattle.ckpt_logged.specs.Promises.{acks_in}
 use Rattle.ckpt_once.specs.Choices.{Agree, HasNoChoice, Plan}

@@ -1,14 +1,11 @@
 -- A sink in a loop that a fault stopped.
 use Rattle.std.specs.Prelude.{◌≡◌, ℕ, false, List, []}
-use Rattle.ckpt_ids.specs.declared.subtask.SubtaskId.{SubtaskId}
-use Rattle.ckpt_ids.specs.Ordered.{IsIn}
+use Rattle.ckpt_ids.specs.{declared.subtask.SubtaskId.SubtaskId, Ordered.IsIn}
 use Rattle.ckpt_ledger.specs.Ledgers.{nothing}
 use Rattle.ckpt_once.specs.Jobs.{IsJob, Job, States}
 use Rattle.ckpt_once.specs.Sinks.{Sink}
-use Rattle.ckpt_task.specs.Engines.{begun}
-use Rattle.ckpt_task.specs.Faults.{AreFailing, CountsAs}
+use Rattle.ckpt_task.specs.{Engines.begun, Faults.AreFailing, Faults.CountsAs, Runs.HasStopped, Runs.sink_waits}
 use Rattle.ckpt_task.specs.Loops.{AreLooping, Looped, Loops}
-use Rattle.ckpt_task.specs.Runs.{HasStopped, sink_waits}
 use Rattle.ckpt_task.specs.SinkLoops.{AreSteps, HasSunkOver, Sinking, Step, around_sink, told_of}
 
 -- As `HasSunkOver`, but a fault stopped the run that began at `last`.

@@ -1,13 +1,10 @@
 -- Files in a storage: tasks write them, and what may be deleted is removed, while the coordinator goes on, commits, is imaged and crashes.
 use Rattle.std.specs.Prelude.{◌≡◌, ℕ, ◌==◌, true, List, [], ◌∷◌, if◌then◌else◌, Option, Some, None, ⊤}
-use Rattle.ckpt_ids.specs.declared.ack.Acked.{Acked}
-use Rattle.ckpt_ids.specs.Ordered.{IsIn}
+use Rattle.ckpt_ids.specs.{declared.ack.Acked.Acked, Ordered.IsIn}
 use Rattle.ckpt_ids.specs.Records.{Record, is_present, uses}
 use Rattle.ckpt_model.specs.Laws.{along, registered_by}
-use Rattle.ckpt_terms.specs.declared.machine.Machine.{Machine}
+use Rattle.ckpt_terms.specs.{declared.machine.Machine.Machine, Fencing.Fenced, Fencing.may_be_deleted, Machines.core_in}
 use Rattle.ckpt_terms.specs.declared.machine.Machine.TheVariants as machine
-use Rattle.ckpt_terms.specs.Fencing.{Fenced, may_be_deleted}
-use Rattle.ckpt_terms.specs.Machines.{core_in}
 use Rattle.ckpt_logged.specs.Events.{Event, calls_in}
 use Rattle.ckpt_durable.specs.Groups.{AreTurns, Made, Receipt, Turn, World, happens, started}
 

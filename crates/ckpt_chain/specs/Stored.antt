@@ -1,20 +1,14 @@
 -- A job whose tasks are restored from files, over a coordinator and a storage.
 use Rattle.std.specs.Prelude.{◌≡◌, ℕ, List, [], ◌∷◌, ◌++◌, if◌then◌else◌, map, Option, Some}
-use Rattle.ckpt_ids.specs.declared.ack.Acked.{Acked}
-use Rattle.ckpt_ids.specs.declared.subtask.SubtaskId.{SubtaskId}
-use Rattle.ckpt_ids.specs.Ordered.{IsIn}
-use Rattle.ckpt_ids.specs.Records.{Record}
-use Rattle.ckpt_ids.specs.Shapes.{same_subtask}
+use Rattle.ckpt_ids.specs.{declared.ack.Acked.Acked, declared.subtask.SubtaskId.SubtaskId, Ordered.IsIn, Records.Record, Shapes.same_subtask}
 use Rattle.ckpt_align.specs.Laws.{HasCut}
 use Rattle.ckpt_model.specs.State.{record_of}
-use Rattle.ckpt_terms.specs.declared.machine.Machine.{Machine}
-use Rattle.ckpt_terms.specs.Machines.{core_in}
+use Rattle.ckpt_terms.specs.{declared.machine.Machine.Machine, Machines.core_in}
 use Rattle.ckpt_durable.specs.Groups.{synced}
 use Rattle.ckpt_once.specs.Jobs.{Attempt, History, IsHistory, IsJob, Job, States, network, restored, snapshots, starts}
 use Rattle.ckpt_once.specs.Restarts.{IsSeamless}
-use Rattle.ckpt_chain.specs.Since.{acknowledgements_of}
+use Rattle.ckpt_chain.specs.{Since.acknowledgements_of, Told.NeverGoesBack, Told.WasRestored}
 use Rattle.ckpt_chain.specs.Storages.{Act, AreAllowed, AreStored, Site, Storage, begun, site}
-use Rattle.ckpt_chain.specs.Told.{NeverGoesBack, WasRestored}
 
 -- How a task's state is read from the contents of its files, which come in the order of their names. Nothing is said of what is read from
 -- a file that is not there.

@@ -1,7 +1,6 @@
 -- All in one: tasks in loops, each in the term that it was started with, over a coordinator whose calls outlive crashes.
 use Rattle.std.specs.Prelude.{ℕ, List, [], ◌∷◌}
-use Rattle.ckpt_ids.specs.declared.subtask.SubtaskId.{SubtaskId}
-use Rattle.ckpt_ids.specs.Ordered.{IsIn}
+use Rattle.ckpt_ids.specs.{declared.subtask.SubtaskId.SubtaskId, Ordered.IsIn}
 use Rattle.ckpt_terms.specs.declared.machine.Machine.{Machine}
 use Rattle.ckpt_logged.specs.Events.{Event}
 use Rattle.ckpt_durable.specs.Groups.{Turn, World, synced, world}
@@ -9,8 +8,7 @@ use Rattle.ckpt_once.specs.Jobs.{IsJob, Job, restored}
 use Rattle.ckpt_once.specs.Restarts.{IsSeamless}
 use Rattle.ckpt_task.specs.Deeds.{Acknowledges, told_in}
 use Rattle.ckpt_task.specs.Loops.{AreLooping, Loops, LoopsAttempt, attempts_of, history_of}
-use Rattle.ckpt_chain.specs.Terms.{IsAskedInTerm}
-use Rattle.ckpt_chain.specs.Told.{NeverGoesBack, WasRestored}
+use Rattle.ckpt_chain.specs.{Terms.IsAskedInTerm, Told.NeverGoesBack, Told.WasRestored}
 
 -- a task of the job that told the coordinator that it acknowledges the record
 abbrev pub HasToldOf : ℕ → Job → Loops → SubtaskId → Type 0

@@ -1,21 +1,16 @@
 -- Tasks that acknowledge in the term that they were started with. Those of an earlier attempt may still call: their term has ended.
 use Rattle.std.specs.Prelude.{◌≡◌, ℕ, List, [], ◌∷◌, ◌++◌}
-use Rattle.ckpt_ids.specs.declared.subtask.SubtaskId.{SubtaskId}
-use Rattle.ckpt_ids.specs.Ordered.{IsIn}
+use Rattle.ckpt_ids.specs.{declared.subtask.SubtaskId.SubtaskId, Ordered.IsIn}
 use Rattle.ckpt_align.specs.Laws.{HasCut, Network}
 use Rattle.ckpt_model.specs.Laws.{Part, ack_of}
-use Rattle.ckpt_terms.specs.declared.call.FencedCall.{FencedCall}
-use Rattle.ckpt_terms.specs.declared.call.FencedCall.TheVariants.{Make}
-use Rattle.ckpt_terms.specs.declared.machine.Machine.{Machine}
-use Rattle.ckpt_terms.specs.declared.machine.Machine.TheVariants as machine
-use Rattle.ckpt_terms.specs.Fencing.{Fenced, fenced_step}
+use Rattle.ckpt_terms.specs.{declared.call.FencedCall.FencedCall, declared.call.FencedCall.TheVariants.Make, declared.machine.Machine.Machine, Fencing.Fenced, Fencing.fenced_step}
 use Rattle.ckpt_terms.specs.FencedLaws.{given_in}
+use Rattle.ckpt_terms.specs.declared.machine.Machine.TheVariants as machine
 use Rattle.ckpt_logged.specs.Events.{AreEvents, Event, IsWell, events_replay, named_as}
 use Rattle.ckpt_durable.specs.Groups.{Turn, World, synced, world}
 use Rattle.ckpt_once.specs.Jobs.{Attempt, History, IsHistory, IsJob, Job, network, restored}
 use Rattle.ckpt_once.specs.Restarts.{IsSeamless}
-use Rattle.ckpt_chain.specs.Since.{AcknowledgesCuts}
-use Rattle.ckpt_chain.specs.Told.{NeverGoesBack, WasRestored}
+use Rattle.ckpt_chain.specs.{Since.AcknowledgesCuts, Told.NeverGoesBack, Told.WasRestored}
 
 -- In the log record n was triggered in some term. Each acknowledgement of it that was asked for in this term, accepted or not, is of a
 -- subtask of which the premise holds. Of those that were asked for in other terms nothing is assumed.

@@ -1,32 +1,22 @@
 -- A job over a coordinator that commits in groups, through any number of crashes: it acts on what it was told, and on nothing else.
 use Rattle.std.specs.Prelude.{◌≡◌, ℕ, Bool, true, false, List, [], ◌∷◌, ◌++◌, Option, Some, None}
-use Rattle.ckpt_ids.specs.declared.call.Call.{Call}
-use Rattle.ckpt_ids.specs.declared.call.Call.TheVariants.{Cancel, Restore}
+use Rattle.ckpt_ids.specs.{declared.call.Call.Call, declared.call.Call.TheVariants.Cancel, declared.call.Call.TheVariants.Restore, declared.reply.Answer.Answer}
+use Rattle.ckpt_ids.specs.{declared.reply.Answer.TheVariants.Done, declared.reply.Choice.Choice, Ordered.IsIn, Records.Record, Shapes.subtasks}
 use Rattle.ckpt_ids.specs.declared.call.Target.TheVariants as target
-use Rattle.ckpt_ids.specs.declared.reply.Answer.{Answer}
-use Rattle.ckpt_ids.specs.declared.reply.Answer.TheVariants.{Done}
-use Rattle.ckpt_ids.specs.declared.reply.Choice.{Choice}
 use Rattle.ckpt_ids.specs.declared.reply.Reply.TheVariants as reply
-use Rattle.ckpt_ids.specs.Ordered.{IsIn}
-use Rattle.ckpt_ids.specs.Records.{Record}
-use Rattle.ckpt_ids.specs.Shapes.{subtasks}
 use Rattle.ckpt_model.specs.State.{is_checkpoint, record_of}
 use Rattle.ckpt_model.specs.Laws.{Part, ack_of, id_of_choice}
-use Rattle.ckpt_terms.specs.declared.call.FencedAnswer.{FencedAnswer}
+use Rattle.ckpt_terms.specs.{declared.call.FencedAnswer.FencedAnswer, declared.call.FencedCall.FencedCall, declared.call.FencedCall.TheVariants.Make}
+use Rattle.ckpt_terms.specs.{declared.call.FencedCall.TheVariants.Advance, declared.machine.Machine.Machine, Fencing.fenced_step, Fencing.restart, Machines.core_in}
+use Rattle.ckpt_terms.specs.Machines.{machine_step}
 use Rattle.ckpt_terms.specs.declared.call.FencedAnswer.TheVariants as answer
-use Rattle.ckpt_terms.specs.declared.call.FencedCall.{FencedCall}
-use Rattle.ckpt_terms.specs.declared.call.FencedCall.TheVariants.{Make, Advance}
-use Rattle.ckpt_terms.specs.declared.machine.Machine.{Machine}
 use Rattle.ckpt_terms.specs.declared.machine.Machine.TheVariants as machine
-use Rattle.ckpt_terms.specs.Fencing.{fenced_step, restart}
-use Rattle.ckpt_terms.specs.Machines.{core_in, machine_step}
 use Rattle.ckpt_logged.specs.Events.{Event, Fence, IsWell, Named, Plain, calls_in, event_step}
 use Rattle.ckpt_durable.specs.Groups.{AreTurns, Receipt, Turn, World, synced, world}
 use Rattle.ckpt_ledger.specs.Restarts.{AreTold, AttemptTold, attempts, over_restarts}
 use Rattle.ckpt_once.specs.Choices.{Agree, HasNoChoice, Plan}
 use Rattle.ckpt_once.specs.Jobs.{Attempt, History, IsHistory, IsJob, IsRun, Job, Run, network, restored, run_of_attempts, starts}
-use Rattle.ckpt_once.specs.Newest.{NoneGoesBack}
-use Rattle.ckpt_once.specs.Restarts.{IsSeamless}
+use Rattle.ckpt_once.specs.{Newest.NoneGoesBack, Restarts.IsSeamless}
 use Rattle.ckpt_once.specs.Sinks.{Sink, published_before, written}
 use Rattle.ckpt_chain.specs.Since.{AcknowledgesCuts}
 

@@ -1,18 +1,14 @@
 -- The barriers that enter a job are orders of the coordinator, which gives each number once. So no task has an earlier snapshot of a record.
 use Rattle.std.specs.Prelude.{◌≡◌, ℕ, ◌≤◌, List, [], ◌∷◌, ◌++◌, ◌⊎◌, None}
-use Rattle.ckpt_ids.specs.declared.subtask.SubtaskId.{SubtaskId}
-use Rattle.ckpt_ids.specs.Ordered.{IsIn}
-use Rattle.ckpt_align.specs.Histories.{Barrier}
-use Rattle.ckpt_align.specs.Laws.{HasCut}
+use Rattle.ckpt_ids.specs.{declared.subtask.SubtaskId.SubtaskId, Ordered.IsIn}
+use Rattle.ckpt_align.specs.{Histories.Barrier, Laws.HasCut}
 use Rattle.ckpt_model.specs.Laws.{along, given_by}
-use Rattle.ckpt_terms.specs.declared.machine.Machine.{Machine}
-use Rattle.ckpt_terms.specs.Machines.{core_in}
+use Rattle.ckpt_terms.specs.{declared.machine.Machine.Machine, Machines.core_in}
 use Rattle.ckpt_logged.specs.Events.{AreEvents, Event, calls_in, events_replay}
 use Rattle.ckpt_once.specs.Jobs.{By, History, IsFed, IsHistory, IsJob, Job, States, network}
 use Rattle.ckpt_once.specs.Programs.{Offered, Turn}
-use Rattle.ckpt_task.specs.Deeds.{Acknowledges, told_in}
+use Rattle.ckpt_task.specs.{Deeds.Acknowledges, Deeds.told_in, Saving.Saved, Saving.under}
 use Rattle.ckpt_task.specs.Loops.{AreLooping, Loops, history_of}
-use Rattle.ckpt_task.specs.Saving.{Saved, under}
 
 -- A barrier that a task was offered came by a channel of the job, or is the order of a record of this list.
 abbrev pub OrdersAreOf : List ℕ → Job → History → Type 0

@@ -1,7 +1,6 @@
 -- The same of a job whose checkpoints may overtake: a record has what was on the way to each task, which channels give first after a restart.
 use Rattle.std.specs.Prelude.{ℕ, List, [], ◌∷◌}
-use Rattle.ckpt_ids.specs.declared.ack.Acked.{Acked}
-use Rattle.ckpt_ids.specs.Ordered.{IsIn}
+use Rattle.ckpt_ids.specs.{declared.ack.Acked.Acked, Ordered.IsIn}
 use Rattle.ckpt_terms.specs.declared.machine.Machine.{Machine}
 use Rattle.ckpt_logged.specs.Events.{Event}
 use Rattle.ckpt_durable.specs.Groups.{Turn, World, synced, world}
@@ -9,8 +8,7 @@ use Rattle.ckpt_once.specs.Jobs.{IsJob, Job}
 use Rattle.ckpt_unaligned.specs.Laws.{HasPart, Network}
 use Rattle.ckpt_other_cuts.specs.Restarted.{Doings, IsRunFrom, begin_after, moves}
 use Rattle.ckpt_other_cuts.specs.Resumed.{Attempt, IsSeamless, WasRecorded, stretches}
-use Rattle.ckpt_chain.specs.Since.{acknowledgements_of}
-use Rattle.ckpt_chain.specs.Told.{NeverGoesBack, WasRestored}
+use Rattle.ckpt_chain.specs.{Since.acknowledgements_of, Told.NeverGoesBack, Told.WasRestored}
 
 -- Left to the engine: each acknowledgement of the record that stands accepted in the log is of a subtask whose part of it was whole.
 abbrev pub AcknowledgesParts : ℕ → Machine → List Event → Network → Type 0

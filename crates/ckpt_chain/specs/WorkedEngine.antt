@@ -1,13 +1,9 @@
 -- A worked example: the record of the worked loops of `ckpt_task`, once both subtasks have acknowledged it.
 use Rattle.std.specs.Prelude.{true, [], ◌∷◌}
-use Rattle.ckpt_ids.specs.declared.ack.Acked.{Acked}
+use Rattle.ckpt_ids.specs.{declared.ack.Acked.Acked, declared.subtask.SubtaskId.SubtaskId, Records.Record}
 use Rattle.ckpt_ids.specs.declared.numbers.Kind.TheVariants as kind
-use Rattle.ckpt_ids.specs.declared.subtask.SubtaskId.{SubtaskId}
-use Rattle.ckpt_ids.specs.Records.{Record}
-use Rattle.ckpt_once.specs.Jobs.{History}
-use Rattle.ckpt_once.specs.WorkedExamples.{adder, source}
-use Rattle.ckpt_task.specs.Loops.{history_of}
-use Rattle.ckpt_task.specs.WorkedLoops.{failed}
+use Rattle.ckpt_once.specs.{Jobs.History, WorkedExamples.adder, WorkedExamples.source}
+use Rattle.ckpt_task.specs.{Loops.history_of, WorkedLoops.failed}
 
 abbrev pub acked : SubtaskId → Acked
 acked t = record { subtask = t; files = [] }

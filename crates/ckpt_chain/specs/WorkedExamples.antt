@@ -3,23 +3,18 @@
 use Rattle.std.specs.Prelude.{◌≡◌, ℕ, List, [], ◌∷◌, ◌++◌, drop, map, refl, take, Option, Some, None}
 use Rattle.ckpt_ids.specs.declared.call.Call.TheVariants.{Ack, Restore, Tick}
 use Rattle.ckpt_ids.specs.declared.call.Target.TheVariants as target
-use Rattle.ckpt_ids.specs.declared.reply.Answer.{Answer}
-use Rattle.ckpt_ids.specs.declared.reply.Answer.TheVariants.{Done}
+use Rattle.ckpt_ids.specs.{declared.reply.Answer.Answer, declared.reply.Answer.TheVariants.Done}
 use Rattle.ckpt_ids.specs.declared.reply.Choice.TheVariants as choice
 use Rattle.ckpt_ids.specs.declared.reply.Reply.TheVariants as reply
 use Rattle.ckpt_ids.specs.declared.reply.TickEnd.TheVariants as end
 use Rattle.ckpt_align.specs.Histories.{Barrier, Element, Reads, Sends}
 use Rattle.ckpt_align.specs.Steps.{barrier, settled, step}
-use Rattle.ckpt_model.specs.State.{opened}
-use Rattle.ckpt_model.specs.Steps.{step_computes}
-use Rattle.ckpt_terms.specs.declared.call.FencedCall.TheVariants.{Make, Reserve}
-use Rattle.ckpt_terms.specs.declared.machine.Machine.{Machine}
+use Rattle.ckpt_model.specs.{State.opened, Steps.step_computes}
+use Rattle.ckpt_terms.specs.{declared.call.FencedCall.TheVariants.Make, declared.call.FencedCall.TheVariants.Reserve, declared.machine.Machine.Machine, Fencing.fenced_step}
 use Rattle.ckpt_terms.specs.declared.machine.Machine.TheVariants as machine
-use Rattle.ckpt_terms.specs.Fencing.{fenced_step}
 use Rattle.ckpt_logged.specs.Events.{Event, Fence, Named, events_replay}
 use Rattle.ckpt_durable.specs.Groups.{Committed, Crashed, Imaged, Made, Receipt, Turn, World, synced, world}
-use Rattle.ckpt_ledger.specs.Ledgers.{Acts, Told}
-use Rattle.ckpt_ledger.specs.Restarts.{AttemptTold, over_restarts}
+use Rattle.ckpt_ledger.specs.{Ledgers.Acts, Ledgers.Told, Restarts.AttemptTold, Restarts.over_restarts}
 use Rattle.ckpt_once.specs.Jobs.{run_of_attempts, starts}
 use Rattle.ckpt_once.specs.Sinks.{Sink, published_before, written}
 use Rattle.ckpt_once.specs.WorkedExamples.{adder, job, source}

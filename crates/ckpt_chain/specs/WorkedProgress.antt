@@ -1,20 +1,14 @@
 -- Worked examples of progress, with names and without, and of an advance. The expected values were written by hand.
 use Rattle.std.specs.Prelude.{◌≡◌, false, List, [], ◌∷◌, map, refl}
-use Rattle.ckpt_ids.specs.declared.call.Call.TheVariants.{Tick}
+use Rattle.ckpt_ids.specs.{declared.call.Call.TheVariants.Tick, declared.reply.Answer.TheVariants.Done, Records.Record}
 use Rattle.ckpt_ids.specs.declared.numbers.Kind.TheVariants as kind
-use Rattle.ckpt_ids.specs.declared.reply.Answer.TheVariants.{Done}
 use Rattle.ckpt_ids.specs.declared.reply.Choice.TheVariants as choice
 use Rattle.ckpt_ids.specs.declared.reply.Reply.TheVariants as reply
-use Rattle.ckpt_ids.specs.Records.{Record}
-use Rattle.ckpt_model.specs.State.{State, opened}
-use Rattle.ckpt_model.specs.Steps.{step_computes}
-use Rattle.ckpt_model.specs.Histories.{answers, replay}
-use Rattle.ckpt_model.specs.Progress.{TimedPart, ack_at}
+use Rattle.ckpt_model.specs.{State.State, State.opened, Steps.step_computes, Histories.answers, Histories.replay, Progress.TimedPart, Progress.ack_at}
 use Rattle.ckpt_terms.specs.declared.call.FencedAnswer.TheVariants as answer
-use Rattle.ckpt_terms.specs.declared.call.FencedCall.{FencedCall}
+use Rattle.ckpt_terms.specs.{declared.call.FencedCall.FencedCall, TermsImages.fenced_answers}
 use Rattle.ckpt_terms.specs.declared.call.FencedCall.TheVariants.{Advance, Make, Reserve}
 use Rattle.ckpt_terms.specs.Fencing.{Fenced, fenced, fenced_replay, fenced_step}
-use Rattle.ckpt_terms.specs.TermsImages.{fenced_answers}
 use Rattle.ckpt_once.specs.WorkedExamples.{adder, source}
 use Rattle.ckpt_task.specs.WorkedLoops.{opening}
 

@@ -3,16 +3,11 @@
 use Rattle.std.specs.Prelude.{false, List, [], ◌∷◌, if◌then◌else◌}
 use Rattle.ckpt_ids.specs.Shapes.{same_subtask}
 use Rattle.ckpt_ledger.specs.Ledgers.{Held, nothing}
-use Rattle.ckpt_once.specs.Sinks.{Transaction}
-use Rattle.ckpt_once.specs.WorkedExamples.{adder, source}
-use Rattle.ckpt_task.specs.declared.deed.Deed.TheVariants.{Came, Took}
-use Rattle.ckpt_task.specs.declared.turn.Next.TheVariants as next
-use Rattle.ckpt_task.specs.Loops.{Loops}
-use Rattle.ckpt_task.specs.Runs.{Around, around}
-use Rattle.ckpt_task.specs.Saving.{Saved}
-use Rattle.ckpt_task.specs.SinkLoops.{SinkAttempt, Sinking, Step, Ran, WasTold, around_sink}
-use Rattle.ckpt_task.specs.SinkTurns.{SinkAt}
+use Rattle.ckpt_once.specs.{Sinks.Transaction, WorkedExamples.adder, WorkedExamples.source}
+use Rattle.ckpt_task.specs.{declared.deed.Deed.TheVariants.Came, declared.deed.Deed.TheVariants.Took, Loops.Loops, Runs.Around, Runs.around, Saving.Saved, SinkTurns.SinkAt}
 use Rattle.ckpt_task.specs.Turns.{At}
+use Rattle.ckpt_task.specs.declared.turn.Next.TheVariants as next
+use Rattle.ckpt_task.specs.SinkLoops.{SinkAttempt, Sinking, Step, Ran, WasTold, around_sink}
 use Rattle.ckpt_task.specs.WorkedLoops.{adder_did, at, begin, going, source_did, with_100}
 
 -- what it wrote before the cut of record 1, which its snapshot has too

@@ -1,21 +1,14 @@
 -- A worked example: the source and the adder of `ckpt_task`, which save their states as files. A coordinator gets names, an image cuts its log,
 -- and it crashes twice; a file that a task of the old attempt writes late is removed. The expected values were written by hand.
 use Rattle.std.specs.Prelude.{◌≡◌, ℕ, true, List, [], ◌∷◌, ◌++◌, drop, refl, take, Option, Some, None}
-use Rattle.ckpt_ids.specs.declared.ack.Acked.{Acked}
-use Rattle.ckpt_ids.specs.declared.call.Call.TheVariants.{Ack}
+use Rattle.ckpt_ids.specs.{declared.ack.Acked.Acked, declared.call.Call.TheVariants.Ack, declared.subtask.SubtaskId.SubtaskId, Records.Record}
 use Rattle.ckpt_ids.specs.declared.numbers.Kind.TheVariants as kind
-use Rattle.ckpt_ids.specs.declared.subtask.SubtaskId.{SubtaskId}
-use Rattle.ckpt_ids.specs.Records.{Record}
-use Rattle.ckpt_model.specs.State.{record_of}
-use Rattle.ckpt_model.specs.Steps.{step_computes}
-use Rattle.ckpt_terms.specs.declared.call.FencedCall.TheVariants.{Make, Reserve}
-use Rattle.ckpt_terms.specs.Fencing.{fenced_step}
-use Rattle.ckpt_terms.specs.Machines.{core_in}
+use Rattle.ckpt_model.specs.{State.record_of, Steps.step_computes}
+use Rattle.ckpt_terms.specs.{declared.call.FencedCall.TheVariants.Make, declared.call.FencedCall.TheVariants.Reserve, Fencing.fenced_step, Machines.core_in}
 use Rattle.ckpt_logged.specs.Events.{Event, Fence, Named, events_replay}
 use Rattle.ckpt_durable.specs.Groups.{Committed, Crashed, Imaged, Made, Receipt, synced}
 use Rattle.ckpt_once.specs.WorkedExamples.{adder, job, source}
-use Rattle.ckpt_task.specs.Loops.{history_of}
-use Rattle.ckpt_task.specs.WorkedLoops.{failed}
+use Rattle.ckpt_task.specs.{Loops.history_of, WorkedLoops.failed}
 use Rattle.ckpt_chain.specs.Storages.{Act, Removed, Storage, Turned, Wrote}
 use Rattle.ckpt_chain.specs.Stored.{Place, Reader, StoredAttempt, now_at, read_from}
 use Rattle.ckpt_chain.specs.WorkedExamples.{begin, restores, ticks}

@@ -2,12 +2,10 @@
 use Rattle.std.specs.Prelude.{◌≡◌, [], ◌∷◌, map, refl}
 use Rattle.ckpt_model.specs.Steps.{step_computes}
 use Rattle.ckpt_logged.specs.Events.{Plain}
-use Rattle.ckpt_once.specs.Jobs.{restored, starts}
-use Rattle.ckpt_once.specs.WorkedExamples.{job}
+use Rattle.ckpt_once.specs.{Jobs.restored, Jobs.starts, WorkedExamples.job}
 use Rattle.ckpt_task.specs.Loops.{attempts_of}
 use Rattle.ckpt_task.specs.WorkedLoops.{again, attempt, calls, failed}
-use Rattle.ckpt_chain.specs.Triggered.{Tried, numbers_in}
-use Rattle.ckpt_chain.specs.WorkedExamples.{begin}
+use Rattle.ckpt_chain.specs.{Triggered.Tried, Triggered.numbers_in, WorkedExamples.begin}
 
 -- record 1 is triggered and acknowledged
 abbrev pub first : Tried

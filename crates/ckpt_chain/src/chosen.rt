@@ -2,21 +2,16 @@
 
 ghost use Rattle.std.specs.Prelude.{List, [], ◌∷◌};
 ghost use Rattle.ckpt_chain.specs.Chosen.{AreChosenLoops, ChosenLoopsAreLast, ChosenSinkGivesOnce};
-ghost use Rattle.ckpt_chain.specs.Looped.{AreToldLoops};
-ghost use Rattle.ckpt_chain.specs.SinkFaults.{HasSunkUntilFault, SinkFaultsCount};
+ghost use Rattle.ckpt_chain.specs.{Looped.AreToldLoops, SinkFaults.HasSunkUntilFault, SinkFaults.SinkFaultsCount};
 ghost use Rattle.ckpt_chain.specs.WorkedExamples.{begin, now, sink};
 ghost use Rattle.ckpt_chain.specs.WorkedSink.{attempt, did, failing};
 ghost use Rattle.ckpt_ids.specs.Ordered.{IsIn};
-ghost use Rattle.ckpt_model.specs.Laws.{CanOpen};
-ghost use Rattle.ckpt_model.specs.State.{Opening};
+ghost use Rattle.ckpt_model.specs.{Laws.CanOpen, State.Opening};
 ghost use Rattle.ckpt_once.specs.Jobs.{Job, States, starts};
-ghost use Rattle.ckpt_once.specs.Restarts.{AreChosen};
-ghost use Rattle.ckpt_once.specs.Sinks.{Sink};
-ghost use Rattle.ckpt_once.specs.WorkedExamples.{job};
-ghost use Rattle.ckpt_task.specs.Faults.{AreFailing};
+ghost use Rattle.ckpt_once.specs.{Restarts.AreChosen, Sinks.Sink, WorkedExamples.job};
+ghost use Rattle.ckpt_task.specs.{Faults.AreFailing, WorkedLoops.opening};
 ghost use Rattle.ckpt_task.specs.Loops.{AreLooping, Loops, LoopsAttempt, attempts_of};
 ghost use Rattle.ckpt_task.specs.SinkLoops.{HaveGiven, SinkAttempt, loops_of};
-ghost use Rattle.ckpt_task.specs.WorkedLoops.{opening};
 
 /// Restarts of tasks in loops to the coordinator's choice are to done records, and to the last that were
 /// completed.

@@ -3,14 +3,12 @@
 ghost use Rattle.std.specs.Prelude.{List, [], ◌∷◌};
 ghost use Rattle.ckpt_chain.specs.Storages.{Act, AreAllowed, AreStored, FilesStay, Storage, begun};
 ghost use Rattle.ckpt_chain.specs.Stored.{AreReadBack, NothingIsLost, Place, StoredAttempt, now_at, read_from};
-ghost use Rattle.ckpt_chain.specs.Told.{NeverGoesBack};
-ghost use Rattle.ckpt_chain.specs.WorkedStorage.{attempt, place};
+ghost use Rattle.ckpt_chain.specs.{Told.NeverGoesBack, WorkedStorage.attempt, WorkedStorage.place};
 ghost use Rattle.ckpt_durable.specs.Groups.{synced};
 ghost use Rattle.ckpt_logged.specs.Events.{IsWell};
 ghost use Rattle.ckpt_once.specs.Jobs.{History, IsHistory, IsJob, Job};
 ghost use Rattle.ckpt_once.specs.WorkedExamples.{job};
-ghost use Rattle.ckpt_task.specs.Loops.{history_of};
-ghost use Rattle.ckpt_task.specs.WorkedLoops.{again};
+ghost use Rattle.ckpt_task.specs.{Loops.history_of, WorkedLoops.again};
 ghost use Rattle.ckpt_terms.specs.declared.machine.Machine.{Machine};
 
 /// Each file of a live record is there with the content that was written, whatever crashes, if files are

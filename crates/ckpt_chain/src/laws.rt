@@ -2,12 +2,10 @@
 
 ghost use Rattle.std.specs.Prelude.{◌≡◌, ℕ, false, List, [], ◌∷◌};
 ghost use Rattle.ckpt_align.specs.Laws.{Network};
-ghost use Rattle.ckpt_chain.specs.Durably.{DurableIsGroup};
+ghost use Rattle.ckpt_chain.specs.{Durably.DurableIsGroup, TermLoops.AreTermLoops, TermLoops.TermLoopsAreSeamless, Terms.OnlyItsTerm, Terms.TermsAreSeamless};
 ghost use Rattle.ckpt_chain.specs.Looped.{AreToldLoops, ToldLoopsAreSeamless, ToldSinkGivesOnce};
 ghost use Rattle.ckpt_chain.specs.Named.{ConsistentWithNames, NamedExactlyOnce, NamedRestartsInvisible};
 ghost use Rattle.ckpt_chain.specs.Since.{AreRestarts, DoneIsConsistent, ExactlyOnce, RestartsInvisible};
-ghost use Rattle.ckpt_chain.specs.TermLoops.{AreTermLoops, TermLoopsAreSeamless};
-ghost use Rattle.ckpt_chain.specs.Terms.{OnlyItsTerm, TermsAreSeamless};
 ghost use Rattle.ckpt_chain.specs.Told.{AreToldRestarts, LedgerPublishesOnce, NeverGoesBack, NobodyGoesBack, Soundly, ToldExactlyOnce, ToldIsSeamless, asks_way_back, call_of};
 ghost use Rattle.ckpt_chain.specs.WorkedExamples.{attempt, begin, now, sink, told, turns};
 ghost use Rattle.ckpt_durable.specs.Crashes.{Event as CrashEvent};
@@ -16,17 +14,11 @@ ghost use Rattle.ckpt_ids.specs.Ordered.{IsIn};
 ghost use Rattle.ckpt_ledger.specs.Restarts.{AreTold, AttemptTold, attempts};
 ghost use Rattle.ckpt_logged.specs.Events.{AreEvents, Event, IsWell};
 ghost use Rattle.ckpt_model.specs.State.{Opening};
-ghost use Rattle.ckpt_once.specs.Choices.{HasNoChoice, Plan};
+ghost use Rattle.ckpt_once.specs.{Choices.HasNoChoice, Choices.Plan, Sinks.AreLast, Sinks.Sink, WorkedExamples.job, WorkedExamples.plan};
 ghost use Rattle.ckpt_once.specs.Jobs.{Attempt, History, IsJob, Job, restored};
-ghost use Rattle.ckpt_once.specs.Sinks.{AreLast, Sink};
-ghost use Rattle.ckpt_once.specs.WorkedExamples.{job, plan};
 ghost use Rattle.ckpt_task.specs.Loops.{AreLooping, Loops, LoopsAttempt, attempts_of};
-ghost use Rattle.ckpt_task.specs.SinkLoops.{SinkAttempt};
-ghost use Rattle.ckpt_task.specs.WorkedLoops.{again};
-ghost use Rattle.ckpt_terms.specs.declared.call.FencedCall.{FencedCall};
-ghost use Rattle.ckpt_terms.specs.declared.machine.Machine.{Machine};
-ghost use Rattle.ckpt_terms.specs.Fencing.{Fenced};
-ghost use Rattle.ckpt_terms.specs.FencedLaws.{CanFence};
+ghost use Rattle.ckpt_task.specs.{SinkLoops.SinkAttempt, WorkedLoops.again};
+ghost use Rattle.ckpt_terms.specs.{declared.call.FencedCall.FencedCall, declared.machine.Machine.Machine, Fencing.Fenced, FencedLaws.CanFence};
 
 /// A completed record is a consistent cut, if each of its acknowledgements comes from a subtask that has
 /// cut it, and channels keep their order: of calls with names from an opening on, and since any sound

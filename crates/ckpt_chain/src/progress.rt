@@ -2,27 +2,18 @@
 
 ghost use Rattle.std.specs.Prelude.{◌≡◌, true, Some, [], ◌∷◌};
 ghost use Rattle.ckpt_align.specs.Alignment.{opened};
-ghost use Rattle.ckpt_chain.specs.Named.{AreNamedRestarts};
-ghost use Rattle.ckpt_chain.specs.WorkedEngine.{completed, history};
+ghost use Rattle.ckpt_chain.specs.{Named.AreNamedRestarts, WorkedEngine.completed, WorkedEngine.history};
 ghost use Rattle.ckpt_chain.specs.WorkedProgress.{advance, holds, lacking, parts, waits};
 ghost use Rattle.ckpt_cuts.specs.Laws.{AcknowledgesCuts, AreChannelsOf};
 ghost use Rattle.ckpt_ids.specs.Ordered.{IsIn};
-ghost use Rattle.ckpt_model.specs.Histories.{replay};
+ghost use Rattle.ckpt_model.specs.{Histories.replay, Refusals.pending_of, Soundness.IsSound};
 ghost use Rattle.ckpt_model.specs.Progress.{AreAllMissing, HasFiles, IsWithin, TimedPart};
-ghost use Rattle.ckpt_model.specs.Refusals.{pending_of};
-ghost use Rattle.ckpt_model.specs.Soundness.{IsSound};
 ghost use Rattle.ckpt_model.specs.State as model;
 ghost use Rattle.ckpt_once.specs.Jobs.{network, of, restored, starts};
-ghost use Rattle.ckpt_once.specs.Sinks.{AreLast};
-ghost use Rattle.ckpt_once.specs.WorkedExamples.{adder, job};
-ghost use Rattle.ckpt_task.specs.Engines.{IsWorking};
-ghost use Rattle.ckpt_task.specs.Laws.{AreEngines};
-ghost use Rattle.ckpt_task.specs.Loops.{attempts_of, history_of};
-ghost use Rattle.ckpt_task.specs.Restores.{AreSaved, IsRestored};
+ghost use Rattle.ckpt_once.specs.{Sinks.AreLast, WorkedExamples.adder, WorkedExamples.job};
+ghost use Rattle.ckpt_task.specs.{Engines.IsWorking, Laws.AreEngines, Loops.attempts_of, Loops.history_of, Restores.AreSaved, Restores.IsRestored};
 ghost use Rattle.ckpt_task.specs.WorkedLoops.{again, at, attempt, calls, cut_at, opening};
-ghost use Rattle.ckpt_terms.specs.Fencing.{fenced_step, has_ended};
-ghost use Rattle.ckpt_terms.specs.FencedLaws.{CanFence, IsFenced};
-ghost use Rattle.ckpt_terms.specs.NamedProgress.{HasNames};
+ghost use Rattle.ckpt_terms.specs.{Fencing.fenced_step, Fencing.has_ended, FencedLaws.CanFence, FencedLaws.IsFenced, NamedProgress.HasNames};
 
 /// Two subtasks, a record that lacks both, and an advance meet the premises of progress without names
 /// (`completes` of `ckpt_model`) and with them (`completes` of `ckpt_terms`), and of `advances`.

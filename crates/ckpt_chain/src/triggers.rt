@@ -2,10 +2,8 @@
 
 ghost use Rattle.std.specs.Prelude.{ℕ, List, [], ◌∷◌};
 ghost use Rattle.ckpt_chain.specs.Triggered.{AreTriggered, CutsAreGiven, HasNoEarlier, Tried, asked};
-ghost use Rattle.ckpt_chain.specs.WorkedExamples.{begin};
-ghost use Rattle.ckpt_chain.specs.WorkedTriggers.{first, second};
-ghost use Rattle.ckpt_ids.specs.declared.subtask.SubtaskId.{SubtaskId};
-ghost use Rattle.ckpt_ids.specs.Ordered.{IsIn};
+ghost use Rattle.ckpt_chain.specs.{WorkedExamples.begin, WorkedTriggers.first, WorkedTriggers.second};
+ghost use Rattle.ckpt_ids.specs.{declared.subtask.SubtaskId.SubtaskId, Ordered.IsIn};
 ghost use Rattle.ckpt_logged.specs.Events.{AreEvents};
 ghost use Rattle.ckpt_once.specs.Jobs.{History, IsJob, Job, States};
 ghost use Rattle.ckpt_once.specs.WorkedExamples.{adder, job};

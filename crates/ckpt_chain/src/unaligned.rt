@@ -1,17 +1,13 @@
 //! The law of the chain for jobs whose checkpoints may overtake, on functions that do nothing.
 
 ghost use Rattle.std.specs.Prelude.{List, [], ◌∷◌};
-ghost use Rattle.ckpt_chain.specs.Told.{NeverGoesBack, Soundly};
-ghost use Rattle.ckpt_chain.specs.Unaligned.{AreToldResumes, ToldResumesAreSeamless};
+ghost use Rattle.ckpt_chain.specs.{Told.NeverGoesBack, Told.Soundly, Unaligned.AreToldResumes, Unaligned.ToldResumesAreSeamless};
 ghost use Rattle.ckpt_chain.specs.WorkedExamples.{begin, now, turns};
 ghost use Rattle.ckpt_durable.specs.Groups.{AreTurns, Turn, synced};
 ghost use Rattle.ckpt_logged.specs.Events.{IsWell};
-ghost use Rattle.ckpt_once.specs.Jobs.{IsJob, Job};
-ghost use Rattle.ckpt_once.specs.WorkedExamples.{job};
+ghost use Rattle.ckpt_once.specs.{Jobs.IsJob, Jobs.Job, WorkedExamples.job};
 ghost use Rattle.ckpt_other_cuts.specs.Restarted.{Doings, IsRunFrom, begin_after, moves};
-ghost use Rattle.ckpt_other_cuts.specs.Resumed.{Attempt, stretches};
-ghost use Rattle.ckpt_other_cuts.specs.WorkedRecorders.{attempt};
-ghost use Rattle.ckpt_other_cuts.specs.WorkedResumes.{again};
+ghost use Rattle.ckpt_other_cuts.specs.{Resumed.Attempt, Resumed.stretches, WorkedRecorders.attempt, WorkedResumes.again};
 ghost use Rattle.ckpt_terms.specs.declared.machine.Machine.{Machine};
 
 /// A job that acts on what it was told, and whose records have what was on the way to its tasks: its

@@ -1,13 +1,10 @@
 -- A coordinator with names whose calls are appended to a device, and any number of crashes.
 use Rattle.std.specs.Prelude.{◌≡◌, ℕ, ◌+◌, ◌<◌, ◌≤◌, Bool, true, List, [], ◌∷◌, ◌++◌, take, ◌⊎◌, ⊤}
 use Rattle.ckpt_model.specs.State.{IsUnused}
-use Rattle.ckpt_terms.specs.declared.call.FencedCall.{FencedCall}
-use Rattle.ckpt_terms.specs.declared.call.FencedAnswer.{FencedAnswer}
-use Rattle.ckpt_terms.specs.declared.call.FencedCall.TheVariants.{Reserve}
+use Rattle.ckpt_terms.specs.{declared.call.FencedCall.FencedCall, declared.call.FencedAnswer.FencedAnswer, declared.call.FencedCall.TheVariants.Reserve, FencedLaws.IsFencedCall}
 use Rattle.ckpt_terms.specs.declared.call.FencedAnswer.TheVariants as answer
 use Rattle.ckpt_ids.specs.declared.reply.Answer.{Answer}
 use Rattle.ckpt_terms.specs.Fencing.{Fenced, fenced_step, fenced_replay, has_ended, may_be_deleted}
-use Rattle.ckpt_terms.specs.FencedLaws.{IsFencedCall}
 
 -- Made: a call is made, and appended to the device. Its answer waits.
 -- Committed: a sync succeeds; then each answer that waits is told.

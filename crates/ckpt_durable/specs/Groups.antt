@@ -2,15 +2,11 @@
 use Rattle.std.specs.Prelude.{◌≡◌, ℕ, ◌+◌, ◌<◌, ◌≤◌, true, List, [], ◌∷◌, ◌++◌, take, drop, ⊤}
 use Rattle.ckpt_ids.specs.declared.reply.Answer.{Answer}
 use Rattle.ckpt_model.specs.State.{IsUnused}
-use Rattle.ckpt_terms.specs.declared.call.FencedAnswer.TheVariants.{Reserved}
+use Rattle.ckpt_terms.specs.{declared.call.FencedAnswer.TheVariants.Reserved, declared.call.FencedCall.FencedCall, declared.call.FencedCall.TheVariants.Reserve}
+use Rattle.ckpt_terms.specs.{declared.machine.Machine.Machine, Machines.core_in, TermsImages.machine_settled}
 use Rattle.ckpt_terms.specs.declared.call.FencedAnswer.TheVariants as answer
-use Rattle.ckpt_terms.specs.declared.call.FencedCall.{FencedCall}
-use Rattle.ckpt_terms.specs.declared.call.FencedCall.TheVariants.{Reserve}
-use Rattle.ckpt_terms.specs.declared.machine.Machine.{Machine}
 use Rattle.ckpt_terms.specs.declared.machine.Machine.TheVariants as machine
 use Rattle.ckpt_terms.specs.Fencing.{Fenced, fenced_step, has_ended, may_be_deleted}
-use Rattle.ckpt_terms.specs.Machines.{core_in}
-use Rattle.ckpt_terms.specs.TermsImages.{machine_settled}
 use Rattle.ckpt_logged.specs.Events.{Event, IsEvent, Named, event_step, events_replay, named_as}
 use Rattle.ckpt_durable.specs.Crashes.{IsWithin}
 

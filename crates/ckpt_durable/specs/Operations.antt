@@ -1,9 +1,6 @@
 -- What a program does with durable coordinators, one after the other, over one device.
 use Rattle.std.specs.Prelude.{◌≡◌, ℕ, List, [], ◌∷◌, ◌++◌, take, ◌⊎◌}
-use Rattle.ckpt_terms.specs.declared.call.FencedCall.{FencedCall}
-use Rattle.ckpt_terms.specs.declared.call.FencedAnswer.{FencedAnswer}
-use Rattle.ckpt_terms.specs.Fencing.{Fenced, fenced_replay}
-use Rattle.ckpt_terms.specs.FencedLaws.{AreFencedCalls}
+use Rattle.ckpt_terms.specs.{declared.call.FencedCall.FencedCall, declared.call.FencedAnswer.FencedAnswer, Fencing.Fenced, Fencing.fenced_replay, FencedLaws.AreFencedCalls}
 use Rattle.ckpt_durable.specs.Crashes.{AreEvents, Committed, Event, Life, Made, lives, started, world}
 
 -- Makes: `make` gave a number.

@@ -1,22 +1,16 @@
 -- Worked examples: what callers were told and what is synced after lists of events, computed by the definitions. The expected values were
 -- written by hand, from the rules.
 use Rattle.std.specs.Prelude.{◌≡◌, ℕ, List, [], ◌∷◌, map, refl, false, None}
-use Rattle.ckpt_ids.specs.Configuration.{Configuration}
-use Rattle.ckpt_ids.specs.declared.call.Call.TheVariants.{Restore}
+use Rattle.ckpt_ids.specs.{Configuration.Configuration, declared.call.Call.TheVariants.Restore, declared.reply.Answer.TheVariants.Done}
 use Rattle.ckpt_ids.specs.declared.call.Target.TheVariants as target
-use Rattle.ckpt_ids.specs.declared.reply.Answer.TheVariants.{Done}
 use Rattle.ckpt_ids.specs.declared.reply.Choice.TheVariants as choice
 use Rattle.ckpt_ids.specs.declared.reply.Reply.TheVariants as reply
-use Rattle.ckpt_model.specs.Steps.{step_computes}
-use Rattle.ckpt_terms.specs.declared.call.FencedCall.{FencedCall}
-use Rattle.ckpt_terms.specs.declared.call.FencedCall.TheVariants.{Reserve, Make}
-use Rattle.ckpt_terms.specs.declared.call.FencedAnswer.{FencedAnswer}
+use Rattle.ckpt_model.specs.{Steps.step_computes, State.opened}
+use Rattle.ckpt_terms.specs.{declared.call.FencedCall.FencedCall, declared.call.FencedCall.TheVariants.Reserve, declared.call.FencedCall.TheVariants.Make}
+use Rattle.ckpt_terms.specs.{declared.call.FencedAnswer.FencedAnswer, declared.call.FencedRefusal.TheVariants.OldTerm, declared.machine.Machine.Machine}
 use Rattle.ckpt_terms.specs.declared.call.FencedAnswer.TheVariants as answer
-use Rattle.ckpt_terms.specs.declared.call.FencedRefusal.TheVariants.{OldTerm}
 use Rattle.ckpt_terms.specs.Fencing.{Fenced, fenced, fenced_step}
-use Rattle.ckpt_terms.specs.declared.machine.Machine.{Machine}
 use Rattle.ckpt_terms.specs.declared.machine.Machine.TheVariants as machine
-use Rattle.ckpt_model.specs.State.{opened}
 use Rattle.ckpt_logged.specs.Events.{Fence, Named}
 use Rattle.ckpt_durable.specs.Groups as group
 use Rattle.ckpt_durable.specs.Groups.{synced, world as group_world}

@@ -2,8 +2,7 @@
 
 ghost use Rattle.std.specs.Prelude.{◌≡◌, ◌<◌, ◌⊎◌, true, false, ◌++◌, ◌∷◌, [], Some, None, IfOk, IfErr, IfSome, OnOk, length};
 ghost use Rattle.ckpt_memory.specs.Refusals.{one_more};
-ghost use Rattle.ckpt_terms.specs.Fencing.{fenced_replay};
-ghost use Rattle.ckpt_terms.specs.FencedLaws.{IsFencedCall};
+ghost use Rattle.ckpt_terms.specs.{Fencing.fenced_replay, FencedLaws.IsFencedCall};
 ghost use Rattle.ckpt_durable.specs.Crashes.{Committed, IsLeftByCrash, Made, lives, recovered};
 
 use crate::journal::Journal;
@@ -26,8 +25,7 @@ impl Drop for Held {
 }
 
 impl Model for Held {
-    ghost use Rattle.ckpt_terms.specs.declared.call.FencedCall.{FencedCall};
-    ghost use Rattle.ckpt_terms.specs.declared.call.FencedAnswer.{FencedAnswer};
+    ghost use Rattle.ckpt_terms.specs.{declared.call.FencedCall.FencedCall, declared.call.FencedAnswer.FencedAnswer};
 
     ghost Value = { FencedCall × FencedAnswer };
 

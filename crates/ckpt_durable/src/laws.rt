@@ -3,8 +3,7 @@
 ghost use Rattle.std.specs.Prelude.{List};
 ghost use Rattle.ckpt_durable.specs.Crashes.{AreEvents, BeginsTermsOnce, Event, GivesNamesOnce, IsDurable, KeepsAll, Life, ReadsAreSafe, UsesNoneAgain, World, goes_on, world};
 ghost use Rattle.ckpt_durable.specs.Operations.{IsAWorld, Operation};
-ghost use Rattle.ckpt_terms.specs.Fencing.{Fenced};
-ghost use Rattle.ckpt_terms.specs.FencedLaws.{IsFenced};
+ghost use Rattle.ckpt_terms.specs.{Fencing.Fenced, FencedLaws.IsFenced};
 
 /// After any number of crashes the state is the replay of calls that were made, and among these are
 /// all that were told, in order and with the same answers.

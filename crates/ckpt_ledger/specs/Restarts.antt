@@ -1,7 +1,6 @@
 -- A ledger over restarts.
 use Rattle.std.specs.Prelude.{◌≡◌, ℕ, true, List, [], ◌∷◌, ◌++◌, map}
-use Rattle.ckpt_align.specs.Alignment.{opened}
-use Rattle.ckpt_align.specs.Histories.{has_cut}
+use Rattle.ckpt_align.specs.{Alignment.opened, Histories.has_cut}
 use Rattle.ckpt_ids.specs.Ordered.{IsIn}
 use Rattle.ckpt_once.specs.Jobs.{AreAttempts, Attempt, IsPrefix, Job, restored}
 use Rattle.ckpt_once.specs.Sinks.{AreLast, Sink, contents, published_before, up_to}

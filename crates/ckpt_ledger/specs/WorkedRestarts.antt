@@ -4,9 +4,8 @@ use Rattle.std.specs.Prelude.{◌≡◌, ℕ, List, [], ◌∷◌, ◌++◌, ref
 use Rattle.ckpt_ids.specs.declared.subtask.SubtaskId.{SubtaskId}
 use Rattle.ckpt_align.specs.Histories.{Barrier, Element, Reads, Sends}
 use Rattle.ckpt_align.specs.Steps.{barrier, settled, step}
-use Rattle.ckpt_once.specs.Jobs.{By, History}
+use Rattle.ckpt_once.specs.{Jobs.By, Jobs.History, Sinks.Sink, Sinks.published_before}
 use Rattle.ckpt_once.specs.Programs.{Drawn, Offered, Turn}
-use Rattle.ckpt_once.specs.Sinks.{Sink, published_before}
 use Rattle.ckpt_once.specs.WorkedExamples.{adder, job, source}
 use Rattle.ckpt_ledger.specs.Ledgers.{Acts, Moment, Told, all_published, nothing}
 use Rattle.ckpt_ledger.specs.Restarts.{AttemptTold, attempts, entries_in, over_restarts}

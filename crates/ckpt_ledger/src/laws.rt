@@ -3,13 +3,10 @@
 
 ghost use Rattle.std.specs.Prelude.{ℕ, List, [], ◌∷◌};
 ghost use Rattle.ckpt_ids.specs.Ordered.{IsIn};
-ghost use Rattle.ckpt_ledger.specs.Laws.{Holds, PublishesAsSink};
-ghost use Rattle.ckpt_ledger.specs.Ledgers.{Moment};
+ghost use Rattle.ckpt_ledger.specs.{Laws.Holds, Laws.PublishesAsSink, Ledgers.Moment, WorkedRestarts.sink, WorkedRestarts.told};
 ghost use Rattle.ckpt_ledger.specs.Restarts.{AreTold, AttemptTold, LostComesAgain, PublishesOverRestarts, attempts};
-ghost use Rattle.ckpt_ledger.specs.WorkedRestarts.{sink, told};
 ghost use Rattle.ckpt_once.specs.Jobs.{AreAttempts, History, Job, States};
-ghost use Rattle.ckpt_once.specs.Sinks.{AreLast, Sink};
-ghost use Rattle.ckpt_once.specs.WorkedExamples.{job};
+ghost use Rattle.ckpt_once.specs.{Sinks.AreLast, Sinks.Sink, WorkedExamples.job};
 
 /// A ledger that is told each write and each cut of a sink's task, and of completed records that it has
 /// cut, publishes what the sink of the laws publishes.

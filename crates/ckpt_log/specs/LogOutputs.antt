@@ -1,7 +1,6 @@
 -- What a log prints: a function of its text alone.
 use Rattle.std.specs.Prelude.{◌≡◌, ℕ, ◌+◌, Bool, List, [], ◌∷◌, ◌++◌, is_err, if◌then◌else◌, Option, IfSome}
-use Rattle.std.specs.List.{list_any}
-use Rattle.std.specs.Io.KnownBytes.{Appends}
+use Rattle.std.specs.{List.list_any, Io.KnownBytes.Appends}
 use Rattle.ckpt_script.specs.Lines.{lines_of}
 use Rattle.ckpt_term_lines.specs.TermReading.{term_reading}
 use Rattle.ckpt_log.specs.Logs.{LogSaid, LogScene, log_said, opening_log}

@@ -4,9 +4,8 @@ use Rattle.ckpt_terms.specs.declared.machine.FenceFault.{FenceFault}
 use Rattle.ckpt_terms.specs.declared.machine.FenceFault.TheVariants.{HasNames, BadName, NameInUse, Memory}
 use Rattle.ckpt_session.specs.ScriptTexts.{outcome_bytes}
 use Rattle.ckpt_term_lines.specs.AnswerTexts.{fenced_answer_bytes}
-use Rattle.ckpt_log.specs.declared.outcome.LogOutcome.{LogOutcome}
+use Rattle.ckpt_log.specs.{declared.outcome.LogOutcome.LogOutcome, declared.outcome.LogRefusal.LogRefusal}
 use Rattle.ckpt_log.specs.declared.outcome.LogOutcome.TheVariants.{Script, Refused, Began, Answered}
-use Rattle.ckpt_log.specs.declared.outcome.LogRefusal.{LogRefusal}
 use Rattle.ckpt_log.specs.declared.outcome.LogRefusal.TheVariants.{NoNames, NoCall, NoFence}
 
 abbrev pub fence_fault_name : FenceFault → List ℕ

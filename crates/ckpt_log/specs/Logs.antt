@@ -1,27 +1,19 @@
 -- What each line of a log does, and what it prints.
 use Rattle.std.specs.Prelude.{ℕ, Bool, false, ◌&&◌, ◌==◌, if◌then◌else◌, List, Option, Some, None, Result, Ok, Err}
-use Rattle.ckpt_model.specs.Memory.{may_want_memory}
-use Rattle.ckpt_model.specs.State.{State}
-use Rattle.ckpt_model.specs.Steps.{Stepped, step}
-use Rattle.ckpt_lines.specs.declared.fault.LineFault.{LineFault}
-use Rattle.ckpt_lines.specs.declared.line.Line.{Line}
+use Rattle.ckpt_model.specs.{Memory.may_want_memory, State.State, Steps.Stepped, Steps.step}
+use Rattle.ckpt_lines.specs.{declared.fault.LineFault.LineFault, declared.line.Line.Line}
 use Rattle.ckpt_lines.specs.declared.line.Line.TheVariants as script
-use Rattle.ckpt_terms.specs.declared.call.FencedCall.{FencedCall}
-use Rattle.ckpt_terms.specs.declared.call.FencedCall.TheVariants.{Make}
-use Rattle.ckpt_terms.specs.declared.machine.FenceFault.{FenceFault}
-use Rattle.ckpt_terms.specs.Fencing.{FencedStepped, fenced_step}
+use Rattle.ckpt_terms.specs.{declared.call.FencedCall.FencedCall, declared.call.FencedCall.TheVariants.Make, declared.machine.FenceFault.FenceFault, Fencing.FencedStepped}
+use Rattle.ckpt_terms.specs.Fencing.{fenced_step}
 use Rattle.ckpt_terms.specs.Machines.{Issued, fence_fault, fenced_of, first_names, issued_by, machine_of}
 use Rattle.ckpt_session.specs.declared.outcome.Outcome.TheVariants as script_outcome
-use Rattle.ckpt_session.specs.declared.outcome.ScriptRefusal.TheVariants.{BadConfig, NotStarted}
-use Rattle.ckpt_session.specs.ScriptTexts.{fault_bytes}
+use Rattle.ckpt_session.specs.{declared.outcome.ScriptRefusal.TheVariants.BadConfig, declared.outcome.ScriptRefusal.TheVariants.NotStarted, ScriptTexts.fault_bytes}
 use Rattle.ckpt_session.specs.Sessions.{Done, Scene, after_start, obeyed, opening_scene, refused}
 use Rattle.ckpt_term_lines.specs.declared.line.TermLine.{TermLine}
 use Rattle.ckpt_term_lines.specs.declared.line.TermLine.TheVariants as line
-use Rattle.ckpt_log.specs.declared.outcome.LogOutcome.{LogOutcome}
+use Rattle.ckpt_log.specs.{declared.outcome.LogOutcome.LogOutcome, declared.outcome.LogRefusal.LogRefusal, LogTexts.log_outcome_bytes}
 use Rattle.ckpt_log.specs.declared.outcome.LogOutcome.TheVariants.{Script, Refused, Began, Answered}
-use Rattle.ckpt_log.specs.declared.outcome.LogRefusal.{LogRefusal}
 use Rattle.ckpt_log.specs.declared.outcome.LogRefusal.TheVariants.{NoNames, NoCall, NoFence}
-use Rattle.ckpt_log.specs.LogTexts.{log_outcome_bytes}
 
 -- what a log has set so far: what a script has, and the names
 pub record LogScene : Type 0 where

@@ -1,7 +1,6 @@
 //! A log that is being replayed: what its lines do, and what they print.
 ghost use Rattle.std.specs.Prelude.{◌≡◌, ◌++◌, true, Ok, Err, IfOk, OnOk, OnErr, is_err, string_bytes};
-ghost use Rattle.ckpt_model.specs.Memory.{may_want_memory};
-ghost use Rattle.ckpt_model.specs.Steps.{step};
+ghost use Rattle.ckpt_model.specs.{Memory.may_want_memory, Steps.step};
 ghost use Rattle.ckpt_session.specs.Sessions.{after_start, before_start, configured, obeyed, refused, shaped, started_so_far};
 ghost use Rattle.ckpt_term_lines.specs.TermReading.{term_reading};
 ghost use Rattle.ckpt_log.specs.Logs.{in_script, log_called, log_done, log_fenced, log_said, log_set, opening_log, plainly_called, plainly_wants, stepped};

@@ -1,8 +1,7 @@
 -- A coordinator, the state that it began with, and what it was asked since.
 use Rattle.std.specs.Prelude.{◌≡◌, List, [], ◌∷◌, ◌++◌}
 use Rattle.ckpt_ids.specs.declared.call.Call.{Call}
-use Rattle.ckpt_terms.specs.declared.machine.Machine.{Machine}
-use Rattle.ckpt_terms.specs.declared.call.FencedCall.{FencedCall}
+use Rattle.ckpt_terms.specs.{declared.machine.Machine.Machine, declared.call.FencedCall.FencedCall}
 use Rattle.ckpt_terms.specs.declared.machine.Machine.TheVariants as machine
 use Rattle.ckpt_logged.specs.Events.{AreEvents, Event, IsWell, Named, calls_in, event_step, events_replay}
 

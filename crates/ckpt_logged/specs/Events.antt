@@ -2,15 +2,10 @@
 use Rattle.std.specs.Prelude.{ℕ, Bool, false, List, [], ◌∷◌, ◌++◌, Option, Some, None, ⊤}
 use Rattle.ckpt_ids.specs.declared.call.Call.{Call}
 use Rattle.ckpt_model.specs.Soundness.{IsCall, IsSound}
-use Rattle.ckpt_terms.specs.declared.call.FencedAnswer.{FencedAnswer}
-use Rattle.ckpt_terms.specs.declared.call.FencedCall.{FencedCall}
-use Rattle.ckpt_terms.specs.declared.call.FencedCall.TheVariants.{Make}
-use Rattle.ckpt_terms.specs.declared.machine.FenceFault.{FenceFault}
-use Rattle.ckpt_terms.specs.declared.machine.Machine.{Machine}
+use Rattle.ckpt_terms.specs.{declared.call.FencedAnswer.FencedAnswer, declared.call.FencedCall.FencedCall, declared.call.FencedCall.TheVariants.Make}
+use Rattle.ckpt_terms.specs.{declared.machine.FenceFault.FenceFault, declared.machine.Machine.Machine, Fencing.fenced_step, Fencing.passed, FencedLaws.IsFenced}
+use Rattle.ckpt_terms.specs.{FencedLaws.IsFencedCall, Wants.wants_memory}
 use Rattle.ckpt_terms.specs.declared.machine.Machine.TheVariants as machine
-use Rattle.ckpt_terms.specs.Fencing.{fenced_step, passed}
-use Rattle.ckpt_terms.specs.FencedLaws.{IsFenced, IsFencedCall}
-use Rattle.ckpt_terms.specs.Wants.{wants_memory}
 use Rattle.ckpt_terms.specs.Machines.{core_in, fence_fault, first_names, machine_of, machine_step}
 
 -- a call without a term, a call of the layer of names, or names from this one on

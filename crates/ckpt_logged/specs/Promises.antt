@@ -1,28 +1,17 @@
 -- What every chronicle promises.
 use Rattle.std.specs.Prelude.{◌≡◌, ℕ, ◌+◌, ◌≤◌, ◌⊎◌, ◌↔◌, true, false, List, [], ◌∷◌, ◌++◌, length, Option, Some, None}
 use Rattle.std.specs.List.{range_with_len}
-use Rattle.ckpt_ids.specs.declared.ack.Acked.{Acked}
-use Rattle.ckpt_ids.specs.declared.call.Call.{Call}
-use Rattle.ckpt_ids.specs.declared.call.Call.TheVariants.{Ack}
-use Rattle.ckpt_ids.specs.declared.reply.Refusal.TheVariants.{FileGone}
-use Rattle.ckpt_ids.specs.declared.subtask.SubtaskId.{SubtaskId}
-use Rattle.ckpt_ids.specs.Acknowledged.{put_ack}
-use Rattle.ckpt_ids.specs.Counting.{one_if, times}
-use Rattle.ckpt_ids.specs.Ordered.{IsIn}
+use Rattle.ckpt_ids.specs.{declared.ack.Acked.Acked, declared.call.Call.Call, declared.call.Call.TheVariants.Ack, declared.reply.Refusal.TheVariants.FileGone}
+use Rattle.ckpt_ids.specs.{declared.subtask.SubtaskId.SubtaskId, Acknowledged.put_ack, Counting.one_if, Counting.times, Ordered.IsIn, Shapes.is_subtask}
 use Rattle.ckpt_ids.specs.Records.{Record, is_present, uses}
-use Rattle.ckpt_ids.specs.Shapes.{is_subtask}
 use Rattle.ckpt_model.specs.State.{IsUnused, State, choice_of, chosen, files_of, in_outbox, is_checkpoint, record_of}
-use Rattle.ckpt_model.specs.Refusals.{refusal}
-use Rattle.ckpt_model.specs.Histories.{replay}
-use Rattle.ckpt_model.specs.Keeping.{TakesNewest}
+use Rattle.ckpt_model.specs.{Refusals.refusal, Histories.replay, Keeping.TakesNewest}
 use Rattle.ckpt_model.specs.Laws.{AreCalls, IsNeverDisposed, NoneAgain, Part}
 use Rattle.ckpt_model.specs.Laws.{accepted_by, ack_of, along, deleted_by, given_by, handed_by, id_of_choice, registered_by, times_of}
-use Rattle.ckpt_terms.specs.declared.call.FencedCall.{FencedCall}
-use Rattle.ckpt_terms.specs.declared.call.FencedCall.TheVariants.{Make}
+use Rattle.ckpt_terms.specs.{declared.call.FencedCall.FencedCall, declared.call.FencedCall.TheVariants.Make, Machines.core_in}
 use Rattle.ckpt_terms.specs.declared.machine.Machine.TheVariants as machine
 use Rattle.ckpt_terms.specs.Fencing.{Fenced, fenced_step, fenced_replay, may_be_deleted}
 use Rattle.ckpt_terms.specs.FencedLaws.{IssuesOnce, given_in, is_taken_in}
-use Rattle.ckpt_terms.specs.Machines.{core_in}
 use Rattle.ckpt_logged.specs.Events.{Event, IsWell, calls_named, events_replay}
 use Rattle.ckpt_logged.specs.Chronicles.{Chronicle, calls_of}
 

@@ -4,15 +4,12 @@ ghost use Rattle.std.specs.Prelude.{◌≡◌, ◌≢◌, true, [], Some, None, 
 ghost use Rattle.std.specs.Result.{result_err};
 ghost use Rattle.ckpt_ids.specs.declared.call.Call.TheVariants as call;
 ghost use Rattle.ckpt_memory.specs.Refusals.{one_more};
-ghost use Rattle.ckpt_model.specs.Soundness.{IsCall};
-ghost use Rattle.ckpt_model.specs.Memory.{may_want_memory};
-ghost use Rattle.ckpt_model.specs.Steps.{step};
+ghost use Rattle.ckpt_model.specs.{Soundness.IsCall, Memory.may_want_memory, Steps.step};
 ghost use Rattle.ckpt_terms.specs.declared.machine.FenceFault.TheVariants as fault;
 ghost use Rattle.ckpt_terms.specs.Machines.{MakesStep, core_in, fence_fault, first_names, is_free, machine_of, machine_step, names_in, passes};
 ghost use Rattle.ckpt_terms.specs.FencedLaws.{IsFencedCall};
 ghost use Rattle.ckpt_logged.specs.Events.{Fence, IsWell, Named, Plain, named_answer, named_step, named_wants};
-ghost use Rattle.ckpt_logged.specs.Chronicles.{begun, told};
-ghost use Rattle.ckpt_logged.specs.Promises.{Promises};
+ghost use Rattle.ckpt_logged.specs.{Chronicles.begun, Chronicles.told, Promises.Promises};
 
 use crate::noted::Noted;
 use crate::past::Past;

@@ -35,8 +35,7 @@ pub(crate) struct Past {
 }
 
 impl Model for Past {
-    ghost use Rattle.std.specs.Prelude.{List, []};
-    ghost use Rattle.std.specs.Option.{option_map_or};
+    ghost use Rattle.std.specs.{Prelude.List, Prelude.[], Option.option_map_or};
     ghost use Rattle.ckpt_logged.specs.Events.{Event};
 
     ghost Value = { List Event };

@@ -4,18 +4,13 @@ use Rattle.std.specs.Prelude.{ℕ, ◌==◌, List, [], ◌∷◌, map, codes, if
 use Rattle.ckpt_image.specs.Images.{image_of_any_version}
 use Rattle.ckpt_image.specs.Members.{list_of, number_of, with_key}
 use Rattle.ckpt_image.specs.Written as image
-use Rattle.ckpt_model.specs.Images.{state_in}
-use Rattle.ckpt_model.specs.State.{State}
-use Rattle.ckpt_names_image.specs.declared.saved.NamesMember.{NamesMember}
-use Rattle.ckpt_names_image.specs.declared.saved.SavedImage.{SavedImage}
+use Rattle.ckpt_model.specs.{Images.state_in, State.State}
+use Rattle.ckpt_names_image.specs.{declared.saved.NamesMember.NamesMember, declared.saved.SavedImage.SavedImage}
 use Rattle.ckpt_names_image.specs.declared.saved.SavedImage.TheVariants as saved
-use Rattle.ckpt_terms.specs.declared.image.TermsImage.{TermsImage}
-use Rattle.ckpt_terms.specs.declared.names.Span.{Span}
+use Rattle.ckpt_terms.specs.{declared.image.TermsImage.TermsImage, declared.names.Span.Span}
 use Rattle.ckpt_answers.specs.MetadataTexts.{list, members, natural}
 use Rattle.serde_json.specs.Data.{Data, Items, no_items, item, object, put}
-use Rattle.serde_json.specs.Find.{as_array}
-use Rattle.serde_json.specs.Read.{read}
-use Rattle.serde_json.specs.Written.{compact_text}
+use Rattle.serde_json.specs.{Find.as_array, Read.read, Written.compact_text}
 
 -- what an image with names has
 pub record Named : Type 0 where

@@ -2,8 +2,7 @@
 
 ghost use Rattle.std.specs.Prelude.{◌≡◌, ◌↔◌, Some, None};
 ghost use Rattle.ckpt_model.specs.State.{State};
-ghost use Rattle.ckpt_image.specs.Fits.{Fits};
-ghost use Rattle.ckpt_image.specs.Images.{image_of};
+ghost use Rattle.ckpt_image.specs.{Fits.Fits, Images.image_of};
 ghost use Rattle.ckpt_names_image.specs.Named.{Fenced, Named, Plain, named_data, saved_of};
 ghost use Rattle.serde_json.specs.Data.{Data};
 

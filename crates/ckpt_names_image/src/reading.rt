@@ -1,13 +1,9 @@
 //! Reads the text of an image, with or without names.
 
 ghost use Rattle.std.specs.Prelude.{◌≡◌, ◌≢◌, Some, None, Err, IfOk, IfErr, option_and_then};
-ghost use Rattle.ckpt_image.specs.Images.{Reads};
-ghost use Rattle.ckpt_image.specs.Members.{list_of};
+ghost use Rattle.ckpt_image.specs.{Images.Reads, Members.list_of};
 ghost use Rattle.ckpt_names_image.specs.Named.{named_in, named_of, names_in_member, names_of, pair_of, saved_in, saved_of, saved_read, span_of};
-ghost use Rattle.serde_json.specs.Data.{Data};
-ghost use Rattle.serde_json.specs.Find.{get};
-ghost use Rattle.serde_json.specs.Read.{read};
-ghost use Rattle.serde_json.specs.View.{items_view, view};
+ghost use Rattle.serde_json.specs.{Data.Data, Find.get, Read.read, View.items_view, View.view};
 
 use crate::saved::{NAMES_VERSION, NamesMember, SavedImage};
 use ckpt_image::TextFault::NoImage;

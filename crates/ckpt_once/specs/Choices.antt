@@ -1,7 +1,6 @@
 -- Jobs in which no task chooses what it does next: then all runs are beginnings of one.
 use Rattle.std.specs.Prelude.{◌≡◌, ℕ, List, ◌++◌, ◌⊎◌, Option, Some, None}
-use Rattle.ckpt_ids.specs.declared.subtask.SubtaskId.{SubtaskId}
-use Rattle.ckpt_ids.specs.Ordered.{IsIn}
+use Rattle.ckpt_ids.specs.{declared.subtask.SubtaskId.SubtaskId, Ordered.IsIn}
 use Rattle.ckpt_align.specs.Laws.{Channel}
 use Rattle.ckpt_once.specs.Programs.{Move, Takes, Draws}
 use Rattle.ckpt_once.specs.Jobs.{IsMoveOf, IsPrefix, IsRun, Job, Run, States, of}

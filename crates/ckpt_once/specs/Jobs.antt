@@ -1,8 +1,6 @@
 -- Jobs, their runs without failures, and their histories in an engine. All these lists have the newest first.
 use Rattle.std.specs.Prelude.{◌≡◌, ℕ, ◌<◌, Bool, ◌||◌, List, [], ◌∷◌, ◌++◌, if◌then◌else◌, Option, Some, None}
-use Rattle.ckpt_ids.specs.declared.subtask.SubtaskId.{SubtaskId}
-use Rattle.ckpt_ids.specs.Ordered.{IsIn}
-use Rattle.ckpt_ids.specs.Shapes.{same_subtask}
+use Rattle.ckpt_ids.specs.{declared.subtask.SubtaskId.SubtaskId, Ordered.IsIn, Shapes.same_subtask}
 use Rattle.ckpt_align.specs.Alignment.{opened}
 use Rattle.ckpt_align.specs.Histories.{Item, Element, has_cut, has_ended}
 use Rattle.ckpt_align.specs.Laws.{Channel, HasCut, Network, Task, sent_on, taken_from}

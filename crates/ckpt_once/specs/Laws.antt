@@ -1,7 +1,6 @@
 -- Laws of exactly-once, over all jobs and histories.
 use Rattle.std.specs.Prelude.{◌≡◌, ℕ, List, ◌++◌}
-use Rattle.ckpt_ids.specs.Ordered.{IsIn}
-use Rattle.ckpt_ids.specs.declared.subtask.SubtaskId.{SubtaskId}
+use Rattle.ckpt_ids.specs.{Ordered.IsIn, declared.subtask.SubtaskId.SubtaskId}
 use Rattle.ckpt_once.specs.Jobs.{Attempt, AreAttempts, HaveCut, History, IsHistory, IsJob, IsPrefix, IsQuiet, IsRun, Job, Run, States, before_cuts, restored, run_of, run_of_attempts, snapshots, starts, states_after, states_in}
 use Rattle.ckpt_once.specs.Sinks.{AreLast, Sink, published_before, published_in, written}
 

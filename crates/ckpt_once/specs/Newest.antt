@@ -1,17 +1,11 @@
 -- A restart to the coordinator's choice is to no record that is older than a checkpoint that was completed.
 use Rattle.std.specs.Prelude.{◌≡◌, ℕ, ◌≤◌, Bool, true, false, not, ◌&&◌, List, [], ◌∷◌, Some, ⊤}
 use Rattle.ckpt_ids.specs.declared.call.Target.TheVariants as target
-use Rattle.ckpt_ids.specs.declared.call.Call.{Call}
-use Rattle.ckpt_ids.specs.declared.call.Call.TheVariants.{Restore, Cancel}
+use Rattle.ckpt_ids.specs.{declared.call.Call.Call, declared.call.Call.TheVariants.Restore, declared.call.Call.TheVariants.Cancel, Records.Record}
 use Rattle.ckpt_ids.specs.declared.reply.Choice.TheVariants as choice
-use Rattle.ckpt_ids.specs.Records.{Record}
 use Rattle.ckpt_model.specs.State.{State, choice_of, is_checkpoint, record_of}
-use Rattle.ckpt_model.specs.Steps.{Stepped, step}
-use Rattle.ckpt_model.specs.Histories.{replay}
+use Rattle.ckpt_model.specs.{Steps.Stepped, Steps.step, Histories.replay, Soundness.IsSound, Keeping.is_accepted, Interleavings.is_completing}
 use Rattle.ckpt_model.specs.Laws.{AreCalls, Part, ack_of}
-use Rattle.ckpt_model.specs.Soundness.{IsSound}
-use Rattle.ckpt_model.specs.Keeping.{is_accepted}
-use Rattle.ckpt_model.specs.Interleavings.{is_completing}
 
 -- a roll back to a savepoint, or the cancelling of a job that keeps no checkpoints
 abbrev pub goes_back : State → Call → Bool

@@ -1,15 +1,9 @@
 -- Restarts to the records of a coordinator.
 use Rattle.std.specs.Prelude.{◌≡◌, ℕ, Some, true, List, [], ◌∷◌, ◌++◌}
-use Rattle.ckpt_ids.specs.declared.call.Call.{Call}
-use Rattle.ckpt_ids.specs.declared.subtask.SubtaskId.{SubtaskId}
-use Rattle.ckpt_ids.specs.Ordered.{IsIn}
-use Rattle.ckpt_ids.specs.Records.{Record}
-use Rattle.ckpt_ids.specs.Shapes.{subtasks}
+use Rattle.ckpt_ids.specs.{declared.call.Call.Call, declared.subtask.SubtaskId.SubtaskId, Ordered.IsIn, Records.Record, Shapes.subtasks}
 use Rattle.ckpt_ids.specs.declared.reply.Choice.TheVariants as choice
 use Rattle.ckpt_model.specs.State.{Opening, choice_of, is_checkpoint, opened, record_of}
-use Rattle.ckpt_model.specs.Steps.{step}
-use Rattle.ckpt_model.specs.Interleavings.{is_completing}
-use Rattle.ckpt_model.specs.Histories.{replay}
+use Rattle.ckpt_model.specs.{Steps.step, Interleavings.is_completing, Histories.replay}
 use Rattle.ckpt_model.specs.Laws.{AreCalls, Part, ack_of}
 use Rattle.ckpt_cuts.specs.Laws.{AcknowledgesCuts}
 use Rattle.ckpt_once.specs.Choices.{Agree, HasNoChoice, Plan}

@@ -1,10 +1,8 @@
 -- Sinks that publish what they wrote only when a record is completed.
 use Rattle.std.specs.Prelude.{◌≡◌, ℕ, ◌≤◌, nat_le, List, [], ◌∷◌, ◌++◌, if◌then◌else◌, Option, Some, None}
-use Rattle.ckpt_ids.specs.declared.subtask.SubtaskId.{SubtaskId}
-use Rattle.ckpt_ids.specs.Ordered.{IsIn}
-use Rattle.ckpt_align.specs.Alignment.{Alignment, opened}
+use Rattle.ckpt_ids.specs.{declared.subtask.SubtaskId.SubtaskId, Ordered.IsIn}
+use Rattle.ckpt_align.specs.{Alignment.Alignment, Alignment.opened, Laws.HasCut, Laws.Task}
 use Rattle.ckpt_align.specs.Histories.{Action, after, cut_by, elements, sent_by}
-use Rattle.ckpt_align.specs.Laws.{HasCut, Task}
 use Rattle.ckpt_once.specs.Programs.{emitted, on_output}
 use Rattle.ckpt_once.specs.Jobs.{Attempt, History, Job, Run, States, network, of, restored}
 

@@ -1,10 +1,8 @@
 -- What a snapshot depends on.
 use Rattle.std.specs.Prelude.{◌≡◌, ℕ, ◌<◌, List, [], ◌∷◌, ◌++◌}
-use Rattle.ckpt_ids.specs.declared.subtask.SubtaskId.{SubtaskId}
-use Rattle.ckpt_align.specs.Alignment.{opened}
+use Rattle.ckpt_ids.specs.{declared.subtask.SubtaskId.SubtaskId, Ordered.IsIn}
+use Rattle.ckpt_align.specs.{Alignment.opened, Laws.Task}
 use Rattle.ckpt_align.specs.Histories.{Item, before, taken}
-use Rattle.ckpt_align.specs.Laws.{Task}
-use Rattle.ckpt_ids.specs.Ordered.{IsIn}
 use Rattle.ckpt_once.specs.Programs.{Move, Program, Takes}
 use Rattle.ckpt_once.specs.Jobs.{HaveCut, History, IsHistory, IsJob, IsMoveOf, Job, States, network, snapshots}
 

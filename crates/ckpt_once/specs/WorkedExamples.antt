@@ -1,11 +1,9 @@
 -- A worked example: a source that reads a log and a task that adds up, a record, a failure, and the restart. The expected
 -- values were written by hand.
 use Rattle.std.specs.Prelude.{◌≡◌, ◌==◌, ℕ, zero, suc, ◌+◌, ◌<◌, if◌then◌else◌, List, [], ◌∷◌, ◌++◌, Some, None, refl, ◌⊎◌}
-use Rattle.ckpt_ids.specs.declared.subtask.SubtaskId.{SubtaskId}
-use Rattle.ckpt_ids.specs.Ordered.{IsIn}
-use Rattle.ckpt_align.specs.Histories.{Element, Barrier}
+use Rattle.ckpt_ids.specs.{declared.subtask.SubtaskId.SubtaskId, Ordered.IsIn}
+use Rattle.ckpt_align.specs.{Histories.Element, Histories.Barrier, Laws.Channel, Laws.HasCut}
 use Rattle.ckpt_align.specs.Steps.{step, settled, barrier}
-use Rattle.ckpt_align.specs.Laws.{Channel, HasCut}
 use Rattle.ckpt_once.specs.Programs.{Emitted, Move, Takes, Draws, Program, Turn, Offered, Drawn, from_input}
 use Rattle.ckpt_once.specs.Jobs.{Attempt, AreAttempts, By, GivesInOrder, HaveCut, History, IsHistory, IsJob, Job, Run, States, of, network, restored, run_of, run_of_attempts, starts, states_after, states_in}
 use Rattle.ckpt_once.specs.Choices.{Plan}

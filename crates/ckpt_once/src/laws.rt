@@ -2,18 +2,12 @@
 
 ghost use Rattle.std.specs.Prelude.{ℕ, List};
 ghost use Rattle.ckpt_align.specs.Histories.{Item};
-ghost use Rattle.ckpt_ids.specs.declared.call.Call.{Call};
-ghost use Rattle.ckpt_ids.specs.declared.subtask.SubtaskId.{SubtaskId};
-ghost use Rattle.ckpt_model.specs.Laws.{CanOpen, Part};
-ghost use Rattle.ckpt_model.specs.State.{Opening, State};
-ghost use Rattle.ckpt_once.specs.Choices.{OneOutput, Plan};
+ghost use Rattle.ckpt_ids.specs.{declared.call.Call.Call, declared.subtask.SubtaskId.SubtaskId};
+ghost use Rattle.ckpt_model.specs.{Laws.CanOpen, Laws.Part, State.Opening, State.State};
+ghost use Rattle.ckpt_once.specs.{Choices.OneOutput, Choices.Plan, Newest.ChoiceIsNoOlder, PlainHistories.RunIsHistory, Sinks.SealedByThen, Sinks.Sink, Snapshots.SnapshotOfInput};
 ghost use Rattle.ckpt_once.specs.Jobs.{Attempt, History, Job, Run, States};
 ghost use Rattle.ckpt_once.specs.Laws.{FailuresInvisible, PublishedIsPrefix, PublishedOnce, RecordIsOfRun, RunsJoin, WithoutBarriers};
-ghost use Rattle.ckpt_once.specs.Newest.{ChoiceIsNoOlder};
-ghost use Rattle.ckpt_once.specs.PlainHistories.{RunIsHistory};
 ghost use Rattle.ckpt_once.specs.Restarts.{ChosenAreLast, ExactlyOnce, RestartsInvisible};
-ghost use Rattle.ckpt_once.specs.Sinks.{SealedByThen, Sink};
-ghost use Rattle.ckpt_once.specs.Snapshots.{SnapshotOfInput};
 
 /// What the tasks of a job do in an engine that aligns barriers is a run of the job without barriers.
 #[tactic(auto, using(crate::proofs::Running::without_barriers))]

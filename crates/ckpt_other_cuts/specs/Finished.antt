@@ -1,17 +1,11 @@
 -- Tasks that have ended.
 use Rattle.std.specs.Prelude.{◌≡◌, ℕ, ◌<◌, true, List, ◌⊎◌}
-use Rattle.ckpt_ids.specs.declared.ack.Acked.{Acked}
-use Rattle.ckpt_ids.specs.declared.call.Call.{Call}
-use Rattle.ckpt_ids.specs.Ordered.{IsIn}
-use Rattle.ckpt_ids.specs.Records.{Record}
-use Rattle.ckpt_align.specs.Alignment.{opened}
-use Rattle.ckpt_align.specs.Histories.{before_cut, taken}
+use Rattle.ckpt_ids.specs.{declared.ack.Acked.Acked, declared.call.Call.Call, Ordered.IsIn, Records.Record}
+use Rattle.ckpt_align.specs.{Alignment.opened, Histories.before_cut, Histories.taken}
 use Rattle.ckpt_align.specs.Laws.{Channel, HasCut, IsConnected, IsConsistent, IsInOrder, Network, Task}
 use Rattle.ckpt_cuts.specs.Laws.{AreChannelsOf}
-use Rattle.ckpt_model.specs.State.{Opening, State}
+use Rattle.ckpt_model.specs.{State.Opening, State.State, Histories.replay, Laws.accepted_by, Laws.along}
 use Rattle.ckpt_model.specs.State as model
-use Rattle.ckpt_model.specs.Histories.{replay}
-use Rattle.ckpt_model.specs.Laws.{accepted_by, along}
 use Rattle.ckpt_other_cuts.specs.Stops.{EndsWithout}
 
 -- A task ended with all its inputs, and no input had given it a barrier of the record. Its part of the record is all

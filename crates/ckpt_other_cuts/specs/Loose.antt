@@ -1,12 +1,7 @@
 -- At least once: tasks that do not hold.
 use Rattle.std.specs.Prelude.{◌≡◌, ℕ, ◌<◌, Bool, true, false, ◌&&◌, ◌==◌, List, [], ◌∷◌, ◌++◌, if◌then◌else◌, Some, Result, Ok, Err}
-use Rattle.ckpt_ids.specs.declared.call.Call.{Call}
-use Rattle.ckpt_ids.specs.Ordered.{IsIn}
-use Rattle.ckpt_ids.specs.Records.{Record}
-use Rattle.ckpt_ids.specs.Shapes.{subtasks}
-use Rattle.ckpt_align.specs.Alignment.{Alignment, opened}
-use Rattle.ckpt_align.specs.declared.event.Answer.{Answer}
-use Rattle.ckpt_align.specs.declared.event.Refusal.{Refusal}
+use Rattle.ckpt_ids.specs.{declared.call.Call.Call, Ordered.IsIn, Records.Record, Shapes.subtasks}
+use Rattle.ckpt_align.specs.{Alignment.Alignment, Alignment.opened, declared.event.Answer.Answer, declared.event.Refusal.Refusal}
 use Rattle.ckpt_align.specs.Histories.{Item, Element, Action, Reads, after, answer_to, before, before_cut, cut_by, elements, replay, taken_by}
 use Rattle.ckpt_align.specs.Laws.{Channel, HasCut, IsConnected, Network, Task, sent_before_cut, sent_on}
 use Rattle.ckpt_cuts.specs.Laws.{AcknowledgesCuts}

@@ -2,8 +2,7 @@
 -- of its own: there nothing depends on the order between keys. In a shape a subtask has several keys.
 use Rattle.std.specs.Prelude.{◌≡◌, ℕ, ◌≤◌, Bool, true, List, [], ◌∷◌, ◌++◌}
 use Rattle.std.specs.List.{filter}
-use Rattle.ckpt_ids.specs.declared.subtask.SubtaskId.{SubtaskId}
-use Rattle.ckpt_ids.specs.Ordered.{IsIn}
+use Rattle.ckpt_ids.specs.{declared.subtask.SubtaskId.SubtaskId, Ordered.IsIn}
 use Rattle.ckpt_align.specs.Laws.{Channel}
 use Rattle.ckpt_model.specs.State.{Opening}
 use Rattle.ckpt_once.specs.Programs.{Emitted, Move, from_input, on_output}

@@ -1,13 +1,10 @@
 -- Restarts from records whose tasks took their snapshots before each barrier had come: a job begins from their states, and from what
 -- each channel had still to give. All lists of doings, moves and stretches have the newest first.
 use Rattle.std.specs.Prelude.{◌≡◌, ℕ, Bool, false, ◌&&◌, ◌||◌, ◌==◌, ◌<◌, List, [], ◌∷◌, ◌++◌, if◌then◌else◌}
-use Rattle.ckpt_ids.specs.declared.subtask.SubtaskId.{SubtaskId}
-use Rattle.ckpt_ids.specs.Ordered.{IsIn}
-use Rattle.ckpt_ids.specs.Shapes.{same_subtask}
+use Rattle.ckpt_ids.specs.{declared.subtask.SubtaskId.SubtaskId, Ordered.IsIn, Shapes.same_subtask}
 use Rattle.ckpt_align.specs.Laws.{Channel}
-use Rattle.ckpt_once.specs.Programs.{Move}
+use Rattle.ckpt_once.specs.{Programs.Move, Sinks.Sink, Sinks.written}
 use Rattle.ckpt_once.specs.Jobs.{By, IsMoveOf, IsPrefix, IsRun, Job, Run, States, put_on, starts, states_after, taken_off}
-use Rattle.ckpt_once.specs.Sinks.{Sink, written}
 use Rattle.ckpt_unaligned.specs.Laws as recorders
 
 -- what a task does: it moves, or takes its snapshot for a record

@@ -1,8 +1,6 @@
 -- Restarts from such records of a job whose recorders say when tasks take their snapshots, and whose sinks publish what they were told of.
 use Rattle.std.specs.Prelude.{◌≡◌, ℕ, ◌<◌, ◌≤◌, List, [], ◌∷◌, ◌++◌, if◌then◌else◌, Option, Some, None}
-use Rattle.ckpt_ids.specs.declared.subtask.SubtaskId.{SubtaskId}
-use Rattle.ckpt_ids.specs.Ordered.{IsIn}
-use Rattle.ckpt_ids.specs.Shapes.{same_subtask}
+use Rattle.ckpt_ids.specs.{declared.subtask.SubtaskId.SubtaskId, Ordered.IsIn, Shapes.same_subtask}
 use Rattle.ckpt_align.specs.Laws.{Channel}
 use Rattle.ckpt_once.specs.Programs.{on_output, with_one}
 use Rattle.ckpt_once.specs.Jobs.{IsJob, IsPrefix, IsRun, Job, States, put_on, starts, states_after, taken_off}

@@ -3,9 +3,8 @@ use Rattle.std.specs.Prelude.{◌≡◌, ◌==◌, ◌+◌, ◌/◌, ◌%◌, �
 use Rattle.ckpt_align.specs.Alignment.{opened}
 use Rattle.ckpt_align.specs.Histories.{Element, Barrier, End, Action, Reads, Ends, before_cut, elements, has_cut, taken}
 use Rattle.ckpt_align.specs.Steps.{step, settled, barrier}
-use Rattle.ckpt_other_cuts.specs.Loose.{let_through}
+use Rattle.ckpt_other_cuts.specs.{Loose.let_through, Stops.EndsWithout, Stops.has_stop}
 use Rattle.ckpt_other_cuts.specs.Rescaled.{Entry, KeyStates, Split, Vertex, after, emitted_for, its_own, loaded, redistributed}
-use Rattle.ckpt_other_cuts.specs.Stops.{EndsWithout, has_stop}
 
 -- Input 0 has delivered the barrier of record 7, and input 1 has not. The task takes element 13 of input 0 all the same.
 -- So its snapshot has 13, which comes again after a restart.

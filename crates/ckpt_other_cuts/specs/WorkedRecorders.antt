@@ -4,8 +4,7 @@ use Rattle.ckpt_align.specs.Histories.{Barrier, Element}
 use Rattle.ckpt_once.specs.WorkedExamples.{job, line}
 use Rattle.ckpt_unaligned.specs.Histories.{Overtakes, Reads, Sends}
 use Rattle.ckpt_unaligned.specs.Laws.{Network, Task}
-use Rattle.ckpt_other_cuts.specs.Resumed.{Attempt, published_before}
-use Rattle.ckpt_other_cuts.specs.WorkedResumes.{sink, stretch}
+use Rattle.ckpt_other_cuts.specs.{Resumed.Attempt, Resumed.published_before, WorkedResumes.sink, WorkedResumes.stretch}
 
 -- The source's barrier is the coordinator's order; at the adder the record overtakes, so 100 is recorded.
 abbrev task_of : ℕ → Task

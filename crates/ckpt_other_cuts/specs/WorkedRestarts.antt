@@ -1,15 +1,13 @@
 -- A worked example: the job of `WorkedShapes` cuts a record, and is restored to it with a subtask for each key. The expected
 -- values were written by hand.
 use Rattle.std.specs.Prelude.{◌≡◌, ◌==◌, ℕ, false, if◌then◌else◌, List, [], ◌∷◌, refl}
-use Rattle.ckpt_ids.specs.declared.call.Call.{Call}
-use Rattle.ckpt_ids.specs.declared.call.Call.TheVariants.{Ack, Tick}
+use Rattle.ckpt_ids.specs.{declared.call.Call.Call, declared.call.Call.TheVariants.Ack, declared.call.Call.TheVariants.Tick}
 use Rattle.ckpt_align.specs.Histories.{Barrier, Element}
 use Rattle.ckpt_align.specs.Steps.{barrier, settled, step}
 use Rattle.ckpt_model.specs.State.{Opening}
 use Rattle.ckpt_once.specs.Programs.{Draws, Drawn, Offered, Takes, Turn}
 use Rattle.ckpt_once.specs.Jobs.{By, History, Run, States, starts, states_after, states_in}
-use Rattle.ckpt_once.specs.PlainHistories.{history_of}
-use Rattle.ckpt_once.specs.Sinks.{Sink, written}
+use Rattle.ckpt_once.specs.{PlainHistories.history_of, Sinks.Sink, Sinks.written}
 use Rattle.ckpt_other_cuts.specs.Reshaped.{Restart, Stage, finest, published_before, recorded}
 use Rattle.ckpt_other_cuts.specs.WorkedShapes.{by, job, keys, spread, subtask}
 

@@ -2,9 +2,8 @@
 -- were written by hand.
 use Rattle.std.specs.Prelude.{◌≡◌, List, [], ◌∷◌, ◌++◌, refl, ◌⊎◌}
 use Rattle.ckpt_align.specs.Laws.{Channel}
-use Rattle.ckpt_once.specs.Programs.{Draws, Takes}
+use Rattle.ckpt_once.specs.{Programs.Draws, Programs.Takes, Sinks.Sink, Sinks.written}
 use Rattle.ckpt_once.specs.Jobs.{By, IsPrefix, Run, put_on, states_after, starts, taken_off}
-use Rattle.ckpt_once.specs.Sinks.{Sink, written}
 use Rattle.ckpt_once.specs.WorkedExamples.{adder, job, line, source}
 use Rattle.ckpt_ids.specs.declared.subtask.SubtaskId.{SubtaskId}
 use Rattle.ckpt_other_cuts.specs.Restarted.{AreStretches, Begin, Doing, Doings, IsRunFrom, Moves, Snaps, Stretch, anew, begin_after, moves, published, run_of_stretches}

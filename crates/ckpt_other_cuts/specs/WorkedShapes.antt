@@ -5,8 +5,7 @@ use Rattle.ckpt_ids.specs.declared.subtask.SubtaskId.{SubtaskId}
 use Rattle.ckpt_align.specs.Laws.{Channel}
 use Rattle.ckpt_once.specs.Programs.{Emitted, Move, Program, Takes, Draws}
 use Rattle.ckpt_once.specs.Jobs.{By, Job, Run, put_on, starts, states_after, taken_off}
-use Rattle.ckpt_once.specs.PlainHistories.{history_of}
-use Rattle.ckpt_once.specs.Sinks.{Sink, written}
+use Rattle.ckpt_once.specs.{PlainHistories.history_of, Sinks.Sink, Sinks.written}
 use Rattle.ckpt_other_cuts.specs.Reshaped.{Spread, Stage, channel_over, key_states, outlet, sink_over}
 
 abbrev pub subtask : ℕ → ℕ → SubtaskId

@@ -1,11 +1,9 @@
 //! The laws of other cuts, each on a function that does nothing.
 
 ghost use Rattle.std.specs.Prelude.{ℕ, List};
-ghost use Rattle.ckpt_align.specs.Histories.{Action, Item};
-ghost use Rattle.ckpt_align.specs.Laws.{Network};
+ghost use Rattle.ckpt_align.specs.{Histories.Action, Histories.Item, Laws.Network};
 ghost use Rattle.ckpt_ids.specs.declared.call.Call.{Call};
-ghost use Rattle.ckpt_model.specs.Laws.{AreCalls, CanOpen};
-ghost use Rattle.ckpt_model.specs.State.{Opening};
+ghost use Rattle.ckpt_model.specs.{Laws.AreCalls, Laws.CanOpen, State.Opening};
 ghost use Rattle.ckpt_other_cuts.specs.Finished.{DoneIsConsistent, FinishedCut};
 ghost use Rattle.ckpt_other_cuts.specs.Loose.{AtLeastOnce, DoneLosesNone, LosesNone};
 

@@ -1,8 +1,7 @@
 //! The laws of a restore in another shape, each on a function that does nothing.
 
 ghost use Rattle.std.specs.Prelude.{ℕ, List, [], ◌∷◌};
-ghost use Rattle.ckpt_model.specs.Laws.{CanOpen};
-ghost use Rattle.ckpt_model.specs.State.{Opening};
+ghost use Rattle.ckpt_model.specs.{Laws.CanOpen, State.Opening};
 ghost use Rattle.ckpt_once.specs.Jobs.{IsJob, Job, run_of};
 ghost use Rattle.ckpt_other_cuts.specs.Rescaled.{Entry, Redistributes, Rescaling, RescalingInvisible, RestoresKeys, Split, TwiceIsOnce};
 ghost use Rattle.ckpt_other_cuts.specs.Reshaped.{AreRestarts, IsBegun, IsRoutedByKey, IsShapeOf, ReshapingInvisible, Restart, Stage, finest, recorded};

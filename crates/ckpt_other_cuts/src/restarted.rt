@@ -2,11 +2,9 @@
 //! each on a function that does nothing.
 
 ghost use Rattle.std.specs.Prelude.{List};
-ghost use Rattle.ckpt_once.specs.Jobs.{Job};
-ghost use Rattle.ckpt_once.specs.WorkedExamples.{job};
+ghost use Rattle.ckpt_once.specs.{Jobs.Job, WorkedExamples.job};
 ghost use Rattle.ckpt_other_cuts.specs.Restarted.{AreStretches, Begin, Doings, IsRunFrom, RecordersKeepChannels, RestartsInvisible, Stretch, begin_after, moves};
-ghost use Rattle.ckpt_other_cuts.specs.Resumed.{Attempt, ResumesInvisible};
-ghost use Rattle.ckpt_other_cuts.specs.WorkedResumes.{again, stretches};
+ghost use Rattle.ckpt_other_cuts.specs.{Resumed.Attempt, Resumed.ResumesInvisible, WorkedResumes.again, WorkedResumes.stretches};
 
 /// What recorders made has, of each channel, what was put before the sender's snapshot and not taken
 /// before the receiver's.

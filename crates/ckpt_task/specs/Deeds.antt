@@ -3,12 +3,9 @@ use Rattle.std.specs.Prelude.{◌≡◌, ◌⊎◌, ℕ, ◌==◌, List, [], ◌
 use Rattle.ckpt_align.specs.Histories.{Item}
 use Rattle.ckpt_align.specs.Histories as item
 use Rattle.ckpt_once.specs.Programs.{Emitted, Turn, Offered}
-use Rattle.ckpt_task.specs.declared.deed.Deed.{Deed}
+use Rattle.ckpt_task.specs.{declared.deed.Deed.Deed, declared.turn.Next.Next, declared.turn.Outcome.Outcome, Turns.as_turn}
 use Rattle.ckpt_task.specs.declared.deed.Deed.TheVariants.{Came, Took, Sent, SentBarrier, SentEnd, Acknowledged, Declined}
-use Rattle.ckpt_task.specs.declared.turn.Next.{Next}
-use Rattle.ckpt_task.specs.declared.turn.Outcome.{Outcome}
 use Rattle.ckpt_task.specs.declared.turn.Outcome.TheVariants as outcome
-use Rattle.ckpt_task.specs.Turns.{as_turn}
 
 abbrev pub as_came : Option Next → List Deed
 as_came None = []

@@ -1,12 +1,8 @@
 -- A job of tasks that each call of `Task::turn` moves on, over channels that keep their order. Histories have the newest
 -- turn first.
 use Rattle.std.specs.Prelude.{◌≡◌, ℕ, Bool, true, false, List, [], ◌∷◌, ◌++◌, drop, length, if◌then◌else◌, Option, Some, None}
-use Rattle.ckpt_ids.specs.declared.subtask.SubtaskId.{SubtaskId}
-use Rattle.ckpt_ids.specs.Ordered.{IsIn}
-use Rattle.ckpt_ids.specs.Shapes.{same_subtask}
-use Rattle.ckpt_align.specs.Alignment.{Alignment, opened}
-use Rattle.ckpt_align.specs.Histories.{Item}
-use Rattle.ckpt_align.specs.Laws.{Channel}
+use Rattle.ckpt_ids.specs.{declared.subtask.SubtaskId.SubtaskId, Ordered.IsIn, Shapes.same_subtask}
+use Rattle.ckpt_align.specs.{Alignment.Alignment, Alignment.opened, Histories.Item, Laws.Channel}
 use Rattle.ckpt_once.specs.Programs.{Program, Turn, Offered, Ended, aligned, moves_in, state}
 use Rattle.ckpt_once.specs.Jobs.{By, History, IsTurnOf, Job, States, of}
 use Rattle.ckpt_task.specs.Turns.{At, cut_of, puts, takes, turned}

@@ -1,17 +1,13 @@
 -- An engine whose tasks ran in loops until faults stopped some of them. Lists have the newest first.
 use Rattle.std.specs.Prelude.{◌≡◌, ◌↔◌, ◌⊎◌, ℕ, false, List, [], ◌++◌}
-use Rattle.ckpt_ids.specs.declared.subtask.SubtaskId.{SubtaskId}
-use Rattle.ckpt_ids.specs.Ordered.{IsIn}
-use Rattle.ckpt_align.specs.Histories.{Item}
-use Rattle.ckpt_align.specs.Laws.{Channel}
+use Rattle.ckpt_ids.specs.{declared.subtask.SubtaskId.SubtaskId, Ordered.IsIn}
+use Rattle.ckpt_align.specs.{Histories.Item, Laws.Channel}
 use Rattle.ckpt_once.specs.Jobs.{IsJob, IsTurnOf, Job, States}
 use Rattle.ckpt_once.specs.Programs.{Program, Turn}
 use Rattle.ckpt_task.specs.Deeds.{Acknowledges, sent_in, taken_in, told_in}
-use Rattle.ckpt_task.specs.Engines.{begun}
+use Rattle.ckpt_task.specs.{Engines.begun, Saving.under, Turns.At}
 use Rattle.ckpt_task.specs.Loops.{AreLooping, AreRuns, HasLooped, IsDownstreamFirst, KeepsOrder, Looped, Loops, deeds_of, turns_of}
 use Rattle.ckpt_task.specs.Runs.{Around, HasStopped, Waits}
-use Rattle.ckpt_task.specs.Saving.{under}
-use Rattle.ckpt_task.specs.Turns.{At}
 
 -- All it did were runs, the last of which a fault stopped.
 pub record HasFailed (p : Program) (at : At) (l : Looped) : Type 0 where

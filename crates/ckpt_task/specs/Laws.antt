@@ -1,21 +1,13 @@
 -- What a job of such tasks does is what `ckpt_once` speaks of.
 use Rattle.std.specs.Prelude.{◌≡◌, ℕ, true, List, [], ◌∷◌, ◌++◌}
-use Rattle.ckpt_ids.specs.declared.ack.Acked.{Acked}
-use Rattle.ckpt_ids.specs.declared.call.Call.{Call}
-use Rattle.ckpt_ids.specs.declared.subtask.SubtaskId.{SubtaskId}
-use Rattle.ckpt_ids.specs.Ordered.{IsIn}
-use Rattle.ckpt_ids.specs.Records.{Record}
-use Rattle.ckpt_ids.specs.Shapes.{subtasks}
+use Rattle.ckpt_ids.specs.{declared.ack.Acked.Acked, declared.call.Call.Call, declared.subtask.SubtaskId.SubtaskId, Ordered.IsIn, Records.Record, Shapes.subtasks}
 use Rattle.ckpt_align.specs.Alignment.{opened}
 use Rattle.ckpt_align.specs.Laws.{Channel, HasCut, sent_on, taken_from}
-use Rattle.ckpt_model.specs.State.{Opening}
+use Rattle.ckpt_model.specs.{State.Opening, Histories.replay}
 use Rattle.ckpt_model.specs.State as model
-use Rattle.ckpt_model.specs.Histories.{replay}
 use Rattle.ckpt_model.specs.Laws.{AreCalls, accepted_by, along}
-use Rattle.ckpt_once.specs.Programs.{aligned}
+use Rattle.ckpt_once.specs.{Programs.aligned, Restarts.IsSeamless, Sinks.AreLast}
 use Rattle.ckpt_once.specs.Jobs.{Attempt, History, IsHistory, IsJob, Job, States, network, of, restored, snapshots, states_in}
-use Rattle.ckpt_once.specs.Restarts.{IsSeamless}
-use Rattle.ckpt_once.specs.Sinks.{AreLast}
 use Rattle.ckpt_task.specs.Engines.{IsWorking, Snapped, engine, snapped}
 
 -- What the engine does is a history. Each task is where it is there, and each channel has what was put on it and not

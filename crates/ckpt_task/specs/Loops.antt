@@ -1,27 +1,15 @@
 -- An engine whose tasks run in loops, each at its own pace, over channels that keep their order. Lists have the newest first.
 use Rattle.std.specs.Prelude.{◌≡◌, ◌↔◌, ℕ, Bool, List, [], ◌∷◌, ◌++◌, map, if◌then◌else◌, None}
-use Rattle.ckpt_ids.specs.declared.ack.Acked.{Acked}
-use Rattle.ckpt_ids.specs.declared.call.Call.{Call}
-use Rattle.ckpt_ids.specs.declared.subtask.SubtaskId.{SubtaskId}
-use Rattle.ckpt_ids.specs.Ordered.{IsIn}
-use Rattle.ckpt_align.specs.Histories.{Item}
-use Rattle.ckpt_align.specs.Laws.{Channel, HasCut}
-use Rattle.ckpt_model.specs.State.{Opening}
+use Rattle.ckpt_ids.specs.{declared.ack.Acked.Acked, declared.call.Call.Call, declared.subtask.SubtaskId.SubtaskId, Ordered.IsIn}
+use Rattle.ckpt_align.specs.{Histories.Item, Laws.Channel, Laws.HasCut}
+use Rattle.ckpt_model.specs.{State.Opening, Laws.accepted_by, Laws.along}
 use Rattle.ckpt_model.specs.State as model
-use Rattle.ckpt_model.specs.Laws.{accepted_by, along}
 use Rattle.ckpt_once.specs.Jobs.{Attempt, History, IsHistory, IsJob, IsTurnOf, Job, States, network, of, restored, snapshots, states_in}
 use Rattle.ckpt_once.specs.Programs.{Ended, Program, Turn}
-use Rattle.ckpt_once.specs.Restarts.{IsSeamless}
-use Rattle.ckpt_once.specs.Sinks.{AreLast}
-use Rattle.ckpt_task.specs.declared.deed.Deed.{Deed}
-use Rattle.ckpt_task.specs.declared.deed.Deed.TheVariants.{SentEnd}
+use Rattle.ckpt_once.specs.{Restarts.IsSeamless, Sinks.AreLast}
+use Rattle.ckpt_task.specs.{declared.deed.Deed.Deed, declared.deed.Deed.TheVariants.SentEnd, Engines.begun, Laws.WasCompletedBy, Restores.IsRestored, Saving.under, Turns.At}
 use Rattle.ckpt_task.specs.Deeds.{Acknowledges, came_in, sent_in, taken_in, told_in}
-use Rattle.ckpt_task.specs.Engines.{begun}
-use Rattle.ckpt_task.specs.Laws.{WasCompletedBy}
-use Rattle.ckpt_task.specs.Restores.{IsRestored}
 use Rattle.ckpt_task.specs.Runs.{Around, HasRun, Waits}
-use Rattle.ckpt_task.specs.Saving.{under}
-use Rattle.ckpt_task.specs.Turns.{At}
 
 -- WHAT A TASK DID
 

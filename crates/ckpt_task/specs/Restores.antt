@@ -1,15 +1,13 @@
 -- What a task is restored to: the snapshot that it saved at its cut.
 use Rattle.std.specs.Prelude.{◌≡◌, ℕ, List, [], ◌∷◌, Option, Some, None}
 use Rattle.ckpt_ids.specs.declared.subtask.SubtaskId.{SubtaskId}
-use Rattle.ckpt_align.specs.Alignment.{Alignment, opened}
-use Rattle.ckpt_align.specs.Laws.{HasCut}
+use Rattle.ckpt_align.specs.{Alignment.Alignment, Alignment.opened, Laws.HasCut}
 use Rattle.ckpt_once.specs.Jobs.{History, Job, States, network, of, snapshots}
 use Rattle.ckpt_once.specs.Programs.{Program, Turn, aligned, moves_in, state}
 use Rattle.ckpt_once.specs.Sinks.{Transaction}
-use Rattle.ckpt_task.specs.Engines.{IsWorking, begun}
+use Rattle.ckpt_task.specs.{Engines.IsWorking, Engines.begun, declared.turn.Outcome.Outcome}
 use Rattle.ckpt_task.specs.Saving.{Saved, state_under, under}
 use Rattle.ckpt_task.specs.Turns.{At, IsSaved, cut_in, cut_of}
-use Rattle.ckpt_task.specs.declared.turn.Outcome.{Outcome}
 
 -- What a turn saves, as `Task::turn` says in `cut` and `snapshot`. A turn that it refuses is none, and saves nothing.
 pub record Saves (cut : Option ℕ) (s : ℕ) (before now : List Saved) : Type 0 where

@@ -4,12 +4,8 @@ use Rattle.ckpt_align.specs.Histories.{sent, taken}
 use Rattle.ckpt_ledger.specs.Ledgers.{Held}
 use Rattle.ckpt_once.specs.Programs.{Program, Turn, actions, aligned, moves_in, state}
 use Rattle.ckpt_once.specs.Sinks.{Transaction}
-use Rattle.ckpt_task.specs.declared.deed.Deed.{Deed}
-use Rattle.ckpt_task.specs.declared.deed.Deed.TheVariants.{Came}
-use Rattle.ckpt_task.specs.declared.turn.Next.{Next}
+use Rattle.ckpt_task.specs.{declared.deed.Deed.Deed, declared.deed.Deed.TheVariants.Came, declared.turn.Next.Next, Saving.Saved, SinkTurns.SinkAt, SinkTurns.after_turn}
 use Rattle.ckpt_task.specs.Deeds.{IsPart, Word, Acknowledges, Declines, as_came, came_in, sent_in, taken_in, told_in}
-use Rattle.ckpt_task.specs.Saving.{Saved}
-use Rattle.ckpt_task.specs.SinkTurns.{SinkAt, after_turn}
 use Rattle.ckpt_task.specs.Turns.{At, abandoned_as, answer_in, cut_of, puts, takes, turned}
 
 -- a task at some moment: what it did until then, and of its snapshots those that were saved, and the records of those that

@@ -5,13 +5,10 @@ use Rattle.ckpt_ledger.specs.Ledgers.{Completes, after_entry, nothing}
 use Rattle.ckpt_once.specs.Jobs.{IsJob, IsPrefix, Job, States, restored}
 use Rattle.ckpt_once.specs.Programs.{Program}
 use Rattle.ckpt_once.specs.Sinks.{AreLast, Sink, Transaction, contents, published_before, published_in, up_to}
-use Rattle.ckpt_task.specs.declared.deed.Deed.{Deed}
-use Rattle.ckpt_task.specs.Deeds.{Acknowledges, told_in}
-use Rattle.ckpt_task.specs.Engines.{begun}
+use Rattle.ckpt_task.specs.{declared.deed.Deed.Deed, Deeds.Acknowledges, Deeds.told_in, Engines.begun, SinkTurns.SinkAt}
 use Rattle.ckpt_task.specs.Loops.{AreLooping, Looped, Loops, LoopsAttempt, attempts_of, history_of}
 use Rattle.ckpt_task.specs.Runs.{Around, HasSunk, around}
 use Rattle.ckpt_task.specs.Saving.{Saved, under, waiting_under}
-use Rattle.ckpt_task.specs.SinkTurns.{SinkAt}
 
 -- a sink at some moment: what it did until then, its snapshots, and the elements that it has published, the oldest first
 pub record Sinking : Type 0 where

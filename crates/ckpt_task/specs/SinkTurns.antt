@@ -1,13 +1,10 @@
 -- What the turns of a sink enter into its ledger.
 use Rattle.std.specs.Prelude.{◌≡◌, ℕ, Bool, false, map, Option, Some, Result, Err}
-use Rattle.ckpt_align.specs.declared.event.Answer.{Answer}
-use Rattle.ckpt_align.specs.declared.event.Refusal.{Refusal}
+use Rattle.ckpt_align.specs.{declared.event.Answer.Answer, declared.event.Refusal.Refusal}
 use Rattle.ckpt_ledger.specs.Ledgers.{Acts, Cuts, Held, Writes, after_entries, after_entry, entries}
 use Rattle.ckpt_once.specs.Programs.{Program, Turn, acts, on_output}
-use Rattle.ckpt_task.specs.declared.sink_task.SinkFault.{SinkFault}
+use Rattle.ckpt_task.specs.{declared.sink_task.SinkFault.SinkFault, declared.turn.Outcome.Outcome, declared.turn.Outcome.TheVariants.Moved, declared.turn.Outcome.TheVariants.Cut}
 use Rattle.ckpt_task.specs.declared.sink_task.SinkFault.TheVariants as sink_fault
-use Rattle.ckpt_task.specs.declared.turn.Outcome.{Outcome}
-use Rattle.ckpt_task.specs.declared.turn.Outcome.TheVariants.{Moved, Cut}
 use Rattle.ckpt_task.specs.Turns.{At, answer_in, refusal_as}
 
 -- the task of a sink, its ledger, its own output, and whether memory ran out in the middle of a turn

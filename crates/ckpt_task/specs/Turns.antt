@@ -1,22 +1,15 @@
 -- One turn of a task, in the words of `ckpt_once`.
 use Rattle.std.specs.Prelude.{◌≡◌, ℕ, Bool, true, false, List, [], ◌∷◌, ◌⊎◌, map, Option, Some, None, Result, Ok, Err}
-use Rattle.ckpt_align.specs.Alignment.{Alignment}
+use Rattle.ckpt_align.specs.{Alignment.Alignment, declared.event.Answer.Answer, declared.event.Refusal.Refusal, Steps.step}
 use Rattle.ckpt_align.specs.Histories.{Item, GivesUp, answer_to, cut_as, cut_by, sent, taken}
 use Rattle.ckpt_align.specs.Histories as item
-use Rattle.ckpt_align.specs.declared.event.Answer.{Answer}
 use Rattle.ckpt_align.specs.declared.event.Answer.TheVariants as answer
 use Rattle.ckpt_align.specs.declared.event.Event.TheVariants as event
-use Rattle.ckpt_align.specs.declared.event.Refusal.{Refusal}
-use Rattle.ckpt_align.specs.Steps.{step}
 use Rattle.ckpt_once.specs.Programs.{Emitted, Program, Turn, Offered, GivenUp, Drawn, Ended, acts, aligned, moves_in, on_output, state}
 use Rattle.ckpt_once.specs.Sinks.{Transaction}
-use Rattle.ckpt_task.specs.declared.turn.Next.{Next}
+use Rattle.ckpt_task.specs.{declared.turn.Next.Next, declared.turn.Outcome.Outcome, declared.turn.TurnFault.TurnFault, declared.turn.TurnFault.TheVariants.Refused, Saving.Saved}
 use Rattle.ckpt_task.specs.declared.turn.Next.TheVariants as next
-use Rattle.ckpt_task.specs.declared.turn.Outcome.{Outcome}
 use Rattle.ckpt_task.specs.declared.turn.Outcome.TheVariants.{Moved, Held, Nothing, Cut, Unsaved, Abandoned}
-use Rattle.ckpt_task.specs.declared.turn.TurnFault.{TurnFault}
-use Rattle.ckpt_task.specs.declared.turn.TurnFault.TheVariants.{Refused}
-use Rattle.ckpt_task.specs.Saving.{Saved}
 
 -- a task at some moment: the number of its state, and its aligner
 pub record At : Type 0 where

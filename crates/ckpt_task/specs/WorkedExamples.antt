@@ -1,22 +1,16 @@
 -- Worked examples: a source and an adder over one channel, turn by turn. The job is that of `ckpt_once`. The expected
 -- values were written by hand.
 use Rattle.std.specs.Prelude.{◌≡◌, ℕ, Bool, List, [], ◌∷◌, refl, true, false, Some, if◌then◌else◌}
-use Rattle.ckpt_align.specs.Alignment.{opened}
-use Rattle.ckpt_align.specs.Histories.{Element, Barrier}
+use Rattle.ckpt_align.specs.{Alignment.opened, Histories.Element, Histories.Barrier}
 use Rattle.ckpt_align.specs.Steps.{step, settled, barrier}
-use Rattle.ckpt_ids.specs.declared.subtask.SubtaskId.{SubtaskId}
-use Rattle.ckpt_ids.specs.Shapes.{same_subtask}
+use Rattle.ckpt_ids.specs.{declared.subtask.SubtaskId.SubtaskId, Shapes.same_subtask}
 use Rattle.ckpt_once.specs.Programs.{Turn, Offered, Drawn, Ended}
 use Rattle.ckpt_once.specs.Jobs.{By, History, starts}
 use Rattle.ckpt_once.specs.WorkedExamples.{adder, job, line, source}
-use Rattle.ckpt_task.specs.declared.deed.Deed.{Deed}
+use Rattle.ckpt_task.specs.{declared.deed.Deed.Deed, Engines.engine, Engines.snapped, Runs.around, Saving.state_under, SinkTurns.SinkAt, SinkTurns.after_turn}
 use Rattle.ckpt_task.specs.declared.deed.Deed.TheVariants.{Came, Took, Sent, SentBarrier, Acknowledged}
 use Rattle.ckpt_task.specs.declared.turn.Next.TheVariants as next
-use Rattle.ckpt_task.specs.Engines.{engine, snapped}
 use Rattle.ckpt_task.specs.Loops.{KeepsOrder, Looped, Loops, history_of}
-use Rattle.ckpt_task.specs.Runs.{around}
-use Rattle.ckpt_task.specs.Saving.{state_under}
-use Rattle.ckpt_task.specs.SinkTurns.{SinkAt, after_turn}
 use Rattle.ckpt_task.specs.Turns.{At, cut_of, is_left, answer_in, puts, takes, turned}
 
 abbrev by : SubtaskId → Turn → By Turn

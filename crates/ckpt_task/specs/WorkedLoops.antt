@@ -1,23 +1,17 @@
 -- A worked example: the source and the adder of `ckpt_once` in loops, whose job fails after record 1 was completed, and is
 -- restored to it. The expected values were written by hand.
 use Rattle.std.specs.Prelude.{◌≡◌, ℕ, false, List, [], ◌∷◌, if◌then◌else◌, refl}
-use Rattle.ckpt_ids.specs.declared.call.Call.{Call}
-use Rattle.ckpt_ids.specs.declared.call.Call.TheVariants.{Ack, Tick}
-use Rattle.ckpt_ids.specs.Shapes.{same_subtask}
-use Rattle.ckpt_align.specs.Alignment.{opened}
-use Rattle.ckpt_align.specs.Histories.{Barrier, Element}
+use Rattle.ckpt_ids.specs.{declared.call.Call.Call, declared.call.Call.TheVariants.Ack, declared.call.Call.TheVariants.Tick, Shapes.same_subtask}
+use Rattle.ckpt_align.specs.{Alignment.opened, Histories.Barrier, Histories.Element}
 use Rattle.ckpt_align.specs.Steps.{barrier, settled, step}
 use Rattle.ckpt_model.specs.State.{Opening}
 use Rattle.ckpt_once.specs.Jobs.{restored, starts, states_in}
 use Rattle.ckpt_once.specs.Programs.{Offered}
 use Rattle.ckpt_once.specs.WorkedExamples.{adder, job, source}
-use Rattle.ckpt_task.specs.declared.deed.Deed.{Deed}
+use Rattle.ckpt_task.specs.{declared.deed.Deed.Deed, Runs.Around, Runs.around, Saving.Saved, Turns.At, Turns.turned}
 use Rattle.ckpt_task.specs.declared.deed.Deed.TheVariants.{Acknowledged, Came, Sent, SentBarrier, Took}
 use Rattle.ckpt_task.specs.declared.turn.Next.TheVariants as next
 use Rattle.ckpt_task.specs.Loops.{Looped, Loops, LoopsAttempt, attempts_of, history_of}
-use Rattle.ckpt_task.specs.Runs.{Around, around}
-use Rattle.ckpt_task.specs.Saving.{Saved}
-use Rattle.ckpt_task.specs.Turns.{At, turned}
 
 -- The coordinator of two vertices with one subtask each. It triggers record 1, and both subtasks acknowledge.
 abbrev pub opening : Opening

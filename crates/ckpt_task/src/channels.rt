@@ -1,9 +1,8 @@
 //! The channels of a task, as its engine brings them.
 
 ghost use Rattle.std.specs.Prelude.{◌≡◌, ◌∷◌, ◌++◌, List, IfOk, OnErr, OnOk};
-ghost use Rattle.ckpt_task.specs.declared.deed.Deed.{Deed};
+ghost use Rattle.ckpt_task.specs.{declared.deed.Deed.Deed, Deeds.IsUndone, Deeds.as_came};
 ghost use Rattle.ckpt_task.specs.declared.deed.Deed.TheVariants as deed;
-ghost use Rattle.ckpt_task.specs.Deeds.{IsUndone, as_came};
 
 use crate::turn::Next;
 use ckpt_align::{Aligner, Cut};

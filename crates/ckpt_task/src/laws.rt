@@ -2,8 +2,7 @@
 
 ghost use Rattle.std.specs.Prelude.{List};
 ghost use Rattle.ckpt_ids.specs.declared.subtask.SubtaskId.{SubtaskId};
-ghost use Rattle.ckpt_model.specs.Laws.{CanOpen};
-ghost use Rattle.ckpt_model.specs.State.{Opening};
+ghost use Rattle.ckpt_model.specs.{Laws.CanOpen, State.Opening};
 ghost use Rattle.ckpt_once.specs.Jobs.{Attempt, History, Job, States};
 ghost use Rattle.ckpt_task.specs.Engines.{Snapped};
 ghost use Rattle.ckpt_task.specs.Laws.{AreSeamless, MakesHistory, SnapsAtCut};

@@ -33,8 +33,7 @@ pub struct Log<T> {
 }
 
 impl<T> Model for Log<T> {
-    ghost use Rattle.std.specs.Prelude.{List, []};
-    ghost use Rattle.std.specs.Option.{option_map_or};
+    ghost use Rattle.std.specs.{Prelude.List, Prelude.[], Option.option_map_or};
 
     ghost Value = { List T };
 

@@ -2,15 +2,13 @@
 
 ghost use Rattle.std.specs.Prelude.{ℕ, List, [], ◌∷◌};
 ghost use Rattle.ckpt_ids.specs.declared.subtask.SubtaskId.{SubtaskId};
-ghost use Rattle.ckpt_model.specs.Laws.{CanOpen};
-ghost use Rattle.ckpt_model.specs.State.{Opening};
+ghost use Rattle.ckpt_model.specs.{Laws.CanOpen, State.Opening};
 ghost use Rattle.ckpt_once.specs.Jobs.{Job, States, restored};
 ghost use Rattle.ckpt_once.specs.Sinks.{AreLast, Sink, Transaction};
 ghost use Rattle.ckpt_once.specs.WorkedExamples.{job};
-ghost use Rattle.ckpt_task.specs.Faults.{FaultsCount};
+ghost use Rattle.ckpt_task.specs.{Faults.FaultsCount, Turns.At};
 ghost use Rattle.ckpt_task.specs.Loops.{AreLooping, AreLoopsAttempts, Loops, LoopsAreSeamless, LoopsAttempt, LoopsMakeHistory, LoopsRestore, attempts_of};
 ghost use Rattle.ckpt_task.specs.SinkLoops.{SinkAttempt, SinkGivesOnce, SinkGivesOverRestarts, SinkPublishes};
-ghost use Rattle.ckpt_task.specs.Turns.{At};
 ghost use Rattle.ckpt_task.specs.WorkedLoops.{again, attempt, opening};
 
 /// What tasks did that ran in loops, each at its own pace, over channels that keep their order, is a

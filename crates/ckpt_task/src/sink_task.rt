@@ -1,12 +1,10 @@
 //! A task whose elements on one output are published once their record is completed.
 
 ghost use Rattle.std.specs.Prelude.{◌≡◌, ◌↔◌, ◌≢◌, ◌++◌, ℕ, None, Some, Err, IfErr, IfOk, OnErr, OnOk, map, true, false};
-ghost use Rattle.ckpt_align.specs.Alignment.{is_a_task, opened};
+ghost use Rattle.ckpt_align.specs.{Alignment.is_a_task, Alignment.opened, declared.event.Refusal.Refusal};
 ghost use Rattle.ckpt_align.specs.declared.aligner.OpenFault.TheVariants as open_fault;
-ghost use Rattle.ckpt_align.specs.declared.event.Refusal.{Refusal};
 ghost use Rattle.ckpt_ledger.specs.Ledgers.{Completes, Writes, after_entries, after_entry, nothing};
-ghost use Rattle.ckpt_once.specs.Programs.{on_output};
-ghost use Rattle.ckpt_once.specs.Sinks.{up_to};
+ghost use Rattle.ckpt_once.specs.{Programs.on_output, Sinks.up_to};
 ghost use Rattle.ckpt_task.specs.Saving.{state_under, waiting_under};
 ghost use Rattle.ckpt_task.specs.SinkTurns.{IsRefusedAs, SaysRefusal, after_outcome, after_turn};
 ghost use Rattle.ckpt_task.specs.Turns.{IsSaved, abandoned_as, abandoned_in, answer_in, as_turn, cut_in, cut_of, is_held, is_left, put_on, puts, refusal_as, refusals_of, turned};

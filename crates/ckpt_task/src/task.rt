@@ -1,11 +1,8 @@
 //! A task that takes one turn after the other.
 
 ghost use Rattle.std.specs.Prelude.{◌≡◌, ◌↔◌, ◌++◌, ℕ, [], ◌∷◌, None, Some, Err, IfOk, OnErr, OnOk, false, map};
-ghost use Rattle.ckpt_align.specs.Alignment.{is_a_task, opened};
+ghost use Rattle.ckpt_align.specs.{Alignment.is_a_task, Alignment.opened, declared.event.Refusal.Refusal, Histories.answer_to, Steps.step};
 ghost use Rattle.ckpt_align.specs.declared.aligner.OpenFault.TheVariants as open_fault;
-ghost use Rattle.ckpt_align.specs.declared.event.Refusal.{Refusal};
-ghost use Rattle.ckpt_align.specs.Histories.{answer_to};
-ghost use Rattle.ckpt_align.specs.Steps.{step};
 ghost use Rattle.ckpt_once.specs.Programs.{aligned, emitted_by, move_in, moves_in, on_output, state};
 ghost use Rattle.ckpt_task.specs.Saving.{state_under, waiting_under};
 ghost use Rattle.ckpt_task.specs.Turns.{IsSaved, IsToldAs, abandoned_as, abandoned_in, answer_in, as_turn, cut_in, cut_of, emitted_in, is_held, is_left, is_unsaved, offers, put_on, puts, refusal_as, refusal_in, refusals_of, told_as};

@@ -1,11 +1,9 @@
 -- What is printed for an answer of a job that gives out names.
 use Rattle.std.specs.Prelude.{ℕ, List, [], ◌++◌, codes}
-use Rattle.ckpt_ids.specs.declared.reply.Reply.TheVariants.{Restored, Cancelled}
-use Rattle.ckpt_ids.specs.declared.reply.Answer.{Answer}
+use Rattle.ckpt_ids.specs.{declared.reply.Reply.TheVariants.Restored, declared.reply.Reply.TheVariants.Cancelled, declared.reply.Answer.Answer}
 use Rattle.ckpt_ids.specs.declared.reply.Answer.TheVariants.{Done}
-use Rattle.ckpt_terms.specs.declared.call.FencedRefusal.{FencedRefusal}
+use Rattle.ckpt_terms.specs.{declared.call.FencedRefusal.FencedRefusal, declared.call.FencedAnswer.FencedAnswer}
 use Rattle.ckpt_terms.specs.declared.call.FencedRefusal.TheVariants.{OldTerm, Ended, BadCount, NamesUsedUp, TermsUsedUp, BadName, Spent, NeverReserved}
-use Rattle.ckpt_terms.specs.declared.call.FencedAnswer.{FencedAnswer}
 use Rattle.ckpt_terms.specs.declared.call.FencedAnswer.TheVariants.{Reserved, Forfeited, Made, Fenced}
 use Rattle.ckpt_answers.specs.Texts.{answer_bytes, spaced}
 

@@ -2,22 +2,15 @@
 use Rattle.std.specs.Prelude.{◌≡◌, ℕ, Bool, true, false, not, ◌&&◌, List, [], ◌∷◌, if◌then◌else◌, Option, Some, None, Result, Ok, Err}
 use Rattle.std.specs.Str.Lines.{strip_carriage_return}
 use Rattle.ckpt_ids.specs.declared.call.Call.TheVariants as calls
-use Rattle.ckpt_ids.specs.Ascending.{ascending}
-use Rattle.ckpt_ids.specs.Configuration.{Configuration, is_within_limits}
-use Rattle.ckpt_ids.specs.ConfigurationValues.{configured_by}
-use Rattle.ckpt_lines.specs.declared.fault.LineFault.{LineFault}
+use Rattle.ckpt_ids.specs.{Ascending.ascending, Configuration.Configuration, Configuration.is_within_limits, ConfigurationValues.configured_by}
+use Rattle.ckpt_lines.specs.{declared.fault.LineFault.LineFault, declared.line.Line.Line, Values.number, Words.words_of}
 use Rattle.ckpt_lines.specs.declared.fault.LineFault.TheVariants as fault
-use Rattle.ckpt_lines.specs.declared.line.Line.{Line}
 use Rattle.ckpt_lines.specs.declared.line.Line.TheVariants as script
 use Rattle.ckpt_lines.specs.Reading.{◌>>=◌, begins_with_a_list, each, is_too_long, line_of, number_place, only_number, settings, begins_with_a_number, is_yes}
-use Rattle.ckpt_lines.specs.Values.{number}
-use Rattle.ckpt_lines.specs.Words.{words_of}
 use Rattle.ckpt_terms.specs.declared.call.FencedCall.TheVariants as call
-use Rattle.ckpt_term_lines.specs.declared.keyword.TermKeyword.{TermKeyword}
+use Rattle.ckpt_term_lines.specs.{declared.keyword.TermKeyword.TermKeyword, declared.line.TermLine.TermLine, TermKeywords.term_keyword_of}
 use Rattle.ckpt_term_lines.specs.declared.keyword.TermKeyword.TheVariants as keyword
-use Rattle.ckpt_term_lines.specs.declared.line.TermLine.{TermLine}
 use Rattle.ckpt_term_lines.specs.declared.line.TermLine.TheVariants.{Fence, Call, Other, BadConfig, NoCall}
-use Rattle.ckpt_term_lines.specs.TermKeywords.{term_keyword_of}
 
 unfoldable pub fence_row : List (List ℕ) → Result TermLine LineFault
 fence_row words = do

@@ -6,8 +6,7 @@ use Rattle.ckpt_answers.specs.Texts.{spaced}
 use Rattle.ckpt_lines.specs.CallTexts.{Fits, FitsCall, FitsFiles, call_text}
 use Rattle.ckpt_terms.specs.declared.call.FencedCall.{FencedCall}
 use Rattle.ckpt_terms.specs.declared.call.FencedCall.TheVariants as call
-use Rattle.ckpt_term_lines.specs.declared.line.TermLine.{TermLine}
-use Rattle.ckpt_term_lines.specs.TermReading.{term_reading}
+use Rattle.ckpt_term_lines.specs.{declared.line.TermLine.TermLine, TermReading.term_reading}
 
 -- a call with term 0 is written as in a script
 abbrev pub made_text : ℕ → Call → List ℕ

@@ -1,24 +1,20 @@
 -- Worked lines: what the definitions read and print, computed. The expected ones were written by hand, from docs/LOGS.md.
 use Rattle.std.specs.Prelude.{◌≡◌, true, [], ◌∷◌, ◌++◌, refl, codes, decimal, Ok, Err}
-use Rattle.ckpt_ids.specs.Configuration.{configured}
+use Rattle.ckpt_ids.specs.{Configuration.configured, declared.reply.Answer.TheVariants.Refused}
 use Rattle.ckpt_ids.specs.declared.call.Call.TheVariants as made
-use Rattle.ckpt_ids.specs.declared.reply.Answer.TheVariants.{Refused}
 use Rattle.ckpt_ids.specs.declared.reply.Refusal.TheVariants as refusal
 use Rattle.ckpt_lines.specs.declared.fault.LineFault.TheVariants as fault
 use Rattle.ckpt_lines.specs.declared.line.Line.TheVariants as script
-use Rattle.ckpt_lines.specs.Keywords.{keyword_of}
+use Rattle.ckpt_lines.specs.{Keywords.keyword_of, CallTexts.call_text}
 use Rattle.ckpt_lines.specs.Reading.{line_of, row, number_line, only_number, start_line, ack_line, restore_line, number_place, subtask_place, target_place, file_places, each, ended, retention_place, settings}
 use Rattle.ckpt_lines.specs.Values.{number_of, part_of, subtask_of, target_of, file_word}
 use Rattle.ckpt_answers.specs.Texts.{answer_bytes, refusal_bytes}
-use Rattle.ckpt_lines.specs.CallTexts.{call_text}
 use Rattle.ckpt_terms.specs.declared.call.FencedAnswer.TheVariants.{Reserved, Forfeited, Made, Fenced}
 use Rattle.ckpt_terms.specs.declared.call.FencedCall.TheVariants as call
 use Rattle.ckpt_terms.specs.declared.call.FencedRefusal.TheVariants.{OldTerm, Spent, NeverReserved, BadName}
 use Rattle.ckpt_term_lines.specs.declared.line.TermLine.TheVariants.{Fence, Call, Other, BadConfig, NoCall}
-use Rattle.ckpt_term_lines.specs.AnswerTexts.{fence_refusal_bytes, fenced_answer_bytes}
-use Rattle.ckpt_term_lines.specs.TermKeywords.{term_keyword_of}
+use Rattle.ckpt_term_lines.specs.{AnswerTexts.fence_refusal_bytes, AnswerTexts.fenced_answer_bytes, TermKeywords.term_keyword_of, TermTexts.term_text}
 use Rattle.ckpt_term_lines.specs.TermReading.{configure_row, fence_row, forfeit_row, in_row, made_line, plain_row, reserve_row, script_row, term_line_of, term_reading, term_row, trigger_row, advance_row}
-use Rattle.ckpt_term_lines.specs.TermTexts.{term_text}
 
 pub first_name : term_reading (codes " fence  007" ++ 13 ∷ []) ≡ Ok (Fence 7)
 unfolding term_reading term_line_of term_keyword_of term_row fence_row only_number number_place number_of ended

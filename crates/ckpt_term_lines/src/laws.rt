@@ -1,9 +1,7 @@
 //! Laws about reading any line, each as the contract of a function that does nothing.
 
 ghost use Rattle.std.specs.Prelude.{◌≡◌, ◌+◌, ℕ, List, Ok, take};
-ghost use Rattle.ckpt_lines.specs.declared.limits.TheConstants.{LONGEST_LINE};
-ghost use Rattle.ckpt_lines.specs.declared.line.Line.{Line};
-ghost use Rattle.ckpt_lines.specs.Reading.{reading};
+ghost use Rattle.ckpt_lines.specs.{declared.limits.TheConstants.LONGEST_LINE, declared.line.Line.Line, Reading.reading};
 ghost use Rattle.ckpt_term_lines.specs.TermReading.{term_reading, without_term};
 
 /// Each line of a script is a line of a log, and says the same there.

@@ -1,7 +1,6 @@
 //! Reads a line of a log from its bytes.
 ghost use Rattle.std.specs.Prelude.{◌≡◌, ◌≢◌, true, IfOk, IfErr};
-ghost use Rattle.ckpt_lines.specs.Reading.{begins_with_a_list, Reads};
-ghost use Rattle.ckpt_lines.specs.Words.{words_of};
+ghost use Rattle.ckpt_lines.specs.{Reading.begins_with_a_list, Reading.Reads, Words.words_of};
 ghost use Rattle.ckpt_term_lines.specs.TermReading.{TermBegins, plain_row, term_line_of, term_may_want_memory, term_reading, term_takes_memory};
 
 use crate::keyword::{TermKeyword, keyword_of};

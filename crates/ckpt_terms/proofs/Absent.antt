@@ -1,6 +1,6 @@
 -- The first name that is in no range, name after name.
-use Rattle.ckpt_terms.proofs.Names.{◌≡◌, ℕ, zero, suc, ◌<◌, Bool, true, false, not, eqb, List, [], ◌∷◌, take, get_or, length, sym, ap, ◌∙◌, arith, Option, Some, None, is_some, IfSome}
-use Rattle.ckpt_terms.proofs.Names.{list_any, cond-true, cond-false, or_parts, Span, HasAt, in_span, names_of}
+use Rattle.ckpt_terms.proofs.Imports.{◌≡◌, ℕ, zero, suc, ◌<◌, Bool, true, false, not, eqb, List, [], ◌∷◌, take, get_or, length, sym, ap, ◌∙◌, arith, Option, Some, None, is_some, IfSome}
+use Rattle.ckpt_terms.proofs.Imports.{list_any, cond-true, cond-false, or_parts, Span, HasAt, in_span, names_of}
 use Rattle.ckpt_terms.proofs.{SpanLemmas.in_spans, RangeLemmas.found_is}
 use Rattle.std.specs.Prelude.{find}
 

@@ -1,7 +1,7 @@
 -- From an accepted advance on, terms and names are above those that it was given.
-use Rattle.ckpt_terms.proofs.Names.{◌≡◌, ℕ, ◌<◌, ◌≤◌, max, Bool, true, false, ◌&&◌, List, [], ◌∷◌, refl, ap, arith, both_ways, Stepped, step, FencedCall, Reserve, Forfeit, Make, Advance}
-use Rattle.ckpt_terms.proofs.Names.{Fenced, FencedStepped, fenced_replay, fenced_step, has_ended, is_accepted, made, raised, restart, AreFencedCalls, IsFenced, fenced_answers, AdvancesAll}
-use Rattle.ckpt_terms.proofs.Names.{IsAbove, StaysAbove}
+use Rattle.ckpt_terms.proofs.Imports.{◌≡◌, ℕ, ◌<◌, ◌≤◌, max, Bool, true, false, ◌&&◌, List, [], ◌∷◌, refl, ap, arith, both_ways, Stepped, step, FencedCall, Reserve, Forfeit, Make, Advance}
+use Rattle.ckpt_terms.proofs.Imports.{Fenced, FencedStepped, fenced_replay, fenced_step, has_ended, is_accepted, made, raised, restart, AreFencedCalls, IsFenced, fenced_answers, AdvancesAll}
+use Rattle.ckpt_terms.proofs.Imports.{IsAbove, StaysAbove}
 use Rattle.ckpt_terms.proofs.{Fences.step_fenced, Stepping.advance_by, Stepping.fenced_step_by, Stepping.made_later, Zombies.make_ended}
 
 -- an answer and the state after it, above these floors

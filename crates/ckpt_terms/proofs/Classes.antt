@@ -1,8 +1,8 @@
 -- Each number is in one class, garbage stays so, and what may be deleted is used no more.
-use Rattle.ckpt_terms.proofs.Names.{◌≡◌, ℕ, ◌+◌, ◌<◌, ◌≤◌, Bool, true, false, not, ◌&&◌, ltb, leb, List, ◌++◌, inl, inr, ⊎_elim, arith, cases_Bool, both_ways, not-true, and_parts, and_from}
-use Rattle.ckpt_terms.proofs.Names.{or_cases, or_parts, not_from_false, ltb-true, ltb-false, leb-true, leb-false, one_if, times, IsIn, uses, is_present, one_if-true, one_if-false}
-use Rattle.ckpt_terms.proofs.Names.{times-append, numbers_in_order, IsIn-from_test, not_in-from_test, AreDistinct-from_order, is_known, in_outbox, outbox_of, unused-from_absent, times_none}
-use Rattle.ckpt_terms.proofs.Names.{times_once, FencedCall, Fenced, fenced_replay, is_unspent, is_garbage, may_be_deleted, AreFencedCalls, IsFenced, GarbageForGood, DeletionsAreSafe}
+use Rattle.ckpt_terms.proofs.Imports.{◌≡◌, ℕ, ◌+◌, ◌<◌, ◌≤◌, Bool, true, false, not, ◌&&◌, ltb, leb, List, ◌++◌, inl, inr, ⊎_elim, arith, cases_Bool, both_ways, not-true, and_parts, and_from}
+use Rattle.ckpt_terms.proofs.Imports.{or_cases, or_parts, not_from_false, ltb-true, ltb-false, leb-true, leb-false, one_if, times, IsIn, uses, is_present, one_if-true, one_if-false}
+use Rattle.ckpt_terms.proofs.Imports.{times-append, numbers_in_order, IsIn-from_test, not_in-from_test, AreDistinct-from_order, is_known, in_outbox, outbox_of, unused-from_absent, times_none}
+use Rattle.ckpt_terms.proofs.Imports.{times_once, FencedCall, Fenced, fenced_replay, is_unspent, is_garbage, may_be_deleted, AreFencedCalls, IsFenced, GarbageForGood, DeletionsAreSafe}
 use Rattle.ckpt_terms.proofs.{Known.known-from_outbox, Stepping.IsOpen, Stepping.IsLater, Fences.replay_later}
 
 -- garbage, by its three parts

@@ -1,7 +1,7 @@
 -- How many names ranges have that are read one after the other, and why other ranges are refused.
-use Rattle.ckpt_terms.proofs.Names.{◌≡◌, ℕ, zero, suc, ◌+◌, ◌-◌, ◌<◌, ◌≤◌, ltb, List, [], ◌∷◌, ◌++◌, take, drop, get_or, length, refl, sym, ap, subst, ◌∙◌, ⊎_elim, arith, length-append}
-use Rattle.ckpt_terms.proofs.Names.{lt-ltb, take_all, take_more, All-get_or, All-append, All-cons, All-nil, IsAscendingSet, IsIn, IsIn-append_cases, IsIn-append_left, IsIn-append_right}
-use Rattle.ckpt_terms.proofs.Names.{IsInOrder-append, Span, row, names_of, AreRanges, AreRangesBelow}
+use Rattle.ckpt_terms.proofs.Imports.{◌≡◌, ℕ, zero, suc, ◌+◌, ◌-◌, ◌<◌, ◌≤◌, ltb, List, [], ◌∷◌, ◌++◌, take, drop, get_or, length, refl, sym, ap, subst, ◌∙◌, ⊎_elim, arith, length-append}
+use Rattle.ckpt_terms.proofs.Imports.{lt-ltb, take_all, take_more, All-get_or, All-append, All-cons, All-nil, IsAscendingSet, IsIn, IsIn-append_cases, IsIn-append_left, IsIn-append_right}
+use Rattle.ckpt_terms.proofs.Imports.{IsInOrder-append, Span, row, names_of, AreRanges, AreRangesBelow}
 use Rattle.ckpt_terms.proofs.SpanLemmas.{names_at, names_push, row-bounds, row-from_bounds, append_rises}
 use Rattle.ckpt_terms.proofs.{Stepping.row_ascends, RangeLemmas.length-row}
 

@@ -1,5 +1,5 @@
 -- A coordinator with or without names may cross threads.
-use Rattle.ckpt_terms.proofs.Names.{fields, IsSend, AllSend, sendable, view_send, crosses, declared_send, core_send}
+use Rattle.ckpt_terms.proofs.Imports.{fields, IsSend, AllSend, sendable, view_send, crosses, declared_send, core_send}
 use Rattle.ckpt_terms.specs.contracts.names.Names as Names
 use Rattle.ckpt_terms.specs.contracts.terms.Terms as Terms
 use Rattle.ckpt_terms.specs.contracts.terms.Terms.TheInside as InTerms

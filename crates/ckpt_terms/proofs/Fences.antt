@@ -1,6 +1,6 @@
 -- What always holds, and what stays so, over every list of calls.
-use Rattle.ckpt_terms.proofs.Names.{◌≡◌, refl, ℕ, List, [], ◌∷◌, ◌++◌, arith, Opening, opening_is_sound, FencedCall, Fenced, fenced, FencedStepped, fenced_step, fenced_replay, CanFence}
-use Rattle.ckpt_terms.proofs.Names.{IsFencedCall, AreFencedCalls, IsFenced}
+use Rattle.ckpt_terms.proofs.Imports.{◌≡◌, refl, ℕ, List, [], ◌∷◌, ◌++◌, arith, Opening, opening_is_sound, FencedCall, Fenced, fenced, FencedStepped, fenced_step, fenced_replay, CanFence}
+use Rattle.ckpt_terms.proofs.Imports.{IsFencedCall, AreFencedCalls, IsFenced}
 use Rattle.ckpt_terms.proofs.Stepping.{fenced_step_by, IsLater, later_itself, later_then, made_later, made_keeps}
 
 pub step_fenced : (m : Fenced) (call : FencedCall) → IsFencedCall call → IsFenced m → IsFenced (fenced_step m call).0

@@ -1,9 +1,9 @@
 -- The layer of an image is sound exactly if what is tested of it holds, where the coordinator is.
-use Rattle.ckpt_terms.proofs.Names.{◌≡◌, ℕ, ◌<◌, ◌≤◌, ◌^◌, Bool, true, false, not, ◌&&◌, ltb, List, [], ◌∷◌, ◌++◌, refl, sym, ap, subst, ◌∙◌, inl, inr, ⊎_elim, list_all, cases_Bool}
-use Rattle.ckpt_terms.proofs.Names.{both_ways, and_parts, and_from, ltb-true, lt-ltb, not_from_false, not_from_true, or_cases, list_all-map, Acked, IsAscendingSet, IsIn, Record, uses}
-use Rattle.ckpt_terms.proofs.Names.{is_present, IsIn-append_cases, IsIn-append_left, IsIn-append_right, IsIn-from_test, test-from_IsIn, CanHold, record_in, settled, State, in_outbox}
-use Rattle.ckpt_terms.proofs.Names.{is_known, is_cancelled, IsSound, IsHeld, IsHeld-from_present, present-from_IsHeld, TermsImage, Fenced, is_unspent, IsFenced, files_are_spent, is_spent}
-use Rattle.ckpt_terms.proofs.Names.{record_is_spent, CanHoldFenced, fenced_in, fenced_settled}
+use Rattle.ckpt_terms.proofs.Imports.{◌≡◌, ℕ, ◌<◌, ◌≤◌, ◌^◌, Bool, true, false, not, ◌&&◌, ltb, List, [], ◌∷◌, ◌++◌, refl, sym, ap, subst, ◌∙◌, inl, inr, ⊎_elim, list_all, cases_Bool}
+use Rattle.ckpt_terms.proofs.Imports.{both_ways, and_parts, and_from, ltb-true, lt-ltb, not_from_false, not_from_true, or_cases, list_all-map, Acked, IsAscendingSet, IsIn, Record, uses}
+use Rattle.ckpt_terms.proofs.Imports.{is_present, IsIn-append_cases, IsIn-append_left, IsIn-append_right, IsIn-from_test, test-from_IsIn, CanHold, record_in, settled, State, in_outbox}
+use Rattle.ckpt_terms.proofs.Imports.{is_known, is_cancelled, IsSound, IsHeld, IsHeld-from_present, present-from_IsHeld, TermsImage, Fenced, is_unspent, IsFenced, files_are_spent, is_spent}
+use Rattle.ckpt_terms.proofs.Imports.{record_is_spent, CanHoldFenced, fenced_in, fenced_settled}
 use Rattle.ckpt_terms.proofs.{Known.known-from_outbox, Known.known-from_present, Resuming.settled_fenced, TermLemmas.layer}
 
 -- what all elements pass, each passes

@@ -1,8 +1,8 @@
 -- Ranges as few as can be.
-use Rattle.ckpt_terms.proofs.Names.{◌≡◌, ℕ, zero, suc, ◌+◌, ◌-◌, ◌<◌, ◌≤◌, false, eqb, List, [], ◌∷◌, ◌++◌, take, drop, get_or, length, refl, sym, ap, subst, ◌∙◌, arith, All, range_with_len}
-use Rattle.ckpt_terms.proofs.Names.{cond-true, cond-false, cond_both, eqb-true, eqb-false, eq-eqb, ne_eqb, append-nil, append_assoc, take_all, take_more, All-get_or, All-head, All-tail}
-use Rattle.ckpt_terms.proofs.Names.{All-cons, All-nil, IsAscendingSet, IsIn, IsIn-append_left, IsIn-append_right, Span, AreApart, AreRanges, EndsBefore, joined, names_of, ranges_of, row}
-use Rattle.ckpt_terms.proofs.Names.{with_first}
+use Rattle.ckpt_terms.proofs.Imports.{◌≡◌, ℕ, zero, suc, ◌+◌, ◌-◌, ◌<◌, ◌≤◌, false, eqb, List, [], ◌∷◌, ◌++◌, take, drop, get_or, length, refl, sym, ap, subst, ◌∙◌, arith, All, range_with_len}
+use Rattle.ckpt_terms.proofs.Imports.{cond-true, cond-false, cond_both, eqb-true, eqb-false, eq-eqb, ne_eqb, append-nil, append_assoc, take_all, take_more, All-get_or, All-head, All-tail}
+use Rattle.ckpt_terms.proofs.Imports.{All-cons, All-nil, IsAscendingSet, IsIn, IsIn-append_left, IsIn-append_right, Span, AreApart, AreRanges, EndsBefore, joined, names_of, ranges_of, row}
+use Rattle.ckpt_terms.proofs.Imports.{with_first}
 use Rattle.ckpt_terms.proofs.SpanLemmas.{append_rises, names_at, names_push, range_split, row-from_bounds, span}
 
 abbrev IsSome_range : Span → Type 0

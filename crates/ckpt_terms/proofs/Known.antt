@@ -1,7 +1,7 @@
 -- Which files a step of the coordinator can make known: those that were known, and the fresh ones of an accepted acknowledgement.
-use Rattle.ckpt_terms.proofs.Names.{◌≡◌, ℕ, ◌+◌, ◌<◌, Bool, true, false, not, List, [], ◌++◌, refl, ap, ◌⊎◌, inl, inr, ⊎_elim, arith, filter, or_cases, or_left, or_right, cond_both, Call}
-use Rattle.ckpt_terms.proofs.Names.{Ack, Answer, Done, one_if, times, IsIn, uses, is_present, IsIn-from_times, times-from_IsIn, IsIn-from_filter, IsIn-from_test, test-from_IsIn, State}
-use Rattle.ckpt_terms.proofs.Names.{is_known, in_outbox, step, IsSound, registered_as, registered_by, handed_by, deleted_by, new_by, is_ack_taken, step_settled, fresh_of, is_accepted}
+use Rattle.ckpt_terms.proofs.Imports.{◌≡◌, ℕ, ◌+◌, ◌<◌, Bool, true, false, not, List, [], ◌++◌, refl, ap, ◌⊎◌, inl, inr, ⊎_elim, arith, filter, or_cases, or_left, or_right, cond_both, Call}
+use Rattle.ckpt_terms.proofs.Imports.{Ack, Answer, Done, one_if, times, IsIn, uses, is_present, IsIn-from_times, times-from_IsIn, IsIn-from_filter, IsIn-from_test, test-from_IsIn, State}
+use Rattle.ckpt_terms.proofs.Imports.{is_known, in_outbox, step, IsSound, registered_as, registered_by, handed_by, deleted_by, new_by, is_ack_taken, step_settled, fresh_of, is_accepted}
 use Rattle.ckpt_ids.specs.declared.reply.Reply.TheVariants as reply
 
 -- a file in the outbox is known, and so is a present one

@@ -1,8 +1,8 @@
 -- The files that a coordinator knows, as one list, and the test whether one of them has a number or a greater one.
-use Rattle.ckpt_terms.proofs.Names.{◌≡◌, ℕ, ◌<◌, Bool, true, false, ◌||◌, eqb, leb, ltb, List, [], ◌∷◌, ◌++◌, map, refl, sym, ap, ◌∙◌, inl, inr, ⊎_elim, list_any, flat_map, cases_Bool}
-use Rattle.ckpt_terms.proofs.Names.{or_cases, leb-false, list_any-append, Acked, ascending, IsIn, Record, uses, is_present, IsIn-append_left, IsIn-append_right, IsIn-flat_map}
-use Rattle.ckpt_terms.proofs.Names.{IsIn-from_in_order, IsIn-in_order, IsIn-from_list_any, IsIn-from_test, list_any-from_IsIn, list_any-none, fails-from_list_any, Image, record_in, settled}
-use Rattle.ckpt_terms.proofs.Names.{state_in, State, is_known, in_outbox, Holds, IsHeld, IsHeld-from_present, files_by, has_known_from, known_files}
+use Rattle.ckpt_terms.proofs.Imports.{◌≡◌, ℕ, ◌<◌, Bool, true, false, ◌||◌, eqb, leb, ltb, List, [], ◌∷◌, ◌++◌, map, refl, sym, ap, ◌∙◌, inl, inr, ⊎_elim, list_any, flat_map, cases_Bool}
+use Rattle.ckpt_terms.proofs.Imports.{or_cases, leb-false, list_any-append, Acked, ascending, IsIn, Record, uses, is_present, IsIn-append_left, IsIn-append_right, IsIn-flat_map}
+use Rattle.ckpt_terms.proofs.Imports.{IsIn-from_in_order, IsIn-in_order, IsIn-from_list_any, IsIn-from_test, list_any-from_IsIn, list_any-none, fails-from_list_any, Image, record_in, settled}
+use Rattle.ckpt_terms.proofs.Imports.{state_in, State, is_known, in_outbox, Holds, IsHeld, IsHeld-from_present, files_by, has_known_from, known_files}
 
 any_flat : {X Y : Type 0} (p : Y → Bool) (f : X → List Y) (xs : List X) → list_any p (flat_map f xs) ≡ list_any (λ x. list_any p (f x)) xs
 any_flat p f [] = refl

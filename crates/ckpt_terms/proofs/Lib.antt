@@ -6,13 +6,13 @@ pub mod Counted
 pub mod Crossings
 pub mod Fences
 pub mod Imaged
+mod Imports
 pub mod JoinLemmas
 pub mod KnownFiles
 pub mod MachineLemmas
 pub mod Known
 pub mod Modes
 pub mod NamedProgress
-mod Names
 pub mod OnceIssued
 pub mod OneTerm
 pub mod RangeLemmas

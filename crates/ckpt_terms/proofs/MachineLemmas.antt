@@ -1,8 +1,8 @@
 -- What a call without a term does, with names and without.
-use Rattle.ckpt_terms.proofs.Names.{◌≡◌, ℕ, ◌+◌, ◌≤◌, ◌^◌, Bool, true, false, ◌||◌, ltb, eqb, ◌&&◌, List, [], refl, sym, ap, subst, ◌∙◌, arith, Some, None, cond, cond-false, or_parts}
-use Rattle.ckpt_terms.proofs.Names.{ltb-false, eqb-false, ne_eqb, le-ltb, Call, Ack, Decline, Restore, Cancel, State, Opening, opened, IsSound, Stepped, step, Make, FencedAnswer, BadName}
-use Rattle.ckpt_terms.proofs.Names.{NameInUse, Machine, Fenced, FencedStepped, ends_the_term, fence, fenced_step, fresh_of, is_accepted, unspent_after, CanFence, IsFenced, MakesStep}
-use Rattle.ckpt_terms.proofs.Names.{fence_fault, has_known_from, is_free, machine_step, names_in, passes}
+use Rattle.ckpt_terms.proofs.Imports.{◌≡◌, ℕ, ◌+◌, ◌≤◌, ◌^◌, Bool, true, false, ◌||◌, ltb, eqb, ◌&&◌, List, [], refl, sym, ap, subst, ◌∙◌, arith, Some, None, cond, cond-false, or_parts}
+use Rattle.ckpt_terms.proofs.Imports.{ltb-false, eqb-false, ne_eqb, le-ltb, Call, Ack, Decline, Restore, Cancel, State, Opening, opened, IsSound, Stepped, step, Make, FencedAnswer, BadName}
+use Rattle.ckpt_terms.proofs.Imports.{NameInUse, Machine, Fenced, FencedStepped, ends_the_term, fence, fenced_step, fresh_of, is_accepted, unspent_after, CanFence, IsFenced, MakesStep}
+use Rattle.ckpt_terms.proofs.Imports.{fence_fault, has_known_from, is_free, machine_step, names_in, passes}
 use Rattle.ckpt_terms.proofs.{KnownFiles.known_below, Stepping.fenced_on, TermLemmas.layer, TermLemmas.stays}
 use Rattle.ckpt_terms.specs.declared.call.FencedAnswer.TheVariants as answer
 use Rattle.ckpt_terms.specs.declared.machine.Machine.TheVariants as machine

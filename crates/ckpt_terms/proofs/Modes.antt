@@ -1,10 +1,10 @@
 -- Only a cancel ends a job for good.
-use Rattle.ckpt_terms.proofs.Names.{◌≡◌, ℕ, ◌+◌, max, Bool, true, ◌&&◌, ltb, eqb, List, ◌++◌, refl, ◌⊎◌, inl, inr, count_by, Option, Some, None, false≢true, cond_both, SubtaskId, Call, Tick}
-use Rattle.ckpt_terms.proofs.Names.{Savepoint, Ack, Decline, Dispose, Restore, Cancel, Take, Deleted, Undeleted, Show, Count, Trigger, Configure, Target, Record, acknowledged, missing}
-use Rattle.ckpt_terms.proofs.Names.{ascending, hold, Hold, Interval, AtOnce, Pause, Go, State, is_checkpoint, is_expired, is_cancelled, moment_of, pending_of, Stepped, with_records}
-use Rattle.ckpt_terms.proofs.Names.{replaced, superseded, dropped_by, pending_checkpoints, failures_with, fails_the_job, triggered, failed_over, start_or_hold, after_expiry, tick}
-use Rattle.ckpt_terms.proofs.Names.{completed_with, acknowledged_in, ack, decline, decline_pending, dropping, dispose, restore, restarted, cancel, take_files, with_config, configure, show}
-use Rattle.ckpt_terms.proofs.Names.{effect, at_moment, step, step_by, ends_the_term, is_accepted}
+use Rattle.ckpt_terms.proofs.Imports.{◌≡◌, ℕ, ◌+◌, max, Bool, true, ◌&&◌, ltb, eqb, List, ◌++◌, refl, ◌⊎◌, inl, inr, count_by, Option, Some, None, false≢true, cond_both, SubtaskId, Call, Tick}
+use Rattle.ckpt_terms.proofs.Imports.{Savepoint, Ack, Decline, Dispose, Restore, Cancel, Take, Deleted, Undeleted, Show, Count, Trigger, Configure, Target, Record, acknowledged, missing}
+use Rattle.ckpt_terms.proofs.Imports.{ascending, hold, Hold, Interval, AtOnce, Pause, Go, State, is_checkpoint, is_expired, is_cancelled, moment_of, pending_of, Stepped, with_records}
+use Rattle.ckpt_terms.proofs.Imports.{replaced, superseded, dropped_by, pending_checkpoints, failures_with, fails_the_job, triggered, failed_over, start_or_hold, after_expiry, tick}
+use Rattle.ckpt_terms.proofs.Imports.{completed_with, acknowledged_in, ack, decline, decline_pending, dropping, dispose, restore, restarted, cancel, take_files, with_config, configure, show}
+use Rattle.ckpt_terms.proofs.Imports.{effect, at_moment, step, step_by, ends_the_term, is_accepted}
 use Rattle.ckpt_model.specs.State.{drop}
 
 -- not cancelled, or as before

@@ -1,8 +1,8 @@
 -- Acknowledgements in the term that runs, with names that it holds, reach the coordinator.
-use Rattle.ckpt_terms.proofs.Names.{◌≡◌, ℕ, ◌+◌, Bool, true, false, not, ◌&&◌, eqb, List, [], ◌∷◌, map, refl, sym, ap, ◌∙◌, ⊎_elim, inl, inr, Some, None, list_any, filter, find, cases_Bool}
-use Rattle.ckpt_terms.proofs.Names.{and_right, cond-false, cond_both, eq-eqb, not_from_false, IsIn, Record, IsIn-filter, IsIn-from_test, list_any-none, test-from_IsIn, find-none, answers}
-use Rattle.ckpt_terms.proofs.Names.{AreOfDifferent, TimedPart, ack_at, Stepped, step, completes, OldTerm, Fenced, FencedStepped, after_call, fence, fenced_step, is_accepted, is_unspent}
-use Rattle.ckpt_terms.proofs.Names.{not_reserved, IsFenced, CompletesInTerm, ack_in, fenced_answers}
+use Rattle.ckpt_terms.proofs.Imports.{◌≡◌, ℕ, ◌+◌, Bool, true, false, not, ◌&&◌, eqb, List, [], ◌∷◌, map, refl, sym, ap, ◌∙◌, ⊎_elim, inl, inr, Some, None, list_any, filter, find, cases_Bool}
+use Rattle.ckpt_terms.proofs.Imports.{and_right, cond-false, cond_both, eq-eqb, not_from_false, IsIn, Record, IsIn-filter, IsIn-from_test, list_any-none, test-from_IsIn, find-none, answers}
+use Rattle.ckpt_terms.proofs.Imports.{AreOfDifferent, TimedPart, ack_at, Stepped, step, completes, OldTerm, Fenced, FencedStepped, after_call, fence, fenced_step, is_accepted, is_unspent}
+use Rattle.ckpt_terms.proofs.Imports.{not_reserved, IsFenced, CompletesInTerm, ack_in, fenced_answers}
 use Rattle.ckpt_terms.proofs.Stepping.{fenced_on}
 use Rattle.ckpt_terms.specs.declared.call.FencedAnswer.TheVariants as answer
 

@@ -1,7 +1,7 @@
 -- The calls that reach the coordinator never report a deleted file as new again.
-use Rattle.ckpt_terms.proofs.Names.{◌≡◌, ℕ, List, [], ◌∷◌, ◌++◌, refl, sym, subst, inl, ⊎_elim, ◌↔◌, Call, IsIn, IsIn-append_cases, IsUnused, State, Opening, opened, replay, AreCalls}
-use Rattle.ckpt_terms.proofs.Names.{NoneAgain, along, handed_by, registered_by, deleted_by, handed, FencedCall, Reserve, Forfeit, Make, Advance, Fenced, fenced, made, passed, FencedStepped}
-use Rattle.ckpt_terms.proofs.Names.{fenced_replay, core_calls, restart, CanFence, AreFencedCalls, IsFenced, IssuesOnce, IssuedOnce}
+use Rattle.ckpt_terms.proofs.Imports.{◌≡◌, ℕ, List, [], ◌∷◌, ◌++◌, refl, sym, subst, inl, ⊎_elim, ◌↔◌, Call, IsIn, IsIn-append_cases, IsUnused, State, Opening, opened, replay, AreCalls}
+use Rattle.ckpt_terms.proofs.Imports.{NoneAgain, along, handed_by, registered_by, deleted_by, handed, FencedCall, Reserve, Forfeit, Make, Advance, Fenced, fenced, made, passed, FencedStepped}
+use Rattle.ckpt_terms.proofs.Imports.{fenced_replay, core_calls, restart, CanFence, AreFencedCalls, IsFenced, IssuesOnce, IssuedOnce}
 use Rattle.ckpt_terms.proofs.Stepping.{fenced_step_by, fresh_unspent, IsOpen, IsLater, made_later, made_keeps}
 use Rattle.ckpt_terms.proofs.{Known.new_fresh, Known.deleted_known, Fences.opening_fenced, Classes.known_closed}
 

@@ -1,9 +1,9 @@
 -- Each accepted acknowledgement of a pending record was made in the term of its trigger.
-use Rattle.ckpt_terms.proofs.Names.{◌≡◌, ℕ, ◌+◌, ◌<◌, true, false, not, ◌&&◌, eqb, List, [], ◌∷◌, refl, sym, ap, ◌∙◌, ⊎_elim, arith, Option, None, max, cases_Bool, both_ways, and_parts}
-use Rattle.ckpt_terms.proofs.Names.{and_from, not-true, not-false, not_from_false, eqb-true, cond_both, common_steps, Call, Restore, Cancel, Target, IsIn, Record, State, Stepped, cancel}
-use Rattle.ckpt_terms.proofs.Names.{cancelled, effect, restarted, restore, rolled_back, step, Part, ack_of, is_ack_taken, step_by, IsIn-from_changed, IsTriggered, next_rises, given_is_next}
-use Rattle.ckpt_terms.proofs.Names.{step_came, IsPassedOver, IsTakenBy, step_is, FencedCall, Reserve, Forfeit, Make, Advance, OldTerm, Fenced, FencedStepped, ends_the_term, fence}
-use Rattle.ckpt_terms.proofs.Names.{fenced_replay, fenced_step, is_accepted, is_of_task, made, restart, AreFencedCalls, IsFenced, IsFencedCall, OneTerm, given_in, is_taken_in}
+use Rattle.ckpt_terms.proofs.Imports.{◌≡◌, ℕ, ◌+◌, ◌<◌, true, false, not, ◌&&◌, eqb, List, [], ◌∷◌, refl, sym, ap, ◌∙◌, ⊎_elim, arith, Option, None, max, cases_Bool, both_ways, and_parts}
+use Rattle.ckpt_terms.proofs.Imports.{and_from, not-true, not-false, not_from_false, eqb-true, cond_both, common_steps, Call, Restore, Cancel, Target, IsIn, Record, State, Stepped, cancel}
+use Rattle.ckpt_terms.proofs.Imports.{cancelled, effect, restarted, restore, rolled_back, step, Part, ack_of, is_ack_taken, step_by, IsIn-from_changed, IsTriggered, next_rises, given_is_next}
+use Rattle.ckpt_terms.proofs.Imports.{step_came, IsPassedOver, IsTakenBy, step_is, FencedCall, Reserve, Forfeit, Make, Advance, OldTerm, Fenced, FencedStepped, ends_the_term, fence}
+use Rattle.ckpt_terms.proofs.Imports.{fenced_replay, fenced_step, is_accepted, is_of_task, made, restart, AreFencedCalls, IsFenced, IsFencedCall, OneTerm, given_in, is_taken_in}
 use Rattle.ckpt_terms.proofs.{Fences.replay_fenced, Fences.step_fenced, Stepping.advance_by, Stepping.fenced_step_by, Stepping.none_else}
 use Rattle.ckpt_ids.specs.declared.call.Target.TheVariants as target
 use Rattle.ckpt_model.specs.State.{drop}

@@ -1,10 +1,10 @@
 -- Where a name is in ranges, and what is left of them without it.
-use Rattle.ckpt_terms.proofs.Names.{◌≡◌, ℕ, zero, suc, ◌+◌, ◌-◌, ◌<◌, ◌≤◌, true, false, not, ◌||◌, ltb, leb, eqb, List, [], ◌∷◌, ◌++◌, take, drop, get_or, set, length, refl, sym, ap, subst}
-use Rattle.ckpt_terms.proofs.Names.{◌∙◌, inl, ⊎_elim, arith, length-append, Option, Some, None, is_some, IfSome, All, list_any, range_with_len, cases_Bool, both_ways, ne_eqb, and_from}
-use Rattle.ckpt_terms.proofs.Names.{le-leb, lt-ltb, and_parts, ltb-true, ltb-false, leb-true, append_assoc, length-set, take-append-drop, set_split, take-set, drop-set, All-head, All-tail}
-use Rattle.ckpt_terms.proofs.Names.{All-get_or, All-from_get_or, All-append, All-take, All-drop, All-set, All-cons, list_any_none, list_any_at, list_any-append, IsIn, IsAscendingSet}
-use Rattle.ckpt_terms.proofs.Names.{get_or_any, IsIn-append_right, IsIn-append_left, ComesBefore-at, IsInOrder-filter, filter-all, test-from_IsIn, Span, without_all, row, in_span, joined}
-use Rattle.ckpt_terms.proofs.Names.{names_of, AreRanges, AreKept, HasAt, IsCut}
+use Rattle.ckpt_terms.proofs.Imports.{◌≡◌, ℕ, zero, suc, ◌+◌, ◌-◌, ◌<◌, ◌≤◌, true, false, not, ◌||◌, ltb, leb, eqb, List, [], ◌∷◌, ◌++◌, take, drop, get_or, set, length, refl, sym, ap, subst}
+use Rattle.ckpt_terms.proofs.Imports.{◌∙◌, inl, ⊎_elim, arith, length-append, Option, Some, None, is_some, IfSome, All, list_any, range_with_len, cases_Bool, both_ways, ne_eqb, and_from}
+use Rattle.ckpt_terms.proofs.Imports.{le-leb, lt-ltb, and_parts, ltb-true, ltb-false, leb-true, append_assoc, length-set, take-append-drop, set_split, take-set, drop-set, All-head, All-tail}
+use Rattle.ckpt_terms.proofs.Imports.{All-get_or, All-from_get_or, All-append, All-take, All-drop, All-set, All-cons, list_any_none, list_any_at, list_any-append, IsIn, IsAscendingSet}
+use Rattle.ckpt_terms.proofs.Imports.{get_or_any, IsIn-append_right, IsIn-append_left, ComesBefore-at, IsInOrder-filter, filter-all, test-from_IsIn, Span, without_all, row, in_span, joined}
+use Rattle.ckpt_terms.proofs.Imports.{names_of, AreRanges, AreKept, HasAt, IsCut}
 use Rattle.ckpt_terms.proofs.SpanLemmas.{span, row-from_bounds, row_empty, row_split, in_spans, added_rises, added_is, without-append, without_below, without_above, without_itself}
 use Rattle.ckpt_terms.proofs.SpanLemmas.{append_rises, names_append, names_at, rises_behind}
 use Rattle.ckpt_terms.proofs.JoinLemmas.{joined_names, joined_some}

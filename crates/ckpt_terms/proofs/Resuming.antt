@@ -1,10 +1,10 @@
 -- No answer of the layer depends on the order in which files were fetched.
-use Rattle.ckpt_terms.proofs.Names.{◌≡◌, ℕ, ◌+◌, ◌^◌, true, false, not, ◌&&◌, ◌||◌, ltb, eqb, List, [], ◌∷◌, ◌++◌, refl, sym, ap, subst, ◌∙◌, ⊎_elim, Option, Some, None, cond, cases_Bool}
-use Rattle.ckpt_terms.proofs.Names.{both_ways, or_cases, Answer, Done, Refused, ascending, IsIn, uses, is_present, IsIn-append_cases, IsIn-append_left, IsIn-append_right, IsIn-from_in_order}
-use Rattle.ckpt_terms.proofs.Names.{IsIn-from_test, State, is_known, in_outbox, is_cancelled, IsSound, Stepped, step, AreAlike, GoesOnAs, CanHold, settled, go_on_alike, settled_can_hold}
-use Rattle.ckpt_terms.proofs.Names.{settled_alike, FencedCall, Reserve, Forfeit, Make, Advance, FencedRefusal, OldTerm, Ended, BadCount, NamesUsedUp, FencedAnswer, Fenced, ends_the_term}
-use Rattle.ckpt_terms.proofs.Names.{is_accepted, fence, unspent_after, after_call, advanced, restart, FencedStepped, made, unless_fenced, fenced_step, fenced_replay, IsFenced}
-use Rattle.ckpt_terms.proofs.Names.{fenced_answers, fenced_settled, AreFencedAlike, FencedGoesOnAs, CanHoldFenced, IsFencedCut}
+use Rattle.ckpt_terms.proofs.Imports.{◌≡◌, ℕ, ◌+◌, ◌^◌, true, false, not, ◌&&◌, ◌||◌, ltb, eqb, List, [], ◌∷◌, ◌++◌, refl, sym, ap, subst, ◌∙◌, ⊎_elim, Option, Some, None, cond, cases_Bool}
+use Rattle.ckpt_terms.proofs.Imports.{both_ways, or_cases, Answer, Done, Refused, ascending, IsIn, uses, is_present, IsIn-append_cases, IsIn-append_left, IsIn-append_right, IsIn-from_in_order}
+use Rattle.ckpt_terms.proofs.Imports.{IsIn-from_test, State, is_known, in_outbox, is_cancelled, IsSound, Stepped, step, AreAlike, GoesOnAs, CanHold, settled, go_on_alike, settled_can_hold}
+use Rattle.ckpt_terms.proofs.Imports.{settled_alike, FencedCall, Reserve, Forfeit, Make, Advance, FencedRefusal, OldTerm, Ended, BadCount, NamesUsedUp, FencedAnswer, Fenced, ends_the_term}
+use Rattle.ckpt_terms.proofs.Imports.{is_accepted, fence, unspent_after, after_call, advanced, restart, FencedStepped, made, unless_fenced, fenced_step, fenced_replay, IsFenced}
+use Rattle.ckpt_terms.proofs.Imports.{fenced_answers, fenced_settled, AreFencedAlike, FencedGoesOnAs, CanHoldFenced, IsFencedCut}
 use Rattle.ckpt_terms.proofs.{Fences.fenced_replay-append, Known.known-from_outbox, Known.known-from_present, TermLemmas.layer}
 use Rattle.ckpt_terms.specs.declared.call.FencedAnswer.TheVariants as answer
 

@@ -1,8 +1,8 @@
 -- Ranges of names, and what is left of them.
-use Rattle.ckpt_terms.proofs.Names.{◌≡◌, ℕ, zero, suc, ◌+◌, ◌-◌, ◌<◌, ◌≤◌, true, false, not, ◌||◌, ltb, leb, eqb, List, [], ◌∷◌, ◌++◌, refl, sym, ap, subst, ◌∙◌, inl, inr, ⊎_elim, arith}
-use Rattle.ckpt_terms.proofs.Names.{list_any, range_with_len, cases_Bool, both_ways, and_parts, and_from, ltb-true, lt-ltb, leb-true, le-leb, eqb-true, eq-eqb, ne_eqb, append-nil}
-use Rattle.ckpt_terms.proofs.Names.{append_assoc, take-append-drop, list_any-append, drop-cons, take, drop, get_or, length, IsIn, IsAscendingSet, IsIn-append_right, ComesBefore-at}
-use Rattle.ckpt_terms.proofs.Names.{filter-same, filter-all, list_any-none, list_any-from_IsIn, IsInOrder-append, Span, without_all, row, in_span, names_of}
+use Rattle.ckpt_terms.proofs.Imports.{◌≡◌, ℕ, zero, suc, ◌+◌, ◌-◌, ◌<◌, ◌≤◌, true, false, not, ◌||◌, ltb, leb, eqb, List, [], ◌∷◌, ◌++◌, refl, sym, ap, subst, ◌∙◌, inl, inr, ⊎_elim, arith}
+use Rattle.ckpt_terms.proofs.Imports.{list_any, range_with_len, cases_Bool, both_ways, and_parts, and_from, ltb-true, lt-ltb, leb-true, le-leb, eqb-true, eq-eqb, ne_eqb, append-nil}
+use Rattle.ckpt_terms.proofs.Imports.{append_assoc, take-append-drop, list_any-append, drop-cons, take, drop, get_or, length, IsIn, IsAscendingSet, IsIn-append_right, ComesBefore-at}
+use Rattle.ckpt_terms.proofs.Imports.{filter-same, filter-all, list_any-none, list_any-from_IsIn, IsInOrder-append, Span, without_all, row, in_span, names_of}
 use Rattle.ckpt_terms.proofs.Stepping.{in_row, row_ascends}
 
 abbrev pub span : ℕ → ℕ → Span

@@ -1,11 +1,11 @@
 -- What one call of a fenced coordinator changes.
-use Rattle.ckpt_terms.proofs.Names.{◌≡◌, ℕ, zero, suc, ◌+◌, ◌<◌, ◌≤◌, ◌^◌, Bool, true, false, not, ◌&&◌, ◌||◌, ltb, leb, eqb, List, [], ◌++◌, refl, ap, ◌∙◌, ◌⊎◌, inl, inr, ⊎_elim, arith}
-use Rattle.ckpt_terms.proofs.Names.{Option, Some, None, cond, max, list_any, filter, find, range_with_len, cases_Bool, both_ways, and_parts, and_from, or_parts, cond_both, ltb-false, lt-ltb}
-use Rattle.ckpt_terms.proofs.Names.{leb-false, lt-leb, cond-true, cond-false, Call, IsIn, IsAscendingSet, uses, is_present, IsIn-append_cases, IsIn-from_filter, IsIn-from_test}
-use Rattle.ckpt_terms.proofs.Names.{test-from_IsIn, IsInOrder-append, IsInOrder-filter, ComesBefore-from, is_known, is_cancelled, Stepped, step, registered_by, fails-from_find, step_keeps}
-use Rattle.ckpt_terms.proofs.Names.{FencedCall, Reserve, Forfeit, Make, Advance, FencedRefusal, OldTerm, Ended, BadCount, NamesUsedUp, TermsUsedUp, Fenced, is_unspent, is_of_task, fresh_of}
-use Rattle.ckpt_terms.proofs.Names.{ends_the_term, is_accepted, not_reserved, fence, without_all, unspent_after, after_call, FencedStepped, made, raised, restart, unless_fenced, fenced_step}
-use Rattle.ckpt_terms.proofs.Names.{IsFencedCall, IsFenced}
+use Rattle.ckpt_terms.proofs.Imports.{◌≡◌, ℕ, zero, suc, ◌+◌, ◌<◌, ◌≤◌, ◌^◌, Bool, true, false, not, ◌&&◌, ◌||◌, ltb, leb, eqb, List, [], ◌++◌, refl, ap, ◌∙◌, ◌⊎◌, inl, inr, ⊎_elim, arith}
+use Rattle.ckpt_terms.proofs.Imports.{Option, Some, None, cond, max, list_any, filter, find, range_with_len, cases_Bool, both_ways, and_parts, and_from, or_parts, cond_both, ltb-false, lt-ltb}
+use Rattle.ckpt_terms.proofs.Imports.{leb-false, lt-leb, cond-true, cond-false, Call, IsIn, IsAscendingSet, uses, is_present, IsIn-append_cases, IsIn-from_filter, IsIn-from_test}
+use Rattle.ckpt_terms.proofs.Imports.{test-from_IsIn, IsInOrder-append, IsInOrder-filter, ComesBefore-from, is_known, is_cancelled, Stepped, step, registered_by, fails-from_find, step_keeps}
+use Rattle.ckpt_terms.proofs.Imports.{FencedCall, Reserve, Forfeit, Make, Advance, FencedRefusal, OldTerm, Ended, BadCount, NamesUsedUp, TermsUsedUp, Fenced, is_unspent, is_of_task, fresh_of}
+use Rattle.ckpt_terms.proofs.Imports.{ends_the_term, is_accepted, not_reserved, fence, without_all, unspent_after, after_call, FencedStepped, made, raised, restart, unless_fenced, fenced_step}
+use Rattle.ckpt_terms.proofs.Imports.{IsFencedCall, IsFenced}
 use Rattle.ckpt_terms.proofs.{Modes.cancelled_by, Known.present_after, Known.known_after, Known.registered_fresh}
 use Rattle.ckpt_terms.specs.declared.call.FencedRefusal.TheVariants.{BadName}
 use Rattle.ckpt_terms.specs.declared.call.FencedAnswer.TheVariants as answer

@@ -1,7 +1,7 @@
 -- What the code of a fenced coordinator does, in the words of its step.
-use Rattle.ckpt_terms.proofs.Names.{◌≡◌, ℕ, ◌+◌, true, false, not, eqb, List, [], ◌++◌, refl, sym, ap, subst, ◌∙◌, Some, None, max, list_any, range_with_len, cond-true, cond-false}
-use Rattle.ckpt_terms.proofs.Names.{not_from_false, not_from_true, eq-eqb, ne_eqb, Call, filter-all, State, Stepped, step, Reserve, Forfeit, Make, Advance, OldTerm, Fenced, fence}
-use Rattle.ckpt_terms.proofs.Names.{fenced_step, without_all, unspent_after, after_call, advanced, restart, fresh_of, ends_the_term, IsFenced, IsCall, Answer, Done, Reply}
+use Rattle.ckpt_terms.proofs.Imports.{◌≡◌, ℕ, ◌+◌, true, false, not, eqb, List, [], ◌++◌, refl, sym, ap, subst, ◌∙◌, Some, None, max, list_any, range_with_len, cond-true, cond-false}
+use Rattle.ckpt_terms.proofs.Imports.{not_from_false, not_from_true, eq-eqb, ne_eqb, Call, filter-all, State, Stepped, step, Reserve, Forfeit, Make, Advance, OldTerm, Fenced, fence}
+use Rattle.ckpt_terms.proofs.Imports.{fenced_step, without_all, unspent_after, after_call, advanced, restart, fresh_of, ends_the_term, IsFenced, IsCall, Answer, Done, Reply}
 use Rattle.ckpt_terms.proofs.Stepping.{fenced_off, fenced_on, reserve_keeps, forfeit_keeps, make_keeps, advance_keeps}
 use Rattle.ckpt_terms.specs.declared.call.FencedAnswer.TheVariants as answer
 

@@ -1,8 +1,8 @@
 -- What an accepted restore or cancel leaves: no held name, and no task whose calls change anything.
-use Rattle.ckpt_terms.proofs.Names.{◌≡◌, ℕ, ◌+◌, ◌<◌, ◌≤◌, max, Bool, true, false, not, ◌&&◌, eqb, List, [], refl, ap, subst, ◌∙◌, ◌⊎◌, inl, inr, ⊎_elim, arith, Some, cases_Bool, both_ways}
-use Rattle.ckpt_terms.proofs.Names.{and_parts, and_from, ne_eqb, not_from_false, cond-true, cond_both, IsIn, Call, is_known, Stepped, step, FencedCall, Reserve, Forfeit, Make, Advance}
-use Rattle.ckpt_terms.proofs.Names.{FencedRefusal, OldTerm, is_garbage, Fenced, is_of_task, ends_the_term, is_accepted, has_ended, fence, unspent_after, without_all, fresh_of, made, raised}
-use Rattle.ckpt_terms.proofs.Names.{restart, FencedStepped, fenced_step, fenced_replay, AreFencedCalls, IsFenced, is_from_task, term_of, ZombiesAreFenced, SweepIsExact, CancelledIsSwept}
+use Rattle.ckpt_terms.proofs.Imports.{◌≡◌, ℕ, ◌+◌, ◌<◌, ◌≤◌, max, Bool, true, false, not, ◌&&◌, eqb, List, [], refl, ap, subst, ◌∙◌, ◌⊎◌, inl, inr, ⊎_elim, arith, Some, cases_Bool, both_ways}
+use Rattle.ckpt_terms.proofs.Imports.{and_parts, and_from, ne_eqb, not_from_false, cond-true, cond_both, IsIn, Call, is_known, Stepped, step, FencedCall, Reserve, Forfeit, Make, Advance}
+use Rattle.ckpt_terms.proofs.Imports.{FencedRefusal, OldTerm, is_garbage, Fenced, is_of_task, ends_the_term, is_accepted, has_ended, fence, unspent_after, without_all, fresh_of, made, raised}
+use Rattle.ckpt_terms.proofs.Imports.{restart, FencedStepped, fenced_step, fenced_replay, AreFencedCalls, IsFenced, is_from_task, term_of, ZombiesAreFenced, SweepIsExact, CancelledIsSwept}
 use Rattle.ckpt_terms.proofs.{Stepping.advance_by, Stepping.fenced_step_by, Stepping.fenced_off, Stepping.IsOpen, Fences.step_fenced, Fences.replay_later, Classes.garbage_from}
 use Rattle.ckpt_terms.specs.declared.call.FencedAnswer.TheVariants as answer
 

@@ -1,11 +1,8 @@
 -- An advance: terms and names above all that were told and given out, in this job or in one that it was copied from.
 use Rattle.std.specs.Prelude.{◌≡◌, ℕ, ◌<◌, ◌≤◌, max, true, List, [], ◌∷◌, ⊤}
-use Rattle.ckpt_terms.specs.declared.call.FencedCall.{FencedCall}
-use Rattle.ckpt_terms.specs.declared.call.FencedCall.TheVariants.{Advance}
-use Rattle.ckpt_terms.specs.declared.call.FencedAnswer.{FencedAnswer}
+use Rattle.ckpt_terms.specs.{declared.call.FencedCall.FencedCall, declared.call.FencedCall.TheVariants.Advance, declared.call.FencedAnswer.FencedAnswer, TermsImages.fenced_answers}
 use Rattle.ckpt_terms.specs.declared.call.FencedAnswer.TheVariants as answer
 use Rattle.ckpt_terms.specs.Fencing.{Fenced, fenced_step, fenced_replay, has_ended}
-use Rattle.ckpt_terms.specs.TermsImages.{fenced_answers}
 
 -- an answer that tells a term tells one above this one, and one that gives names gives none below this first one
 abbrev pub IsAbove : ℕ → ℕ → FencedAnswer → Type 0

@@ -7,13 +7,11 @@ use Rattle.ckpt_ids.specs.declared.call.Call.TheVariants.{Tick, Ack, Decline, Re
 use Rattle.ckpt_ids.specs.declared.reply.TickEnd.TheVariants as end
 use Rattle.ckpt_ids.specs.declared.reply.Refusal.TheVariants as refusal
 use Rattle.ckpt_ids.specs.declared.reply.Reply.TheVariants as reply
-use Rattle.ckpt_ids.specs.declared.reply.Answer.TheVariants.{Done, Refused}
-use Rattle.ckpt_ids.specs.declared.subtask.SubtaskId.{SubtaskId}
+use Rattle.ckpt_ids.specs.{declared.reply.Answer.TheVariants.Done, declared.reply.Answer.TheVariants.Refused, declared.subtask.SubtaskId.SubtaskId}
 use Rattle.ckpt_model.specs.Steps.{step_computes}
-use Rattle.ckpt_terms.specs.declared.call.FencedCall.{FencedCall}
+use Rattle.ckpt_terms.specs.{declared.call.FencedCall.FencedCall, declared.call.FencedAnswer.FencedAnswer}
 use Rattle.ckpt_terms.specs.declared.call.FencedCall.TheVariants.{Reserve, Forfeit, Make, Advance}
 use Rattle.ckpt_terms.specs.declared.call.FencedRefusal.TheVariants.{OldTerm, Ended, BadCount, NamesUsedUp, TermsUsedUp, BadName, Spent, NeverReserved}
-use Rattle.ckpt_terms.specs.declared.call.FencedAnswer.{FencedAnswer}
 use Rattle.ckpt_terms.specs.declared.call.FencedAnswer.TheVariants.{Reserved, Forfeited, Made, Fenced}
 use Rattle.ckpt_terms.specs.Fencing as fencing
 

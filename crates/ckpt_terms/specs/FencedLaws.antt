@@ -1,19 +1,12 @@
 -- Laws of a fenced coordinator, over every list of calls from a sound state.
 use Rattle.std.specs.Prelude.{◌≡◌, ℕ, ◌+◌, ◌<◌, ◌≤◌, Bool, true, false, nat_le, List, [], ◌∷◌, ◌↔◌, ◌⊎◌, ⊤}
-use Rattle.ckpt_ids.specs.Ascending.{IsAscendingSet}
-use Rattle.ckpt_ids.specs.Counting.{one_if, times}
-use Rattle.ckpt_ids.specs.Ordered.{IsIn}
-use Rattle.ckpt_ids.specs.Records.{uses, is_present}
+use Rattle.ckpt_ids.specs.{Ascending.IsAscendingSet, Counting.one_if, Counting.times, Ordered.IsIn, Records.uses, Records.is_present}
 use Rattle.ckpt_model.specs.State.{IsUnused, Opening, opened, is_known}
-use Rattle.ckpt_model.specs.Refusals.{is_cancelled}
-use Rattle.ckpt_model.specs.Histories.{replay}
-use Rattle.ckpt_model.specs.Soundness.{IsSound, IsCall}
+use Rattle.ckpt_model.specs.{Refusals.is_cancelled, Histories.replay, Soundness.IsSound, Soundness.IsCall}
 use Rattle.ckpt_model.specs.Laws.{AreCalls, CanOpen, NoneAgain, Part, ack_of, along, given_as, handed_by, is_ack_taken, registered_by}
-use Rattle.ckpt_terms.specs.declared.call.TheConstants.{LAST_TERM, NAMES_END}
-use Rattle.ckpt_terms.specs.declared.call.FencedCall.{FencedCall}
+use Rattle.ckpt_terms.specs.{declared.call.TheConstants.LAST_TERM, declared.call.TheConstants.NAMES_END, declared.call.FencedCall.FencedCall}
+use Rattle.ckpt_terms.specs.{declared.call.FencedRefusal.TheVariants.OldTerm, declared.call.FencedAnswer.FencedAnswer}
 use Rattle.ckpt_terms.specs.declared.call.FencedCall.TheVariants.{Reserve, Forfeit, Make, Advance}
-use Rattle.ckpt_terms.specs.declared.call.FencedRefusal.TheVariants.{OldTerm}
-use Rattle.ckpt_terms.specs.declared.call.FencedAnswer.{FencedAnswer}
 use Rattle.ckpt_terms.specs.declared.call.FencedAnswer.TheVariants as answer
 use Rattle.ckpt_terms.specs.Fencing.{Fenced, fenced, fenced_step, fenced_replay, core_calls, is_of_task, has_ended, is_garbage, may_be_deleted}
 

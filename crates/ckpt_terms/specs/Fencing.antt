@@ -1,20 +1,15 @@
 -- A coordinator whose tasks reserve the names of their files, in a term that each restart ends.
 use Rattle.std.specs.Prelude.{ℕ, ◌+◌, max, Bool, true, false, not, ◌&&◌, ◌||◌, nat_lt, nat_le, ◌==◌, List, [], ◌∷◌, ◌++◌, filter, find, if◌then◌else◌, Option, Some, None}
 use Rattle.std.specs.List.{list_any, range_with_len}
-use Rattle.ckpt_ids.specs.declared.call.Call.{Call}
+use Rattle.ckpt_ids.specs.{declared.call.Call.Call, declared.reply.Answer.Answer, declared.reply.Answer.TheVariants.Done, declared.reply.Answer.TheVariants.Refused}
 use Rattle.ckpt_ids.specs.declared.call.Call.TheVariants.{Ack, Decline, Restore, Cancel}
 use Rattle.ckpt_ids.specs.declared.call.Target.TheVariants as target
-use Rattle.ckpt_ids.specs.declared.reply.Answer.{Answer}
-use Rattle.ckpt_ids.specs.declared.reply.Answer.TheVariants.{Done, Refused}
 use Rattle.ckpt_model.specs.State.{State, Opening, opened, in_outbox, is_known}
-use Rattle.ckpt_model.specs.Refusals.{is_cancelled}
-use Rattle.ckpt_model.specs.Steps.{Stepped, step}
+use Rattle.ckpt_model.specs.{Refusals.is_cancelled, Steps.Stepped, Steps.step}
 use Rattle.ckpt_terms.specs.declared.call.TheConstants.{LAST_TERM, MOST_NAMES, NAMES_END}
-use Rattle.ckpt_terms.specs.declared.call.FencedCall.{FencedCall}
+use Rattle.ckpt_terms.specs.{declared.call.FencedCall.FencedCall, declared.call.FencedRefusal.FencedRefusal, declared.call.FencedAnswer.FencedAnswer}
 use Rattle.ckpt_terms.specs.declared.call.FencedCall.TheVariants.{Reserve, Forfeit, Make, Advance}
-use Rattle.ckpt_terms.specs.declared.call.FencedRefusal.{FencedRefusal}
 use Rattle.ckpt_terms.specs.declared.call.FencedRefusal.TheVariants.{OldTerm, Ended, BadCount, NamesUsedUp, TermsUsedUp, BadName, Spent, NeverReserved}
-use Rattle.ckpt_terms.specs.declared.call.FencedAnswer.{FencedAnswer}
 use Rattle.ckpt_terms.specs.declared.call.FencedAnswer.TheVariants as answer
 
 pub record Fenced : Type 0 where

@@ -1,17 +1,11 @@
 -- Progress with names: if all that a pending record lacks acknowledge in the term that runs, in any order, it is completed.
 use Rattle.std.specs.Prelude.{◌≡◌, ℕ, true, List, map, Some}
-use Rattle.ckpt_ids.specs.declared.reply.Answer.{Answer}
-use Rattle.ckpt_ids.specs.Ordered.{IsIn}
+use Rattle.ckpt_ids.specs.{declared.reply.Answer.Answer, Ordered.IsIn}
 use Rattle.ckpt_ids.specs.Records.{Record, uses, is_present}
-use Rattle.ckpt_model.specs.Refusals.{pending_of}
-use Rattle.ckpt_model.specs.Histories.{answers}
-use Rattle.ckpt_model.specs.Laws.{Part}
+use Rattle.ckpt_model.specs.{Refusals.pending_of, Histories.answers, Laws.Part}
 use Rattle.ckpt_model.specs.Progress.{AreAllMissing, EndsCompleted, IsWithin, TimedPart, ack_at}
-use Rattle.ckpt_terms.specs.declared.call.FencedCall.{FencedCall}
-use Rattle.ckpt_terms.specs.declared.call.FencedCall.TheVariants.{Make}
+use Rattle.ckpt_terms.specs.{declared.call.FencedCall.FencedCall, declared.call.FencedCall.TheVariants.Make, Fencing.Fenced, TermsImages.fenced_answers}
 use Rattle.ckpt_terms.specs.declared.call.FencedAnswer.TheVariants as answer
-use Rattle.ckpt_terms.specs.Fencing.{Fenced}
-use Rattle.ckpt_terms.specs.TermsImages.{fenced_answers}
 
 -- the running term holds the name of each fresh file, and a live record uses each reused one
 pub record HasNames (m : Fenced) (p : Part) : Type 0 where

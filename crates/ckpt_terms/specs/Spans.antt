@@ -1,10 +1,8 @@
 -- Ranges of names.
 use Rattle.std.specs.Prelude.{◌≡◌, ℕ, ◌+◌, ◌-◌, ◌<◌, ◌≤◌, Bool, ◌&&◌, nat_lt, nat_le, ◌==◌, List, [], ◌∷◌, flat_map, length, if◌then◌else◌, ⊤}
 use Rattle.std.specs.List.{All, HoldsAt, range_with_len}
-use Rattle.ckpt_ids.specs.Ascending.{IsAscendingSet}
-use Rattle.ckpt_ids.specs.Ordered.{IsIn}
-use Rattle.ckpt_terms.specs.declared.names.Span.{Span}
-use Rattle.ckpt_terms.specs.Fencing.{without_all}
+use Rattle.ckpt_ids.specs.{Ascending.IsAscendingSet, Ordered.IsIn}
+use Rattle.ckpt_terms.specs.{declared.names.Span.Span, Fencing.without_all}
 
 -- the names of a range
 abbrev pub row : Span → List ℕ

@@ -3,9 +3,7 @@ use Rattle.std.specs.Prelude.{ℕ, Bool, ◌&&◌, not, nat_lt}
 use Rattle.std.specs.List.{list_all}
 use Rattle.ckpt_ids.specs.Records.{Record}
 use Rattle.ckpt_model.specs.Images.{record_in}
-use Rattle.ckpt_terms.specs.declared.image.TermsImage.{TermsImage}
-use Rattle.ckpt_terms.specs.Fencing.{Fenced, is_unspent}
-use Rattle.ckpt_terms.specs.TermsImages.{fenced_in}
+use Rattle.ckpt_terms.specs.{declared.image.TermsImage.TermsImage, Fencing.Fenced, Fencing.is_unspent, TermsImages.fenced_in}
 
 -- A name that was given out, or that lies below the first one, and that no task holds. It was acknowledged or forfeited, or its
 -- term has ended.

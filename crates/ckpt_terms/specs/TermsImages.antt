@@ -1,14 +1,10 @@
 -- What an image has of a fenced state: everything but the order in which files were fetched, which no call returns.
 use Rattle.std.specs.Prelude.{◌≡◌, List, [], ◌∷◌, ◌++◌}
 use Rattle.ckpt_model.specs.Images.{CanHold, settled, state_in}
-use Rattle.ckpt_terms.specs.declared.call.FencedCall.{FencedCall}
-use Rattle.ckpt_terms.specs.declared.call.FencedAnswer.{FencedAnswer}
-use Rattle.ckpt_terms.specs.declared.image.TermsImage.{TermsImage}
-use Rattle.ckpt_terms.specs.declared.machine.Machine.{Machine}
+use Rattle.ckpt_terms.specs.{declared.call.FencedCall.FencedCall, declared.call.FencedAnswer.FencedAnswer, declared.image.TermsImage.TermsImage, declared.machine.Machine.Machine}
+use Rattle.ckpt_terms.specs.{FencedLaws.IsFenced, Spans.AreRanges, Spans.names_of}
 use Rattle.ckpt_terms.specs.declared.machine.Machine.TheVariants as machine
 use Rattle.ckpt_terms.specs.Fencing.{Fenced, FencedStepped, fenced_step, fenced_replay}
-use Rattle.ckpt_terms.specs.FencedLaws.{IsFenced}
-use Rattle.ckpt_terms.specs.Spans.{AreRanges, names_of}
 
 -- the answers to a list of calls
 abbrev pub fenced_answers : Fenced → List FencedCall → List FencedAnswer

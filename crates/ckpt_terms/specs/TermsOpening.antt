@@ -1,8 +1,6 @@
 -- When a fenced coordinator cannot be opened.
 use Rattle.std.specs.Prelude.{ℕ, ◌||◌, ◌==◌, nat_lt, if◌then◌else◌, Option, Some}
-use Rattle.ckpt_model.specs.declared.faults.OpenFault.{OpenFault}
-use Rattle.ckpt_model.specs.declared.faults.OpenFault.TheVariants.{BadFirst}
-use Rattle.ckpt_model.specs.Opening.{open_fault}
+use Rattle.ckpt_model.specs.{declared.faults.OpenFault.OpenFault, declared.faults.OpenFault.TheVariants.BadFirst, Opening.open_fault}
 use Rattle.ckpt_terms.specs.declared.call.TheConstants.{NAMES_END}
 
 -- the first name is none that a file can have, or the coordinator cannot be opened

@@ -1,9 +1,8 @@
 -- The calls that may run out of memory. All others, and each call that the layer or the coordinator refuses, take no memory.
 use Rattle.std.specs.Prelude.{Bool, true, false, is_none, ◌&&◌}
 use Rattle.ckpt_model.specs.Memory.{may_want_memory}
-use Rattle.ckpt_terms.specs.declared.call.FencedCall.{FencedCall}
+use Rattle.ckpt_terms.specs.{declared.call.FencedCall.FencedCall, Fencing.Fenced, Fencing.fence}
 use Rattle.ckpt_terms.specs.declared.call.FencedCall.TheVariants.{Reserve, Forfeit, Make, Advance}
-use Rattle.ckpt_terms.specs.Fencing.{Fenced, fence}
 
 -- a reservation, and what may run out of memory in the coordinator: by its own definition no call that it refuses
 abbrev pub takes_memory : Fenced → FencedCall → Bool

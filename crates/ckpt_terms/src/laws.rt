@@ -2,17 +2,14 @@
 
 ghost use Rattle.std.specs.Prelude.{◌≡◌, ℕ, List, Some, None};
 ghost use Rattle.ckpt_ids.specs.Records.{Record};
-ghost use Rattle.ckpt_model.specs.Progress.{TimedPart};
-ghost use Rattle.ckpt_model.specs.Soundness.{IsSound};
+ghost use Rattle.ckpt_model.specs.{Progress.TimedPart, Soundness.IsSound};
 ghost use Rattle.ckpt_model.specs.State.{State, Opening, opened};
-ghost use Rattle.ckpt_terms.specs.declared.call.FencedCall.{FencedCall};
+ghost use Rattle.ckpt_terms.specs.{declared.call.FencedCall.FencedCall, Advancing.AdvancesAll, NamedProgress.CompletesInTerm};
 ghost use Rattle.ckpt_terms.specs.declared.machine.Machine.TheVariants as machine;
-ghost use Rattle.ckpt_terms.specs.Advancing.{AdvancesAll};
 ghost use Rattle.ckpt_terms.specs.Fencing.{Fenced, fenced, fenced_replay};
 ghost use Rattle.ckpt_terms.specs.FencedLaws.{CanFence, AreFencedCalls, IsFenced, IsFencedCall, Classified, GarbageForGood, OneTerm};
 ghost use Rattle.ckpt_terms.specs.FencedLaws.{DeletionsAreSafe, IssuesOnce, IssuedOnce, ZombiesAreFenced, SweepIsExact, CancelledIsSwept};
 ghost use Rattle.ckpt_terms.specs.Machines.{fence_fault, fenced_of, first_names, machine_of};
-ghost use Rattle.ckpt_terms.specs.NamedProgress.{CompletesInTerm};
 ghost use Rattle.ckpt_terms.specs.TermsImages.{AreFencedAlike, CanHoldFenced, FencedGoesOnAs, IsFencedCut, fenced_settled};
 
 /// What always holds for a fenced coordinator holds of an opening with names, where a plain one gets

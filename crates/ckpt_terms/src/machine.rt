@@ -3,12 +3,10 @@
 ghost use Rattle.std.specs.Prelude.{◌≡◌, ◌≢◌, true, Some, None, Err, IfOk, IfSome, OnOk, OnErr};
 ghost use Rattle.std.specs.Result.{result_err};
 ghost use Rattle.ckpt_memory.specs.Refusals.{one_more};
-ghost use Rattle.ckpt_model.specs.Memory.{may_want_memory};
-ghost use Rattle.ckpt_model.specs.Steps.{step};
-ghost use Rattle.ckpt_terms.specs.Fencing.{Fenced};
+ghost use Rattle.ckpt_model.specs.{Memory.may_want_memory, Steps.step};
+ghost use Rattle.ckpt_terms.specs.{Fencing.Fenced, FencedLaws.IsFenced};
 ghost use Rattle.ckpt_terms.specs.declared.machine.FenceFault.TheVariants as fault;
 ghost use Rattle.ckpt_terms.specs.declared.machine.Machine.TheVariants as machine;
-ghost use Rattle.ckpt_terms.specs.FencedLaws.{IsFenced};
 ghost use Rattle.ckpt_terms.specs.Machines.{IsFirstName, MakesStep, core_in, fence_fault, fenced_of, first_names, is_free, machine_of, machine_step, names_in, passes};
 
 use crate::call::{FencedAnswer, NAMES_END};

@@ -6,10 +6,7 @@ ghost use Rattle.ckpt_memory.specs.Refusals.{one_more};
 ghost use Rattle.ckpt_model.specs.Soundness.{IsCall};
 ghost use Rattle.ckpt_terms.specs.declared.call.FencedCall.TheVariants.{Reserve, Forfeit, Make, Advance};
 ghost use Rattle.ckpt_terms.specs.Fencing.{fence, fenced, fenced_step, fresh_of, is_garbage, is_unspent, not_held, not_reserved};
-ghost use Rattle.ckpt_terms.specs.FencedLaws.{IsFenced, IsFencedCall};
-ghost use Rattle.ckpt_terms.specs.Spans.{AreRanges, names_of};
-ghost use Rattle.ckpt_terms.specs.TermsOpening.{terms_fault};
-ghost use Rattle.ckpt_terms.specs.Wants.{wants_memory};
+ghost use Rattle.ckpt_terms.specs.{FencedLaws.IsFenced, FencedLaws.IsFencedCall, Spans.AreRanges, Spans.names_of, TermsOpening.terms_fault, Wants.wants_memory};
 
 use crate::call::{FencedAnswer, FencedCall, FencedRefusal, LAST_TERM, MOST_NAMES, NAMES_END};
 use crate::names::{Names, Span};
@@ -45,8 +42,7 @@ impl Drop for Terms {
 }
 
 impl Model for Terms {
-    ghost use Rattle.ckpt_terms.specs.Fencing.{Fenced};
-    ghost use Rattle.ckpt_terms.specs.FencedLaws.{IsFenced};
+    ghost use Rattle.ckpt_terms.specs.{Fencing.Fenced, FencedLaws.IsFenced};
 
     ghost Value = { Fenced };
 

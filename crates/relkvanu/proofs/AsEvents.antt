@@ -1,8 +1,8 @@
 -- A call that was made through a handle is one event, that of its line.
-use Rattle.relkvanu.proofs.Names.{◌≡◌, ℕ, Bool, true, false, ◌||◌, ltb, eqb, length, refl, sym, ap, ◌∙◌, Option, is_none, if◌then◌else◌, cond_both, Call, Tick, Savepoint, Ack, Decline}
-use Rattle.relkvanu.proofs.Names.{Dispose, Restore, Cancel, Take, Deleted, Undeleted, Show, Count, Trigger, Configure, State, Stepped, step, FencedCall, Reserve, Forfeit, Make, Advance}
-use Rattle.relkvanu.proofs.Names.{Machine, MakesStep, Issued, core_in, is_free, machine_of, machine_step, names_in, passes_on, Named, Plain, show_stays, Answer, Asked, files_in, call_step}
-use Rattle.relkvanu.proofs.Names.{term_step, IsEventOf, asked_event, asked_step, call_made, core_step, line_call_step, named_step, plain_step, answer_told, too_short}
+use Rattle.relkvanu.proofs.Imports.{◌≡◌, ℕ, Bool, true, false, ◌||◌, ltb, eqb, length, refl, sym, ap, ◌∙◌, Option, is_none, if◌then◌else◌, cond_both, Call, Tick, Savepoint, Ack, Decline}
+use Rattle.relkvanu.proofs.Imports.{Dispose, Restore, Cancel, Take, Deleted, Undeleted, Show, Count, Trigger, Configure, State, Stepped, step, FencedCall, Reserve, Forfeit, Make, Advance}
+use Rattle.relkvanu.proofs.Imports.{Machine, MakesStep, Issued, core_in, is_free, machine_of, machine_step, names_in, passes_on, Named, Plain, show_stays, Answer, Asked, files_in, call_step}
+use Rattle.relkvanu.proofs.Imports.{term_step, IsEventOf, asked_event, asked_step, call_made, core_step, line_call_step, named_step, plain_step, answer_told, too_short}
 use Rattle.ckpt_terms.specs.declared.machine.Machine.TheVariants as machine
 use Rattle.ckpt_logged.proofs.Shows.{whole}
 use Rattle.relkvanu.specs.declared.asked.Asked.TheVariants as ask

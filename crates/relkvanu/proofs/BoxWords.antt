@@ -1,7 +1,7 @@
 -- The machine value of a box that was taken apart, and what it owns. Assumes `Logic`.
-use Rattle.relkvanu.proofs.Names.{◌≡◌, ℕ, List, [], ◌∷◌, ◌++◌, refl, subst, T, Ura, impl, tnil, dnil, Val, vptr, vstruct, vcons, vnil, of_list, has_ty, WT, never, fst∗, Logic, sem, Item}
-use Rattle.relkvanu.proofs.Names.{Goal, Seq, Step, ‵, ◌$◌, move, fsplit, fjoin, fpick, fpack, feq_i, feq_l, RattleType, Valss, RawPtr, lone, Ptr, block_ptr, null_ptr, ptr_val, in_a_block}
-use Rattle.relkvanu.proofs.Names.{nothing, layout, Laws, within, shape, Ghosts, Al, handle_tells, Good, box_owns, and_tt}
+use Rattle.relkvanu.proofs.Imports.{◌≡◌, ℕ, List, [], ◌∷◌, ◌++◌, refl, subst, T, Ura, impl, tnil, dnil, Val, vptr, vstruct, vcons, vnil, of_list, has_ty, WT, never, fst∗, Logic, sem, Item}
+use Rattle.relkvanu.proofs.Imports.{Goal, Seq, Step, ‵, ◌$◌, move, fsplit, fjoin, fpick, fpack, feq_i, feq_l, RattleType, Valss, RawPtr, lone, Ptr, block_ptr, null_ptr, ptr_val, in_a_block}
+use Rattle.relkvanu.proofs.Imports.{nothing, layout, Laws, within, shape, Ghosts, Al, handle_tells, Good, box_owns, and_tt}
 use mathlib.Core.Bool.{◌&&◌, true}
 use mir.Raw.{raw as bare}
 use types.Kit.{step, drop}

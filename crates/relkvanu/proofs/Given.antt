@@ -1,5 +1,5 @@
 -- The answer of a take.
-use Rattle.relkvanu.proofs.Names.{◌≡◌, refl, sym, ap, ◌∙◌, subst, arith, ◌≤◌, ℕ, min, Option, None, length, length-take, refusal, State, step, effect, take_files, unless_refused, files_in}
+use Rattle.relkvanu.proofs.Imports.{◌≡◌, refl, sym, ap, ◌∙◌, subst, arith, ◌≤◌, ℕ, min, Option, None, length, length-take, refusal, State, step, effect, take_files, unless_refused, files_in}
 use Rattle.ckpt_ids.specs.declared.reply.Refusal.{Refusal as Why}
 use Rattle.ckpt_ids.specs.declared.call.Call.TheVariants as call
 

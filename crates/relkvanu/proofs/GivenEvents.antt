@@ -1,9 +1,9 @@
 -- What fields and lists ask for is an event: a call that can be made, or a first name.
-use Rattle.relkvanu.proofs.Names.{◌≡◌, ℕ, zero, suc, Bool, true, ◌&&◌, eqb, List, [], ◌∷◌, length, sum, subst, ⊤, get_or, nat_le, ◌==◌, Option, Some, None, Result, Ok, Err, if◌then◌else◌}
-use Rattle.relkvanu.proofs.Names.{list_all, and_parts, cond_both, leb-true, AllPass-from_list_all, Configuration, IsWithinLimits, configured, is_within_limits, ascending, IsShape, is_shape}
-use Rattle.relkvanu.proofs.Names.{Call, LEAST_INTERVAL, LONGEST_DURATION, MOST_AT_ONCE, MOST_RETAINED, MOST_SUBTASKS, MOST_TOLERABLE, MOST_VERTICES, Event, IsEvent, Named, Plain, IsCall}
-use Rattle.relkvanu.proofs.Names.{is_free, Reserve, Forfeit, Make, Advance, restore_of, asked_event, bad_shape, bad_kind, call_given, configuration_in, configuring, given, kinds, restore_in}
-use Rattle.relkvanu.proofs.Names.{with_term, Asked, CallFields}
+use Rattle.relkvanu.proofs.Imports.{◌≡◌, ℕ, zero, suc, Bool, true, ◌&&◌, eqb, List, [], ◌∷◌, length, sum, subst, ⊤, get_or, nat_le, ◌==◌, Option, Some, None, Result, Ok, Err, if◌then◌else◌}
+use Rattle.relkvanu.proofs.Imports.{list_all, and_parts, cond_both, leb-true, AllPass-from_list_all, Configuration, IsWithinLimits, configured, is_within_limits, ascending, IsShape, is_shape}
+use Rattle.relkvanu.proofs.Imports.{Call, LEAST_INTERVAL, LONGEST_DURATION, MOST_AT_ONCE, MOST_RETAINED, MOST_SUBTASKS, MOST_TOLERABLE, MOST_VERTICES, Event, IsEvent, Named, Plain, IsCall}
+use Rattle.relkvanu.proofs.Imports.{is_free, Reserve, Forfeit, Make, Advance, restore_of, asked_event, bad_shape, bad_kind, call_given, configuration_in, configuring, given, kinds, restore_in}
+use Rattle.relkvanu.proofs.Imports.{with_term, Asked, CallFields}
 use Rattle.relkvanu.specs.declared.asked.Asked.TheVariants as ask
 
 -- ---- tests that pass say what they test

@@ -1,9 +1,9 @@
 -- What a call through a group is among the operations of a program: a question, a look, or nothing.
-use Rattle.relkvanu.proofs.Names.{◌≡◌, ◌≢◌, ℕ, Bool, true, false, ◌||◌, ltb, eqb, List, length, set, refl, sym, ap, ◌∙◌, subst, ◌==◌, if◌then◌else◌, Some, Result, Ok, Err, cond_both, eq-eqb}
-use Rattle.relkvanu.proofs.Names.{eqb-true, true≢false, Committed, Looked, Made, lives, LONGEST_LINE, Event, IsEvent, event_step, core_in, machine_of, names_in, Machine, bad_line, IsHandled}
-use Rattle.relkvanu.proofs.Names.{machine_in, Asks, AsksByLine, Does, Has, IsLeftBy, Looks, LooksAtCall, Program, Syncs, IsRoom, all_told, asked_event, group_with, held_with, one_more}
-use Rattle.relkvanu.proofs.Names.{receipt_of, tells, why_full, asked_step, said_step, to_make, bad_argument, done, no_memory, too_short_for, SaysBack, asked_text, Answer, Asked, Group}
-use Rattle.relkvanu.proofs.Names.{Handle}
+use Rattle.relkvanu.proofs.Imports.{◌≡◌, ◌≢◌, ℕ, Bool, true, false, ◌||◌, ltb, eqb, List, length, set, refl, sym, ap, ◌∙◌, subst, ◌==◌, if◌then◌else◌, Some, Result, Ok, Err, cond_both, eq-eqb}
+use Rattle.relkvanu.proofs.Imports.{eqb-true, true≢false, Committed, Looked, Made, lives, LONGEST_LINE, Event, IsEvent, event_step, core_in, machine_of, names_in, Machine, bad_line, IsHandled}
+use Rattle.relkvanu.proofs.Imports.{machine_in, Asks, AsksByLine, Does, Has, IsLeftBy, Looks, LooksAtCall, Program, Syncs, IsRoom, all_told, asked_event, group_with, held_with, one_more}
+use Rattle.relkvanu.proofs.Imports.{receipt_of, tells, why_full, asked_step, said_step, to_make, bad_argument, done, no_memory, too_short_for, SaysBack, asked_text, Answer, Asked, Group}
+use Rattle.relkvanu.proofs.Imports.{Handle}
 use Rattle.relkvanu.proofs.AsEvents.{asked_is}
 use Rattle.ckpt_logged.proofs.Shows.{whole}
 

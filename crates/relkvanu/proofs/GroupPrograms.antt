@@ -1,9 +1,9 @@
 -- What a program does with a handle and a group is a list of turns, and it tells what is synced.
-use Rattle.relkvanu.proofs.Names.{◌≡◌, ℕ, zero, suc, ◌+◌, ◌-◌, ◌<◌, ◌≤◌, true, false, leb, ltb, List, [], ◌∷◌, ◌++◌, map, set, take, length, refl, sym, ap, ◌∙◌, subst, append_assoc}
-use Rattle.relkvanu.proofs.Names.{append-nil, length-append, arith, Some, slice_get, and_parts, leb-true, ltb-true, take_more_set, AreTurns, Life, Receipt, Made, Looked, Committed, Imaged}
-use Rattle.relkvanu.proofs.Names.{Crashed, Turn, World, goes_on, happens, lives, started, world, Machine, Answer, Group, IsRoom, all_told, bad_receipt, fresh, is_told, one_more, told_by}
-use Rattle.relkvanu.proofs.Names.{AreAsked, Notes, Operation, Asks, Looks, Syncs, Images, Ends, Performed, Performs, Program, TellsItsOwn, TellsWhatIsSynced, noted, one_noted, program}
-use Rattle.relkvanu.proofs.Names.{receipts, bad_argument}
+use Rattle.relkvanu.proofs.Imports.{◌≡◌, ℕ, zero, suc, ◌+◌, ◌-◌, ◌<◌, ◌≤◌, true, false, leb, ltb, List, [], ◌∷◌, ◌++◌, map, set, take, length, refl, sym, ap, ◌∙◌, subst, append_assoc}
+use Rattle.relkvanu.proofs.Imports.{append-nil, length-append, arith, Some, slice_get, and_parts, leb-true, ltb-true, take_more_set, AreTurns, Life, Receipt, Made, Looked, Committed, Imaged}
+use Rattle.relkvanu.proofs.Imports.{Crashed, Turn, World, goes_on, happens, lives, started, world, Machine, Answer, Group, IsRoom, all_told, bad_receipt, fresh, is_told, one_more, told_by}
+use Rattle.relkvanu.proofs.Imports.{AreAsked, Notes, Operation, Asks, Looks, Syncs, Images, Ends, Performed, Performs, Program, TellsItsOwn, TellsWhatIsSynced, noted, one_noted, program}
+use Rattle.relkvanu.proofs.Imports.{receipts, bad_argument}
 use Rattle.relkvanu.specs.GroupPrograms.{Held, nothing}
 
 abbrev answers : List Held → List Answer

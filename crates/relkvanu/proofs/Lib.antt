@@ -5,8 +5,8 @@ pub mod Given
 pub mod GivenEvents
 pub mod GroupCalls
 pub mod GroupPrograms
+mod Imports
 pub mod InputBytes
-mod Names
 pub mod Openings
 pub mod Saves
 pub mod SayingLemmas

@@ -1,7 +1,7 @@
 -- Each line of an opening is no longer than the three together, and an opening without a fault can be opened, and is sound.
-use Rattle.relkvanu.proofs.Names.{◌≡◌, ℕ, ◌+◌, ◌≤◌, Bool, true, false, eqb, ltb, List, ◌++◌, length, ap, ◌∙◌, subst, arith, ◌||◌, if◌then◌else◌, Option, Some, None, OpenFault, BadFirst}
-use Rattle.relkvanu.proofs.Names.{CanOpen, open_fault, IsSound, Opening, opened, opening_is_sound, in_bounds, NAMES_END, fenced, terms_fault, opening_fenced, config_text, job_text}
-use Rattle.relkvanu.proofs.Names.{start_text, IsWell, newline, opening_text}
+use Rattle.relkvanu.proofs.Imports.{◌≡◌, ℕ, ◌+◌, ◌≤◌, Bool, true, false, eqb, ltb, List, ◌++◌, length, ap, ◌∙◌, subst, arith, ◌||◌, if◌then◌else◌, Option, Some, None, OpenFault, BadFirst}
+use Rattle.relkvanu.proofs.Imports.{CanOpen, open_fault, IsSound, Opening, opened, opening_is_sound, in_bounds, NAMES_END, fenced, terms_fault, opening_fenced, config_text, job_text}
+use Rattle.relkvanu.proofs.Imports.{start_text, IsWell, newline, opening_text}
 use Rattle.std.proofs.lemmas.List.{length-append}
 use Rattle.ckpt_terms.specs.declared.machine.Machine.TheVariants as machine
 

@@ -1,7 +1,7 @@
 -- What a save writes is the text of an image, and opens a handle with what was saved.
-use Rattle.relkvanu.proofs.Names.{◌≡◌, ℕ, List, refl, sym, ap, ◌∙◌, subst, Some, None, take, IsUtf8, CanHold, settled, state_in, State, image_read, Fenced, Saved, named_in, saved_read}
-use Rattle.relkvanu.proofs.Names.{plain_text_back, TermsImage, Span, issued_by, ranges_of, CanOpenFenced, fenced_in, fenced_settled, IsWell, Answer, CanBeOpened, OpensAgain, Tells}
-use Rattle.relkvanu.proofs.Names.{fenced_from, image_by, image_with, opened_with}
+use Rattle.relkvanu.proofs.Imports.{◌≡◌, ℕ, List, refl, sym, ap, ◌∙◌, subst, Some, None, take, IsUtf8, CanHold, settled, state_in, State, image_read, Fenced, Saved, named_in, saved_read}
+use Rattle.relkvanu.proofs.Imports.{plain_text_back, TermsImage, Span, issued_by, ranges_of, CanOpenFenced, fenced_in, fenced_settled, IsWell, Answer, CanBeOpened, OpensAgain, Tells}
+use Rattle.relkvanu.proofs.Imports.{fenced_from, image_by, image_with, opened_with}
 use Rattle.ckpt_names_image.specs.Named.{Named, Plain}
 use Rattle.ckpt_terms.specs.declared.machine.Machine.TheVariants as machine
 use Rattle.ckpt_terms.specs.Fencing as fencing

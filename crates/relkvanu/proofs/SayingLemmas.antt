@@ -1,9 +1,9 @@
 -- The fields and the lists of what is asked for give it, and the line that is written for it asks for it.
-use Rattle.relkvanu.proofs.Names.{◌≡◌, ℕ, Bool, true, false, List, [], ◌∷◌, Ok, refl, sym, ap, ◌∙◌, ◌==◌, nat_le, Option, Some, None, Result, cond-false, from_bool, IsAscending, ascending}
-use Rattle.relkvanu.proofs.Names.{Configuration, IsWithinLimits, IsShape, is_shape, Call, Target, SubtaskId, ascending_already, limits_hold, shape_holds, is_new_shape, parallelisms, Reserve}
-use Rattle.relkvanu.proofs.Names.{Forfeit, Make, Advance, Answer, Asked, CallFields, asked_by, said, shape_of, target_of, CallHasLists, HasLists, call_fields, call_first, call_has_no_fields}
-use Rattle.relkvanu.proofs.Names.{call_second, fields_of, first_of, has_no_fields, second_of, settings_of, target_number, ReadsBack, SaysBack, call_given, configuration_in, configuring}
-use Rattle.relkvanu.proofs.Names.{given, line_of_asked}
+use Rattle.relkvanu.proofs.Imports.{◌≡◌, ℕ, Bool, true, false, List, [], ◌∷◌, Ok, refl, sym, ap, ◌∙◌, ◌==◌, nat_le, Option, Some, None, Result, cond-false, from_bool, IsAscending, ascending}
+use Rattle.relkvanu.proofs.Imports.{Configuration, IsWithinLimits, IsShape, is_shape, Call, Target, SubtaskId, ascending_already, limits_hold, shape_holds, is_new_shape, parallelisms, Reserve}
+use Rattle.relkvanu.proofs.Imports.{Forfeit, Make, Advance, Answer, Asked, CallFields, asked_by, said, shape_of, target_of, CallHasLists, HasLists, call_fields, call_first, call_has_no_fields}
+use Rattle.relkvanu.proofs.Imports.{call_second, fields_of, first_of, has_no_fields, second_of, settings_of, target_number, ReadsBack, SaysBack, call_given, configuration_in, configuring}
+use Rattle.relkvanu.proofs.Imports.{given, line_of_asked}
 use Rattle.ckpt_ids.specs.declared.call.Call.TheVariants as call
 use Rattle.ckpt_ids.specs.declared.call.Target.TheVariants as target
 use Rattle.relkvanu.specs.declared.asked.Asked.TheVariants as ask

@@ -1,7 +1,7 @@
 -- A take of no file leaves the coordinator as it was.
-use Rattle.relkvanu.proofs.Names.{◌≡◌, ℕ, zero, suc, not, eqb, List, [], ◌++◌, take, refl, sym, ap, ◌∙◌, append-nil, Option, Some, None, drop, list_any, Take, Done, Refused, Refusal}
-use Rattle.relkvanu.proofs.Names.{filter-all, refusal, State, Stepped, effect, step, take_files, unless_refused, Plain, event_step, Make, Machine, FencedStepped, after_call, core_in}
-use Rattle.relkvanu.proofs.Names.{fenced_step_by, layer}
+use Rattle.relkvanu.proofs.Imports.{◌≡◌, ℕ, zero, suc, not, eqb, List, [], ◌++◌, take, refl, sym, ap, ◌∙◌, append-nil, Option, Some, None, drop, list_any, Take, Done, Refused, Refusal}
+use Rattle.relkvanu.proofs.Imports.{filter-all, refusal, State, Stepped, effect, step, take_files, unless_refused, Plain, event_step, Make, Machine, FencedStepped, after_call, core_in}
+use Rattle.relkvanu.proofs.Imports.{fenced_step_by, layer}
 use Rattle.ckpt_terms.specs.declared.machine.Machine.TheVariants as machine
 use Rattle.ckpt_terms.specs.Fencing.{Fenced}
 

@@ -1,13 +1,13 @@
 -- A call whose answer does not say that it was made leaves the coordinator as it was.
-use Rattle.relkvanu.proofs.Names.{◌≡◌, ◌≢◌, ℕ, ◌+◌, max, Bool, true, false, ◌&&◌, ltb, eqb, List, ◌++◌, refl, sym, ap, ◌∙◌, ◌⊎◌, inl, inr, count_by, unwrap_or, length, Option, Some, None}
-use Rattle.relkvanu.proofs.Names.{cond_both, eqb_tells, SubtaskId, Call, Tick, Savepoint, Ack, Decline, Dispose, Restore, Cancel, Take, Deleted, Undeleted, Show, Count, Trigger, Configure}
-use Rattle.relkvanu.proofs.Names.{Target, Choice, Record, acknowledged, missing, ascending, hold, Hold, Interval, AtOnce, Pause, Go, State, choice_of, is_checkpoint, is_expired, record_of}
-use Rattle.relkvanu.proofs.Names.{released_by, moment_of, pending_of, Stepped, with_records, with_base, replaced, dropped_by, rolled_back, pending_checkpoints, failures_with, fails_the_job}
-use Rattle.relkvanu.proofs.Names.{start_or_hold, after_expiry, failed_over, tick, completed_with, acknowledged_in, ack, decline, decline_pending, dropping, dispose, restore, restarted}
-use Rattle.relkvanu.proofs.Names.{cancel, configure, take_files, show, effect, at_moment, step, step_by, FencedCall, Reserve, Forfeit, Make, Advance, FenceFault, Machine, FencedStepped}
-use Rattle.relkvanu.proofs.Names.{fenced_step, is_accepted, made, restart, core_in, fence_fault, is_free, machine_of, names_in, fenced_step_by, named_from, Answer, Asked, files_in, IsTaken}
-use Rattle.relkvanu.proofs.Names.{call_step, count_of, fence_told, fenced_told, term_step, asked_step, call_made, core_step, line_call_step, named_step, plain_step, answer_told, no_memory}
-use Rattle.relkvanu.proofs.Names.{restore_told, too_short}
+use Rattle.relkvanu.proofs.Imports.{◌≡◌, ◌≢◌, ℕ, ◌+◌, max, Bool, true, false, ◌&&◌, ltb, eqb, List, ◌++◌, refl, sym, ap, ◌∙◌, ◌⊎◌, inl, inr, count_by, unwrap_or, length, Option, Some, None}
+use Rattle.relkvanu.proofs.Imports.{cond_both, eqb_tells, SubtaskId, Call, Tick, Savepoint, Ack, Decline, Dispose, Restore, Cancel, Take, Deleted, Undeleted, Show, Count, Trigger, Configure}
+use Rattle.relkvanu.proofs.Imports.{Target, Choice, Record, acknowledged, missing, ascending, hold, Hold, Interval, AtOnce, Pause, Go, State, choice_of, is_checkpoint, is_expired, record_of}
+use Rattle.relkvanu.proofs.Imports.{released_by, moment_of, pending_of, Stepped, with_records, with_base, replaced, dropped_by, rolled_back, pending_checkpoints, failures_with, fails_the_job}
+use Rattle.relkvanu.proofs.Imports.{start_or_hold, after_expiry, failed_over, tick, completed_with, acknowledged_in, ack, decline, decline_pending, dropping, dispose, restore, restarted}
+use Rattle.relkvanu.proofs.Imports.{cancel, configure, take_files, show, effect, at_moment, step, step_by, FencedCall, Reserve, Forfeit, Make, Advance, FenceFault, Machine, FencedStepped}
+use Rattle.relkvanu.proofs.Imports.{fenced_step, is_accepted, made, restart, core_in, fence_fault, is_free, machine_of, names_in, fenced_step_by, named_from, Answer, Asked, files_in, IsTaken}
+use Rattle.relkvanu.proofs.Imports.{call_step, count_of, fence_told, fenced_told, term_step, asked_step, call_made, core_step, line_call_step, named_step, plain_step, answer_told, no_memory}
+use Rattle.relkvanu.proofs.Imports.{restore_told, too_short}
 use Rattle.ckpt_ids.specs.declared.reply.Choice.TheVariants as choice
 use Rattle.ckpt_model.specs.State.{drop}
 use Rattle.ckpt_terms.specs.declared.machine.Machine.TheVariants as machine

@@ -1,8 +1,8 @@
 -- The machine value of a handle, and what it owns. Assumes `Logic`.
-use Rattle.relkvanu.proofs.Names.{◌≡◌, ℕ, List, [], ◌∷◌, ◌++◌, refl, sym, subst, Ura, Val, vstruct, vcons, vnil, of_list, SProp, ent, id⊢, guard, never, via, fst∗, snd∗, guard_i, Fml, Logic}
-use Rattle.relkvanu.proofs.Names.{sem, Item, Goal, Seq, Step, ‵, ◌$◌, fsplit, fjoin, fpick, fpack, feq_i, feq_l, use1, learn, fact_use, RattleType, Valss, RawPtr, lone, Ptr, block_ptr}
-use Rattle.relkvanu.proofs.Names.{null_ptr, ptr_val, in_a_block, Testable, nothing, within, shape, points_to, ghosts, dealloc_token-Testable, box_owns, State, Issued, Chronicle, IsHeld}
-use Rattle.relkvanu.proofs.Names.{heap, kept}
+use Rattle.relkvanu.proofs.Imports.{◌≡◌, ℕ, List, [], ◌∷◌, ◌++◌, refl, sym, subst, Ura, Val, vstruct, vcons, vnil, of_list, SProp, ent, id⊢, guard, never, via, fst∗, snd∗, guard_i, Fml, Logic}
+use Rattle.relkvanu.proofs.Imports.{sem, Item, Goal, Seq, Step, ‵, ◌$◌, fsplit, fjoin, fpick, fpack, feq_i, feq_l, use1, learn, fact_use, RattleType, Valss, RawPtr, lone, Ptr, block_ptr}
+use Rattle.relkvanu.proofs.Imports.{null_ptr, ptr_val, in_a_block, Testable, nothing, within, shape, points_to, ghosts, dealloc_token-Testable, box_owns, State, Issued, Chronicle, IsHeld}
+use Rattle.relkvanu.proofs.Imports.{heap, kept}
 use mir.Raw.{raw as bare}
 use types.Kit.{step, given, drop}
 use Rattle.std.specs.declared.option.Option.{Option}

@@ -1,15 +1,10 @@
 -- The alignment of a task in plain memory, and what a step is told as.
 use Rattle.std.specs.Prelude.{◌≡◌, ℕ, ◌==◌, List, map, slice_get, Result, Ok, Err, if◌then◌else◌}
-use Rattle.ckpt_align.specs.declared.input.Input.{Input}
+use Rattle.ckpt_align.specs.{declared.input.Input.Input, declared.event.Answer.Answer, declared.event.Refusal.Refusal, Alignment.Alignment, Steps.Stepped, Steps.if_open}
 use Rattle.ckpt_align.specs.declared.input.Input.TheVariants.{Open, Held, Ended}
-use Rattle.ckpt_align.specs.declared.event.Answer.{Answer}
 use Rattle.ckpt_align.specs.declared.event.Answer.TheVariants.{Process, Hold, Nothing, Wait, Late, Cut, Abandon}
-use Rattle.ckpt_align.specs.declared.event.Refusal.{Refusal}
 use Rattle.ckpt_align.specs.declared.event.Refusal.TheVariants.{UnknownInput, HeldInput, EndedInput}
-use Rattle.ckpt_align.specs.Alignment.{Alignment}
-use Rattle.ckpt_align.specs.Steps.{Stepped, if_open}
-use Rattle.relkvanu.specs.declared.aligning.Aligner.{Aligner}
-use Rattle.relkvanu.specs.declared.aligning.Step.{Step}
+use Rattle.relkvanu.specs.{declared.aligning.Aligner.Aligner, declared.aligning.Step.Step}
 
 -- how an input is, by its byte
 abbrev pub input_of : ℕ → Input

@@ -1,15 +1,10 @@
 -- What a line of a log asks of a handle, or the answer if it asks for nothing.
 use Rattle.std.specs.Prelude.{ℕ, List, Result, Ok, Err}
-use Rattle.ckpt_lines.specs.declared.fault.LineFault.{LineFault}
+use Rattle.ckpt_lines.specs.{declared.fault.LineFault.LineFault, declared.line.Line.Line, declared.line.Line.TheVariants.Skip, declared.line.Line.TheVariants.BadShape}
 use Rattle.ckpt_lines.specs.declared.fault.LineFault.TheVariants as fault
-use Rattle.ckpt_lines.specs.declared.line.Line.{Line}
-use Rattle.ckpt_lines.specs.declared.line.Line.TheVariants.{Skip, BadShape}
-use Rattle.ckpt_term_lines.specs.declared.line.TermLine.{TermLine}
+use Rattle.ckpt_term_lines.specs.{declared.line.TermLine.TermLine, TermReading.term_reading}
 use Rattle.ckpt_term_lines.specs.declared.line.TermLine.TheVariants as line
-use Rattle.ckpt_term_lines.specs.TermReading.{term_reading}
-use Rattle.relkvanu.specs.declared.answer.Answer.{Answer}
-use Rattle.relkvanu.specs.declared.asked.Asked.{Asked}
-use Rattle.relkvanu.specs.declared.asked.Asked.TheVariants.{Fence, Call}
+use Rattle.relkvanu.specs.{declared.answer.Answer.Answer, declared.asked.Asked.Asked, declared.asked.Asked.TheVariants.Fence, declared.asked.Asked.TheVariants.Call}
 use Rattle.relkvanu.specs.Told.{answer, bad_argument, bad_config, bad_shape, done, out_of_memory}
 
 -- a line that makes no call, and why

@@ -1,12 +1,10 @@
 -- What a call writes into the caller's buffer.
 use Rattle.std.specs.Prelude.{◌≡◌, ◌≢◌, ℕ, nat_lt, if◌then◌else◌, List, [], length, take, drop}
 use Rattle.ckpt_ids.specs.declared.call.Call.TheVariants as call
-use Rattle.ckpt_ids.specs.declared.reply.Reply.{Reply}
-use Rattle.ckpt_ids.specs.declared.reply.Reply.TheVariants.{Taken, Shown}
+use Rattle.ckpt_ids.specs.{declared.reply.Reply.Reply, declared.reply.Reply.TheVariants.Taken, declared.reply.Reply.TheVariants.Shown, declared.reply.Answer.TheVariants.Done}
+use Rattle.ckpt_ids.specs.declared.reply.Answer.TheVariants.{Refused}
 use Rattle.ckpt_ids.specs.declared.reply.Answer as ids
-use Rattle.ckpt_ids.specs.declared.reply.Answer.TheVariants.{Done, Refused}
-use Rattle.ckpt_model.specs.State.{State}
-use Rattle.ckpt_model.specs.Steps.{step}
+use Rattle.ckpt_model.specs.{State.State, Steps.step}
 use Rattle.ckpt_answers.specs.MetadataTexts.{metadata_bytes}
 use Rattle.relkvanu.specs.declared.answer.Answer.{Answer}
 use Rattle.relkvanu.specs.Told.{reply_told, refusal_told, done, no_memory, too_short}

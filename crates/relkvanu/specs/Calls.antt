@@ -1,17 +1,10 @@
 -- The state that a call through a handle leaves, and its answer.
 use Rattle.std.specs.Prelude.{◌≡◌, ◌≢◌, ℕ, Bool, true, false, ◌==◌, if◌then◌else◌, List, [], ◌∷◌, Option, Some, None, is_none, Result, Err}
-use Rattle.ckpt_ids.specs.declared.subtask.SubtaskId.{SubtaskId}
-use Rattle.ckpt_ids.specs.declared.call.Call.{Call}
+use Rattle.ckpt_ids.specs.{declared.subtask.SubtaskId.SubtaskId, declared.call.Call.Call, declared.call.Target.Target, declared.call.Target.TheVariants.Latest}
+use Rattle.ckpt_ids.specs.{declared.call.Target.TheVariants.Savepoint, Ascending.ascending, Shapes.is_shape}
 use Rattle.ckpt_ids.specs.declared.call.Call.TheVariants as call
-use Rattle.ckpt_ids.specs.declared.call.Target.{Target}
-use Rattle.ckpt_ids.specs.declared.call.Target.TheVariants.{Latest, Savepoint}
-use Rattle.ckpt_ids.specs.Ascending.{ascending}
-use Rattle.ckpt_ids.specs.Shapes.{is_shape}
-use Rattle.ckpt_model.specs.Memory.{may_want_memory}
-use Rattle.ckpt_model.specs.State.{State}
-use Rattle.ckpt_model.specs.Steps.{step}
-use Rattle.relkvanu.specs.declared.answer.Answer.{Answer}
-use Rattle.relkvanu.specs.declared.handle.Handle.{Handle}
+use Rattle.ckpt_model.specs.{Memory.may_want_memory, State.State, Steps.step}
+use Rattle.relkvanu.specs.{declared.answer.Answer.Answer, declared.handle.Handle.Handle}
 use Rattle.relkvanu.specs.Told.{answer_told, is_closed, bad_argument, no_memory, out_of_memory}
 
 -- a closed handle stays closed, and says so

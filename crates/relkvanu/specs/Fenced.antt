@@ -1,26 +1,18 @@
 -- The answers about terms and names, and what a call does through a handle, whether its tasks reserve names or not.
 use Rattle.std.specs.Prelude.{◌≡◌, ◌≢◌, ℕ, Bool, true, false, ◌||◌, nat_lt, nat_le, filter, if◌then◌else◌, List, length, Option, Some, None}
-use Rattle.ckpt_ids.specs.declared.call.Call.{Call}
-use Rattle.ckpt_ids.specs.declared.subtask.SubtaskId.{SubtaskId}
+use Rattle.ckpt_ids.specs.{declared.call.Call.Call, declared.subtask.SubtaskId.SubtaskId}
 use Rattle.ckpt_model.specs.State.{State}
-use Rattle.ckpt_terms.specs.declared.call.FencedCall.{FencedCall}
+use Rattle.ckpt_terms.specs.{declared.call.FencedCall.FencedCall, declared.call.FencedRefusal.FencedRefusal, declared.call.FencedAnswer.FencedAnswer}
+use Rattle.ckpt_terms.specs.{declared.machine.Machine.Machine, declared.machine.FenceFault.FenceFault, Wants.wants_memory}
 use Rattle.ckpt_terms.specs.declared.call.FencedCall.TheVariants as fencing
-use Rattle.ckpt_terms.specs.declared.call.FencedRefusal.{FencedRefusal}
 use Rattle.ckpt_terms.specs.declared.call.FencedRefusal.TheVariants as why
-use Rattle.ckpt_terms.specs.declared.call.FencedAnswer.{FencedAnswer}
 use Rattle.ckpt_terms.specs.declared.call.FencedAnswer.TheVariants as answered
-use Rattle.ckpt_terms.specs.declared.machine.Machine.{Machine}
 use Rattle.ckpt_terms.specs.declared.machine.Machine.TheVariants as machine
-use Rattle.ckpt_terms.specs.declared.machine.FenceFault.{FenceFault}
 use Rattle.ckpt_terms.specs.declared.machine.FenceFault.TheVariants as fault
 use Rattle.ckpt_terms.specs.Fencing.{FencedStepped, fenced_step, is_garbage}
 use Rattle.ckpt_terms.specs.Machines.{Issued, core_in, fence_fault, fenced_of, machine_of, machine_step, names_in}
-use Rattle.ckpt_terms.specs.Wants.{wants_memory}
 use Rattle.ckpt_logged.specs.Events.{named_from}
-use Rattle.relkvanu.specs.declared.answer.Answer.{Answer}
-use Rattle.relkvanu.specs.declared.handle.Handle.{Handle}
-use Rattle.relkvanu.specs.Buffers.{StandsInFront}
-use Rattle.relkvanu.specs.Calls.{ack_of}
+use Rattle.relkvanu.specs.{declared.answer.Answer.Answer, declared.handle.Handle.Handle, Buffers.StandsInFront, Calls.ack_of}
 use Rattle.relkvanu.specs.Told.{answer, answer_told, bad_argument, done, no_memory, out_of_memory, too_short_for}
 
 -- the code of a call that a term or the names refuse

@@ -2,16 +2,10 @@
 use Rattle.std.specs.Prelude.{◌≡◌, ℕ, ◌+◌, true, false, List, [], ◌∷◌, ◌++◌, length, map, set, Some, Result, Ok, ⊤}
 use Rattle.ckpt_durable.specs.Groups.{AreTurns, Life, Receipt, Made, Looked, Committed, Imaged, Crashed, Turn, lives, started, world}
 use Rattle.ckpt_logged.specs.Events.{Event, IsEvent, event_step}
-use Rattle.ckpt_terms.specs.Machines.{core_in, names_in}
-use Rattle.ckpt_terms.specs.declared.machine.Machine.{Machine}
-use Rattle.relkvanu.specs.declared.answer.Answer.{Answer}
-use Rattle.relkvanu.specs.declared.asked.Asked.{Asked}
-use Rattle.relkvanu.specs.declared.group.Group.{Group}
-use Rattle.relkvanu.specs.declared.handle.Handle.{Handle}
-use Rattle.relkvanu.specs.Asking.{said}
+use Rattle.ckpt_terms.specs.{Machines.core_in, Machines.names_in, declared.machine.Machine.Machine}
+use Rattle.relkvanu.specs.{declared.answer.Answer.Answer, declared.asked.Asked.Asked, declared.group.Group.Group, declared.handle.Handle.Handle, Asking.said, Lines.asked_step}
+use Rattle.relkvanu.specs.{Lines.said_step, Told.bad_argument}
 use Rattle.relkvanu.specs.Groups.{IsRoom, all_told, asked_event, bad_receipt, fresh, is_told, one_more, told_by}
-use Rattle.relkvanu.specs.Lines.{asked_step, said_step}
-use Rattle.relkvanu.specs.Told.{bad_argument}
 
 -- Asks: something was made, its entry is appended, and its answer was held: relkvanu_group_make has said so, or relkvanu_group_hold got the
 -- answer of another function.

@@ -1,14 +1,9 @@
 -- What a program with a log of its own keeps beside a handle: answers that may be told once what was made before them is synced.
 use Rattle.std.specs.Prelude.{◌≡◌, ◌<◌, ℕ, ◌+◌, ◌-◌, ◌^◌, nat_le, nat_lt, Bool, true, false, ◌==◌, ◌&&◌, ◌||◌, if◌then◌else◌, List, length, set, slice_get, unwrap_or}
 use Rattle.ckpt_logged.specs.Events.{Event, Fence, Named, Plain, event_step}
-use Rattle.ckpt_terms.specs.declared.call.FencedCall.TheVariants.{Make}
-use Rattle.ckpt_terms.specs.declared.machine.Machine.{Machine}
-use Rattle.ckpt_terms.specs.Machines.{is_free}
-use Rattle.relkvanu.specs.declared.answer.Answer.{Answer}
-use Rattle.relkvanu.specs.declared.asked.Asked.{Asked}
+use Rattle.ckpt_terms.specs.{declared.call.FencedCall.TheVariants.Make, declared.machine.Machine.Machine, Machines.is_free}
+use Rattle.relkvanu.specs.{declared.answer.Answer.Answer, declared.asked.Asked.Asked, declared.group.Group.Group, Told.bad_argument, Told.done}
 use Rattle.relkvanu.specs.declared.asked.Asked.TheVariants as ask
-use Rattle.relkvanu.specs.declared.group.Group.{Group}
-use Rattle.relkvanu.specs.Told.{bad_argument, done}
 
 -- the bad argument of a group that has failed
 abbrev pub bad_group : ℕ

@@ -1,18 +1,15 @@
 -- The text that is saved for a handle's coordinator, and the coordinator that a handle is opened with.
 use Rattle.std.specs.Prelude.{◌≡◌, ◌≢◌, ℕ, nat_lt, if◌then◌else◌, List, length, take, Option, Some, None}
 use Rattle.core.specs.Str.{IsUtf8}
-use Rattle.ckpt_model.specs.Images.{CanHold, settled}
-use Rattle.ckpt_model.specs.State.{State}
+use Rattle.ckpt_model.specs.{Images.CanHold, Images.settled, State.State}
 use Rattle.ckpt_image.specs.Written.{image_bytes}
 use Rattle.ckpt_names_image.specs.Named.{Fenced, Named, Plain, Saved, named_bytes, saved_read}
-use Rattle.ckpt_terms.specs.declared.machine.Machine.{Machine}
+use Rattle.ckpt_terms.specs.{declared.machine.Machine.Machine, TermsImages.CanHoldFenced, TermsImages.fenced_settled}
 use Rattle.ckpt_terms.specs.declared.machine.Machine.TheVariants as machine
 use Rattle.ckpt_terms.specs.Fencing as fencing
 use Rattle.ckpt_terms.specs.Machines.{Issued, core_in, fenced_of, machine_of, names_in}
 use Rattle.ckpt_terms.specs.Spans as spans
-use Rattle.ckpt_terms.specs.TermsImages.{CanHoldFenced, fenced_settled}
-use Rattle.relkvanu.specs.declared.answer.Answer.{Answer}
-use Rattle.relkvanu.specs.Buffers.{StandsInFront}
+use Rattle.relkvanu.specs.{declared.answer.Answer.Answer, Buffers.StandsInFront}
 use Rattle.relkvanu.specs.Told.{bad_argument, bad_image, done, no_memory, too_short}
 
 -- the answer for a text if the buffer has this many places: how many bytes the text has

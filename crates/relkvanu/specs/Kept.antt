@@ -2,16 +2,12 @@
 use mathlib.Core.Path.{◌≡◌}
 use base.Fml.{Fml, ftrue, fex}
 use denote.RawPtr.{Ptr, null_ptr}
-use Rattle.std.specs.Option.{option_and_then, option_map}
-use Rattle.std.specs.declared.option.Option.{Option}
-use Rattle.std.specs.declared.option.Option.TheVariants.{None, Some}
-use Rattle.std.specs.declared.alloc.Global.{Global}
-use Rattle.std.specs.contracts.impls.GlobalAllocator.TheImpl.{ghosts}
+use Rattle.std.specs.{Option.option_and_then, Option.option_map, declared.option.Option.Option, declared.option.Option.TheVariants.None, declared.option.Option.TheVariants.Some}
+use Rattle.std.specs.{declared.alloc.Global.Global, contracts.impls.GlobalAllocator.TheImpl.ghosts}
 use Rattle.std_alloc.specs.Box.Ownership.{box_owns}
 use Rattle.ckpt_model.specs.State.{State}
 use Rattle.ckpt_terms.specs.Machines.{Issued, core_in, names_in}
-use Rattle.ckpt_logged.specs.contracts.logged.Logged.{the_row}
-use Rattle.ckpt_logged.specs.Chronicles.{Chronicle}
+use Rattle.ckpt_logged.specs.{contracts.logged.Logged.the_row, Chronicles.Chronicle}
 
 -- the allocator, of which there is only one value
 abbrev pub heap : Global

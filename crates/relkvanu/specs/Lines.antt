@@ -3,25 +3,15 @@ use Rattle.std.specs.Prelude.{◌≡◌, ◌≢◌, ℕ, Bool, true, false, ◌|
 use Rattle.std.specs.Int.{from_bool}
 use Rattle.ckpt_ids.specs.declared.call.Call.{Call}
 use Rattle.ckpt_ids.specs.declared.call.Call.TheVariants as call
-use Rattle.ckpt_model.specs.Memory.{may_want_memory}
-use Rattle.ckpt_model.specs.State.{State}
-use Rattle.ckpt_model.specs.Steps.{step, Stepped}
-use Rattle.ckpt_lines.specs.declared.fault.LineFault.{LineFault}
-use Rattle.ckpt_lines.specs.declared.line.Line.{Line}
+use Rattle.ckpt_model.specs.{Memory.may_want_memory, State.State, Steps.step, Steps.Stepped}
+use Rattle.ckpt_lines.specs.{declared.fault.LineFault.LineFault, declared.line.Line.Line}
 use Rattle.ckpt_lines.specs.declared.line.Line.TheVariants as line
-use Rattle.ckpt_term_lines.specs.declared.line.TermLine.{TermLine}
-use Rattle.ckpt_term_lines.specs.declared.line.TermLine.TheVariants.{Other}
-use Rattle.ckpt_term_lines.specs.TermReading.{term_may_want_memory}
-use Rattle.ckpt_terms.specs.declared.call.FencedCall.{FencedCall}
-use Rattle.ckpt_terms.specs.declared.call.FencedCall.TheVariants.{Make}
-use Rattle.ckpt_terms.specs.declared.machine.Machine.{Machine}
+use Rattle.ckpt_term_lines.specs.{declared.line.TermLine.TermLine, declared.line.TermLine.TheVariants.Other, TermReading.term_may_want_memory}
+use Rattle.ckpt_terms.specs.{declared.call.FencedCall.FencedCall, declared.call.FencedCall.TheVariants.Make, declared.machine.Machine.Machine}
 use Rattle.ckpt_terms.specs.declared.machine.Machine.TheVariants as machine
 use Rattle.ckpt_terms.specs.Machines.{core_in, is_free, machine_of, names_in, passes}
-use Rattle.relkvanu.specs.declared.answer.Answer.{Answer}
-use Rattle.relkvanu.specs.declared.asked.Asked.{Asked}
+use Rattle.relkvanu.specs.{declared.answer.Answer.Answer, declared.asked.Asked.Asked, declared.handle.Handle.Handle, Asking.line_fault_told, Asking.said}
 use Rattle.relkvanu.specs.declared.asked.Asked.TheVariants as ask
-use Rattle.relkvanu.specs.declared.handle.Handle.{Handle}
-use Rattle.relkvanu.specs.Asking.{line_fault_told, said}
 use Rattle.relkvanu.specs.Buffers.{files_in, show_told, StandsInFront}
 use Rattle.relkvanu.specs.Fenced.{call_step, fence_step, machine_in, no_names, term_step, term_wants}
 use Rattle.relkvanu.specs.Told.{answer_told, done, no_memory, too_short}

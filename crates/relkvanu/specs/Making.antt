@@ -3,18 +3,9 @@ use Rattle.std.specs.Prelude.{◌≡◌, ℕ, nat_lt, if◌then◌else◌, List,
 use Rattle.ckpt_model.specs.State.{State}
 use Rattle.ckpt_lines.specs.declared.limits.TheConstants.{LONGEST_LINE}
 use Rattle.ckpt_terms.specs.declared.machine.Machine.{Machine}
-use Rattle.relkvanu.specs.declared.answer.Answer.{Answer}
-use Rattle.relkvanu.specs.declared.asked.Asked.{Asked}
-use Rattle.relkvanu.specs.declared.handle.Handle.{Handle}
-use Rattle.relkvanu.specs.declared.making.Made.{Made}
-use Rattle.relkvanu.specs.declared.writing.CallFields.{CallFields}
-use Rattle.relkvanu.specs.Asking.{bad_line}
-use Rattle.relkvanu.specs.Buffers.{StandsInFront}
-use Rattle.relkvanu.specs.Fenced.{IsHandled, IsTaken}
-use Rattle.relkvanu.specs.Lines.{said_files, said_step}
-use Rattle.relkvanu.specs.Past.{GrowsBy, said_line}
-use Rattle.relkvanu.specs.Reads.{counts_of}
-use Rattle.relkvanu.specs.Told.{bad_argument, too_short_for}
+use Rattle.relkvanu.specs.{declared.answer.Answer.Answer, declared.asked.Asked.Asked, declared.handle.Handle.Handle, declared.making.Made.Made}
+use Rattle.relkvanu.specs.{declared.writing.CallFields.CallFields, Asking.bad_line, Buffers.StandsInFront, Fenced.IsHandled, Fenced.IsTaken, Lines.said_files, Lines.said_step}
+use Rattle.relkvanu.specs.{Past.GrowsBy, Past.said_line, Reads.counts_of, Told.bad_argument, Told.too_short_for}
 use Rattle.relkvanu.specs.Writing.{asked_text, call_line_text, given}
 
 -- what is asked for, if its text is no longer than a line may be and than a buffer with this many places

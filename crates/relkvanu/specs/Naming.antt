@@ -1,17 +1,11 @@
 -- Why a handle is not opened with names.
 use Rattle.std.specs.Prelude.{◌≡◌, ◌≢◌, ℕ, ◌||◌, ◌==◌, nat_lt, not, if◌then◌else◌, Option, Some, None}
-use Rattle.ckpt_ids.specs.Configuration.{is_within_limits}
-use Rattle.ckpt_ids.specs.Shapes.{is_shape}
+use Rattle.ckpt_ids.specs.{Configuration.is_within_limits, Shapes.is_shape}
 use Rattle.ckpt_model.specs.Opening.{open_fault}
 use Rattle.ckpt_model.specs.State.{State, Opening, opened}
-use Rattle.ckpt_terms.specs.declared.call.TheConstants.{NAMES_END}
-use Rattle.ckpt_terms.specs.declared.machine.Machine.{Machine}
+use Rattle.ckpt_terms.specs.{declared.call.TheConstants.NAMES_END, declared.machine.Machine.Machine, Fencing.fenced, Machines.Issued, Machines.first_names}
 use Rattle.ckpt_terms.specs.declared.machine.Machine.TheVariants as machine
-use Rattle.ckpt_terms.specs.Fencing.{fenced}
-use Rattle.ckpt_terms.specs.Machines.{Issued, first_names}
-use Rattle.relkvanu.specs.declared.answer.Answer.{Answer}
-use Rattle.relkvanu.specs.Fenced.{bad_name}
-use Rattle.relkvanu.specs.Opening.{fault_number}
+use Rattle.relkvanu.specs.{declared.answer.Answer.Answer, Fenced.bad_name, Opening.fault_number}
 use Rattle.relkvanu.specs.Told.{bad_argument, bad_config, bad_shape, done, no_memory}
 
 -- the first argument that is outside its limits

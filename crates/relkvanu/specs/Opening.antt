@@ -1,15 +1,11 @@
 -- Why a handle is not opened.
 use Rattle.std.specs.Prelude.{◌≡◌, ◌≢◌, ℕ, Bool, true, not, if◌then◌else◌, List, Option, Some, None}
-use Rattle.ckpt_ids.specs.declared.call.Call.{Call}
-use Rattle.ckpt_ids.specs.declared.call.Call.TheVariants.{Configure}
+use Rattle.ckpt_ids.specs.{declared.call.Call.Call, declared.call.Call.TheVariants.Configure, Shapes.is_shape}
 use Rattle.ckpt_ids.specs.Configuration.{Configuration, configured, is_within_limits}
-use Rattle.ckpt_ids.specs.Shapes.{is_shape}
-use Rattle.ckpt_model.specs.declared.faults.OpenFault.{OpenFault}
-use Rattle.ckpt_model.specs.declared.faults.OpenFault.TheVariants.{MomentTooLarge, BadFirst}
+use Rattle.ckpt_model.specs.{declared.faults.OpenFault.OpenFault, declared.faults.OpenFault.TheVariants.MomentTooLarge, declared.faults.OpenFault.TheVariants.BadFirst}
 use Rattle.ckpt_model.specs.Opening.{open_fault}
 use Rattle.ckpt_model.specs.State.{State, Opening, opened}
-use Rattle.relkvanu.specs.declared.answer.Answer.{Answer}
-use Rattle.relkvanu.specs.declared.opening.Settings.{Settings}
+use Rattle.relkvanu.specs.{declared.answer.Answer.Answer, declared.opening.Settings.Settings}
 use Rattle.relkvanu.specs.Told.{bad_config, bad_shape, bad_moment, bad_first, bad_argument, already_open, done, no_memory}
 
 abbrev pub configuration_of : Settings → Configuration

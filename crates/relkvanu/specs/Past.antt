@@ -1,29 +1,17 @@
 -- How the past of a handle grows.
 use Rattle.std.specs.Prelude.{◌≡◌, ◌≢◌, ℕ, nat_lt, ◌==◌, if◌then◌else◌, List, length, Option, Some, None, Result, Ok, Err}
 use Rattle.std.specs.Option.{option_map}
-use Rattle.ckpt_ids.specs.declared.call.Call.{Call}
+use Rattle.ckpt_ids.specs.{declared.call.Call.Call, declared.subtask.SubtaskId.SubtaskId}
 use Rattle.ckpt_ids.specs.declared.call.Call.TheVariants as call
-use Rattle.ckpt_ids.specs.declared.subtask.SubtaskId.{SubtaskId}
-use Rattle.ckpt_model.specs.Laws.{CanOpen}
-use Rattle.ckpt_model.specs.State.{Opening, opened}
-use Rattle.ckpt_model.specs.Steps.{step}
-use Rattle.ckpt_terms.specs.declared.call.FencedCall.{FencedCall}
-use Rattle.ckpt_terms.specs.declared.call.FencedCall.TheVariants.{Make}
-use Rattle.ckpt_terms.specs.declared.machine.FenceFault.{FenceFault}
-use Rattle.ckpt_terms.specs.declared.machine.Machine.{Machine}
+use Rattle.ckpt_model.specs.{Laws.CanOpen, State.Opening, State.opened, Steps.step}
+use Rattle.ckpt_terms.specs.{declared.call.FencedCall.FencedCall, declared.call.FencedCall.TheVariants.Make, declared.machine.FenceFault.FenceFault}
+use Rattle.ckpt_terms.specs.{declared.machine.Machine.Machine, Fencing.fenced}
 use Rattle.ckpt_terms.specs.declared.machine.Machine.TheVariants as machine
-use Rattle.ckpt_terms.specs.Fencing.{fenced}
 use Rattle.ckpt_terms.specs.Machines.{core_in, fence_fault, is_free}
 use Rattle.ckpt_logged.specs.Chronicles.{Chronicle, begun, grown, told}
-use Rattle.ckpt_logged.specs.Events.{Fence, Plain}
-use Rattle.ckpt_logged.specs.Promises.{Promises}
-use Rattle.relkvanu.specs.declared.answer.Answer.{Answer}
-use Rattle.relkvanu.specs.declared.asked.Asked.{Asked}
+use Rattle.ckpt_logged.specs.{Events.Fence, Events.Plain, Promises.Promises}
+use Rattle.relkvanu.specs.{declared.answer.Answer.Answer, declared.asked.Asked.Asked, Asking.said, Buffers.files_in, Calls.ack_of, Told.no_memory}
 use Rattle.relkvanu.specs.declared.asked.Asked.TheVariants as ask
-use Rattle.relkvanu.specs.Asking.{said}
-use Rattle.relkvanu.specs.Buffers.{files_in}
-use Rattle.relkvanu.specs.Calls.{ack_of}
-use Rattle.relkvanu.specs.Told.{no_memory}
 
 -- The past after a call is this function of the one before, unless memory ran out: then it stays.
 pub record GrowsBy (grow : Chronicle → Chronicle) (old new : Option Chronicle) (answer : Answer) : Type 0 where

@@ -1,19 +1,12 @@
 -- The answers of the reads that take no memory. `relkvanu.h` names the numbers.
 use Rattle.std.specs.Prelude.{ℕ, ◌==◌, if◌then◌else◌, Option, Some, None, length}
 use Rattle.std.specs.Int.{from_bool}
-use Rattle.ckpt_ids.specs.declared.numbers.Kind.{Kind}
+use Rattle.ckpt_ids.specs.{declared.numbers.Kind.Kind, declared.reply.Choice.Choice, Records.uses}
 use Rattle.ckpt_ids.specs.declared.numbers.Kind.TheVariants as kind
-use Rattle.ckpt_ids.specs.declared.reply.Choice.{Choice}
 use Rattle.ckpt_ids.specs.declared.reply.Choice.TheVariants as choice
-use Rattle.ckpt_ids.specs.Records.{uses}
-use Rattle.ckpt_model.specs.declared.mode.Mode.{Mode}
+use Rattle.ckpt_model.specs.{declared.mode.Mode.Mode, declared.reads.Live.Live, Reads.present_in, State.State}
 use Rattle.ckpt_model.specs.declared.mode.Mode.TheVariants.{Running, Failed, Cancelled}
-use Rattle.ckpt_model.specs.declared.reads.Live.{Live}
-use Rattle.ckpt_model.specs.Reads.{present_in}
-use Rattle.ckpt_model.specs.State.{State}
-use Rattle.relkvanu.specs.declared.answer.Answer.{Answer}
-use Rattle.relkvanu.specs.declared.reads.FileCounts.{FileCounts}
-use Rattle.relkvanu.specs.Told.{done}
+use Rattle.relkvanu.specs.{declared.answer.Answer.Answer, declared.reads.FileCounts.FileCounts, Told.done}
 
 abbrev pub mode_told : Mode → Answer
 mode_told Running = done 23 0 0

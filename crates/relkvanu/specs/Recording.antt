@@ -2,14 +2,11 @@
 use Rattle.std.specs.Prelude.{◌≡◌, ℕ, ◌<◌, ◌==◌, List, map, Result, Ok, Err, if◌then◌else◌}
 use Rattle.ckpt_align.specs.declared.event.Refusal.{Refusal}
 use Rattle.ckpt_align.specs.declared.event.Refusal.TheVariants.{UnknownInput, HeldInput, EndedInput}
-use Rattle.ckpt_unaligned.specs.declared.answer.Answer.{Answer}
+use Rattle.ckpt_unaligned.specs.{declared.answer.Answer.Answer, declared.answer.Phase.Phase}
 use Rattle.ckpt_unaligned.specs.declared.answer.Answer.TheVariants.{Process, Record, Hold, Nothing, Wait, Late, Cut, Snap, Complete, Abandon}
-use Rattle.ckpt_unaligned.specs.declared.answer.Phase.{Phase}
 use Rattle.ckpt_unaligned.specs.declared.answer.Phase.TheVariants.{Idle, Aligning, Recording}
 use Rattle.ckpt_unaligned.specs.Recording as unaligned
-use Rattle.relkvanu.specs.declared.aligning.Step.{Step}
-use Rattle.relkvanu.specs.declared.recording.Recorder.{Recorder}
-use Rattle.relkvanu.specs.Aligning.{input_of, step_with}
+use Rattle.relkvanu.specs.{declared.aligning.Step.Step, declared.recording.Recorder.Recorder, Aligning.input_of, Aligning.step_with}
 
 abbrev pub phase_of : ℕ → Phase
 phase_of phase = if phase == 0 then Idle else (if phase == 1 then Aligning else Recording)

@@ -3,11 +3,9 @@ use Rattle.std.specs.Prelude.{◌≡◌, ◌≢◌, ℕ, nat_lt, if◌then◌els
 use Rattle.std.specs.Option.{option_and_then}
 use Rattle.ckpt_ids.specs.declared.subtask.SubtaskId.{SubtaskId}
 use Rattle.ckpt_pending.specs.Acknowledging.{files_from}
-use Rattle.ckpt_model.specs.declared.reads.Standing.{Standing}
+use Rattle.ckpt_model.specs.{declared.reads.Standing.Standing, State.State, State.record_of}
 use Rattle.ckpt_model.specs.declared.reads.Standing.TheVariants as stands
-use Rattle.ckpt_model.specs.State.{State, record_of}
-use Rattle.relkvanu.specs.declared.answer.Answer.{Answer}
-use Rattle.relkvanu.specs.Buffers.{StandsInFront}
+use Rattle.relkvanu.specs.{declared.answer.Answer.Answer, Buffers.StandsInFront}
 use Rattle.relkvanu.specs.Told.{done, no_memory, too_short}
 
 abbrev pub standing_told : Standing → Answer

@@ -1,25 +1,15 @@
 -- The call that a line says, told to a C program: its fields and its two lists.
 use Rattle.std.specs.Prelude.{◌≡◌, ℕ, ⊤, Bool, false, ◌||◌, ◌==◌, nat_lt, if◌then◌else◌, List, [], ◌∷◌, length, take, Some, Result, Ok, Err}
 use Rattle.std.specs.Int.{from_bool}
-use Rattle.ckpt_ids.specs.Ascending.{IsAscending}
-use Rattle.ckpt_ids.specs.Configuration.{Configuration, IsWithinLimits}
-use Rattle.ckpt_ids.specs.Shapes.{IsShape}
-use Rattle.ckpt_ids.specs.declared.call.Call.{Call}
+use Rattle.ckpt_ids.specs.{Ascending.IsAscending, Configuration.Configuration, Configuration.IsWithinLimits, Shapes.IsShape, declared.call.Call.Call, declared.call.Target.Target}
+use Rattle.ckpt_ids.specs.{declared.reply.Refusal.TheVariants.NoSuchSavepoint, declared.subtask.SubtaskId.SubtaskId}
 use Rattle.ckpt_ids.specs.declared.call.Call.TheVariants as call
-use Rattle.ckpt_ids.specs.declared.call.Target.{Target}
 use Rattle.ckpt_ids.specs.declared.call.Target.TheVariants as target
-use Rattle.ckpt_ids.specs.declared.reply.Refusal.TheVariants.{NoSuchSavepoint}
-use Rattle.ckpt_ids.specs.declared.subtask.SubtaskId.{SubtaskId}
 use Rattle.ckpt_lines.specs.CallTexts.{parallelisms}
 use Rattle.ckpt_terms.specs.declared.call.FencedCall.TheVariants.{Reserve, Forfeit, Make, Advance}
-use Rattle.relkvanu.specs.declared.answer.Answer.{Answer}
-use Rattle.relkvanu.specs.declared.asked.Asked.{Asked}
+use Rattle.relkvanu.specs.{declared.answer.Answer.Answer, declared.asked.Asked.Asked, declared.writing.CallFields.CallFields, Asking.said, Buffers.StandsInFront, Writing.given}
 use Rattle.relkvanu.specs.declared.asked.Asked.TheVariants as ask
-use Rattle.relkvanu.specs.declared.writing.CallFields.{CallFields}
-use Rattle.relkvanu.specs.Asking.{said}
-use Rattle.relkvanu.specs.Buffers.{StandsInFront}
 use Rattle.relkvanu.specs.Told.{done, refusal_told, too_short_for}
-use Rattle.relkvanu.specs.Writing.{given}
 
 abbrev pub no_subtask : SubtaskId
 no_subtask = record { vertex = 0; index = 0 }

@@ -1,15 +1,12 @@
 -- The answers that a C program gets: a code, which reply or refusal, and its numbers. `relkvanu.h` names the numbers.
 use Rattle.std.specs.Prelude.{ℕ, length}
-use Rattle.ckpt_ids.specs.declared.reply.Choice.{Choice}
+use Rattle.ckpt_ids.specs.{declared.reply.Choice.Choice, declared.reply.TickEnd.TickEnd, declared.reply.Reply.Reply, declared.reply.Refusal.Refusal}
+use Rattle.ckpt_ids.specs.{declared.reply.Answer.TheVariants.Done, declared.reply.Answer.TheVariants.Refused}
 use Rattle.ckpt_ids.specs.declared.reply.Choice.TheVariants as choice
-use Rattle.ckpt_ids.specs.declared.reply.TickEnd.{TickEnd}
 use Rattle.ckpt_ids.specs.declared.reply.TickEnd.TheVariants as end
-use Rattle.ckpt_ids.specs.declared.reply.Reply.{Reply}
 use Rattle.ckpt_ids.specs.declared.reply.Reply.TheVariants as reply
-use Rattle.ckpt_ids.specs.declared.reply.Refusal.{Refusal}
 use Rattle.ckpt_ids.specs.declared.reply.Refusal.TheVariants as refusal
 use Rattle.ckpt_ids.specs.declared.reply.Answer as ids
-use Rattle.ckpt_ids.specs.declared.reply.Answer.TheVariants.{Done, Refused}
 use Rattle.ckpt_model.specs.declared.faults.CoreFault.{CoreFault}
 use Rattle.ckpt_model.specs.declared.faults.CoreFault.TheVariants as fault
 use Rattle.relkvanu.specs.declared.answer.Answer.{Answer}

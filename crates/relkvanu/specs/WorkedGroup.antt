@@ -7,9 +7,8 @@ use Rattle.ckpt_terms.specs.declared.machine.Machine.{Machine}
 use Rattle.ckpt_terms.specs.declared.machine.Machine.TheVariants as machine
 use Rattle.ckpt_logged.specs.Events.{Event, Plain, event_step}
 use Rattle.ckpt_durable.specs.Groups.{Committed, Crashed, Looked, Made, Turn, world}
-use Rattle.relkvanu.specs.declared.answer.Answer.{Answer}
+use Rattle.relkvanu.specs.{declared.answer.Answer.Answer, Told.done}
 use Rattle.relkvanu.specs.GroupPrograms.{Asks, Ends, Held, Looks, Notes, Operation, Program, Syncs}
-use Rattle.relkvanu.specs.Told.{done}
 
 -- one subtask
 abbrev pub begin : Machine

@@ -1,27 +1,18 @@
 -- The lines that are written for a C program: the line of a call, and the lines of an opening.
 use Rattle.std.specs.Prelude.{◌≡◌, ◌≢◌, ℕ, ◌==◌, ◌&&◌, nat_le, nat_lt, if◌then◌else◌, List, [], ◌∷◌, ◌++◌, get_or, length, Option, Some, None, Result, Ok, Err}
-use Rattle.ckpt_ids.specs.Ascending.{ascending}
+use Rattle.ckpt_ids.specs.{Ascending.ascending, declared.call.Call.Call, declared.subtask.SubtaskId.SubtaskId}
 use Rattle.ckpt_ids.specs.Configuration.{Configuration, configured, is_within_limits}
-use Rattle.ckpt_ids.specs.declared.call.Call.{Call}
 use Rattle.ckpt_ids.specs.declared.call.Call.TheVariants as call
-use Rattle.ckpt_ids.specs.declared.subtask.SubtaskId.{SubtaskId}
 use Rattle.ckpt_model.specs.State.{Opening}
-use Rattle.ckpt_lines.specs.declared.limits.TheConstants.{LONGEST_LINE}
+use Rattle.ckpt_lines.specs.{declared.limits.TheConstants.LONGEST_LINE, Reading.is_new_shape, Reading.reading}
 use Rattle.ckpt_lines.specs.declared.line.Line.TheVariants as script
-use Rattle.ckpt_lines.specs.Reading.{is_new_shape, reading}
 use Rattle.ckpt_lines.specs.CallTexts.{config_text, job_text, line_of_config, start_text}
 use Rattle.ckpt_terms.specs.declared.call.FencedCall.TheVariants.{Reserve, Forfeit, Make, Advance}
-use Rattle.ckpt_term_lines.specs.declared.line.TermLine.{TermLine}
+use Rattle.ckpt_term_lines.specs.{declared.line.TermLine.TermLine, TermReading.term_reading, TermTexts.fence_text, TermTexts.term_text}
 use Rattle.ckpt_term_lines.specs.declared.line.TermLine.TheVariants as line
-use Rattle.ckpt_term_lines.specs.TermReading.{term_reading}
-use Rattle.ckpt_term_lines.specs.TermTexts.{fence_text, term_text}
-use Rattle.relkvanu.specs.declared.answer.Answer.{Answer}
-use Rattle.relkvanu.specs.declared.asked.Asked.{Asked}
+use Rattle.relkvanu.specs.{declared.answer.Answer.Answer, declared.asked.Asked.Asked, declared.writing.CallFields.CallFields, Asking.bad_line, Asking.said, Calls.ack_of}
+use Rattle.relkvanu.specs.{Calls.restore_of, Opening.bad_opening}
 use Rattle.relkvanu.specs.declared.asked.Asked.TheVariants as ask
-use Rattle.relkvanu.specs.declared.writing.CallFields.{CallFields}
-use Rattle.relkvanu.specs.Asking.{bad_line, said}
-use Rattle.relkvanu.specs.Calls.{ack_of, restore_of}
-use Rattle.relkvanu.specs.Opening.{bad_opening}
 use Rattle.relkvanu.specs.Told.{bad_argument, bad_config, bad_shape, done, no_memory, too_short}
 
 -- a kind that no call has

@@ -1,11 +1,8 @@
 //! The answer that a C program gets by value: a reply, a refusal or a fault.
 
 ghost use Rattle.std.specs.Prelude.{◌≡◌};
-ghost use Rattle.relkvanu.specs.Asking.{bad_line};
-ghost use Rattle.relkvanu.specs.Fenced.{fence_refused};
-ghost use Rattle.relkvanu.specs.Requested.{IsRefused};
+ghost use Rattle.relkvanu.specs.{Asking.bad_line, Fenced.fence_refused, Requested.IsRefused, Told.too_short, Told.too_short_for};
 ghost use Rattle.relkvanu.specs.Told.{refusal_told, reply_told, restore_told, tick_told, done, refused, out_of_memory, is_closed, bad_argument};
-ghost use Rattle.relkvanu.specs.Told.{too_short, too_short_for};
 
 use crate::requests::Requests;
 use ckpt_ids::{Choice, FileId, Refusal, Reply, TickEnd};

@@ -6,9 +6,7 @@ ghost use Rattle.ckpt_terms.specs.declared.call.FencedCall.TheVariants.{Make};
 ghost use Rattle.ckpt_term_lines.specs.TermReading.{term_may_want_memory};
 ghost use Rattle.relkvanu.specs.declared.asked.Asked.TheVariants as ask;
 ghost use Rattle.relkvanu.specs.Asking.{asked_by, line_fault_told, said};
-ghost use Rattle.relkvanu.specs.Calls.{HasNoNumbers};
-ghost use Rattle.relkvanu.specs.Requested.{IsRefused};
-ghost use Rattle.relkvanu.specs.Told.{no_memory};
+ghost use Rattle.relkvanu.specs.{Calls.HasNoNumbers, Requested.IsRefused, Told.no_memory};
 
 use crate::answer::Answer;
 use crate::calls::BAD_SHAPE;

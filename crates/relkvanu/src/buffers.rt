@@ -2,9 +2,7 @@
 
 ghost use Rattle.std.specs.Prelude.{◌≡◌, ◌≢◌, ◌≤◌, ℕ, true, length, Some};
 ghost use Rattle.ckpt_ids.specs.declared.call.Call.TheVariants as call;
-ghost use Rattle.ckpt_model.specs.Memory.{answer_wants, may_want_memory};
-ghost use Rattle.ckpt_model.specs.State.{State};
-ghost use Rattle.ckpt_model.specs.Steps.{step};
+ghost use Rattle.ckpt_model.specs.{Memory.answer_wants, Memory.may_want_memory, State.State, Steps.step};
 ghost use Rattle.ckpt_answers.specs.MetadataTexts.{metadata_bytes};
 ghost use Rattle.relkvanu.specs.Buffers.{BringsFiles, BringsJson, IsShowTold, StandsInFront, files_in, files_of_reply, json_in, json_of_reply};
 ghost use Rattle.relkvanu.specs.Buffers.{json_told, show_reply_told, show_told};

@@ -2,15 +2,13 @@
 
 ghost use Rattle.std.specs.Prelude.{◌≡◌, ◌≢◌, ◌↔◌, true, [], None, Some, Err, IfOk, OnErr};
 ghost use Rattle.ckpt_ids.specs.Ascending.{ascending};
-ghost use Rattle.ckpt_model.specs.Memory.{may_want_memory};
-ghost use Rattle.ckpt_model.specs.State.{State};
+ghost use Rattle.ckpt_model.specs.{Memory.may_want_memory, State.State};
 ghost use Rattle.ckpt_terms.specs.Machines.{core_in, is_free, names_in, passes};
 ghost use Rattle.relkvanu.specs.Calls.{HasNoNumbers, IsAnswered, IsAnsweredPlainly, IsBadShape, IsRefusedAs, IsStepTold, StaysAsItWas, StaysClosed};
 ghost use Rattle.relkvanu.specs.Calls.{WantsMemory, ack_of, restore_of, takes_no_memory, target_of, subtask_at};
 ghost use Rattle.relkvanu.specs.Fenced.{IsHandled, IsTaken, call_step};
 ghost use Rattle.relkvanu.specs.Past.{GrowsBy, IsGrown, plainly};
-ghost use Rattle.relkvanu.specs.Requested.{IsRefused};
-ghost use Rattle.relkvanu.specs.Told.{bad_shape, no_memory};
+ghost use Rattle.relkvanu.specs.{Requested.IsRefused, Told.bad_shape, Told.no_memory};
 
 use crate::answer::Answer;
 use crate::handle::Handle;

@@ -1,11 +1,8 @@
 //! The answers about terms and names.
 
 ghost use Rattle.std.specs.Prelude.{◌≡◌, ◌≢◌, ◌<◌, ◌≤◌, length, Some};
-ghost use Rattle.relkvanu.specs.Buffers.{StandsInFront};
+ghost use Rattle.relkvanu.specs.{Buffers.StandsInFront, Names.fenced_name, Requested.IsRefused, Told.answer_told, Told.no_memory};
 ghost use Rattle.relkvanu.specs.Fenced.{fence_told, fenced_refusal_told, fenced_told, has_names, no_names};
-ghost use Rattle.relkvanu.specs.Names.{fenced_name};
-ghost use Rattle.relkvanu.specs.Requested.{IsRefused};
-ghost use Rattle.relkvanu.specs.Told.{answer_told, no_memory};
 ghost use Rattle.ckpt_terms.specs.declared.machine.FenceFault.TheVariants as fault;
 
 use crate::answer::Answer;

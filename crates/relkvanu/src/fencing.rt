@@ -4,22 +4,17 @@
 ghost use Rattle.std.specs.Prelude.{◌≡◌, ◌≢◌, ◌≤◌, true, Some, None, IfOk, IfErr, OnOk};
 ghost use Rattle.ckpt_ids.specs.declared.call.Call.TheVariants as call;
 ghost use Rattle.ckpt_ids.specs.Ascending.{ascending};
-ghost use Rattle.ckpt_model.specs.Laws.{CanOpen};
-ghost use Rattle.ckpt_model.specs.State.{State};
+ghost use Rattle.ckpt_model.specs.{Laws.CanOpen, State.State};
 ghost use Rattle.ckpt_terms.specs.declared.call.FencedCall.TheVariants as fencing;
 ghost use Rattle.ckpt_terms.specs.declared.machine.Machine.TheVariants as machine;
-ghost use Rattle.ckpt_logged.specs.Chronicles.{begun};
-ghost use Rattle.ckpt_logged.specs.Events.{IsWell};
-ghost use Rattle.ckpt_terms.specs.declared.call.TheConstants.{NAMES_END};
-ghost use Rattle.ckpt_terms.specs.Fencing.{fenced};
-ghost use Rattle.ckpt_terms.specs.Machines.{names_in};
+ghost use Rattle.ckpt_logged.specs.{Chronicles.begun, Events.IsWell};
+ghost use Rattle.ckpt_terms.specs.{declared.call.TheConstants.NAMES_END, Fencing.fenced, Machines.names_in};
 ghost use Rattle.relkvanu.specs.Calls.{HasNoNumbers, IsSame, StaysAsItWas, StaysClosed, ack_of, subtask_at};
 ghost use Rattle.relkvanu.specs.Fenced.{IsHandled, IsTaken, WantsNames, ack_step, count_of, fence_step, term_step, term_told, term_wants};
 ghost use Rattle.relkvanu.specs.Naming.{IsNamedOpening, IsNotOpenedNamed, IsOpenedNamed, IsWhyNotNamed};
 ghost use Rattle.relkvanu.specs.Past.{BeginsFenced, GrowsBy, IsGrown, ack_in_layer, in_layer, with_fence};
 ghost use Rattle.relkvanu.specs.Opening.{OpeningWantsMemory, StaysOpen, opening_of};
-ghost use Rattle.relkvanu.specs.Requested.{IsRefused};
-ghost use Rattle.relkvanu.specs.Told.{no_memory};
+ghost use Rattle.relkvanu.specs.{Requested.IsRefused, Told.no_memory};
 
 use crate::answer::Answer;
 use crate::calls::{ack_of, files_of};

@@ -5,18 +5,12 @@
 ghost use Rattle.std.specs.Prelude.{◌≡◌, ◌≢◌, ℕ, true, false, List, [], length, set, take, None, Some, IfSome};
 ghost use Rattle.ckpt_ids.specs.declared.call.Call.TheVariants.{Take};
 ghost use Rattle.ckpt_logged.specs.Events.{Plain, event_step};
-ghost use Rattle.ckpt_terms.specs.Machines.{core_in};
-ghost use Rattle.ckpt_terms.specs.declared.machine.Machine.{Machine};
-ghost use Rattle.relkvanu.specs.declared.asked.Asked.{Asked};
-ghost use Rattle.relkvanu.specs.Buffers.{StandsInFront};
-ghost use Rattle.relkvanu.specs.Calls.{IsSame, StaysClosed};
-ghost use Rattle.relkvanu.specs.declared.answer.Answer.{Answer};
-ghost use Rattle.relkvanu.specs.declared.handle.Handle.{Handle};
+ghost use Rattle.ckpt_terms.specs.{Machines.core_in, declared.machine.Machine.Machine};
+ghost use Rattle.relkvanu.specs.{declared.asked.Asked.Asked, Buffers.StandsInFront, Calls.IsSame, Calls.StaysClosed, declared.answer.Answer.Answer, declared.handle.Handle.Handle};
+ghost use Rattle.relkvanu.specs.{Lines.asked_step, Told.bad_argument, Told.done};
 ghost use Rattle.relkvanu.specs.GroupPrograms.{AreAsked, AsksByLine, Does, Has, HoldsAsked, HoldsLook, IfHas, Looks, LooksAtCall, Notes, Operation, Performed, Program, Syncs, TellsWhatIsSynced, nothing, program};
 ghost use Rattle.relkvanu.specs.Groups.{IfRoom, IsEventOf, IsFull, IsRoom, all_lost, all_told, asked_event, group_with, held_answer, held_with, one_more, receipt_of, told_by, why_full};
-ghost use Rattle.relkvanu.specs.Lines.{asked_step};
 ghost use Rattle.relkvanu.specs.Making.{Brings, Grows, HandleReports, Makes, line_length, making};
-ghost use Rattle.relkvanu.specs.Told.{bad_argument, done};
 ghost use Rattle.relkvanu.specs.WorkedGroup.{begin, buffer, last, notes, operations};
 ghost use Rattle.relkvanu.specs.Writing.{SaysBack, call_line_text, given};
 

@@ -2,20 +2,16 @@
 
 ghost use Rattle.std.specs.Prelude.{◌≡◌, ◌≢◌, None, Some, IfOk, IfErr, OnErr, OnOk, length, string_bytes, take};
 ghost use Rattle.core.specs.Str.{IsUtf8};
-ghost use Rattle.ckpt_model.specs.Images.{settled, state_in};
-ghost use Rattle.ckpt_model.specs.State.{State};
+ghost use Rattle.ckpt_model.specs.{Images.settled, Images.state_in, State.State};
 ghost use Rattle.ckpt_image.specs.Written.{image_bytes};
 ghost use Rattle.ckpt_names_image.specs.Named.{Fenced, Plain, Saved, named_bytes, named_in, saved_in, saved_read};
-ghost use Rattle.relkvanu.specs.Buffers.{StandsInFront};
+ghost use Rattle.relkvanu.specs.{Buffers.StandsInFront, Opening.StaysOpen, Requested.IsRefused};
 ghost use Rattle.relkvanu.specs.Calls.{HasNoNumbers, IsSame, StaysAsItWas, StaysClosed};
 ghost use Rattle.relkvanu.specs.Images.{BringsImage, CanBeOpened, IsNamedSave, IsNotOpenedSaved, IsOpenedSaved, IsSaveTold, IsWhyNotOpened};
 ghost use Rattle.relkvanu.specs.Images.{IsWhyNotSaved, OpensAgain, SavedWantsMemory, Tells, TellsNothing, image_by, opened_with, saved_told};
-ghost use Rattle.relkvanu.specs.Opening.{StaysOpen};
-ghost use Rattle.relkvanu.specs.Requested.{IsRefused};
 ghost use Rattle.relkvanu.specs.Told.{bad_argument, bad_image, no_memory, out_of_memory};
 ghost use Rattle.ckpt_core.specs.declared.image.ImageFault.TheVariants as fault;
-ghost use Rattle.ckpt_logged.specs.Chronicles.{begun};
-ghost use Rattle.ckpt_logged.specs.Events.{IsWell};
+ghost use Rattle.ckpt_logged.specs.{Chronicles.begun, Events.IsWell};
 ghost use Rattle.ckpt_terms.specs.Machines.{Issued, core_in, issued_by, names_in};
 ghost use Rattle.ckpt_terms.specs.TermsImages.{CanOpenFenced};
 

@@ -2,22 +2,16 @@
 
 ghost use Rattle.std.specs.Prelude.{◌≡◌, ◌≢◌, ◌||◌, ℕ, true, length, Ok, Some};
 ghost use Rattle.ckpt_ids.specs.declared.call.Call.TheVariants as call;
-ghost use Rattle.ckpt_model.specs.Memory.{may_want_memory};
-ghost use Rattle.ckpt_model.specs.State.{State};
-ghost use Rattle.ckpt_model.specs.Steps.{step};
+ghost use Rattle.ckpt_model.specs.{Memory.may_want_memory, State.State, Steps.step};
 ghost use Rattle.ckpt_term_lines.specs.TermReading.{term_may_want_memory, term_reading};
 ghost use Rattle.ckpt_terms.specs.Machines.{core_in, is_free, names_in, passes};
 ghost use Rattle.relkvanu.specs.declared.asked.Asked.TheVariants as ask;
-ghost use Rattle.relkvanu.specs.Asking.{said};
-ghost use Rattle.relkvanu.specs.Buffers.{StandsInFront, files_in};
+ghost use Rattle.relkvanu.specs.{Asking.said, Buffers.StandsInFront, Buffers.files_in, Fenced.IsHandled, Fenced.IsTaken, Requested.IsRefused, Told.no_memory};
 ghost use Rattle.relkvanu.specs.Calls.{HasNoNumbers, StaysAsItWas, StaysClosed};
-ghost use Rattle.relkvanu.specs.Fenced.{IsHandled, IsTaken};
 ghost use Rattle.relkvanu.specs.Lines.{BringsLineFiles, IsCallTold, IsLineAnswered, IsLineTold, LineWantsMemory, asked_step, call_files, call_wants, is_free_line};
 ghost use Rattle.relkvanu.specs.Lines.{line_call_step, line_number, line_numbers, line_step, named_step, named_wants, numbers_told, plain_step};
 ghost use Rattle.relkvanu.specs.Lines.{said_files, said_wants, says_numbers, says_told};
 ghost use Rattle.relkvanu.specs.Past.{GrowsBy, IsGrown, asked_line, by_line, call_line, named_by, plain_line};
-ghost use Rattle.relkvanu.specs.Requested.{IsRefused};
-ghost use Rattle.relkvanu.specs.Told.{no_memory};
 
 use crate::answer::Answer;
 use crate::asked::{Asked, of_line_fault, said, usual};

@@ -4,13 +4,9 @@ ghost use Rattle.std.specs.Prelude.{◌≡◌, ◌≢◌, ◌≤◌, true, lengt
 ghost use Rattle.ckpt_lines.specs.declared.limits.TheConstants.{LONGEST_LINE};
 ghost use Rattle.ckpt_model.specs.State.{State};
 ghost use Rattle.ckpt_terms.specs.Machines.{core_in, names_in};
-ghost use Rattle.relkvanu.specs.Buffers.{StandsInFront};
-ghost use Rattle.relkvanu.specs.Calls.{HasNoNumbers, StaysClosed};
-ghost use Rattle.relkvanu.specs.Lines.{is_free_line};
-ghost use Rattle.relkvanu.specs.Making.{Brings, BringsMade, Grows, HandleReports, Makes, Reports, StepsAsked, asked_if_fits, line_length, made_of, making};
-ghost use Rattle.relkvanu.specs.Past.{IsGrown, said_line};
-ghost use Rattle.relkvanu.specs.Requested.{IsRefused};
+ghost use Rattle.relkvanu.specs.{Buffers.StandsInFront, Calls.HasNoNumbers, Calls.StaysClosed, Lines.is_free_line, Past.IsGrown, Past.said_line, Requested.IsRefused};
 ghost use Rattle.relkvanu.specs.Told.{no_memory};
+ghost use Rattle.relkvanu.specs.Making.{Brings, BringsMade, Grows, HandleReports, Makes, Reports, StepsAsked, asked_if_fits, line_length, made_of, making};
 ghost use Rattle.relkvanu.specs.Writing.{ReadsBack, SaysBack, call_line_text, given};
 
 use crate::answer::{Answer, DONE};

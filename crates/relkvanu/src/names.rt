@@ -1,8 +1,7 @@
 //! The names of refusals, for a caller's buffer.
 
 ghost use Rattle.std.specs.Prelude.{◌≡◌, ◌<◌, ◌≤◌, length};
-ghost use Rattle.relkvanu.specs.Buffers.{StandsInFront};
-ghost use Rattle.relkvanu.specs.Names.{refusal_name};
+ghost use Rattle.relkvanu.specs.{Buffers.StandsInFront, Names.refusal_name};
 
 /// Writes the name of the refusal with this number to the start of the buffer if that is long
 /// enough. Returns the number of bytes of the name, or 0 if no refusal has the number.

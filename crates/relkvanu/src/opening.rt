@@ -2,16 +2,12 @@
 
 ghost use Rattle.std.specs.Prelude.{◌≡◌, ◌≢◌, true, false, None, IfOk, IfErr, OnOk};
 ghost use Rattle.ckpt_ids.specs.Shapes.{is_shape};
-ghost use Rattle.relkvanu.specs.Calls.{HasNoNumbers, StaysAsItWas};
+ghost use Rattle.relkvanu.specs.{Calls.HasNoNumbers, Calls.StaysAsItWas, Past.BeginsPlain, Requested.IsRefused};
 ghost use Rattle.relkvanu.specs.Opening.{are_good, configuration_of, opening_of, IsNotOpened, IsOpened, IsOpening, IsWhyNot, OpeningWantsMemory, StaysOpen};
-ghost use Rattle.ckpt_model.specs.Laws.{CanOpen};
-ghost use Rattle.ckpt_model.specs.State.{opened};
+ghost use Rattle.ckpt_model.specs.{Laws.CanOpen, State.opened};
 ghost use Rattle.ckpt_terms.specs.declared.machine.Machine.TheVariants as machine;
 ghost use Rattle.ckpt_terms.specs.Machines.{core_in, names_in};
-ghost use Rattle.ckpt_logged.specs.Chronicles.{begun};
-ghost use Rattle.ckpt_logged.specs.Events.{IsWell};
-ghost use Rattle.relkvanu.specs.Past.{BeginsPlain};
-ghost use Rattle.relkvanu.specs.Requested.{IsRefused};
+ghost use Rattle.ckpt_logged.specs.{Chronicles.begun, Events.IsWell};
 ghost use Rattle.relkvanu.specs.Told.{bad_argument, bad_config, bad_shape, no_memory};
 
 use crate::answer::Answer;

@@ -3,10 +3,7 @@
 ghost use Rattle.std.specs.Prelude.{◌≡◌, ◌≢◌, true, false};
 ghost use Rattle.ckpt_ids.specs.declared.call.Call.TheVariants as call;
 ghost use Rattle.relkvanu.specs.Calls.{HasNoNumbers, IsAnswered, IsMade, IsMadePlainly, IsRefusedAs, StaysAsItWas, StaysClosed, WantsMemory, subtask_at};
-ghost use Rattle.relkvanu.specs.Fenced.{IsHandled, call_step};
-ghost use Rattle.relkvanu.specs.Opening.{are_good, configure_of};
-ghost use Rattle.relkvanu.specs.Past.{GrowsBy, plainly};
-ghost use Rattle.relkvanu.specs.Told.{bad_config, no_memory};
+ghost use Rattle.relkvanu.specs.{Fenced.IsHandled, Fenced.call_step, Opening.are_good, Opening.configure_of, Past.GrowsBy, Past.plainly, Told.bad_config, Told.no_memory};
 
 use crate::answer::Answer;
 use crate::calls;

@@ -3,14 +3,11 @@
 
 ghost use Rattle.std.specs.Prelude.{◌≡◌, ◌≢◌, Some, IfOk, IsErr, IsSome, OnErr, find, length, nat_le, option_map, slice_get};
 ghost use Rattle.ckpt_ids.specs.Ascending.{ascending};
-ghost use Rattle.ckpt_model.specs.Coordinator.{pending_of};
+ghost use Rattle.ckpt_model.specs.{Coordinator.pending_of, State.State};
 ghost use Rattle.ckpt_model.specs.Reads.{live_of, pins_in, standing};
-ghost use Rattle.ckpt_model.specs.State.{State};
 ghost use Rattle.relkvanu.specs.Calls.{HasNoNumbers, IsSame, StaysClosed};
-ghost use Rattle.relkvanu.specs.Reads.{live_told};
+ghost use Rattle.relkvanu.specs.{Reads.live_told, Requested.IsRefused, Told.no_memory, Told.out_of_memory};
 ghost use Rattle.relkvanu.specs.Recovery.{BringsList, IsListTold, acked_by, acked_in, acked_told, files_acked, list_told, standing_told, waiting_told};
-ghost use Rattle.relkvanu.specs.Requested.{IsRefused};
-ghost use Rattle.relkvanu.specs.Told.{no_memory, out_of_memory};
 
 use crate::answer::Answer;
 use crate::buffers::write_files;

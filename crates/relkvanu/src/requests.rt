@@ -5,14 +5,12 @@
 
 ghost use Rattle.std.specs.Prelude.{◌≡◌, ◌≢◌, true, Ok, Err, Some, None, IfOk, IfErr, OnErr, map, string_bytes};
 ghost use Rattle.ckpt_answers.specs.MetadataTexts.{metadata_bytes};
-ghost use Rattle.ckpt_image.specs.Images.{image_read};
-ghost use Rattle.ckpt_image.specs.Written.{image_bytes};
+ghost use Rattle.ckpt_image.specs.{Images.image_read, Written.image_bytes};
 ghost use Rattle.ckpt_lines.specs.declared.line.Line.TheVariants as script;
 ghost use Rattle.ckpt_lines.specs.CallTexts.{IsReadAs, config_text, job_text, line_of_config, start_text};
 ghost use Rattle.ckpt_model.specs.Images.{state_in};
 ghost use Rattle.ckpt_names_image.specs.Named.{Fenced, named_bytes, named_in, saved_in, saved_read};
-ghost use Rattle.ckpt_term_lines.specs.TermReading.{term_may_want_memory, term_reading};
-ghost use Rattle.ckpt_term_lines.specs.TermTexts.{IsTermReadAs};
+ghost use Rattle.ckpt_term_lines.specs.{TermReading.term_may_want_memory, TermReading.term_reading, TermTexts.IsTermReadAs};
 ghost use Rattle.relkvanu.specs.Requested.{IsRefused};
 ghost use Rattle.relkvanu.specs.Writing.{asked_text, line_of_asked, opening_text};
 

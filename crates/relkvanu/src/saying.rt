@@ -2,14 +2,10 @@
 
 ghost use Rattle.std.specs.Prelude.{◌≡◌, ◌≢◌, ◌≤◌, [], true, false, length, Ok};
 ghost use Rattle.ckpt_term_lines.specs.TermReading.{term_may_want_memory};
-ghost use Rattle.relkvanu.specs.Buffers.{StandsInFront};
-ghost use Rattle.relkvanu.specs.Calls.{HasNoNumbers};
-ghost use Rattle.relkvanu.specs.Asking.{said};
+ghost use Rattle.relkvanu.specs.{Buffers.StandsInFront, Calls.HasNoNumbers, Asking.said, Told.no_memory, Writing.given};
 ghost use Rattle.relkvanu.specs.Saying.{BringsCallList, BringsFields, CallHasLists, GivesBack, HasLists, asked_told, call_fields, call_first};
 ghost use Rattle.relkvanu.specs.Saying.{call_has_no_fields, call_second, fields_of, fields_with, first_of, has_no_fields, lists_told, meant_told};
 ghost use Rattle.relkvanu.specs.Saying.{says_call, second_of, settings_of, target_number};
-ghost use Rattle.relkvanu.specs.Told.{no_memory};
-ghost use Rattle.relkvanu.specs.Writing.{given};
 
 use crate::answer::Answer;
 use crate::asked::{Asked, said};

@@ -3,11 +3,8 @@
 ghost use Rattle.std.specs.Prelude.{◌≡◌, ◌≢◌, ◌≤◌, filter, length, nat_le, Some};
 ghost use Rattle.ckpt_terms.specs.Fencing.{is_garbage};
 ghost use Rattle.ckpt_terms.specs.Machines.{core_in, issued_by, names_in};
-ghost use Rattle.relkvanu.specs.Buffers.{StandsInFront};
-ghost use Rattle.relkvanu.specs.Calls.{IsSame, StaysClosed};
+ghost use Rattle.relkvanu.specs.{Buffers.StandsInFront, Calls.IsSame, Calls.StaysClosed, Kept.IsHeld, Past.IsPromised};
 ghost use Rattle.relkvanu.specs.Fenced.{BringsGarbage, BringsOf, IsGarbageTold, garbage_of, garbage_told, unissued_of};
-ghost use Rattle.relkvanu.specs.Kept.{IsHeld};
-ghost use Rattle.relkvanu.specs.Past.{IsPromised};
 
 use crate::answer::Answer;
 use crate::fenced::GARBAGE;

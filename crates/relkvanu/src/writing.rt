@@ -5,11 +5,8 @@ ghost use Rattle.ckpt_lines.specs.declared.limits.TheConstants.{LONGEST_LINE};
 ghost use Rattle.ckpt_lines.specs.declared.line.Line.TheVariants as line;
 ghost use Rattle.ckpt_lines.specs.CallTexts.{IsReadAs, config_text, job_text, line_of_config, start_text};
 ghost use Rattle.ckpt_term_lines.specs.TermTexts.{IsTermReadAs};
-ghost use Rattle.relkvanu.specs.Buffers.{StandsInFront};
-ghost use Rattle.relkvanu.specs.Calls.{HasNoNumbers, IsWhyNoCall};
+ghost use Rattle.relkvanu.specs.{Buffers.StandsInFront, Calls.HasNoNumbers, Calls.IsWhyNoCall, Requested.IsRefused, Told.no_memory};
 ghost use Rattle.relkvanu.specs.Opening.{IsWhyNot, OpeningWantsMemory, bad_opening, configuration_of, opening_of};
-ghost use Rattle.relkvanu.specs.Requested.{IsRefused};
-ghost use Rattle.relkvanu.specs.Told.{no_memory};
 ghost use Rattle.relkvanu.specs.Writing.{IsWhyNotGiven, OpeningReadsBack, ReadsBack, SaysBack, asked_text, call_given, call_line_text, call_line_told, configuration_in};
 ghost use Rattle.relkvanu.specs.Writing.{given, line_of_asked, opening_text, opening_told, text_told};
 

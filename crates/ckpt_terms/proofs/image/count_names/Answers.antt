@@ -1,5 +1,5 @@
 -- Answers the goals of `count_names`.
-use Rattle.ckpt_terms.proofs.Names.{◌≤◌, ◌<◌, List, get_or, arith, Span}
+use Rattle.ckpt_terms.proofs.Imports.{◌≤◌, ◌<◌, List, get_or, arith, Span}
 use Rattle.ckpt_terms.proofs.Counted.{none_counted, more_counted, all_counted, is_some, is_behind, ends_within}
 use Rattle.ckpt_terms.proofs.SpanLemmas.{span}
 use Rattle.ckpt_terms.proofs.image.count_names.Goals as goal

@@ -1,5 +1,5 @@
 -- The loop of `count_names`.
-use Rattle.ckpt_terms.proofs.Names.{take}
+use Rattle.ckpt_terms.proofs.Imports.{take}
 use Rattle.ckpt_terms.proofs.Counted.{AreCounted}
 use Rattle.ckpt_terms.proofs.image.count_names.Given as goal
 

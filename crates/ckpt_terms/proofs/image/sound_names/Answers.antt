@@ -1,5 +1,5 @@
 -- Answers the goals of `sound_names`.
-use Rattle.ckpt_terms.proofs.Names.{◌≡◌, ◌<◌, ℕ, List, length, sym, ap, subst, ◌∙◌, arith, both_ways, IsIn, Span, Fenced, AreRanges, AreRangesBelow, names_of, fenced_in}
+use Rattle.ckpt_terms.proofs.Imports.{◌≡◌, ◌<◌, ℕ, List, length, sym, ap, subst, ◌∙◌, arith, both_ways, IsIn, Span, Fenced, AreRanges, AreRangesBelow, names_of, fenced_in}
 use Rattle.ckpt_terms.proofs.{Counted.no_names, Imaged.fenced_tested, Imaged.same_files, Imaged.tested_fenced}
 use Rattle.ckpt_terms.proofs.image.sound_names.Goals as goal
 

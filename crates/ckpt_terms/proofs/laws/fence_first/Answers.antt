@@ -1,5 +1,5 @@
 -- Answers the goals of `fence_first`.
-use Rattle.ckpt_terms.proofs.Names.{refl}
+use Rattle.ckpt_terms.proofs.Imports.{refl}
 use Rattle.ckpt_terms.proofs.MachineLemmas.{first_fence}
 use Rattle.ckpt_terms.proofs.laws.fence_first.Goals as goal
 

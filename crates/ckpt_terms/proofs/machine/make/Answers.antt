@@ -1,5 +1,5 @@
 -- Answers the goals of `make`.
-use Rattle.ckpt_terms.proofs.Names.{◌≡◌, sym, ap, ◌∙◌, Some, Err, Refused, State, refusal, Stepped, step, step_refused}
+use Rattle.ckpt_terms.proofs.Imports.{◌≡◌, sym, ap, ◌∙◌, Some, Err, Refused, State, refusal, Stepped, step, step_refused}
 use Rattle.ckpt_terms.specs.declared.call.FencedAnswer.TheVariants as answer
 use Rattle.ckpt_terms.specs.declared.machine.Machine.TheVariants as machine
 use Rattle.ckpt_terms.proofs.machine.make.Goals as goal

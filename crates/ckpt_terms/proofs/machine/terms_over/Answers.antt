@@ -1,5 +1,5 @@
 -- Answers the goals of `terms_over`.
-use Rattle.ckpt_terms.proofs.Names.{ℕ, List, sym, subst, IsFenced}
+use Rattle.ckpt_terms.proofs.Imports.{ℕ, List, sym, subst, IsFenced}
 use Rattle.ckpt_terms.proofs.{MachineLemmas.named_fenced, TermLemmas.layer}
 use Rattle.ckpt_terms.proofs.machine.terms_over.Goals as goal
 

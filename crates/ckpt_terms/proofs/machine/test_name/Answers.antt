@@ -1,6 +1,6 @@
 -- Answers the goals of `test_name`.
-use Rattle.ckpt_terms.proofs.Names.{◌≡◌, ℕ, Bool, true, false, ◌||◌, eqb, ltb, ◌≤◌, ◌^◌, sym, ap, ◌∙◌, Some, None, cond, le-ltb, ne_eqb, or_from, settled, state_in, State, BadName}
-use Rattle.ckpt_terms.proofs.Names.{NameInUse, fence_fault, has_known_from}
+use Rattle.ckpt_terms.proofs.Imports.{◌≡◌, ℕ, Bool, true, false, ◌||◌, eqb, ltb, ◌≤◌, ◌^◌, sym, ap, ◌∙◌, Some, None, cond, le-ltb, ne_eqb, or_from, settled, state_in, State, BadName}
+use Rattle.ckpt_terms.proofs.Imports.{NameInUse, fence_fault, has_known_from}
 use Rattle.ckpt_terms.proofs.KnownFiles.{settled_from}
 use Rattle.ckpt_terms.specs.declared.machine.Machine.TheVariants as machine
 use Rattle.ckpt_terms.proofs.machine.test_name.Goals as goal

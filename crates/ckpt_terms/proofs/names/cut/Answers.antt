@@ -1,5 +1,5 @@
 -- Answers the goals of `cut`.
-use Rattle.ckpt_terms.proofs.Names.{◌≤◌, ◌+◌, List, length, arith, sym, subst, Span, IsCut, names_of}
+use Rattle.ckpt_terms.proofs.Imports.{◌≤◌, ◌+◌, List, length, arith, sym, subst, Span, IsCut, names_of}
 use Rattle.ckpt_terms.proofs.RangeLemmas.{removed, shortened, begun_later, split_at, two_more}
 use Rattle.ckpt_terms.proofs.names.cut.Goals as goal
 

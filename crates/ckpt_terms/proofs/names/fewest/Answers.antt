@@ -1,5 +1,5 @@
 -- Answers the goals of `fewest`.
-use Rattle.ckpt_terms.proofs.Names.{◌+◌, ℕ, List, take, subst, sym, arith, Span}
+use Rattle.ckpt_terms.proofs.Imports.{◌+◌, ℕ, List, take, subst, sym, arith, Span}
 use Rattle.ckpt_terms.proofs.{JoinLemmas.AreFewest, JoinLemmas.all_read, JoinLemmas.fewest_of, JoinLemmas.one_more, SpanLemmas.span}
 use Rattle.ckpt_terms.proofs.names.fewest.Goals as goal
 

@@ -1,5 +1,5 @@
 -- The loop of `fewest`.
-use Rattle.ckpt_terms.proofs.Names.{◌≤◌, take, length, vec_len, vec_capacity}
+use Rattle.ckpt_terms.proofs.Imports.{◌≤◌, take, length, vec_len, vec_capacity}
 use Rattle.ckpt_terms.proofs.JoinLemmas.{AreFewest}
 use Rattle.ckpt_terms.proofs.names.fewest.Given as goal
 

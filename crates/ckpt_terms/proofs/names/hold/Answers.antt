@@ -1,5 +1,5 @@
 -- Answers the goals of `hold`.
-use Rattle.ckpt_terms.proofs.Names.{ℕ, List, sym, ap, ◌∙◌, eqb, list_any, Span, names_of}
+use Rattle.ckpt_terms.proofs.Imports.{ℕ, List, sym, ap, ◌∙◌, eqb, list_any, Span, names_of}
 use Rattle.ckpt_terms.proofs.{SpanLemmas.in_spans, RangeLemmas.found_is}
 use Rattle.ckpt_terms.proofs.names.hold.Goals as goal
 

@@ -1,5 +1,5 @@
 -- Answers the goals of `join`.
-use Rattle.ckpt_terms.proofs.Names.{◌≡◌, ◌++◌, ◌∷◌, [], List, ap, ◌∙◌, arith, vec_len, option_to_list, Option, Span}
+use Rattle.ckpt_terms.proofs.Imports.{◌≡◌, ◌++◌, ◌∷◌, [], List, ap, ◌∙◌, arith, vec_len, option_to_list, Option, Span}
 use Rattle.ckpt_terms.proofs.JoinLemmas.{join_none, join_off, join_on}
 use Rattle.ckpt_terms.proofs.names.join.Goals as goal
 

@@ -1,5 +1,5 @@
 -- Answers the goals of `range_near`.
-use Rattle.ckpt_terms.proofs.Names.{arith, ◌∙◌, sym}
+use Rattle.ckpt_terms.proofs.Imports.{arith, ◌∙◌, sym}
 use Rattle.ckpt_terms.proofs.{SpanLemmas.span, RangeLemmas.at_place}
 use Rattle.ckpt_terms.proofs.names.range_near.Goals as goal
 

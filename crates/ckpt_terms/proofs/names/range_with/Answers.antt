@@ -1,5 +1,5 @@
 -- Answers the goals of `range_with`.
-use Rattle.ckpt_terms.proofs.Names.{rules, of_calls, ℕ, List, leb, get_or, arith, ◌∙◌, sym, leb-true, leb-false, always_returns_same, IsPartitionedBy-leb, Span}
+use Rattle.ckpt_terms.proofs.Imports.{rules, of_calls, ℕ, List, leb, get_or, arith, ◌∙◌, sym, leb-true, leb-false, always_returns_same, IsPartitionedBy-leb, Span}
 use Rattle.ckpt_terms.proofs.{SpanLemmas.span, RangeLemmas.at_place, RangeLemmas.ends_rise, RangeLemmas.none_has}
 use Rattle.ckpt_terms.proofs.names.range_with.Goals as goal
 

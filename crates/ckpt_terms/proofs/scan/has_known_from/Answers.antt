@@ -1,5 +1,5 @@
 -- Answers the goals of `has_known_from`.
-use Rattle.ckpt_terms.proofs.Names.{arith}
+use Rattle.ckpt_terms.proofs.Imports.{arith}
 use Rattle.ckpt_terms.proofs.{KnownFiles.in_image, scan.has_known_from.Goals.then-any_used_from, scan.has_known_from.Goals.else-any_used_from}
 use Rattle.ckpt_terms.proofs.scan.has_known_from.Goals as goal
 

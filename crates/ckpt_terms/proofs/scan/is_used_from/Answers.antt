@@ -1,5 +1,5 @@
 -- Answers the goals of `is_used_from`.
-use Rattle.ckpt_terms.proofs.Names.{◌≡◌, Bool, true, ◌||◌, leb, sym, ap, ◌∙◌, arith, list_any, record_in}
+use Rattle.ckpt_terms.proofs.Imports.{◌≡◌, Bool, true, ◌||◌, leb, sym, ap, ◌∙◌, arith, list_any, record_in}
 use Rattle.ckpt_terms.proofs.KnownFiles.{any_used}
 use Rattle.ckpt_terms.proofs.scan.is_used_from.Goals as goal
 

@@ -1,5 +1,5 @@
 -- Answers the goals of `spend`.
-use Rattle.ckpt_terms.proofs.Names.{sym}
+use Rattle.ckpt_terms.proofs.Imports.{sym}
 use Rattle.ckpt_terms.proofs.TermLemmas.{stays}
 use Rattle.ckpt_terms.proofs.spending.spend.Goals as goal
 

@@ -1,5 +1,5 @@
 -- Answers the goals of `end`.
-use Rattle.relkvanu.proofs.Names.{◌≡◌, ◌∙◌, ap, List, Ok, Alignment, with_input, Input, Ended, alignment_in}
+use Rattle.relkvanu.proofs.Imports.{◌≡◌, ◌∙◌, ap, List, Ok, Alignment, with_input, Input, Ended, alignment_in}
 use Rattle.relkvanu.proofs.InputBytes.{set_in}
 use Rattle.ckpt_align.specs.Steps.{settled}
 use Rattle.relkvanu.proofs.aligning.end.Goals as goal

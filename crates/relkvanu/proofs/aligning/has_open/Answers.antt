@@ -1,5 +1,5 @@
 -- Answers the goals of `has_open`.
-use Rattle.relkvanu.proofs.Names.{◌∙◌, sym}
+use Rattle.relkvanu.proofs.Imports.{◌∙◌, sym}
 use Rattle.relkvanu.proofs.InputBytes.{open_in}
 use Rattle.relkvanu.proofs.aligning.has_open.Goals as goal
 

@@ -1,5 +1,5 @@
 -- Answers the goals of `hold`.
-use Rattle.relkvanu.proofs.Names.{ap, List, Input}
+use Rattle.relkvanu.proofs.Imports.{ap, List, Input}
 use Rattle.relkvanu.proofs.InputBytes.{set_in}
 use Rattle.relkvanu.proofs.aligning.hold.Goals as goal
 

@@ -1,5 +1,5 @@
 -- Answers the goals of `is_aligning`.
-use Rattle.relkvanu.proofs.Names.{◌∙◌, sym}
+use Rattle.relkvanu.proofs.Imports.{◌∙◌, sym}
 use Rattle.relkvanu.proofs.InputBytes.{held_in}
 use Rattle.relkvanu.proofs.aligning.is_aligning.Goals as goal
 

@@ -1,5 +1,5 @@
 -- The loop invariant of `open_each`.
-use Rattle.relkvanu.proofs.Names.{◌≡◌, map, take, length, replicate, Open, input_of}
+use Rattle.relkvanu.proofs.Imports.{◌≡◌, map, take, length, replicate, Open, input_of}
 use Rattle.relkvanu.proofs.aligning.open_each.Given as goal
 
 -- the inputs so far are open

@@ -1,5 +1,5 @@
 -- Answers the goals of `release`.
-use Rattle.relkvanu.proofs.Names.{arith}
+use Rattle.relkvanu.proofs.Imports.{arith}
 use Rattle.relkvanu.proofs.InputBytes.{released_more}
 use Rattle.relkvanu.proofs.aligning.release.Goals as goal
 

@@ -1,5 +1,5 @@
 -- The loop invariant of `release`.
-use Rattle.relkvanu.proofs.Names.{◌≡◌, map, take, drop, released, input_of}
+use Rattle.relkvanu.proofs.Imports.{◌≡◌, map, take, drop, released, input_of}
 use Rattle.relkvanu.proofs.aligning.release.Given as goal
 
 -- the inputs so far are released, and the bytes that are left are as they were

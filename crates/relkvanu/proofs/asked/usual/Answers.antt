@@ -1,5 +1,5 @@
 -- Answers the goals of `usual`.
-use Rattle.relkvanu.proofs.Names.{◌≡◌, ℕ, List, Ok, refl, IfSome, None, Option, Some, Call, reading, Make, extends_line, said}
+use Rattle.relkvanu.proofs.Imports.{◌≡◌, ℕ, List, Ok, refl, IfSome, None, Option, Some, Call, reading, Make, extends_line, said}
 use Rattle.ckpt_lines.specs.declared.line.Line.TheVariants as line
 use Rattle.relkvanu.specs.declared.asked.Asked.TheVariants as ask
 use Rattle.relkvanu.proofs.asked.usual.Goals as goal

@@ -1,5 +1,5 @@
 -- Answers the goals of `relkvanu_take`.
-use Rattle.relkvanu.proofs.Names.{length, core_in}
+use Rattle.relkvanu.proofs.Imports.{length, core_in}
 use Rattle.relkvanu.proofs.Given.{take_at_most}
 use Rattle.relkvanu.proofs.buffers.relkvanu_take.Goals as goal
 

@@ -1,5 +1,5 @@
 -- The loop invariants of `write_files`.
-use Rattle.relkvanu.proofs.Names.{◌≡◌, length, take, drop}
+use Rattle.relkvanu.proofs.Imports.{◌≡◌, length, take, drop}
 use Rattle.relkvanu.proofs.buffers.write_files.Given as goal
 
 abbrev pub invariant-loop-place : goal.invariant-loop-place

@@ -1,5 +1,5 @@
 -- Answers the goals of `relkvanu_group_hold`.
-use Rattle.relkvanu.proofs.Names.{sym, ap, ◌∙◌, Answer}
+use Rattle.relkvanu.proofs.Imports.{sym, ap, ◌∙◌, Answer}
 use Rattle.relkvanu.proofs.GroupCalls.{full_is_told, one_look, one_made}
 use Rattle.relkvanu.proofs.group.relkvanu_group_hold.Goals as goal
 

@@ -1,5 +1,5 @@
 -- Answers the goals of `relkvanu_group_make`.
-use Rattle.relkvanu.proofs.Names.{length, take, sym, ap, ◌∙◌, held_answer, making, given, Answer}
+use Rattle.relkvanu.proofs.Imports.{length, take, sym, ap, ◌∙◌, held_answer, making, given, Answer}
 use Rattle.relkvanu.proofs.{GivenEvents.given_is_event, GroupCalls.asks, GroupCalls.full_is_told, GroupCalls.idles, GroupCalls.looks, GroupCalls.made_is, GroupCalls.stays}
 use Rattle.relkvanu.proofs.group.relkvanu_group_make.Goals as goal
 

@@ -1,5 +1,5 @@
 -- Answers the goals of `relkvanu_group_synced`.
-use Rattle.relkvanu.proofs.Names.{rules, false, ◌≡◌}
+use Rattle.relkvanu.proofs.Imports.{rules, false, ◌≡◌}
 use Rattle.relkvanu.proofs.GroupCalls.{one_sync}
 use Rattle.relkvanu.proofs.group.relkvanu_group_synced.Goals as goal
 

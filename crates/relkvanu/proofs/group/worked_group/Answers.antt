@@ -1,6 +1,6 @@
 -- Answers the goals of `worked_group`: each operation was performed.
-use Rattle.relkvanu.proofs.Names.{◌<◌, ℕ, false, List, [], ◌∷◌, refl, arith, Turn, Committed, Crashed, Looked, Made, world, Answer, IsRoom, AreAsked, Performed, Program, program, acks}
-use Rattle.relkvanu.proofs.Names.{begin, buffer, completed, fresh_choice, last, notes, operations, ticks, triggered}
+use Rattle.relkvanu.proofs.Imports.{◌<◌, ℕ, false, List, [], ◌∷◌, refl, arith, Turn, Committed, Crashed, Looked, Made, world, Answer, IsRoom, AreAsked, Performed, Program, program, acks}
+use Rattle.relkvanu.proofs.Imports.{begin, buffer, completed, fresh_choice, last, notes, operations, ticks, triggered}
 use Rattle.relkvanu.specs.GroupPrograms.{nothing}
 use Rattle.relkvanu.proofs.group.worked_group.Goals as goal
 

@@ -1,5 +1,5 @@
 -- Answers the goals of `save_from`.
-use Rattle.relkvanu.proofs.Names.{ℕ, List, sym, subst, settled, Tells}
+use Rattle.relkvanu.proofs.Imports.{ℕ, List, sym, subst, settled, Tells}
 use Rattle.relkvanu.proofs.Saves.{plain_opens}
 use Rattle.ckpt_names_image.specs.Named.{Plain}
 use Rattle.relkvanu.proofs.images.save_from.Goals as goal

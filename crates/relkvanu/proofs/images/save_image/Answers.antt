@@ -1,5 +1,5 @@
 -- Answers the goals of `save_image`.
-use Rattle.relkvanu.proofs.Names.{◌∙◌, ap, Fenced, named_in, saved_read}
+use Rattle.relkvanu.proofs.Imports.{◌∙◌, ap, Fenced, named_in, saved_read}
 use Rattle.relkvanu.proofs.Saves.{named_tells}
 use Rattle.relkvanu.proofs.images.save_image.Goals as goal
 

@@ -1,5 +1,5 @@
 -- Answers the goals of `text_of`.
-use Rattle.relkvanu.proofs.Names.{IfOk-weaker, IsUtf8-string_bytes, string_bytes, settled, state_in}
+use Rattle.relkvanu.proofs.Imports.{IfOk-weaker, IsUtf8-string_bytes, string_bytes, settled, state_in}
 use Rattle.relkvanu.proofs.Saves.{plain_tells}
 use Rattle.relkvanu.proofs.images.text_of.Goals as goal
 

@@ -1,5 +1,5 @@
 -- Answers the goals of `fetchable`.
-use Rattle.relkvanu.proofs.Names.{◌≡◌, ℕ, sym, subst, arith}
+use Rattle.relkvanu.proofs.Imports.{◌≡◌, ℕ, sym, subst, arith}
 use Rattle.relkvanu.proofs.Given.{take_brings}
 use Rattle.relkvanu.proofs.lines.fetchable.Goals as goal
 

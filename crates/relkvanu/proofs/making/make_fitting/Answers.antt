@@ -1,5 +1,5 @@
 -- Answers the goals of `make_fitting`.
-use Rattle.relkvanu.proofs.Names.{length, ap, Chronicle}
+use Rattle.relkvanu.proofs.Imports.{length, ap, Chronicle}
 use Rattle.relkvanu.proofs.Unmade.{unmade_leaves}
 use Rattle.relkvanu.proofs.making.make_fitting.Goals as goal
 

@@ -1,5 +1,5 @@
 -- Answers the goals of `relkvanu_make`.
-use Rattle.relkvanu.proofs.Names.{take, given}
+use Rattle.relkvanu.proofs.Imports.{take, given}
 use Rattle.relkvanu.proofs.SayingLemmas.{says_back}
 use Rattle.relkvanu.proofs.making.relkvanu_make.Goals as goal
 

@@ -1,5 +1,5 @@
 -- Answers the goals of `deliver`.
-use Rattle.relkvanu.proofs.Names.{◌∙◌, List, ap, map, slice_set, Input, Held, Phase, input_of, phase_of}
+use Rattle.relkvanu.proofs.Imports.{◌∙◌, List, ap, map, slice_set, Input, Held, Phase, input_of, phase_of}
 use Rattle.relkvanu.proofs.InputBytes.{set_in}
 use Rattle.relkvanu.proofs.recording.deliver.Goals as goal
 

@@ -1,5 +1,5 @@
 -- Answers the goals of `end`.
-use Rattle.relkvanu.proofs.Names.{◌∙◌, List, ap, Input, Recorder, phase_of}
+use Rattle.relkvanu.proofs.Imports.{◌∙◌, List, ap, Input, Recorder, phase_of}
 use Rattle.relkvanu.proofs.InputBytes.{set_in}
 use Rattle.ckpt_unaligned.specs.Steps.{settled}
 use Rattle.relkvanu.specs.declared.recording.Recorder as memory

@@ -1,5 +1,5 @@
 -- The loop invariants of `write_parallelisms`.
-use Rattle.relkvanu.proofs.Names.{◌≡◌, length, take, drop}
+use Rattle.relkvanu.proofs.Imports.{◌≡◌, length, take, drop}
 use Rattle.relkvanu.proofs.saying.write_parallelisms.Given as goal
 
 abbrev pub invariant-loop-place : goal.invariant-loop-place

@@ -1,5 +1,5 @@
 -- Answers the goals of `relkvanu_garbage`.
-use Rattle.relkvanu.proofs.Names.{rules, ◌≡◌, subst, Promises}
+use Rattle.relkvanu.proofs.Imports.{rules, ◌≡◌, subst, Promises}
 use Rattle.relkvanu.proofs.sweep.relkvanu_garbage.Goals as goal
 
 pub returns-clause-promised : goal.returns-clause-promised

@@ -1,5 +1,5 @@
 -- The loop invariants of `write_garbage`.
-use Rattle.relkvanu.proofs.Names.{◌≡◌, ◌≤◌, length, take, drop, filter, is_garbage}
+use Rattle.relkvanu.proofs.Imports.{◌≡◌, ◌≤◌, length, take, drop, filter, is_garbage}
 use Rattle.relkvanu.proofs.sweep.write_garbage.Given as goal
 
 abbrev pub invariant-loop-place : goal.invariant-loop-place

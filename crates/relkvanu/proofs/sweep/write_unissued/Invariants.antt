@@ -1,5 +1,5 @@
 -- The loop invariants of `write_unissued`.
-use Rattle.relkvanu.proofs.Names.{◌≡◌, ◌≤◌, leb, length, take, drop, filter}
+use Rattle.relkvanu.proofs.Imports.{◌≡◌, ◌≤◌, leb, length, take, drop, filter}
 use Rattle.relkvanu.proofs.sweep.write_unissued.Given as goal
 
 abbrev pub invariant-loop-place : goal.invariant-loop-place

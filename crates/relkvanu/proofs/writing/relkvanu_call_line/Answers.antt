@@ -1,5 +1,5 @@
 -- Answers the goals of `relkvanu_call_line`.
-use Rattle.relkvanu.proofs.Names.{List, ℕ, take, rules, ReadsBack, given}
+use Rattle.relkvanu.proofs.Imports.{List, ℕ, take, rules, ReadsBack, given}
 use Rattle.relkvanu.proofs.SayingLemmas.{says_back}
 use Rattle.relkvanu.proofs.writing.relkvanu_call_line.Goals as goal
 

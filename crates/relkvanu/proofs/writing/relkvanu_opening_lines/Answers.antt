@@ -1,5 +1,5 @@
 -- Answers the goals of `relkvanu_opening_lines`.
-use Rattle.relkvanu.proofs.Names.{◌≤◌, ◌∙◌, ℕ, List, length, subst, LONGEST_LINE, opening_of, opening_text}
+use Rattle.relkvanu.proofs.Imports.{◌≤◌, ◌∙◌, ℕ, List, length, subst, LONGEST_LINE, opening_of, opening_text}
 use Rattle.relkvanu.proofs.Openings.{lines_fit}
 use Rattle.relkvanu.proofs.writing.relkvanu_opening_lines.Goals as goal
 

@@ -1,5 +1,5 @@
 -- Answers the goals of `Machine::apply_metered`.
-use Rattle.ckpt_terms.proofs.Names.{◌≡◌, true, sym, ap, subst, IfOk, Result, Ok, Err, Call, FencedAnswer, Make, Machine, Fenced, FencedStepped, fenced_step, MakesStep, names_in, passes}
+use Rattle.ckpt_terms.proofs.Imports.{◌≡◌, true, sym, ap, subst, IfOk, Result, Ok, Err, Call, FencedAnswer, Make, Machine, Fenced, FencedStepped, fenced_step, MakesStep, names_in, passes}
 use Rattle.ckpt_terms.proofs.MachineLemmas.{passed_on}
 use Rattle.ckpt_terms.specs.declared.machine.Machine.TheVariants as machine
 use Rattle.ckpt_terms.proofs.machine.Machine.apply_metered.Goals as goal

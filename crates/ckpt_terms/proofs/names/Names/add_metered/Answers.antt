@@ -1,5 +1,5 @@
 -- Answers the goals of `Names::add_metered`.
-use Rattle.ckpt_terms.proofs.Names.{◌≡◌, ◌<◌, ◌≤◌, ◌+◌, ◌++◌, ℕ, List, length, arith, refl, sym, subst, ap, ◌∙◌, vec_len, vec_capacity, range_with_len, IsIn, Span, AreKept, joined, names_of}
+use Rattle.ckpt_terms.proofs.Imports.{◌≡◌, ◌<◌, ◌≤◌, ◌+◌, ◌++◌, ℕ, List, length, arith, refl, sym, subst, ap, ◌∙◌, vec_len, vec_capacity, range_with_len, IsIn, Span, AreKept, joined, names_of}
 use Rattle.ckpt_terms.proofs.{SpanLemmas.few_between, SpanLemmas.span, RangeLemmas.fewer, RangeLemmas.added, RangeLemmas.joined_is}
 use Rattle.ckpt_terms.proofs.names.Names.add_metered.Goals as goal
 

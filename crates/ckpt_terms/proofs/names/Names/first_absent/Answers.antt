@@ -1,5 +1,5 @@
 -- Answers the goals of `Names::first_absent`.
-use Rattle.ckpt_terms.proofs.Names.{◌≡◌, ℕ, Bool, false, not, ◌||◌, List, get_or, sym, ap, subst, ◌∙◌, arith, Option, Some, is_some, list_any, take_all, list_any_more, find-none, Span}
+use Rattle.ckpt_terms.proofs.Imports.{◌≡◌, ℕ, Bool, false, not, ◌||◌, List, get_or, sym, ap, subst, ◌∙◌, arith, Option, Some, is_some, list_any, take_all, list_any_more, find-none, Span}
 use Rattle.ckpt_terms.proofs.Absent.{absent_is, find_first, is_absent}
 use Rattle.ckpt_terms.proofs.names.Names.first_absent.Goals as goal
 

@@ -1,5 +1,5 @@
 -- The loop of `Names::first_absent`.
-use Rattle.ckpt_terms.proofs.Names.{◌≡◌, false, take, list_any}
+use Rattle.ckpt_terms.proofs.Imports.{◌≡◌, false, take, list_any}
 use Rattle.ckpt_terms.proofs.Absent.{is_absent}
 use Rattle.ckpt_terms.proofs.names.Names.first_absent.Given as goal
 

@@ -1,5 +1,5 @@
 -- Answers the goals of `Names::remove`.
-use Rattle.ckpt_terms.proofs.Names.{◌≡◌, ℕ, List, [], ◌∷◌, false, subst, list_any, Span, without_all, in_span, names_of}
+use Rattle.ckpt_terms.proofs.Imports.{◌≡◌, ℕ, List, [], ◌∷◌, false, subst, list_any, Span, without_all, in_span, names_of}
 use Rattle.ckpt_terms.proofs.RangeLemmas.{absent_stays}
 use Rattle.ckpt_terms.proofs.names.Names.remove.Goals as goal
 

@@ -1,5 +1,5 @@
 -- Answers the goals of `Names::remove_all`.
-use Rattle.ckpt_terms.proofs.Names.{ℕ, List, [], ◌∷◌, ◌++◌, take, sym, ap, ◌∙◌, arith, take_more, without_all}
+use Rattle.ckpt_terms.proofs.Imports.{ℕ, List, [], ◌∷◌, ◌++◌, take, sym, ap, ◌∙◌, arith, take_more, without_all}
 use Rattle.ckpt_terms.proofs.{SpanLemmas.without_above, RangeLemmas.without_more}
 use Rattle.ckpt_terms.proofs.names.Names.remove_all.Goals as goal
 

@@ -1,6 +1,6 @@
 -- Answers the goals of `Terms::advance`.
-use Rattle.ckpt_terms.proofs.Names.{◌≡◌, ℕ, ◌+◌, sym, subst, ap, ◌∙◌, None, Some, Err, Done, Refused, State, refusal, step, step_refused, Advance, Fenced, advance_fault, fence, fenced_step}
-use Rattle.ckpt_terms.proofs.Names.{restart}
+use Rattle.ckpt_terms.proofs.Imports.{◌≡◌, ℕ, ◌+◌, sym, subst, ap, ◌∙◌, None, Some, Err, Done, Refused, State, refusal, step, step_refused, Advance, Fenced, advance_fault, fence, fenced_step}
+use Rattle.ckpt_terms.proofs.Imports.{restart}
 use Rattle.ckpt_terms.proofs.{Stepping.fenced_off, TermLemmas.advance_done, TermLemmas.advance_done_fenced, TermLemmas.advance_on, TermLemmas.layer}
 use Rattle.ckpt_terms.specs.declared.call.FencedAnswer.TheVariants as answer
 use Rattle.ckpt_terms.proofs.terms.Terms.advance.Goals as goal

@@ -1,5 +1,5 @@
 -- Answers the goals of `Terms::forfeit`.
-use Rattle.ckpt_terms.proofs.Names.{◌≡◌, subst, Forfeit, OldTerm, Fenced, fenced_step}
+use Rattle.ckpt_terms.proofs.Imports.{◌≡◌, subst, Forfeit, OldTerm, Fenced, fenced_step}
 use Rattle.ckpt_terms.proofs.TermLemmas.{layer, forfeit_off, forfeit_on, forfeit_fenced}
 use Rattle.ckpt_terms.specs.declared.call.FencedAnswer.TheVariants as answer
 use Rattle.ckpt_terms.proofs.terms.Terms.forfeit.Goals as goal

@@ -1,5 +1,5 @@
 -- Answers the goals of `Terms::image_metered`.
-use Rattle.ckpt_terms.proofs.Names.{◌≡◌, ap, ◌∙◌, settled, state_in, Fenced, names_of}
+use Rattle.ckpt_terms.proofs.Imports.{◌≡◌, ap, ◌∙◌, settled, state_in, Fenced, names_of}
 use Rattle.ckpt_terms.proofs.{Imaged.saved_is, Imaged.saved_can_hold, TermLemmas.layer}
 use Rattle.ckpt_terms.proofs.terms.Terms.image_metered.Goals as goal
 

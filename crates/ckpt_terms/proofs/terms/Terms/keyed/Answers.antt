@@ -1,5 +1,5 @@
 -- Answers the goals of `Terms::keyed`.
-use Rattle.ckpt_terms.proofs.Names.{ℕ, List, sym, subst, arith, CanOpen, State, Opening, opened, CanFence, IsFenced, InBounds, in_bounds}
+use Rattle.ckpt_terms.proofs.Imports.{ℕ, List, sym, subst, arith, CanOpen, State, Opening, opened, CanFence, IsFenced, InBounds, in_bounds}
 use Rattle.ckpt_terms.proofs.{Fences.opening_fenced, TermLemmas.layer}
 use Rattle.ckpt_terms.proofs.terms.Terms.keyed.Goals as goal
 

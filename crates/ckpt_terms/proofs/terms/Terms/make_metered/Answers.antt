@@ -1,5 +1,5 @@
 -- Answers the goals of `Terms::make_metered`.
-use Rattle.ckpt_terms.proofs.Names.{◌≡◌, refl, sym, subst, ap, ◌∙◌, None, Some, Err, Done, Refused, State, refusal, step, step_refused, Make, Fenced, fence, fenced_step}
+use Rattle.ckpt_terms.proofs.Imports.{◌≡◌, refl, sym, subst, ap, ◌∙◌, None, Some, Err, Done, Refused, State, refusal, step, step_refused, Make, Fenced, fence, fenced_step}
 use Rattle.ckpt_terms.proofs.{Stepping.fenced_off, TermLemmas.layer, TermLemmas.make_on, TermLemmas.make_fenced}
 use Rattle.ckpt_terms.specs.declared.call.FencedAnswer.TheVariants as answer
 use Rattle.ckpt_terms.proofs.terms.Terms.make_metered.Goals as goal

@@ -1,5 +1,5 @@
 -- Answers the goals of `Terms::reserve`.
-use Rattle.ckpt_terms.proofs.Names.{◌≡◌, ◌+◌, sym, subst, ◌∙◌, None, Reserve, Fenced, fence, fenced_step}
+use Rattle.ckpt_terms.proofs.Imports.{◌≡◌, ◌+◌, sym, subst, ◌∙◌, None, Reserve, Fenced, fence, fenced_step}
 use Rattle.ckpt_terms.proofs.{Stepping.fenced_off, TermLemmas.layer, TermLemmas.reserve_on, TermLemmas.reserve_fenced}
 use Rattle.ckpt_terms.specs.declared.call.FencedAnswer.TheVariants as answer
 use Rattle.ckpt_terms.proofs.terms.Terms.reserve.Goals as goal

@@ -1,6 +1,6 @@
 -- A handle is the same for every thread: it owns the coordinator's box, and a coordinator may go to another thread.
-use Rattle.relkvanu.proofs.Names.{full_share, Keyless, lone, Ptr, block_ptr, null_ptr, IsSend, part_keyless, ghosts, frees, box_owns, State, Issued, logged_send, Chronicle, heap, kept}
-use Rattle.relkvanu.proofs.Names.{the_row}
+use Rattle.relkvanu.proofs.Imports.{full_share, Keyless, lone, Ptr, block_ptr, null_ptr, IsSend, part_keyless, ghosts, frees, box_owns, State, Issued, logged_send, Chronicle, heap, kept}
+use Rattle.relkvanu.proofs.Imports.{the_row}
 use Rattle.relkvanu.proofs.Words.{R}
 use mir.Raw.{raw}
 use Rattle.std.specs.declared.option.Option.{Option}

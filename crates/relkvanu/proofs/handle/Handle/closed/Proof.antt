@@ -1,7 +1,7 @@
 -- `closed` writes the null pointer, which owns nothing.
-use Rattle.relkvanu.proofs.Names.{◌≡◌, [], ◌∷◌, refl, lit<, Val, SProp, emp, ftrue, ‵, raw, ◌⊛◌, ◌$◌, ◌∵◌, !, qed, by, keep, fpack, split, use0, lit, no_more, and_then, returns, enter}
-use Rattle.relkvanu.proofs.Names.{alloc_all, pass_all, free_all, look_at, sets, agg, fact, fact_i, tables, owns, types_at, null_ptr, ptr_val, nothing, walk_of, proved_at, leaves, State}
-use Rattle.relkvanu.proofs.Names.{Issued, IsHeld}
+use Rattle.relkvanu.proofs.Imports.{◌≡◌, [], ◌∷◌, refl, lit<, Val, SProp, emp, ftrue, ‵, raw, ◌⊛◌, ◌$◌, ◌∵◌, !, qed, by, keep, fpack, split, use0, lit, no_more, and_then, returns, enter}
+use Rattle.relkvanu.proofs.Imports.{alloc_all, pass_all, free_all, look_at, sets, agg, fact, fact_i, tables, owns, types_at, null_ptr, ptr_val, nothing, walk_of, proved_at, leaves, State}
+use Rattle.relkvanu.proofs.Imports.{Issued, IsHeld}
 use Rattle.relkvanu.proofs.{Words.R, Words.word, Words.handle_in, handle.Handle.closed.Statement.statement}
 use Rattle.std.specs.declared.option.Option.{Option}
 use Rattle.std.specs.declared.option.Option.TheVariants.{None}

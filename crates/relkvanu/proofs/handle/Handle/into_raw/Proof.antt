@@ -1,9 +1,9 @@
 -- `into_raw` tests whether the pointer is null. If it is not, it has the box.
-use Rattle.relkvanu.proofs.Names.{◌≡◌, List, [], ◌∷◌, ◌++◌, refl, sym, ap, ◌∙◌, subst, lit<, Val, vptr, vcons, vnil, SProp, ent, emp, id⊢, ftrue, WpFn, ‵, raw, ◌⊛◌, at_ret, ◌$◌, ◌∵◌, !, qed}
-use Rattle.relkvanu.proofs.Names.{by, move, keep, split, fsplit, fjoin, suffices, use0, use1, rewrite, stop, fld, lit, of_opd, bin, no_more, and_then, first, branches, exec, returns, enter}
-use Rattle.relkvanu.proofs.Names.{alloc_all, pass_all, free_all, look_at, get, get_in, sets, sets_last, env, agg, sub, whole, live, fact, fact_i, tables, yes, RattleType, owns, types_at}
-use Rattle.relkvanu.proofs.Names.{type_at, plain, layout, Ptr, block_ptr, null_ptr, ptr_val, tests_null, nothing, Stays, stay_dropped, walk_of, Goes-dropped, after, Good, one, Some-of}
-use Rattle.relkvanu.proofs.Names.{none_of, option_map, ghosts, proved_at, leaves, and_tt, IsHeld}
+use Rattle.relkvanu.proofs.Imports.{◌≡◌, List, [], ◌∷◌, ◌++◌, refl, sym, ap, ◌∙◌, subst, lit<, Val, vptr, vcons, vnil, SProp, ent, emp, id⊢, ftrue, WpFn, ‵, raw, ◌⊛◌, at_ret, ◌$◌, ◌∵◌, !, qed}
+use Rattle.relkvanu.proofs.Imports.{by, move, keep, split, fsplit, fjoin, suffices, use0, use1, rewrite, stop, fld, lit, of_opd, bin, no_more, and_then, first, branches, exec, returns, enter}
+use Rattle.relkvanu.proofs.Imports.{alloc_all, pass_all, free_all, look_at, get, get_in, sets, sets_last, env, agg, sub, whole, live, fact, fact_i, tables, yes, RattleType, owns, types_at}
+use Rattle.relkvanu.proofs.Imports.{type_at, plain, layout, Ptr, block_ptr, null_ptr, ptr_val, tests_null, nothing, Stays, stay_dropped, walk_of, Goes-dropped, after, Good, one, Some-of}
+use Rattle.relkvanu.proofs.Imports.{none_of, option_map, ghosts, proved_at, leaves, and_tt, IsHeld}
 use Rattle.relkvanu.proofs.{BoxWords.Apart, BoxWords.word as pair, BoxWords.word_fits, BoxWords.apart_in, Words.R, Words.word, Words.handle_out, Words.either}
 use Rattle.relkvanu.proofs.handle.Handle.into_raw.Statement.{statement}
 use Rattle.std.specs.contracts.alloc.Global as heap

@@ -1,8 +1,8 @@
 -- `of` keeps the pointer of the box. The allocator takes no bytes, and there is only one.
-use Rattle.relkvanu.proofs.Names.{List, [], ◌∷◌, ◌++◌, refl, sym, subst, Val, vptr, SProp, ent, emp, id⊢, ftrue, WpFn, ‵, raw, ◌⊛◌, ◌$◌, ◌∵◌, !, qed, by, move, keep, split, fsplit, fjoin}
-use Rattle.relkvanu.proofs.Names.{suffices, fpack, use0, stop, fld, of_opd, no_more, and_then, returns, enter, alloc_all, pass_all, free_all, look_at, get, get_in, sets, agg, sub, whole}
-use Rattle.relkvanu.proofs.Names.{fact, fact_i, tables, yes, RattleType, owns, types_at, plain, block_ptr, nothing, Stays, stay_dropped, walk_of, Goes-dropped, ghosts, proved_at, leaves}
-use Rattle.relkvanu.proofs.Names.{State, Issued, core_in, names_in, IsHeld}
+use Rattle.relkvanu.proofs.Imports.{List, [], ◌∷◌, ◌++◌, refl, sym, subst, Val, vptr, SProp, ent, emp, id⊢, ftrue, WpFn, ‵, raw, ◌⊛◌, ◌$◌, ◌∵◌, !, qed, by, move, keep, split, fsplit, fjoin}
+use Rattle.relkvanu.proofs.Imports.{suffices, fpack, use0, stop, fld, of_opd, no_more, and_then, returns, enter, alloc_all, pass_all, free_all, look_at, get, get_in, sets, agg, sub, whole}
+use Rattle.relkvanu.proofs.Imports.{fact, fact_i, tables, yes, RattleType, owns, types_at, plain, block_ptr, nothing, Stays, stay_dropped, walk_of, Goes-dropped, ghosts, proved_at, leaves}
+use Rattle.relkvanu.proofs.Imports.{State, Issued, core_in, names_in, IsHeld}
 use Rattle.relkvanu.proofs.{BoxWords.Apart, BoxWords.word as pair, BoxWords.word_fits, BoxWords.apart_out, Words.R, Words.boxed, Words.word, Words.handle_in}
 use Rattle.relkvanu.proofs.handle.Handle.of.Statement.{statement}
 use Rattle.std.specs.contracts.alloc.Global as heap

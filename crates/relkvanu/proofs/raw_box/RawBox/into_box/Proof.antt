@@ -1,9 +1,9 @@
 -- `into_box` reads the two fields and calls `Box::from_raw`.
-use Rattle.relkvanu.proofs.Names.{◌≡◌, List, [], ◌∷◌, ◌++◌, refl, sym, ap, subst, a_type, dcons, dnil, Val, vptr, inst_fn, SProp, ent, id⊢, ftrue, flft, WpFn, ‵, raw, ◌⊛◌, some, later}
-use Rattle.relkvanu.proofs.Names.{at_ret, ◌$◌, ◌∵◌, !, qed, by, move, keep, split, split3, join, fsplit, fjoin, pick, suffices, use1, await, rewrite, feq_i, stop, fld, of_opd, no_more}
-use Rattle.relkvanu.proofs.Names.{and_then, first, blocks, exec, returns, enter, alloc_all, pass_all, free_all, look_at, get, get_in, sets, lands_last, env, sub, whole, fact, ◌⊑◌, tables}
-use Rattle.relkvanu.proofs.Names.{no, RattleType, owns, types_at, plain, block_ptr, nothing, only, param, layout, bounded, param_laws, Lasts, lasts, triple_of, calls_at_last, Stays}
-use Rattle.relkvanu.proofs.Names.{stay_dropped, walk_of, Goes-blank, after, fm, Good, box_out, box_in, proved_at, leaves, met, ended, clauses}
+use Rattle.relkvanu.proofs.Imports.{◌≡◌, List, [], ◌∷◌, ◌++◌, refl, sym, ap, subst, a_type, dcons, dnil, Val, vptr, inst_fn, SProp, ent, id⊢, ftrue, flft, WpFn, ‵, raw, ◌⊛◌, some, later}
+use Rattle.relkvanu.proofs.Imports.{at_ret, ◌$◌, ◌∵◌, !, qed, by, move, keep, split, split3, join, fsplit, fjoin, pick, suffices, use1, await, rewrite, feq_i, stop, fld, of_opd, no_more}
+use Rattle.relkvanu.proofs.Imports.{and_then, first, blocks, exec, returns, enter, alloc_all, pass_all, free_all, look_at, get, get_in, sets, lands_last, env, sub, whole, fact, ◌⊑◌, tables}
+use Rattle.relkvanu.proofs.Imports.{no, RattleType, owns, types_at, plain, block_ptr, nothing, only, param, layout, bounded, param_laws, Lasts, lasts, triple_of, calls_at_last, Stays}
+use Rattle.relkvanu.proofs.Imports.{stay_dropped, walk_of, Goes-blank, after, fm, Good, box_out, box_in, proved_at, leaves, met, ended, clauses}
 use Rattle.relkvanu.proofs.{BoxWords.Apart, BoxWords.word, BoxWords.word_fits, BoxWords.apart_out, raw_box.RawBox.into_box.Statement.statement}
 use types.Kit.{drop}
 use Rattle.std_alloc.proofs.BoxSteps.Form as box

@@ -1,9 +1,9 @@
 -- `of` calls `Box::into_raw_with_allocator` and puts the two halves into the struct.
-use Rattle.relkvanu.proofs.Names.{◌≡◌, List, [], ◌∷◌, ◌++◌, refl, sym, ap, ◌∙◌, subst, a_type, dcons, dnil, Val, vstruct, of_list, inst_fn, SProp, ent, emp, never, id⊢, fst∗, ftrue, fsep}
-use Rattle.relkvanu.proofs.Names.{flft, WpFn, sem, ‵, raw, ◌⊛◌, some, later, ◌$◌, ◌∵◌, !, qed, by, move, keep, split, split3, join, fsplit, fjoin, fpick, pick, suffices, use0, use1, await}
-use Rattle.relkvanu.proofs.Names.{rewrite, feq_l, stop, fld, of_opd, no_more, and_then, returns, enter, alloc_all, pass_all, free_all, look_at, get, get_in, sets, lands_as, agg, sub, whole}
-use Rattle.relkvanu.proofs.Names.{fact, fact_i, tables, no, RattleType, owns, types_at, plain, RawPtr, Ptr, block_ptr, null_ptr, ptr_val, in_a_block, nothing, only, heard, param, layout}
-use Rattle.relkvanu.proofs.Names.{bounded, param_laws, Tuple, triple_of, calls_at, Stays, stay_dropped, walk_of, Goes-blank, handle_tells, fm, box_owns, box_out, box_in, proved_at, leaves}
+use Rattle.relkvanu.proofs.Imports.{◌≡◌, List, [], ◌∷◌, ◌++◌, refl, sym, ap, ◌∙◌, subst, a_type, dcons, dnil, Val, vstruct, of_list, inst_fn, SProp, ent, emp, never, id⊢, fst∗, ftrue, fsep}
+use Rattle.relkvanu.proofs.Imports.{flft, WpFn, sem, ‵, raw, ◌⊛◌, some, later, ◌$◌, ◌∵◌, !, qed, by, move, keep, split, split3, join, fsplit, fjoin, fpick, pick, suffices, use0, use1, await}
+use Rattle.relkvanu.proofs.Imports.{rewrite, feq_l, stop, fld, of_opd, no_more, and_then, returns, enter, alloc_all, pass_all, free_all, look_at, get, get_in, sets, lands_as, agg, sub, whole}
+use Rattle.relkvanu.proofs.Imports.{fact, fact_i, tables, no, RattleType, owns, types_at, plain, RawPtr, Ptr, block_ptr, null_ptr, ptr_val, in_a_block, nothing, only, heard, param, layout}
+use Rattle.relkvanu.proofs.Imports.{bounded, param_laws, Tuple, triple_of, calls_at, Stays, stay_dropped, walk_of, Goes-blank, handle_tells, fm, box_owns, box_out, box_in, proved_at, leaves}
 use Rattle.relkvanu.proofs.{BoxWords.word, BoxWords.word_fits, BoxWords.apart_in, raw_box.RawBox.of.Statement.statement}
 use mir.Raw.{raw as bare}
 use types.Kit.{drop}

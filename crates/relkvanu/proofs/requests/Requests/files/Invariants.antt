@@ -1,5 +1,5 @@
 -- The loop invariants of `Requests::files`.
-use Rattle.relkvanu.proofs.Names.{◌≡◌, ◌≤◌, length, take, vec_capacity, vec_len}
+use Rattle.relkvanu.proofs.Imports.{◌≡◌, ◌≤◌, length, take, vec_capacity, vec_len}
 use Rattle.relkvanu.proofs.requests.Requests.files.Given as goal
 
 abbrev pub invariant-loop-place : goal.invariant-loop-place
