@@ -2,8 +2,8 @@
 use Rattle.ckpt_chain.proofs.Names.{◌≡◌, ℕ, Bool, true, false, List, [], ◌∷◌, refl, sym, ap, ◌∙◌, subst, inl, inr, ◌⊎◌, ⊎_elim, cond, arith, ◌&&◌, ◌==◌, nat_lt, slice_get, Option, Some}
 use Rattle.ckpt_chain.proofs.Names.{None, Ok, list_any, cond_both, common_steps, none-some, same_Some, IsIn, IsIn-append_cases, IsIn-append_left, IsIn-append_right, Alignment, all_released}
 use Rattle.ckpt_chain.proofs.Names.{held_for, is_aligning, is_late, is_open, with_input, Input, Open, Held, Item, Element, Barrier, End, Action, Reads, GivesUp, Sends, Ends, after}
-use Rattle.ckpt_chain.proofs.Names.{answer_to, barriers, cut_as, cut_by, has_cut, is_number, is_taken, sent, sent_by, taken, taken_by, Stepped, barrier, element, give_up, if_open, settled}
-use Rattle.ckpt_chain.proofs.Names.{is_number-Some}
+use Rattle.ckpt_chain.proofs.Names.{answer_to, barriers, cut_as, cut_by, has_cut, is_number, is_taken, sent, sent_by, taken, taken_by, Stepped, barrier, give_up, if_open, settled}
+use Rattle.ckpt_chain.proofs.Names.{element_reads-other, give_up_cuts_not, is_number-Some, reads_cut-element}
 use Rattle.ckpt_align.specs.declared.event.Answer.TheVariants as answer
 use Rattle.ckpt_align.specs.declared.event.Event.TheVariants as event
 use Rattle.ckpt_align.specs.declared.input.Input.TheVariants.{Ended}
@@ -19,43 +19,38 @@ Latest a n s = (s.0.latest ≡ a.latest) ⊎ ((s.0.latest ≡ n) × (is_taken s.
 abbrev Cuts : Stepped → Type 0
 Cuts s = (n : ℕ) → cut_as s.1 ≡ Some n → s.0.latest ≡ n
 
-settled_latest : (a b : Alignment) (n : ℕ) → b.latest ≡ n → Latest a n (settled b)
+-- what holds of each way in which a step ends holds of the step
+
+settled_cases : (P : Stepped → Type 0) (b : Alignment) → P (b, Ok answer.Wait) → P (all_released b, Ok (answer.Cut b.latest)) → P (b, Ok answer.Nothing) → P (settled b)
 unfolding settled
-settled_latest a b n e =
-    cond_both (is_aligning b) (cond (list_any is_open b.inputs) (b, Ok answer.Wait) (all_released b, Ok (answer.Cut b.latest))) (b, Ok answer.Nothing) (Latest a n)
-    (λ _. cond_both (list_any is_open b.inputs) (b, Ok answer.Wait) (all_released b, Ok (answer.Cut b.latest)) (Latest a n) (λ _. inr (e, refl)) (λ _. inr (e, refl)))
-    (λ _. inr (e, refl))
+settled_cases P b waits cuts nothing =
+    cond_both (is_aligning b) (cond (list_any is_open b.inputs) (b, Ok answer.Wait) (all_released b, Ok (answer.Cut b.latest))) (b, Ok answer.Nothing) P
+    (λ _. cond_both (list_any is_open b.inputs) (b, Ok answer.Wait) (all_released b, Ok (answer.Cut b.latest)) P (λ _. waits) (λ _. cuts))
+    (λ _. nothing)
+
+barrier_cases : (P : Stepped → Type 0) (a : Alignment) (i n : ℕ) → P (a, Ok answer.Late) → P (held_for (all_released a) i n, Ok (answer.Abandon a.latest)) → P (settled (held_for a i n))
+    → P (barrier a i n)
+unfolding barrier
+barrier_cases P a i n late abandons settles =
+    cond_both (is_late a n) (a, Ok answer.Late) (cond (is_aligning a && nat_lt a.latest n) (held_for (all_released a) i n, Ok (answer.Abandon a.latest)) (settled (held_for a i n))) P
+    (λ _. late)
+    (λ _. cond_both (is_aligning a && nat_lt a.latest n) (held_for (all_released a) i n, Ok (answer.Abandon a.latest)) (settled (held_for a i n)) P (λ _. abandons) (λ _. settles))
+
+settled_latest : (a b : Alignment) (n : ℕ) → b.latest ≡ n → Latest a n (settled b)
+settled_latest a b n e = settled_cases (Latest a n) b (inr (e, refl)) (inr (e, refl)) (inr (e, refl))
 
 settled_cuts : (b : Alignment) → Cuts (settled b)
-unfolding settled
-settled_cuts b =
-    cond_both (is_aligning b) (cond (list_any is_open b.inputs) (b, Ok answer.Wait) (all_released b, Ok (answer.Cut b.latest))) (b, Ok answer.Nothing) Cuts
-    (λ _. cond_both (list_any is_open b.inputs) (b, Ok answer.Wait) (all_released b, Ok (answer.Cut b.latest)) Cuts (λ _ n e. absurd (none-some n e)) (λ _ n e. same_Some b.latest n e))
-    (λ _ n e. absurd (none-some n e))
+settled_cuts b = settled_cases Cuts b (λ n e. absurd (none-some n e)) (λ n e. same_Some b.latest n e) (λ n e. absurd (none-some n e))
 
 -- an end leaves the latest record
 settled_stays : (b : Alignment) → (settled b).0.latest ≡ b.latest
-unfolding settled
-settled_stays b =
-    cond_both (is_aligning b) (cond (list_any is_open b.inputs) (b, Ok answer.Wait) (all_released b, Ok (answer.Cut b.latest))) (b, Ok answer.Nothing) (λ (s : Stepped). s.0.latest ≡ b.latest)
-    (λ _. cond_both (list_any is_open b.inputs) (b, Ok answer.Wait) (all_released b, Ok (answer.Cut b.latest)) (λ (s : Stepped). s.0.latest ≡ b.latest) (λ _. refl) (λ _. refl))
-    (λ _. refl)
+settled_stays b = settled_cases (λ (s : Stepped). s.0.latest ≡ b.latest) b refl refl refl
 
 barrier_latest : (a : Alignment) (i n : ℕ) → Latest a n (barrier a i n)
-unfolding barrier
-barrier_latest a i n =
-    cond_both (is_late a n) (a, Ok answer.Late) (cond (is_aligning a && nat_lt a.latest n) (held_for (all_released a) i n, Ok (answer.Abandon a.latest)) (settled (held_for a i n))) (Latest a n)
-    (λ _. inl refl)
-    (λ _. cond_both (is_aligning a && nat_lt a.latest n) (held_for (all_released a) i n, Ok (answer.Abandon a.latest)) (settled (held_for a i n)) (Latest a n)
-    (λ _. inr (refl, refl)) (λ _. settled_latest a (held_for a i n) n refl))
+barrier_latest a i n = barrier_cases (Latest a n) a i n (inl refl) (inr (refl, refl)) (settled_latest a (held_for a i n) n refl)
 
 barrier_cuts : (a : Alignment) (i n : ℕ) → Cuts (barrier a i n)
-unfolding barrier
-barrier_cuts a i n =
-    cond_both (is_late a n) (a, Ok answer.Late) (cond (is_aligning a && nat_lt a.latest n) (held_for (all_released a) i n, Ok (answer.Abandon a.latest)) (settled (held_for a i n))) Cuts
-    (λ _ m e. absurd (none-some m e))
-    (λ _. cond_both (is_aligning a && nat_lt a.latest n) (held_for (all_released a) i n, Ok (answer.Abandon a.latest)) (settled (held_for a i n)) Cuts
-    (λ _ m e. absurd (none-some m e)) (λ _. settled_cuts (held_for a i n)))
+barrier_cuts a i n = barrier_cases Cuts a i n (λ m e. absurd (none-some m e)) (λ m e. absurd (none-some m e)) (settled_cuts (held_for a i n))
 
 open_latest : (a : Alignment) (n : ℕ) (o : Option Input) (s : Stepped) → Latest a n s → Latest a n (if_open a o s)
 open_latest a n None s k = inl refl
@@ -80,17 +75,6 @@ unfolding give_up
 give_up_stays a n =
     cond_both (is_aligning a && (n == a.latest)) (all_released a, Ok (answer.Abandon n)) (a, Ok answer.Nothing) (λ (s : Stepped). s.0.latest ≡ a.latest) (λ _. refl) (λ _. refl)
 
-give_up_cuts : (a : Alignment) (n : ℕ) → Cuts (give_up a n)
-unfolding give_up
-give_up_cuts a n =
-    cond_both (is_aligning a && (n == a.latest)) (all_released a, Ok (answer.Abandon n)) (a, Ok answer.Nothing) Cuts (λ _ m e. absurd (none-some m e)) (λ _ m e. absurd (none-some m e))
-
-element_of : (a : Alignment) (o : Option Input) → ((element a o).0.latest ≡ a.latest) × Cuts (element a o)
-element_of a None = (refl, λ n e. absurd (none-some n e))
-element_of a (Some Open) = (refl, λ n e. absurd (none-some n e))
-element_of a (Some Held) = (refl, λ n e. absurd (none-some n e))
-element_of a (Some Ended) = (refl, λ n e. absurd (none-some n e))
-
 -- AN ACTION
 
 -- the barrier of this record is among what was taken
@@ -112,7 +96,7 @@ barrier_came a i n s is (inr k) =
 
 came_by : (a : Alignment) (action : Action) → ((after a action).latest ≡ a.latest) ⊎ IsAmong (after a action).latest (λ j. taken_by j a action)
 unfolding step
-came_by a (Reads i (Element x)) = inl (element_of a (slice_get a.inputs i)).0
+came_by a (Reads i (Element x)) = inl (ap (λ (b : Alignment). b.latest) (element_reads-other a (slice_get a.inputs i)))
 came_by a (Reads i (Barrier n)) = barrier_came a i n (step a (event.Barrier i n)) refl (open_latest a n (slice_get a.inputs i) (barrier a i n) (barrier_latest a i n))
 came_by a (Reads i End) = inl (open_stays a (slice_get a.inputs i) (settled (with_input a i Ended)) (settled_stays (with_input a i Ended)))
 came_by a (GivesUp id) = inl (give_up_stays a id)
@@ -121,10 +105,10 @@ came_by a Ends = inl refl
 
 cut_is_latest : (a : Alignment) (action : Action) (n : ℕ) → cut_by a action ≡ Some n → (after a action).latest ≡ n
 unfolding step
-cut_is_latest a (Reads i (Element x)) n e = (element_of a (slice_get a.inputs i)).1 n e
+cut_is_latest a (Reads i (Element x)) n e = absurd (reads_cut-element a i x n e)
 cut_is_latest a (Reads i (Barrier m)) n e = open_cuts a (slice_get a.inputs i) (barrier a i m) (barrier_cuts a i m) n e
 cut_is_latest a (Reads i End) n e = open_cuts a (slice_get a.inputs i) (settled (with_input a i Ended)) (settled_cuts (with_input a i Ended)) n e
-cut_is_latest a (GivesUp id) n e = give_up_cuts a id n e
+cut_is_latest a (GivesUp id) n e = absurd (give_up_cuts_not a id n e)
 cut_is_latest a (Sends output x) n e = absurd (none-some n e)
 cut_is_latest a Ends n e = absurd (none-some n e)
 

@@ -96,14 +96,19 @@ accepted_are = refl
 abbrev Tells : Acked → Type 0
 Tells a = IsIn a.subtask job.tasks × IsIn (Acknowledges 1) (told_in (failed.looped a.subtask).last.deeds)
 
-have_told : (a : Acked) → IsIn a (acked source [] ∷ acked adder (5 ∷ []) ∷ []) → Tells a
-have_told a (inl e) = subst (λ (k : Acked). Tells k) (sym e) (inl refl, inl refl)
-have_told a (inr (inl e)) = subst (λ (k : Acked). Tells k) (sym e) (inr (inl refl), inl refl)
-have_told a (inr (inr none)) = absurd none
+-- what holds of both acknowledgements
+pub of_both : (P : Acked → Type 0) (first second : Acked) → P first → P second → (a : Acked) (ones : List Acked) → ones ≡ first ∷ second ∷ [] → IsIn a ones → P a
+of_both P first second one other a ones these has = among a (subst (λ (xs : List Acked). IsIn a xs) these has)
+  where
+    among : (k : Acked) → IsIn k (first ∷ second ∷ []) → P k
+    among k (inl e) = subst P (sym e) one
+    among k (inr (inl e)) = subst P (sym e) other
+    among k (inr (inr none)) = absurd none
 
 accepts_told : AcceptsTold 1 begin (synced now) job failed
-accepts_told a has =
-    have_told a (subst (λ (ones : List Acked). IsIn a ones) (ap (acknowledgements_of 1 begin) is_synced ∙ accepted_are) has)
+accepts_told a =
+    of_both (λ (k : Acked). Tells k) (acked source []) (acked adder (5 ∷ [])) (inl refl, inl refl) (inr (inl refl), inl refl) a (acknowledgements_of 1 begin (synced now))
+    (ap (acknowledgements_of 1 begin) is_synced ∙ accepted_are)
 
 -- of these receipts the fifth says that record 1 was completed, and the sixth that the job was restored to it
 pub told_of : (r : ℕ → Receipt) → Completes (r 4) 1 → (k : ℕ) → IsIn k (1 ∷ []) → WasToldOf k (r 0 ∷ r 1 ∷ r 2 ∷ r 3 ∷ r 4 ∷ [])

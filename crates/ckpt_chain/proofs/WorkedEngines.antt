@@ -4,7 +4,7 @@ use Rattle.ckpt_chain.proofs.Names.{IsConnected, IsInOrder, barrier, settled, Ar
 use Rattle.ckpt_chain.proofs.Names.{Offered, adder, is_job, job, line, source, IsAtFront, IsWorking, Snapped, engine, snapped, AcknowledgesSnapped, AreEngines, IsHistoryOfLoops, attempts_of}
 use Rattle.ckpt_chain.proofs.Names.{history_of, AreSaved, IsRestored, again, at, calls, cut_at, failed, opening, loops_make_history, by, FencedCall, Make, core_calls, fenced, fenced_replay}
 use Rattle.ckpt_chain.proofs.Names.{fenced_step, AreNamedRestarts, acked, completed, history}
-use Rattle.ckpt_chain.proofs.WorkedProgressing.{are_two}
+use Rattle.ckpt_chain.proofs.{Worked.of_both, WorkedProgressing.are_two}
 use Rattle.ckpt_align.specs.Steps.{step}
 use Rattle.ckpt_cuts.specs.Laws.{AcknowledgesCuts}
 use Rattle.ckpt_model.specs.State as model
@@ -54,13 +54,8 @@ is_working = (tt, (inl refl, inl refl), refl, λ c has e. tt)
 -- THE RECORD
 
 -- what holds of both acknowledgements
-of_both : (P : Acked → Type 0) → P (acked source) → P (acked adder) → (a : Acked) → IsIn a (along (accepted_by 1) (model.opened opening) calls) → P a
-of_both P first second a has = among a (subst (λ (ones : List Acked). IsIn a ones) loops.accepted_are has)
-  where
-    among : (k : Acked) → IsIn k (acked source ∷ acked adder ∷ []) → P k
-    among k (inl e) = subst P (sym e) first
-    among k (inr (inl e)) = subst P (sym e) second
-    among k (inr (inr none)) = absurd none
+of_these : (P : Acked → Type 0) → P (acked source) → P (acked adder) → (a : Acked) → IsIn a (along (accepted_by 1) (model.opened opening) calls) → P a
+of_these P first second a = of_both P (acked source) (acked adder) first second a (along (accepted_by 1) (model.opened opening) calls) loops.accepted_are
 
 abbrev IsSnapped : SubtaskId → Type 0
 IsSnapped t = (one : Snapped) × IsIn one (snapped job (starts job) history t) × (one.id ≡ 1)
@@ -74,7 +69,7 @@ unfolding step barrier settled
 adder_snapped = (record { id = 1; state = 100 }, inl refl, refl)
 
 acknowledges : AcknowledgesSnapped opening job (starts job) history 1 calls
-acknowledges = of_both (λ a. IsSnapped a.subtask) source_snapped adder_snapped
+acknowledges = of_these (λ a. IsSnapped a.subtask) source_snapped adder_snapped
 
 pub is_live : IsIn completed (replay (model.opened opening) calls).records
 unfolding step_computes
@@ -109,7 +104,7 @@ Cut t = HasCut 1 ((network job (starts job) history).task t)
 pub acknowledged : AcknowledgesCuts 1 opening calls (network job (starts job) history)
 acknowledged =
     let was : IsHistoryOfLoops job (starts job) failed = loops_make_history job (starts job) failed is_job loops.failed_looping in
-    of_both (λ a. Cut a.subtask) (was.cuts source 1 (inl refl) (inl refl)) (was.cuts adder 1 (inr (inl refl)) (inl refl))
+    of_these (λ a. Cut a.subtask) (was.cuts source 1 (inl refl) (inl refl)) (was.cuts adder 1 (inr (inl refl)) (inl refl))
 
 -- with names
 

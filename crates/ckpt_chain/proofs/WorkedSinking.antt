@@ -5,7 +5,7 @@ use Rattle.ckpt_chain.proofs.Names.{adder, job, source, Deed, Acknowledged, Sent
 use Rattle.ckpt_chain.proofs.Names.{HasFailed, HasLoopedOrFailed, Around, HasRun, HasStopped, HasTurned, Waits, around, held_after, sink_waits, HasSunkOver, HaveGiven, SinkRuns, around_sink}
 use Rattle.ckpt_chain.proofs.Names.{loops_of, at, calls, failed, opening, with_100, not_run_as, run_as, takes_last, AreChosenLoops, AcceptsTold, AreToldLoops, acknowledgements_of}
 use Rattle.ckpt_chain.proofs.Names.{HasSunkUntilFault, is_synced, now, sink, attempt, cutting, did, ending, failing, starting}
-use Rattle.ckpt_chain.proofs.Worked.{acked, checkpoint_in, subtasks_in}
+use Rattle.ckpt_chain.proofs.Worked.{acked, checkpoint_in, of_both, subtasks_in}
 use Rattle.std.proofs.lemmas.List.{append-nil}
 use Rattle.ckpt_align.specs.Steps.{step}
 use Rattle.ckpt_model.specs.State as model
@@ -126,13 +126,11 @@ have_given = (tt, record { looping = is_looping; over = over; told = refl; unsav
 abbrev Tells : Acked → Type 0
 Tells a = IsIn a.subtask job.tasks × IsIn (Acknowledges 1) (told_in (did.looped a.subtask).last.deeds)
 
-have_told : (files : List ℕ) (a : Acked) → IsIn a (acked source [] ∷ acked adder files ∷ []) → Tells a
-have_told files a (inl e) = subst (λ (k : Acked). Tells k) (sym e) (is_source, inl refl)
-have_told files a (inr (inl e)) = subst (λ (k : Acked). Tells k) (sym e) (is_adder, inl refl)
-have_told files a (inr (inr none)) = absurd none
+have_told : (files : List ℕ) (a : Acked) (ones : List Acked) → ones ≡ acked source [] ∷ acked adder files ∷ [] → IsIn a ones → Tells a
+have_told files = of_both (λ (k : Acked). Tells k) (acked source []) (acked adder files) (is_source, inl refl) (is_adder, inl refl)
 
 accepts_told : AcceptsTold 1 chain.begin (synced now) job did
-accepts_told a has = have_told (5 ∷ []) a (subst (λ (ones : List Acked). IsIn a ones) (ap (acknowledgements_of 1 chain.begin) is_synced ∙ shown.accepted_are) has)
+accepts_told a = have_told (5 ∷ []) a (acknowledgements_of 1 chain.begin (synced now)) (ap (acknowledgements_of 1 chain.begin) is_synced ∙ shown.accepted_are)
 
 pub are_told : AreToldLoops chain.begin now job (loops_of (attempt ∷ []))
 are_told = (tt, is_looping, shown.was_restored (AcceptsTold 1 chain.begin (synced now) job did) accepts_told)
@@ -144,7 +142,7 @@ unfolding step_computes
 accepted_are = refl
 
 accepts : loop.AcceptsTold opening job did 1 calls
-accepts a has = have_told [] a (subst (λ (ones : List Acked). IsIn a ones) accepted_are has)
+accepts a = have_told [] a (along (accepted_by 1) (model.opened opening) calls) accepted_are
 
 completed_one : WasCompleted 1 opening calls
 unfolding step_computes

@@ -1,10 +1,10 @@
 -- The worked example with files meets the premises of `nothing_is_lost`.
-use Rattle.ckpt_chain.proofs.Names.{◌≡◌, ℕ, List, [], ◌∷◌, refl, sym, ap, ◌∙◌, subst, inl, inr, map, Some, None, Acked, IsIn, Record, subtasks, HasCut, barrier, settled, record_of}
+use Rattle.ckpt_chain.proofs.Names.{◌≡◌, ℕ, [], ◌∷◌, refl, sym, ap, ◌∙◌, subst, inl, inr, map, Some, None, Acked, IsIn, Record, subtasks, HasCut, barrier, settled, record_of}
 use Rattle.ckpt_chain.proofs.Names.{step_computes, Machine, Fenced, fenced, fenced_step, core_in, synced, IsHistory, network, restored, snapshots, starts, adder, is_job, job, source}
 use Rattle.ckpt_chain.proofs.Names.{IsHistoryOfLoops, history_of, again, failed, opening, loops_make_history, acknowledgements_of, AreAllowed, AreStored, IsWritten, MayBeRemoved, Storage}
 use Rattle.ckpt_chain.proofs.Names.{begun, put, AreReadBack, SavesSnapshots, attempts_in, now_at, read_from, Completes, NeverGoesBack, Restores, begin, restores, adder_saves, before, found}
 use Rattle.ckpt_chain.proofs.Names.{is_found, nothing, place, reads}
-use Rattle.ckpt_chain.proofs.{Worked.checkpoint_in, Worked.restored_to_one, Worked.subtasks_in, SameStates.AreSame, SameStates.same_history}
+use Rattle.ckpt_chain.proofs.{Worked.checkpoint_in, Worked.of_both, Worked.restored_to_one, Worked.subtasks_in, SameStates.AreSame, SameStates.same_history}
 use Rattle.ckpt_ids.specs.declared.reply.Choice.TheVariants as choice
 use Rattle.ckpt_align.specs.Steps.{step}
 use Rattle.ckpt_terms.specs.declared.machine.Machine.TheVariants as machine
@@ -41,51 +41,16 @@ with_5 = put 5 (Some 1) nothing
 abbrev with_6 : Storage
 with_6 = put 6 (Some 100) with_5
 
+infixr 5 ◌▸◌
+◌▸◌ : {A B : Type 0} → A → B → A × B
+one ▸ more = (one, more)
+
 pub are_allowed : AreAllowed (begun begin nothing) place.acts
 unfolding fenced_step step_computes
-are_allowed = (
-  ((tt, tt), λ f h. absurd h),
-  (
-    ((tt, tt), λ f h. absurd h),
-    (
-      (tt, tt),
-      (
-        ((tt, tt), λ f h. absurd h),
-        (
-          (tt, tt),
-          (
-            tt,
-            (
-              ((tt, tt), λ f h. written with_5 5 1 f refl h),
-              (
-                (tt, tt),
-                (
-                  (tt, tt),
-                  (
-                    tt,
-                    (
-                      ((tt, tt), λ f h. written with_6 6 100 f refl h),
-                      (
-                        (tt, tt),
-                        (
-                          ((tt, tt), λ f h. written with_6 6 100 f refl h),
-                          (
-                            (tt, tt),
-                            ((tt, tt), (tt, (((tt, tt), λ f h. absurd h), ((tt, tt), (((tt, tt), λ f h. absurd h), ((tt, tt), (garbage, tt))))))),
-                          ),
-                        ),
-                      ),
-                    ),
-                  ),
-                ),
-              ),
-            ),
-          ),
-        ),
-      ),
-    ),
-  ),
-)
+are_allowed =
+    ((tt, tt), λ f h. absurd h) ▸ ((tt, tt), λ f h. absurd h) ▸ (tt, tt) ▸ ((tt, tt), λ f h. absurd h) ▸ (tt, tt) ▸ tt ▸ ((tt, tt), λ f h. written with_5 5 1 f refl h) ▸ (tt, tt) ▸ (tt, tt) ▸ tt
+    ▸ ((tt, tt), λ f h. written with_6 6 100 f refl h) ▸ (tt, tt) ▸ ((tt, tt), λ f h. written with_6 6 100 f refl h) ▸ (tt, tt) ▸ (tt, tt) ▸ tt ▸ ((tt, tt), λ f h. absurd h)
+    ▸ (tt, tt) ▸ ((tt, tt), λ f h. absurd h) ▸ (tt, tt) ▸ garbage ▸ tt
 
 never_in_log : NeverGoesBack begin log
 unfolding fenced_step step_computes
@@ -140,13 +105,10 @@ adder_saved : Saves (acked adder 6)
 unfolding step barrier settled
 adder_saved = (inr (inl refl), failed_history.cuts adder 1 (inr (inl refl)) (inl refl), refl)
 
-each_saved : (a : Acked) → IsIn a (acked source 5 ∷ acked adder 6 ∷ []) → Saves a
-each_saved a (inl e) = subst (λ (k : Acked). Saves k) (sym e) source_saved
-each_saved a (inr (inl e)) = subst (λ (k : Acked). Saves k) (sym e) adder_saved
-each_saved a (inr (inr none)) = absurd none
-
 saves : SavesSnapshots place job (starts job) (history_of failed) 1
-saves a has = each_saved a (subst (λ (ones : List Acked). IsIn a ones) (ap (acknowledgements_of 1 begin) is_synced ∙ accepted_are) has)
+saves a =
+    of_both Saves (acked source 5) (acked adder 6) source_saved adder_saved a (acknowledgements_of 1 begin (synced (now_at place).world))
+    (ap (acknowledgements_of 1 begin) is_synced ∙ accepted_are)
 
 is_live : IsIn found (core_in (now_at (record place { acts = before })).world.life.now).records
 unfolding fenced_step step_computes

@@ -42,8 +42,8 @@ pub use Rattle.ckpt_terms.specs.Spans.{AreApart, AreKept, AreRanges, AreRangesBe
 pub use Rattle.ckpt_terms.specs.TermsImages.{AreFencedAlike, CanHoldFenced, FencedGoesOnAs, IsFencedCut, fenced_answers, fenced_in, fenced_settled}
 pub use Rattle.core.specs.Option.{option_to_list}
 pub use Rattle.std.proofs.{Crossing.crosses, Math.Seq.drop-cons, lemmas.Fn.always_returns_same, lemmas.Grind.common_steps, lemmas.List.Sorted.IsPartitionedBy-leb}
-pub use Rattle.std.proofs.Common.{Bool, List, None, Some, [], ap, arith, eqb, false, get_or, inl, inr, leb, length, length-append, ltb, map, max, not, of_calls, refl, rules, set, subst, suc}
-pub use Rattle.std.proofs.Common.{sym, take, true, vec_capacity, vec_len, zero, ℕ, ⊎_elim, ◌&&◌, ◌++◌, ◌+◌, ◌-◌, ◌<◌, ◌^◌, ◌||◌, ◌∙◌, ◌∷◌, ◌≡◌, ◌≤◌, ◌⊎◌}
+pub use Rattle.std.proofs.Common.{Bool, List, None, Some, [], ap, arith, drop, eqb, false, get_or, inl, inr, leb, length, length-append, ltb, map, max, not, of_calls, refl, rules, set}
+pub use Rattle.std.proofs.Common.{subst, suc, sym, take, true, vec_capacity, vec_len, zero, ℕ, ⊎_elim, ◌&&◌, ◌++◌, ◌+◌, ◌-◌, ◌<◌, ◌^◌, ◌||◌, ◌∙◌, ◌∷◌, ◌≡◌, ◌≤◌, ◌⊎◌}
 pub use Rattle.std.proofs.lemmas.Bool.{and_from, and_parts, and_right, both_ways, cases_Bool, cond-false, cond-true, cond_both, eq-eqb, eqb-false, eqb-true, false≢true, le-leb, le-ltb}
 pub use Rattle.std.proofs.lemmas.Bool.{leb-false, leb-true, lt-leb, lt-ltb, ltb-false, ltb-true, ne_eqb, not-false, not-true, not_from_false, not_from_true, or_cases, or_from, or_left}
 pub use Rattle.std.proofs.lemmas.Bool.{or_parts, or_right}
@@ -57,4 +57,3 @@ pub use denote.Struct.Declared.{fields}
 unfoldable pub use Rattle.ckpt_model.specs.Steps.{ack, acknowledged_in, after_expiry, cancel, completed_with, configure, decline, decline_pending, dispose, dropping, effect, failed_over}
 unfoldable pub use Rattle.ckpt_model.specs.Steps.{restarted, restore, start_or_hold, take_files, tick, triggered, with_config}
 unfoldable pub use Rattle.ckpt_terms.specs.{Fencing.fenced_step, Spans.ranges_of}
-unfoldable pub use Rattle.std.proofs.Common.{drop}
