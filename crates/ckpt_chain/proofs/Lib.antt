@@ -5,9 +5,7 @@ pub mod Chain
 pub mod Choosing
 pub mod Cutting
 pub mod Durably
-pub mod InTerms
 pub mod Like
-pub mod Looped
 pub mod Named
 mod Names
 pub mod ReadingBack
@@ -16,7 +14,6 @@ pub mod Seamless
 pub mod SinkFailing
 pub mod Storing
 pub mod Telling
-pub mod TermLoops
 pub mod Terms
 pub mod ToldResumes
 pub mod Triggering

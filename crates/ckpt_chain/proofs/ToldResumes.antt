@@ -2,7 +2,7 @@
 use Rattle.ckpt_chain.proofs.Names.{List, [], ◌∷◌, ◌∙◌, refl, sym, ap, subst, inl, inr, Acked, IsIn, SubtaskId, Machine, AreEvents, IsWell, AreTurns, Turn, World, synced, world}
 use Rattle.ckpt_chain.proofs.Names.{groups_durable, Stand, Job, HasPart, Doings, NeverGoesBack, AreResumes, resumes_invisible, have_parts, was_recorded, acknowledgements_of, begin}
 use Rattle.ckpt_chain.proofs.Names.{is_synced, now, AcknowledgesParts, AreToldResumes, ToldResumesAreSeamless}
-use Rattle.ckpt_chain.proofs.{Worked.accepted_are, Worked.acked, Worked.was_restored, Telling.each_task, Telling.its_events, Telling.none_later}
+use Rattle.ckpt_chain.proofs.{Worked.accepted_are, Worked.acked, Worked.of_both, Worked.was_restored, Telling.each_task, Telling.its_events, Telling.none_later}
 use Rattle.ckpt_once.specs.WorkedExamples as worked
 use Rattle.ckpt_other_cuts.specs.Resumed.{Attempt}
 use Rattle.ckpt_other_cuts.specs.WorkedRecorders.{attempt, network}
@@ -27,13 +27,9 @@ told_resumes_are_seamless m turns job its doings i are is never told k =
 -- The worked example meets the premises.
 
 acknowledges : AcknowledgesParts 1 begin (synced now) network
-acknowledges a has =
-    have (subst (λ (ones : List Acked). IsIn a ones) (ap (acknowledgements_of 1 begin) is_synced ∙ accepted_are) has)
-  where
-    have : IsIn a (acked worked.source [] ∷ acked worked.adder (5 ∷ []) ∷ []) → HasPart 1 (network.task a.subtask)
-    have (inl e) = subst (λ (one : Acked). HasPart 1 (network.task one.subtask)) (sym e) (have_parts worked.source (inl refl))
-    have (inr (inl e)) = subst (λ (one : Acked). HasPart 1 (network.task one.subtask)) (sym e) (have_parts worked.adder (inr (inl refl)))
-    have (inr (inr none)) = absurd none
+acknowledges a =
+    of_both (λ (one : Acked). HasPart 1 (network.task one.subtask)) (acked worked.source []) (acked worked.adder (5 ∷ [])) (have_parts worked.source (inl refl))
+    (have_parts worked.adder (inr (inl refl))) a (acknowledgements_of 1 begin (synced now)) (ap (acknowledgements_of 1 begin) is_synced ∙ accepted_are)
 
 pub worked_told : AreToldResumes begin now worked.job (attempt ∷ [])
 worked_told = (tt, was_recorded, was_restored (AcknowledgesParts 1 begin (synced now) network) acknowledges)

@@ -8,7 +8,7 @@ use Rattle.ckpt_chain.proofs.Names.{is_synced, is_told, log, now, reserves, rest
 use Rattle.ckpt_ids.specs.declared.reply.Choice.TheVariants as choice
 use Rattle.ckpt_align.specs.Steps.{step}
 use Rattle.ckpt_task.proofs.WorkedLooping as loops
-use Rattle.ckpt_chain.proofs.Looped as looped
+use Rattle.ckpt_chain.proofs.Chain.{loops_told}
 use Rattle.ckpt_chain.proofs.Telling as telling
 use Rattle.ckpt_chain.specs.WorkedExamples.{at, attempt}
 
@@ -183,7 +183,7 @@ in_terms = (tt, loops.failed_looping, was_restored (TellsInTerm 1 begin (synced 
 -- without loops, with a ledger
 
 pub are_restarts : AreToldRestarts begin now job (attempts (told ∷ []))
-are_restarts = looped.are_told begin now job (attempt ∷ []) is_job are_told
+are_restarts = loops_told begin now job (attempt ∷ []) is_job are_told
 
 pub since : AreRestarts begin job (attempts (told ∷ []))
 since = telling.are_restarts begin now job (attempts (told ∷ [])) is_well (telling.its_events begin turns are_turns) (groups_durable begin turns).told are_restarts

@@ -68,32 +68,31 @@ pub fn ledger_publishes_once()
 
 /// What is accepted for a record was asked for in the term of its trigger. So of acknowledgements in
 /// other terms nothing has to be assumed: a task that should be dead takes no part.
-#[tactic(auto, using(crate::proofs::InTerms::acknowledges_cuts))]
 pub fn only_its_term()
     ensures { (n : ℕ) (m : Machine) (log : List Event) (w : Network) → OnlyItsTerm n m log w }
 {}
 
 /// So failures are invisible, whatever the tasks of earlier attempts still call.
-#[tactic(auto, using(crate::proofs::InTerms::terms_are_seamless))]
+#[tactic(auto, using(crate::proofs::Chain::terms_are_seamless))]
 pub fn terms_are_seamless()
     ensures { (m : Machine) (turns : List Turn) (job : Job) (attempts : List Attempt) (h : History) → Soundly TermsAreSeamless m turns job attempts h }
 {}
 
 /// And so they are of tasks in loops, each of which acknowledges what it has cut and saved.
-#[tactic(auto, using(crate::proofs::Looped::told_loops_are_seamless))]
+#[tactic(auto, using(crate::proofs::Chain::told_loops_are_seamless))]
 pub fn told_loops_are_seamless()
     ensures { (m : Machine) (turns : List Turn) (job : Job) (ones : List LoopsAttempt) (e : Loops) → Soundly ToldLoopsAreSeamless m turns job ones e }
 {}
 
 /// What the calls of a sink in a loop returned is what it writes in a run without a failure up to the
 /// last restored record, each element once, whatever crashes.
-#[tactic(auto, using(crate::proofs::Looped::told_sink_gives_once))]
+#[tactic(auto, using(crate::proofs::Chain::told_sink_gives_once))]
 pub fn told_sink_gives_once()
     ensures { (m : Machine) (turns : List Turn) (job : Job) (sink : Sink) (ks : List SinkAttempt) → Soundly ToldSinkGivesOnce m turns job sink ks }
 {}
 
 /// All in one: tasks in loops, each in the term that it was started with.
-#[tactic(auto, using(crate::proofs::TermLoops::term_loops_are_seamless))]
+#[tactic(auto, using(crate::proofs::Chain::term_loops_are_seamless))]
 pub fn term_loops_are_seamless()
     ensures { (m : Machine) (turns : List Turn) (job : Job) (ones : List LoopsAttempt) (e : Loops) → Soundly TermLoopsAreSeamless m turns job ones e }
 {}

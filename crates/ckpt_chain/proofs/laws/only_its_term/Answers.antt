@@ -1,5 +1,5 @@
 -- Answers the goals of `only_its_term`.
-use Rattle.ckpt_chain.proofs.InTerms.{acknowledges_cuts}
+use Rattle.ckpt_chain.proofs.Chain.{acknowledges_cuts}
 use Rattle.ckpt_chain.proofs.laws.only_its_term.Goals as goal
 
 pub returns : goal.returns
