@@ -1,6 +1,6 @@
 -- The names that the proofs take from the crates below and from `specs`.
 pub use Rattle.ckpt_align.proofs.{Carrying.global_cut, Carrying.is_number-Some, Cutting.give_up_cuts_not, Cutting.reads_cut-element, Fitting.element_reads-other}
-pub use Rattle.ckpt_align.specs.{Steps.Stepped, Steps.element, Steps.if_open, declared.input.Input.Input, declared.input.Input.TheVariants.Held, declared.input.Input.TheVariants.Open}
+pub use Rattle.ckpt_align.specs.{Steps.Stepped, Steps.if_open, declared.input.Input.Input, declared.input.Input.TheVariants.Held, declared.input.Input.TheVariants.Open}
 pub use Rattle.ckpt_align.specs.Alignment.{Alignment, all_released, held_for, is_aligning, is_late, is_open, opened, with_input}
 pub use Rattle.ckpt_align.specs.Histories.{Action, Barrier, Element, End, Ends, GivesUp, Item, Reads, Sends, after, answer_to, barriers, cut_as, cut_by, has_cut, is_number, is_taken, sent}
 pub use Rattle.ckpt_align.specs.Histories.{sent_by, taken, taken_by}
