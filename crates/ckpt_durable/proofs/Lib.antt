@@ -2,6 +2,7 @@
 pub mod Alike
 pub mod GroupWorlds
 pub mod Lists
+mod Names
 pub mod NamesOnce
 pub mod Operating
 pub mod Reading
