@@ -76,7 +76,7 @@ pub use prog.Wp.{WpFn}
 pub use seplogic.Ra.Ura.{Ura}
 pub use types.{Logic.Logic, Logic.sem, Match.live, Part.agg, Part.sub, Part.whole}
 pub use types.ByLocal.{alloc_all, env, free_all, get, get_in, lands_as, lands_last, look_at, pass_all, sets, sets_last}
-pub use types.Kit.{!, Goal, Item, Seq, Step, at_ret, await, by, feq_i, feq_l, fjoin, fpack, fpick, fsplit, join, keep, later, learn, move, pick, qed, raw, rewrite, some, split, split3}
+pub use types.Kit.{ !, Goal, Item, Seq, Step, at_ret, await, by, feq_i, feq_l, fjoin, fpack, fpick, fsplit, join, keep, later, learn, move, pick, qed, raw, rewrite, some, split, split3}
 pub use types.Kit.{suffices, use0, use1, ‵, ◌$◌, ◌∵◌, ◌⊛◌}
 pub use types.Run.{and_then, bin, blocks, branches, enter, exec, first, fld, lit, no_more, of_opd, returns, stop}
 unfoldable pub use Rattle.ckpt_model.specs.Refusals.{refusal}
