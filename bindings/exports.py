@@ -11,12 +11,17 @@ TYPE = re.compile(r"(?<=[ &(\[])[A-Z]\w+")
 
 
 def ghosts(text, of):
-    """The lines that import what the contracts of these functions name. A line with operators stays."""
-    words, kept = set(re.findall(r"\w+", "".join(it for it, _, _ in of))), ""
-    for line in re.findall(r"^ghost use .*\n", text, re.M):
-        names = set(re.findall(r"\w+", re.split(r" as |\.\{", line)[-1]))
-        kept += line if names & words or "◌" in line else ""
-    return kept
+    """The lines that import what the contracts of these functions name: a name, an operator, or a module by another name."""
+    words = set(re.findall(r"\w+", "".join(it for it, _, _ in of)))
+
+    def is_named(item):
+        return not set(re.findall(r"\w+$", item)) - words
+
+    lines = ""
+    for path, items, other in re.findall(r"^ghost use ([\w.]+?)(?:\.\{(.*)\}| as (\w+));$", text, re.M):
+        named = [it for it in items.split(", ") if it and is_named(it)]
+        lines += f"ghost use {path}.{{{', '.join(named)}}};\n" if named else f"ghost use {path} as {other};\n" if other in words else ""
+    return lines
 
 
 def imports(of, declared):
