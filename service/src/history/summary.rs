@@ -3,8 +3,9 @@
 use super::error::Error;
 use super::follow::Follower;
 use super::read::{record_of, RecordRow, RECORD};
-use super::tables::{signed, Tables};
+use super::tables::Tables;
 use crate::model::{parts, shape_words, PastRecord, SummaryPart};
+use crate::store::signed;
 use rusqlite::{params, Row};
 use serde::{Deserialize, Serialize};
 

@@ -4,7 +4,7 @@ use super::files::{Born, Run};
 use super::records::Pending;
 use super::version::{foreign, upgrade, STEPS};
 use crate::model::{kind_of, shape_words, Call, Entry, SavedRecord};
-use crate::store::{many, ERASE};
+use crate::store::{many, signed, ERASE};
 use crate::writer::JobState;
 use rusqlite::{params, Connection, OptionalExtension, Params, Row};
 use std::path::Path;
@@ -239,10 +239,8 @@ impl Tables {
 
     /// Files are registered, whatever had their numbers before. Of those of one number the last counts.
     pub fn born(&self, job: i64, files: &[Born]) -> rusqlite::Result<()> {
-        many::insert(&self.0, "insert or replace into file(job, file, born, bytes)", files, |it| {
-            let bytes = many::maybe(it.bytes.map(|bytes| many::number(signed(bytes))));
-            [many::number(job), many::number(bits(it.file)), many::number(signed(it.seq)), bytes]
-        })
+        let into = "insert or replace into file(job, file, born, bytes)";
+        many::insert(&self.0, into, "", files.iter(), |it| many::cells![job, bits(it.file), it.seq, it.bytes])
     }
 
     /// A late acknowledgement named a file. It registered the file if the number was free.
@@ -316,11 +314,6 @@ impl Tables {
         let sql = "delete from sample where (job, at) in (select job, at from sample where at < ? limit ?)";
         self.0.prepare_cached(sql)?.execute([signed(before), signed(most)]).map(|count| count as u64)
     }
-}
-
-/// A number as SQLite keeps it. Moments, places and numbers of records are below 2^62.
-pub fn signed(number: u64) -> i64 {
-    i64::try_from(number).unwrap_or(i64::MAX)
 }
 
 fn unsigned(number: i64) -> u64 {

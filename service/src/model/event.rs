@@ -73,7 +73,7 @@ pub fn kind(reply: &Reply) -> Option<&'static str> {
 mod tests {
     use super::super::answer_row::AnswerRow;
     use super::*;
-    use crate::store::{IS_EVENT, PG, SQLITE};
+    use crate::store::{IS_EVENT, TABLES};
     use rusqlite::Connection;
     use Answer as A;
 
@@ -141,10 +141,10 @@ mod tests {
         );
     }
 
-    /// The index of each database has the rows that are events, by the condition that the statements have.
+    /// The index has the rows that are events, by the condition that the statements have.
     #[test]
     fn the_databases_have_the_same_events() -> rusqlite::Result<()> {
-        assert!(SQLITE.contains(IS_EVENT) && PG.contains(IS_EVENT));
+        assert!(TABLES.contains(IS_EVENT));
         let base = Connection::open_in_memory()?;
         for (reply, word) in answers() {
             let [what, a, _] = AnswerRow::of(&reply).numbers();

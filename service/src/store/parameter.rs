@@ -1,4 +1,5 @@
 //! Parameters of PostgreSQL's statements, as libpq takes them.
+use super::many::Cell;
 use super::pq::{text, Failed};
 use std::ffi::CString;
 use std::os::raw::{c_char, c_int};
@@ -21,39 +22,40 @@ impl Parameter {
     pub fn text(given: &str) -> Result<Parameter, Failed> {
         text(given).map(Parameter::Text)
     }
-
-    /// An array of `bigint`.
-    pub fn numbers(items: impl Iterator<Item = Option<i64>>) -> Parameter {
-        array(INT8_OID, items.map(|item| item.map(i64::to_be_bytes)))
-    }
-
-    /// An array of `text`.
-    pub fn texts<T: AsRef<[u8]>>(items: impl Iterator<Item = Option<T>>) -> Parameter {
-        array(TEXT_OID, items)
-    }
 }
 
-/// An array of one dimension: its header, and each item with its length, which is -1 for null.
-fn array<T: AsRef<[u8]>>(oid: i32, items: impl Iterator<Item = Option<T>>) -> Parameter {
-    // with a place for the length, which an empty array does not have
-    let mut whole: Vec<u8> = [1, 1, oid, 0, 1].into_iter().flat_map(i32::to_be_bytes).collect();
-    let mut length = 0i32;
-    for item in items {
-        length += 1;
-        match item {
-            None => whole.extend((-1i32).to_be_bytes()),
-            Some(item) => {
-                let bytes = item.as_ref();
-                whole.extend(count(bytes.len()).to_be_bytes());
-                whole.extend_from_slice(bytes);
-            }
+/// An array of one dimension: each item comes behind its length, which is -1 for null.
+#[derive(Default)]
+pub struct Array {
+    items: Vec<u8>,
+    length: i32,
+    of_texts: bool,
+}
+
+impl Array {
+    pub fn push(&mut self, cell: &Cell) {
+        self.length += 1;
+        self.of_texts = matches!(cell, Cell::Text(_));
+        match cell {
+            Cell::Number(Some(number)) => self.push_bytes(&number.to_be_bytes()),
+            Cell::Text(Some(text)) => self.push_bytes(text.as_bytes()),
+            Cell::Number(None) | Cell::Text(None) => self.items.extend((-1i32).to_be_bytes()),
         }
     }
-    if length == 0 {
-        return Parameter::Array([0, 1, oid].into_iter().flat_map(i32::to_be_bytes).collect());
+
+    fn push_bytes(&mut self, bytes: &[u8]) {
+        self.items.extend(count(bytes.len()).to_be_bytes());
+        self.items.extend_from_slice(bytes);
     }
-    whole[12..16].copy_from_slice(&length.to_be_bytes());
-    Parameter::Array(whole)
+
+    /// The array as it is given. An empty one has no dimension.
+    pub fn parameter(self) -> Parameter {
+        let oid = if self.of_texts { TEXT_OID } else { INT8_OID };
+        let header = if self.length == 0 { vec![0, 1, oid] } else { vec![1, 1, oid, self.length, 1] };
+        let mut whole: Vec<u8> = header.into_iter().flat_map(i32::to_be_bytes).collect();
+        whole.extend_from_slice(&self.items);
+        Parameter::Array(whole)
+    }
 }
 
 /// Parameters as libpq takes them; it reads what they point to.

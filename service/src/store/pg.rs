@@ -2,22 +2,16 @@
 //! fenced by it. So a leader that was stopped holds no lock.
 use super::cells::Row;
 use super::error::{DbError, Failure, Unusable};
-use super::parameter::Parameter;
-use super::pg_columns::Columns;
-use super::pg_commit::{Statements, CALLS};
+use super::parameter::{Array, Parameter};
+use super::parts::CALLS;
+use super::pg_commit::{Columns, Statements};
 use super::pg_lease::{self, Leader, Watch};
 use super::pq::{Connection, Failed, Rows};
-use super::rows::{steps_after, Committed, Group, Lead, Store, UnderKey, Written, OF_JOBS, OLD_GONE, VERSION};
+use super::rows::{steps_after, Committed, Erasure, Group, Lead, Store, UnderKey, Written, STORAGES, TABLES, VERSION};
 use crate::model::Moment;
 use std::ffi::CStr;
 use std::time::Duration;
 
-/// What makes the tables.
-pub const TABLES: &str = include_str!("../../sql/pg.sql");
-/// What makes each version of them from the one before.
-const STEPS: [&str; VERSION] = [TABLES, STORAGES];
-/// Where the files of jobs are, as JSON.
-const STORAGES: &str = "create table if not exists storage(job bigint primary key, text text not null)";
 /// A statement of the writer may take this long.
 const PATIENCE: Duration = Duration::from_secs(10);
 /// The answers under each of these keys.
@@ -51,7 +45,7 @@ impl Pg {
         connection.prepare(KEYED_NAME, KEYED)?;
         // those of a renewal and of calls, which a leader needs in any case
         let mut statements = Statements::default();
-        for (parts, renews) in [(&[][..], true), (CALLS, true), (CALLS, false)] {
+        for (parts, renews) in [(&[][..], true), (&[&CALLS], true), (&[&CALLS], false)] {
             statements.name(&mut connection, parts, renews)?;
         }
         let (name, address) = (relkvanu_client::new_key(), address.to_string());
@@ -111,45 +105,24 @@ impl Store for Pg {
     }
 
     fn keyed(&mut self, keys: &[(i64, String)]) -> Result<Vec<UnderKey>, DbError> {
-        let jobs = Parameter::numbers(keys.iter().map(|(job, _)| Some(*job)));
-        let names = Parameter::texts(keys.iter().map(|(_, key)| Some(key.clone())));
-        let rows = self.connection.run_prepared(KEYED_NAME, &[jobs, names])?;
+        let (mut jobs, mut names) = (Array::default(), Array::default());
+        for (job, key) in keys {
+            jobs.push(&(*job).into());
+            names.push(&key.as_str().into());
+        }
+        let rows = self.connection.run_prepared(KEYED_NAME, &[jobs.parameter(), names.parameter()])?;
         rows.into_iter().map(|row| Row::of_pg(row).read()).collect()
     }
 
-    fn forget_keys(&mut self, before: u64, most: u64) -> Result<u64, DbError> {
-        let sql = "with gone as (delete from request where (job, key) in
-            (select job, key from request where at < $1::bigint order by at limit $2::bigint) returning 1) select count(*) from gone";
-        let rows = self.without_sync(|within| within.query(sql, &[&before.to_string(), &most.to_string()]))?;
-        Ok(cell(&rows, 0).and_then(|count| count.parse().ok()).unwrap_or(0))
-    }
-
-    fn forget_past(&mut self, job: i64, upto: u64, most: u64) -> Result<(), DbError> {
-        let sql = "delete from past where (job, id) in
-            (select job, id from past where job = $1::bigint and id <= $2::bigint order by job, id limit $3::bigint)";
-        self.without_sync(|within| within.query(sql, &[&job.to_string(), &upto.to_string(), &most.to_string()]))?;
-        Ok(())
-    }
-
-    fn forget_gone(&mut self, before: u64) -> Result<(), DbError> {
-        let sql = format!("delete from gone_job where {}", OLD_GONE.replace("$1", "$1::bigint"));
-        self.without_sync(|within| within.query(&sql, &[&before.to_string()]))?;
-        Ok(())
-    }
-
-    fn forget_job(&mut self, job: i64) -> Result<bool, DbError> {
+    fn erase(&mut self, statements: &[Erasure]) -> Result<bool, DbError> {
         Ok(self.without_sync(|within| {
-            for (table, columns, most) in OF_JOBS {
-                let rows =
-                    format!("select {columns} from {table} where job = $1::bigint order by {columns} limit $2::bigint");
-                let gone = format!("delete from {table} where ({columns}) in ({rows}) returning 1");
-                let sql = format!("with gone as ({gone}) select count(*) from gone");
-                let rows = within.query(&sql, &[&job.to_string(), &most.to_string()])?;
-                if cell(&rows, 0).and_then(|count| count.parse().ok()) == Some(most) {
+            for Erasure { sql, given, most } in statements {
+                let given: Vec<String> = given.iter().map(i64::to_string).collect();
+                let given: Vec<&str> = given.iter().map(String::as_str).collect();
+                if within.query(&format!("{sql} returning 1"), &given)?.len() as u64 == *most {
                     return Ok(true);
                 }
             }
-            within.query("update gone_job set is_empty = 1 where job = $1::bigint", &[&job.to_string()])?;
             Ok(false)
         })?)
     }
@@ -212,9 +185,15 @@ fn lock_tables(connection: &mut Connection) -> Result<(), Failed> {
     connection.run("set local lock_timeout = '5s'; select pg_advisory_xact_lock(7203146)").map(|_| ())
 }
 
+/// What makes each version of the tables from the one before.
+fn steps() -> [String; VERSION] {
+    let of_pg = |it: &str| it.replace("integer", "bigint").replace(" strict, without rowid", "").replace(" strict", "");
+    [of_pg(TABLES) + include_str!("../../sql/pg.sql"), of_pg(STORAGES)]
+}
+
 /// Makes the tables after a version, and writes down that they are there.
 fn make_tables(connection: &mut Connection, found: i64) -> Result<(), Failed> {
-    for step in steps_after(found, &STEPS) {
+    for step in steps_after(found, &steps()) {
         connection.run(step)?;
     }
     let number = format!(

@@ -2,10 +2,9 @@
 use super::cells::{FromRow, Row};
 use super::error::DbError;
 use super::pq::{Connection, Failed, Rows};
-use super::reader::{Listed, LogReader, Reader, Tried};
-use super::rows::{image_columns, whole, LogPage, SavedImage, Space, COLUMNS, IS_EVENT, PAGE_BYTES, STATE};
-use crate::files::JobStorage;
-use crate::model::{AckBytes, Entry, Figure, FileBytes, KeptImage, KeptSummary, PastRecord, Phase, SubtaskState};
+use super::reader::{LogReader, Reader, FIRST, IMAGES, LENGTHS_AFTER, LOG};
+use super::rows::{image_columns, signed, LogPage, SavedImage, Space, COLUMNS, PAGE_BYTES};
+use crate::model::{FileBytes, KeptImage};
 use std::time::Duration;
 
 /// A statement of a reader may take this long.
@@ -51,14 +50,6 @@ impl PgReader {
     fn one<T: FromRow>(&mut self, sql: &str, given: &[&str]) -> Result<Option<T>, DbError> {
         Ok(self.all(sql, given)?.pop())
     }
-
-    /// The rows of `call` up to that with which they have so many bytes. The database counts them, so that it sends no more.
-    fn entries(&mut self, rest: &str, given: &[&str]) -> Result<LogPage, DbError> {
-        let asked = format!("select {COLUMNS} from call where {rest}");
-        let counted = format!("select *, sum({BYTES}) over (order by seq) - {BYTES} as before from ({asked}) asked");
-        let sql = format!("select {COLUMNS} from ({counted}) counted where before < {PAGE_BYTES} order by seq");
-        self.all(&sql, given)
-    }
 }
 
 fn connect(url: &str) -> Result<Connection, DbError> {
@@ -70,26 +61,39 @@ fn connect(url: &str) -> Result<Connection, DbError> {
 
 impl LogReader for PgReader {
     fn log(&mut self, job: i64, after: u64, most: u32) -> Result<LogPage, DbError> {
-        let rest = "job = $1::bigint and seq > $2::bigint order by seq limit $3::bigint";
-        self.entries(rest, &[&job.to_string(), &signed(after), &most.to_string()])
+        self.entries(LOG, &[job, signed(after), most.into()])
     }
 
     fn first(&mut self, job: i64) -> Result<Option<u64>, DbError> {
-        Ok(self.one("select min(seq) from call where job = $1::bigint", &[&job.to_string()])?.flatten())
+        Ok(self.one(FIRST, &[&job.to_string()])?.flatten())
     }
 
     fn images(&mut self, job: i64) -> Result<Vec<KeptImage>, DbError> {
-        let sql = "select seq, at, bytes from image where job = $1::bigint order by seq";
-        self.all(sql, &[&job.to_string()])
+        self.all(IMAGES, &[&job.to_string()])
     }
 
     fn image(&mut self, job: i64, after: u64) -> Result<Option<SavedImage>, DbError> {
-        let rest = "where job = $1::bigint and seq > $2::bigint order by seq limit 1";
-        self.one(&format!("select {} from image {rest}", image_columns(JOINED)), &[&job.to_string(), &signed(after)])
+        let sql =
+            format!("select {} from image where job = $1 and seq > $2 order by seq limit 1", image_columns(JOINED));
+        self.one(&sql, &[&job.to_string(), &signed(after).to_string()])
     }
 }
 
 impl Reader for PgReader {
+    fn rows(&mut self, sql: &str, given: &[i64]) -> Result<Vec<Row>, DbError> {
+        let given: Vec<String> = given.iter().map(i64::to_string).collect();
+        let given: Vec<&str> = given.iter().map(String::as_str).collect();
+        Ok(self.query(sql, &given)?.into_iter().map(Row::of_pg).collect())
+    }
+
+    /// The database counts the bytes of the calls, so that it sends no more.
+    fn entries(&mut self, selected: &str, given: &[i64]) -> Result<LogPage, DbError> {
+        let asked = format!("select {COLUMNS} from call where {selected}");
+        let counted = format!("select *, sum({BYTES}) over (order by seq) - {BYTES} as before from ({asked}) asked");
+        let sql = format!("select {COLUMNS} from ({counted}) counted where before < {PAGE_BYTES} order by seq");
+        self.rows(&sql, given)?.into_iter().map(Row::read).collect()
+    }
+
     fn version(&mut self) -> Result<i64, DbError> {
         let there = self.query("select to_regclass('call'), to_regclass('schema_version')", &[])?.pop();
         let [call, version] = there.and_then(|row| row.try_into().ok()).unwrap_or([None, None]);
@@ -107,84 +111,9 @@ impl Reader for PgReader {
         Ok(())
     }
 
-    fn listed(&mut self) -> Result<Vec<Listed>, DbError> {
-        self.all("select job, name, config, shape, started, first from job order by job", &[])
-    }
-
-    fn events(&mut self, job: i64, after: u64, most: u32) -> Result<LogPage, DbError> {
-        let rest = format!("job = $1::bigint and seq > $2::bigint and {IS_EVENT} order by seq limit $3::bigint");
-        self.entries(&rest, &[&job.to_string(), &signed(after), &most.to_string()])
-    }
-
-    fn about(&mut self, job: i64, record: u64, after: u64, most: u32) -> Result<LogPage, DbError> {
-        let rest = "job = $1::bigint and record = $2::bigint and seq > $3::bigint order by seq limit $4::bigint";
-        self.entries(rest, &[&job.to_string(), &signed(record), &signed(after), &most.to_string()])
-    }
-
-    fn entry(&mut self, job: i64, seq: u64) -> Result<Option<Entry>, DbError> {
-        Ok(self.entries("job = $1::bigint and seq = $2::bigint", &[&job.to_string(), &signed(seq)])?.pop())
-    }
-
-    fn summaries(&mut self, job: i64) -> Result<Vec<KeptSummary>, DbError> {
-        let sql = "select seq, max(whole) from summary where job = $1::bigint group by seq order by seq";
-        self.all(sql, &[&job.to_string()])
-    }
-
-    fn summary(&mut self, job: i64, seq: u64) -> Result<Option<String>, DbError> {
-        let sql = "select text, whole from summary where job = $1::bigint and seq = $2::bigint order by part";
-        Ok(whole(self.all(sql, &[&job.to_string(), &signed(seq)])?))
-    }
-
-    fn past(&mut self, job: i64, after: u64, most: u32) -> Result<Vec<PastRecord>, DbError> {
-        let sql =
-            "select job, id, text from past where job = $1::bigint and id > $2::bigint order by id limit $3::bigint";
-        self.all(sql, &[&job.to_string(), &signed(after), &most.to_string()])
-    }
-
-    fn ack_bytes(&mut self, job: i64, after: u64, upto: u64) -> Result<Vec<AckBytes>, DbError> {
-        let sql = "select job, seq, fresh, bytes from ack_size
-            where job = $1::bigint and seq > $2::bigint and seq <= $3::bigint order by seq";
-        self.all(sql, &[&job.to_string(), &signed(after), &signed(upto)])
-    }
-
-    fn sizes(&mut self, job: i64, after: i64, most: u32) -> Result<Vec<FileBytes>, DbError> {
-        let sql =
-            "select file, bytes from size where job = $1::bigint and file > $2::bigint order by file limit $3::bigint";
-        self.all(sql, &[&job.to_string(), &after.to_string(), &most.to_string()])
-    }
-
     fn bytes_of(&mut self, job: i64, files: &[u64]) -> Result<Vec<FileBytes>, DbError> {
         let sql = "select file, bytes from size where job = $1::bigint and file = any($2::bigint[])";
         self.all(sql, &[&job.to_string(), &array(files.iter().map(|file| *file as i64))])
-    }
-
-    fn states(&mut self, job: i64, record: u64) -> Result<Vec<SubtaskState>, DbError> {
-        let sql = format!(
-            "select {STATE} from subtask_state where job = $1::bigint and record = $2::bigint order by vertex, place"
-        );
-        self.all(&sql, &[&job.to_string(), &signed(record)])
-    }
-
-    fn figures(&mut self, job: i64, after: u64, upto: u64) -> Result<Vec<Figure>, DbError> {
-        let sql = "select job, seq, bytes, millis, reason from figure
-            where job = $1::bigint and seq > $2::bigint and seq <= $3::bigint order by seq";
-        self.all(sql, &[&job.to_string(), &signed(after), &signed(upto)])
-    }
-
-    fn with_states(&mut self, job: i64) -> Result<Vec<u64>, DbError> {
-        self.all("select distinct record from subtask_state where job = $1::bigint", &[&job.to_string()])
-    }
-
-    fn gone(&mut self) -> Result<Vec<(i64, u64)>, DbError> {
-        self.all("select job, is_empty from gone_job", &[])
-    }
-
-    fn phases(&mut self) -> Result<Tried<Phase>, DbError> {
-        self.all("select job, phase, record, at, term, failed from phase", &[])
-    }
-
-    fn storages(&mut self) -> Result<Tried<JobStorage>, DbError> {
-        self.all("select job, text from storage", &[])
     }
 
     fn call_bytes(&mut self, job: i64) -> Result<Option<u64>, DbError> {
@@ -204,19 +133,8 @@ impl Reader for PgReader {
     }
 
     fn lengths_after(&mut self, name: &str) -> Result<Option<String>, DbError> {
-        let sql = "select lengths from log_start where number > (select number from log_start where name = $1)
-            order by number limit 1";
-        let rows = self.query(sql, &[name])?;
+        let rows = self.query(LENGTHS_AFTER, &[name])?;
         Ok(rows.into_iter().next().and_then(|row| row.into_iter().next()?))
-    }
-
-    fn noted(&mut self) -> Result<u64, DbError> {
-        Ok(self.one::<Option<u64>>("select max(at) from clock", &[])?.flatten().unwrap_or(0))
-    }
-
-    fn jobs_after(&mut self, number: i64) -> Result<Vec<Listed>, DbError> {
-        let sql = "select job, name, config, shape, started, first from job where job > $1::bigint order by job";
-        self.all(sql, &[&number.to_string()])
     }
 
     fn last_moment(&mut self) -> Result<u64, DbError> {
@@ -228,7 +146,7 @@ impl Reader for PgReader {
         let sql = "select job, max(at) from (
             select job, at from call where at >= $1::bigint union all select job, at from image where at >= $1::bigint) it
             group by job";
-        self.all(sql, &[&signed(since)]).map(Some)
+        self.all(sql, &[&signed(since).to_string()]).map(Some)
     }
 
     fn logs(&mut self, after: &[(i64, u64)], most: u32) -> Result<LogPage, DbError> {
@@ -275,9 +193,4 @@ fn array<T: ToString>(numbers: impl Iterator<Item = T>) -> String {
 /// Places of jobs, as two arrays.
 fn arrays(places: &[(i64, u64)]) -> [String; 2] {
     [array(places.iter().map(|(job, _)| job)), array(places.iter().map(|(_, place)| signed(*place)))]
-}
-
-/// A number as `bigint` reads it.
-fn signed(number: u64) -> String {
-    i64::try_from(number).unwrap_or(i64::MAX).to_string()
 }

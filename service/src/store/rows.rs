@@ -55,7 +55,7 @@ pub struct GoneJob {
 }
 
 /// The tables with rows of jobs, by which columns, and how many rows of it one piece of a deletion has at most: some are large.
-pub const OF_JOBS: [(&str, &str, u64); 12] = [
+const OF_JOBS: [(&str, &str, u64); 12] = [
     ("call", "job, seq", 1000),
     ("ack_size", "job, seq", 1000),
     ("request", "job, key", 1000),
@@ -109,6 +109,11 @@ impl Group {
     }
 }
 
+/// A number as a database keeps it. Moments, places and numbers of records are below 2^62.
+pub fn signed(number: u64) -> i64 {
+    i64::try_from(number).unwrap_or(i64::MAX)
+}
+
 /// The answers of a request that has an Idempotency-Key.
 #[derive(Clone, Debug)]
 pub struct Keyed {
@@ -136,8 +141,22 @@ pub struct SavedImage {
     pub digest: String,
 }
 
-/// Jobs that were deleted before a moment, but for the last one. What is left of them is deleted.
-pub const OLD_GONE: &str = "is_empty = 1 and at < $1 and job <> (select max(job) from gone_job)";
+/// A statement that deletes or changes rows, with its numbers, and how many rows it changes at most, if it says that.
+pub struct Erasure {
+    pub sql: String,
+    pub given: Vec<i64>,
+    pub most: u64,
+}
+
+impl Erasure {
+    /// Deletes the rows of a table which these conditions select, of whose key these are the columns; at most so many.
+    fn of(table: &str, key: &str, rows: &str, given: &[i64], most: u64) -> Erasure {
+        let limit = given.len() + 1;
+        let sql =
+            format!("delete from {table} where ({key}) in (select {key} from {table} where {rows} limit ${limit})");
+        Erasure { sql, given: [given, &[signed(most)]].concat(), most }
+    }
+}
 
 /// How many identities the log keeps.
 pub const MOST_STARTS: i64 = 64;
@@ -145,8 +164,13 @@ pub const MOST_STARTS: i64 = 64;
 /// The version of the tables. Each database has a step of SQL for each: only a start over tables of an earlier version runs it.
 pub const VERSION: usize = 2;
 
+/// The tables of the first version that both databases have.
+pub const TABLES: &str = include_str!("../../sql/tables.sql");
+/// Where the files of jobs are, as JSON.
+pub const STORAGES: &str = "create table if not exists storage(job integer primary key, text text not null) strict;";
+
 /// The steps after a version, each of which makes or changes tables. They can be run again.
-pub fn steps_after<'a>(found: i64, steps: &'a [&'a str]) -> &'a [&'a str] {
+pub fn steps_after<T>(found: i64, steps: &[T]) -> &[T] {
     let done = usize::try_from(found).unwrap_or(0);
     &steps[done.min(steps.len())..]
 }
@@ -184,17 +208,35 @@ pub trait Store: Send {
     /// The answers that were committed under these keys of jobs.
     fn keyed(&mut self, keys: &[(i64, String)]) -> Result<Vec<UnderKey>, DbError>;
 
-    /// Deletes keys that are older than the moment `before`, at most `most` of them, and returns how many it deleted.
-    fn forget_keys(&mut self, before: u64, most: u64) -> Result<u64, DbError>;
+    /// Changes rows in one transaction, and waits for no sync: what comes back after a loss of power is deleted again. Ends behind the first statement
+    /// that changes as many rows as it may, and returns whether there was one.
+    fn erase(&mut self, statements: &[Erasure]) -> Result<bool, DbError>;
+
+    /// Deletes keys that are older than the moment `before`, at most `most` of them, and returns whether there may be more.
+    fn forget_keys(&mut self, before: u64, most: u64) -> Result<bool, DbError> {
+        self.erase(&[Erasure::of("request", "job, key", "at < $1 order by at", &[signed(before)], most)])
+    }
 
     /// Deletes records of a job that ended and whose numbers are at most `upto`, at most `most` of them.
-    fn forget_past(&mut self, job: i64, upto: u64, most: u64) -> Result<(), DbError>;
+    fn forget_past(&mut self, job: i64, upto: u64, most: u64) -> Result<(), DbError> {
+        let rows = "job = $1 and id <= $2 order by job, id";
+        self.erase(&[Erasure::of("past", "job, id", rows, &[job, signed(upto)], most)]).map(drop)
+    }
 
     /// Forgets jobs that were deleted before a moment, of which nothing is left. The last one stays: its number is given to no other.
-    fn forget_gone(&mut self, before: u64) -> Result<(), DbError>;
+    fn forget_gone(&mut self, before: u64) -> Result<(), DbError> {
+        let rows = "is_empty = 1 and at < $1 and job <> (select max(job) from gone_job)";
+        self.erase(&[Erasure::of("gone_job", "job", rows, &[signed(before)], u64::MAX)]).map(drop)
+    }
 
     /// Deletes a piece of what is left of a job that was deleted. Returns whether there may be more; if not, the job counts as empty.
-    fn forget_job(&mut self, job: i64) -> Result<bool, DbError>;
+    fn forget_job(&mut self, job: i64) -> Result<bool, DbError> {
+        let piece = |(table, key, most)| Erasure::of(table, key, &format!("job = $1 order by {key}"), &[job], most);
+        let mut pieces: Vec<Erasure> = OF_JOBS.into_iter().map(piece).collect();
+        let empty = "update gone_job set is_empty = 1 where job = $1".to_string();
+        pieces.push(Erasure { sql: empty, given: vec![job], most: u64::MAX });
+        self.erase(&pieces)
+    }
 
     /// Writes down that the service runs at this moment.
     fn note(&mut self, at: u64) -> Result<(), Failure>;
@@ -214,9 +256,6 @@ pub const IS_EVENT: &str = "(what in (1, 5, 6, 8, 10, 11, 13, 14, 15, 16, 17) or
 
 /// The columns of an [`Entry`].
 pub const COLUMNS: &str = "job, seq, at, record, line, what, a, b, files, ended, waiting";
-
-/// The columns of a [`SubtaskState`].
-pub const STATE: &str = "job, record, vertex, place, files, payload, bytes, millis";
 
 /// The columns of a [`SavedImage`]. `joined` selects the parts of a long image's text, put together. One statement reads them, so an image
 /// that is deleted meanwhile is there whole or not at all.

@@ -2,23 +2,21 @@
 use super::cells::Row;
 use super::error::{DbError, Failure, Unusable};
 use super::files::{self, Opened};
+use super::many::{self, Cell};
+use super::parts::{self, Part, Statement, Take};
 use super::rows::{
-    steps_after, Committed, Group, Lead, Store, UnderKey, Written, MOST_STARTS, OF_JOBS, OLD_GONE, VERSION,
+    signed, steps_after, Committed, Erasure, Group, Lead, Store, UnderKey, Written, MOST_STARTS, STORAGES, VERSION,
 };
-use super::sqlite_write::write;
 use crate::model::lengths_text;
 use rusqlite::config::DbConfig;
-use rusqlite::{ffi, params, Connection, ErrorCode, OptionalExtension};
+use rusqlite::{ffi, params, params_from_iter, Connection, ErrorCode, OptionalExtension, Transaction};
 use std::fs::File;
 use std::path::Path;
 use std::time::{Duration, Instant};
 
-/// What makes the tables.
-pub const TABLES: &str = include_str!("../../sql/sqlite.sql");
-/// What makes each version of them from the one before.
-pub(super) const STEPS: [&str; VERSION] = [TABLES, STORAGES];
-/// Where the files of jobs are, as JSON.
-const STORAGES: &str = "create table if not exists storage(job integer primary key, text text not null) strict;";
+/// What makes each version of the tables from the one before.
+const STEPS: [&str; VERSION] =
+    [concat!(include_str!("../../sql/tables.sql"), include_str!("../../sql/sqlite.sql")), STORAGES];
 pub(super) const BUSY: Duration = Duration::from_secs(2);
 /// How long a start waits for readers of another program.
 const SETTLE_FOR: Duration = Duration::from_secs(10);
@@ -31,7 +29,7 @@ const CHECKPOINT_PAGES: i64 = 1000;
 const BEAT: Duration = Duration::from_secs(5);
 
 /// How many prepared statements are kept.
-const STATEMENTS: usize = 64;
+const STATEMENTS: usize = 96;
 
 /// SQLite counts no memory that it takes: else each request of one thread for some waits for those of the others. To be called before
 /// SQLite is used.
@@ -190,33 +188,13 @@ impl Store for Sqlite {
         Ok(found)
     }
 
-    fn forget_keys(&mut self, before: u64, most: u64) -> Result<u64, DbError> {
-        let sql =
-            "delete from request where (job, key) in (select job, key from request where at < ? order by at limit ?)";
-        self.without_sync(|within| Ok(within.execute(sql, [signed(before), signed(most)])? as u64))
-    }
-
-    fn forget_past(&mut self, job: i64, upto: u64, most: u64) -> Result<(), DbError> {
-        let sql = "delete from past where (job, id) in
-            (select job, id from past where job = ? and id <= ? order by job, id limit ?)";
-        self.without_sync(|within| within.execute(sql, [job, signed(upto), signed(most)]).map(|_| ()))
-    }
-
-    fn forget_gone(&mut self, before: u64) -> Result<(), DbError> {
-        let sql = format!("delete from gone_job where {}", OLD_GONE.replace("$1", "?1"));
-        self.without_sync(|within| within.execute(&sql, [signed(before)]).map(|_| ()))
-    }
-
-    fn forget_job(&mut self, job: i64) -> Result<bool, DbError> {
+    fn erase(&mut self, statements: &[Erasure]) -> Result<bool, DbError> {
         self.without_sync(|within| {
-            for (table, columns, most) in OF_JOBS {
-                let rows = format!("select {columns} from {table} where job = ?1 order by {columns} limit ?2");
-                let sql = format!("delete from {table} where ({columns}) in ({rows})");
-                if within.execute(&sql, params![job, signed(most)])? as u64 == most {
+            for Erasure { sql, given, most } in statements {
+                if within.execute(sql, params_from_iter(given))? as u64 == *most {
                     return Ok(true);
                 }
             }
-            within.execute("update gone_job set is_empty = 1 where job = ?", [job])?;
             Ok(false)
         })
     }
@@ -253,9 +231,39 @@ fn failure(error: rusqlite::Error) -> Failure {
     }
 }
 
-/// A number as SQLite keeps it. Moments, places and numbers of records are below 2^62.
-pub(super) fn signed(number: u64) -> i64 {
-    i64::try_from(number).unwrap_or(i64::MAX)
+/// One transaction. It is rolled back if this returns an error.
+fn write(connection: &mut Connection, group: &Group) -> rusqlite::Result<()> {
+    let mut within = connection.transaction()?;
+    parts::write(group, &mut within)?;
+    within.commit()
+}
+
+impl Take for Transaction<'_> {
+    type Error = rusqlite::Error;
+
+    fn take<'a, T, const N: usize>(
+        &mut self,
+        part: &'static Part,
+        rows: impl ExactSizeIterator<Item = T> + Clone,
+        cells: impl Fn(T) -> [Cell<'a>; N],
+    ) -> rusqlite::Result<()> {
+        if rows.len() == 0 {
+            return Ok(());
+        }
+        part.statements.iter().try_for_each(|statement| match statement {
+            Statement::Counted(table) => many::insert(self, &format!("insert into {table}"), "", rows.clone(), &cells),
+            Statement::Insert(table, then) => {
+                many::insert(self, &format!("insert into {table}"), then, rows.clone(), &cells)
+            }
+            Statement::Each(text) => many::each(self, &over_one(text), rows.clone(), &cells),
+        })
+    }
+}
+
+/// The statement over one row, whose cells are parameters.
+fn over_one(text: &str) -> String {
+    let text = ["{u}, ", " using {u}", " from {u}"].iter().fold(text.to_string(), |text, rows| text.replace(rows, ""));
+    [("u.a", "?1"), ("u.b", "?2"), ("u.c", "?3")].iter().fold(text, |text, (cell, it)| text.replace(cell, it))
 }
 
 #[cfg(test)]

@@ -66,7 +66,7 @@ impl Lease {
 #[cfg(test)]
 mod tests {
     use super::*;
-    use crate::store::{DbError, Lead, UnderKey};
+    use crate::store::{DbError, Erasure, Lead, UnderKey};
 
     /// What a commit of [`Slow`] takes.
     const PAUSE: Duration = Duration::from_millis(20);
@@ -98,19 +98,7 @@ mod tests {
             unreachable!("{ASKED}")
         }
 
-        fn forget_keys(&mut self, _: u64, _: u64) -> Result<u64, DbError> {
-            unreachable!("{ASKED}")
-        }
-
-        fn forget_past(&mut self, _: i64, _: u64, _: u64) -> Result<(), DbError> {
-            unreachable!("{ASKED}")
-        }
-
-        fn forget_gone(&mut self, _: u64) -> Result<(), DbError> {
-            unreachable!("{ASKED}")
-        }
-
-        fn forget_job(&mut self, _: i64) -> Result<bool, DbError> {
+        fn erase(&mut self, _: &[Erasure]) -> Result<bool, DbError> {
             unreachable!("{ASKED}")
         }
 

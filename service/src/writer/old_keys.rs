@@ -38,12 +38,12 @@ impl OldKeys {
         }
         let (asked, most) = (Instant::now(), PIECE + self.came);
         let rest = match store.forget_keys(now.saturating_sub(KEEP), most) {
-            Ok(gone) => {
+            Ok(may_be_more) => {
                 self.came = 0;
-                if gone < most {
-                    EACH
-                } else {
+                if may_be_more {
                     Duration::ZERO
+                } else {
+                    EACH
                 }
             }
             Err(why) => {

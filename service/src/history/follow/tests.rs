@@ -1,112 +1,35 @@
 //! A history that goes on from a summary, and tables of other versions.
 use super::super::version::{upgrade, STEPS};
 use super::*;
-use crate::files::JobStorage;
-use crate::model::{parse_config, AnswerRow, Figure, FileBytes, PastRecord, Phase, SubtaskState};
-use crate::store::{Listed, LogReader, SavedImage, Space, Tried};
+use crate::model::{parse_config, AnswerRow, Cut};
+use crate::store::{Group, Sqlite, SqliteReader, Store};
 use std::path::PathBuf;
+use std::sync::atomic::{AtomicU64, Ordering};
 
-/// A log in memory, with what the database keeps of a history.
-#[derive(Default)]
-struct Memory {
-    log: Vec<Entry>,
-    summaries: Vec<(KeptSummary, String)>,
-    past: Vec<PastRecord>,
-    said: Vec<AckBytes>,
+/// How many files were named.
+static FILES: AtomicU64 = AtomicU64::new(0);
+
+/// A database with a job's log, and what it keeps of a history.
+struct Database {
+    store: Sqlite,
+    file: File,
 }
 
-impl Memory {
-    fn page(&self, is_in: impl Fn(&Entry) -> bool, most: u32) -> Vec<Entry> {
-        self.log.iter().filter(|entry| is_in(entry)).take(most as usize).cloned().collect()
+impl Database {
+    fn with(log: &[Entry]) -> Database {
+        let file = File::new("log");
+        let store = Sqlite::open(&file.0).unwrap_or_else(|why| panic!("{why}"));
+        let mut database = Database { store, file };
+        database.keep(Group { jobs: vec![opening()], entries: log.to_vec(), ..Group::default() });
+        database
     }
 
-    fn cut(&mut self, upto: u64) {
-        self.log.retain(|entry| entry.seq > upto);
-    }
-}
-
-impl LogReader for Memory {
-    fn log(&mut self, _: i64, after: u64, most: u32) -> Result<Vec<Entry>, DbError> {
-        Ok(self.page(|entry| entry.seq > after, most))
-    }
-    fn first(&mut self, _: i64) -> Result<Option<u64>, DbError> {
-        Ok(self.log.first().map(|entry| entry.seq))
-    }
-    fn images(&mut self, _: i64) -> Result<Vec<crate::model::KeptImage>, DbError> {
-        Ok(vec![])
-    }
-    fn image(&mut self, _: i64, _: u64) -> Result<Option<SavedImage>, DbError> {
-        Ok(None)
-    }
-}
-
-impl Reader for Memory {
-    fn listed(&mut self) -> Result<Vec<Listed>, DbError> {
-        Ok(vec![])
-    }
-    fn events(&mut self, _: i64, _: u64, _: u32) -> Result<Vec<Entry>, DbError> {
-        Ok(vec![])
-    }
-    fn about(&mut self, _: i64, record: u64, after: u64, most: u32) -> Result<Vec<Entry>, DbError> {
-        Ok(self.page(|entry| entry.record == Some(record) && entry.seq > after, most))
-    }
-    fn entry(&mut self, _: i64, seq: u64) -> Result<Option<Entry>, DbError> {
-        Ok(self.page(|entry| entry.seq == seq, 1).pop())
-    }
-    fn summaries(&mut self, _: i64) -> Result<Vec<KeptSummary>, DbError> {
-        Ok(self.summaries.iter().map(|(kept, _)| *kept).collect())
-    }
-    fn summary(&mut self, _: i64, seq: u64) -> Result<Option<String>, DbError> {
-        Ok(self.summaries.iter().find(|(kept, _)| kept.seq == seq).map(|(_, text)| text.clone()))
-    }
-    fn past(&mut self, _: i64, after: u64, most: u32) -> Result<Vec<PastRecord>, DbError> {
-        Ok(self.past.iter().filter(|record| record.id > after).take(most as usize).cloned().collect())
-    }
-    fn ack_bytes(&mut self, _: i64, after: u64, upto: u64) -> Result<Vec<AckBytes>, DbError> {
-        Ok(self.said.iter().filter(|one| one.seq > after && one.seq <= upto).cloned().collect())
-    }
-    fn sizes(&mut self, _: i64, _: i64, _: u32) -> Result<Vec<FileBytes>, DbError> {
-        Ok(vec![])
-    }
-    fn bytes_of(&mut self, _: i64, _: &[u64]) -> Result<Vec<FileBytes>, DbError> {
-        Ok(vec![])
-    }
-    fn states(&mut self, _: i64, _: u64) -> Result<Vec<SubtaskState>, DbError> {
-        Ok(vec![])
-    }
-    fn figures(&mut self, _: i64, _: u64, _: u64) -> Result<Vec<Figure>, DbError> {
-        Ok(vec![])
-    }
-    fn with_states(&mut self, _: i64) -> Result<Vec<u64>, DbError> {
-        Ok(vec![])
-    }
-    fn gone(&mut self) -> Result<Vec<(i64, u64)>, DbError> {
-        Ok(vec![])
-    }
-    fn phases(&mut self) -> Result<Tried<Phase>, DbError> {
-        Ok(Vec::new())
-    }
-    fn storages(&mut self) -> Result<Tried<JobStorage>, DbError> {
-        Ok(Vec::new())
+    fn keep(&mut self, group: Group) {
+        self.store.commit(&group).unwrap_or_else(|why| panic!("{why}"));
     }
 
-    fn call_bytes(&mut self, _: i64) -> Result<Option<u64>, DbError> {
-        Ok(None)
-    }
-    fn space(&mut self) -> Result<Space, DbError> {
-        Err(DbError::Odd("there is none"))
-    }
-    fn lengths(&mut self) -> Result<Vec<(i64, u64)>, DbError> {
-        Ok(vec![])
-    }
-    fn last_moment(&mut self) -> Result<u64, DbError> {
-        Ok(0)
-    }
-    fn lengths_after(&mut self, _: &str) -> Result<Option<String>, DbError> {
-        Ok(None)
-    }
-    fn leader(&mut self) -> Option<String> {
-        None
+    fn reader(&self) -> SqliteReader {
+        SqliteReader::open(&self.file.0).unwrap_or_else(|why| panic!("{why}"))
     }
 }
 
@@ -184,13 +107,14 @@ struct File(PathBuf);
 
 impl File {
     fn new(name: &str) -> File {
-        File(std::env::temp_dir().join(format!("relkvanu-follow-{}-{name}", std::process::id())))
+        let number = FILES.fetch_add(1, Ordering::SeqCst);
+        File(std::env::temp_dir().join(format!("relkvanu-follow-{}-{number}-{name}", std::process::id())))
     }
 }
 
 impl Drop for File {
     fn drop(&mut self) {
-        for end in ["", "-wal", "-shm"] {
+        for end in ["", "-wal", "-shm", ".lock"] {
             let _ = std::fs::remove_file(super::super::history_file::with_end(&self.0, end));
         }
     }
@@ -201,9 +125,10 @@ fn a_summary_and_the_rest_of_the_log_give_the_same_history() -> Result<(), Error
     let whole = log();
     let file = File::new("whole");
     let tables = Tables::open(&file.0)?;
-    let mut memory = Memory { log: whole.clone(), ..Memory::default() };
+    let database = Database::with(&whole);
+    let mut reader = database.reader();
     let said = ack_bytes_of(&whole);
-    Follower::open(&tables, &mut memory, &opening())?.follow(&tables, &whole, &said, &[])?;
+    Follower::open(&tables, &mut reader, &opening())?.follow(&tables, &whole, &said, &[])?;
     let wanted = dump(&tables);
     // record 1 has the files 100 and 101, and record 6 the file 600 so far
     let bytes: Vec<(i64, i64)> =
@@ -215,20 +140,20 @@ fn a_summary_and_the_rest_of_the_log_give_the_same_history() -> Result<(), Error
         let (before, after) = whole.split_at(place);
         let files = [File::new("old"), File::new("new")];
         let old = Tables::open(&files[0].0)?;
-        let mut memory = Memory { log: whole.clone(), ..Memory::default() };
-        let mut follower = Follower::open(&old, &mut memory, &opening())?;
+        let mut database = Database::with(&whole);
+        let mut reader = database.reader();
+        let mut follower = Follower::open(&old, &mut reader, &opening())?;
         follower.follow(&old, before, &said, &[])?;
-        memory.past = old.unsaved(1, 100)?;
-        old.set_saved(&memory.past)?;
+        let past = old.unsaved(1, 100)?;
+        old.set_saved(&past)?;
         assert!(old.unsaved(1, 100)?.is_empty());
-        let parts = Summary::of(&old, &follower)?.parts(&follower)?;
-        let text: String = parts.iter().map(|part| part.text.as_str()).collect();
-        memory.summaries.push((KeptSummary { seq: place as u64, bytes: text.len() as u64 }, text));
-        memory.cut(place as u64);
+        let (summaries, cut) =
+            (Summary::of(&old, &follower)?.parts(&follower)?, Cut { job: 1, after: 0, upto: place as u64 });
+        database.keep(Group { past, summaries, cuts: vec![cut], ..Group::default() });
         let new = Tables::open(&files[1].0)?;
-        let mut follower = Follower::open(&new, &mut memory, &opening())?;
-        assert!(follower.load(&new, &mut memory)? && follower.upto == place as u64);
-        assert!(!follower.load(&new, &mut memory)?, "it would load it for ever");
+        let mut follower = Follower::open(&new, &mut reader, &opening())?;
+        assert!(follower.load(&new, &mut reader)? && follower.upto == place as u64);
+        assert!(!follower.load(&new, &mut reader)?, "it would load it for ever");
         follower.follow(&new, after, &said, &[])?;
         let told = dump(&new);
         let differ: Vec<_> = told.iter().filter(|row| !wanted.contains(row)).collect();
@@ -244,7 +169,7 @@ fn a_summary_and_the_rest_of_the_log_give_the_same_history() -> Result<(), Error
             "{place}: {missing:?}"
         );
         // a start in between knows who has acknowledged
-        let mut follower = Follower::open(&new, &mut memory, &opening())?;
+        let mut follower = Follower::open(&new, &mut reader, &opening())?;
         let last = Entry {
             line: "ack 70 6 0.1".to_string(),
             told: AnswerRow::of(&Reply::Answered(COMPLETED)),
