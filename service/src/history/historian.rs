@@ -11,7 +11,7 @@ use crate::metrics::Metrics;
 use crate::model::{Keeping, KeptSummary};
 use crate::process;
 use crate::store::{space_of, Reader};
-use crate::writer::{Board, ForKeeping, Inbox, JobState, Message, Read, ReadDone, MOST_JOBS};
+use crate::writer::{Board, ForKeeping, Inbox, JobState, Message, Read, MOST_JOBS};
 use std::collections::hash_map::Entry;
 use std::collections::{HashMap, HashSet};
 use std::sync::mpsc::{channel, Sender};
@@ -291,10 +291,8 @@ impl Historian {
         loop {
             let after = all.last().map_or(i64::MIN, |job| job.opening.number);
             let (reply, answer) = oneshot::channel();
-            self.inbox.try_send(Message::Read(Read::Jobs { after, most: MOST_JOBS }, reply)).ok()?;
-            let Ok(ReadDone::Jobs(mut piece)) = answer.blocking_recv() else {
-                return None;
-            };
+            self.inbox.try_send(Message::Read(Read::Jobs { after, most: MOST_JOBS, reply })).ok()?;
+            let mut piece = answer.blocking_recv().ok()?;
             let is_last = piece.len() < MOST_JOBS;
             all.append(&mut piece);
             if is_last {

@@ -37,8 +37,10 @@ use crate::config::Limits;
 use crate::history::{self, Door, HistoryFile, HistoryReader};
 use crate::log;
 use crate::metrics::Metrics;
+use crate::model::Job;
 use crate::store::{DbError, Reader};
-use crate::writer::{Board, Inbox, JobState, Message, NotSent, Read, ReadDone, MOST_JOBS};
+use crate::writer::{Board, Inbox, JobState, Message, NotSent, Read, MOST_JOBS};
+use render::Metadata;
 use reply::{error, HttpReply, Refusable};
 use std::error::Error;
 use std::sync::Arc;
@@ -93,8 +95,30 @@ impl App {
         }
     }
 
-    async fn read(&self, read: Read) -> Refusable<ReadDone> {
-        self.ask(|reply| Message::Read(read, reply)).await
+    /// Looks at a job, by the writer; `None` if there is none.
+    async fn look<T: Send + 'static>(
+        &self,
+        job: &str,
+        look: impl FnOnce(&mut Job) -> T + Send + 'static,
+    ) -> Refusable<Option<T>> {
+        self.ask(|reply| {
+            let look = Box::new(move |job: Option<&mut Job>| drop(reply.send(job.map(look))));
+            Message::Read(Read::Look(job.to_string(), look))
+        })
+        .await
+    }
+
+    /// The state of a job.
+    async fn state(&self, job: &str) -> Refusable<Box<JobState>> {
+        let told = self.ask(|reply| Message::Read(Read::Job(job.to_string(), reply))).await?;
+        told.ok_or_else(|| no_job(job).into())
+    }
+
+    /// The metadata of a live record; `None` if none has the number.
+    async fn record(&self, job: &str, id: u64) -> Refusable<Option<Metadata>> {
+        let shown = self.look(job, move |job| job.live().contains_key(&id).then(|| job.engine().show(id))).await?;
+        let read = |text: Option<String>| text.and_then(|text| Metadata::of(&text)).ok_or_else(no_memory);
+        Ok(shown.flatten().map(read).transpose()?)
     }
 
     /// The jobs in the order of their numbers. The writer makes calls between two pieces.
@@ -102,9 +126,8 @@ impl App {
         let mut all = Vec::<JobState>::new();
         loop {
             let after = all.last().map_or(i64::MIN, |job| job.opening.number);
-            let ReadDone::Jobs(mut piece) = self.read(Read::Jobs { after, most: MOST_JOBS }).await? else {
-                return Err(error(500, "the writer answered something else").into());
-            };
+            let read = |reply| Message::Read(Read::Jobs { after, most: MOST_JOBS, reply });
+            let mut piece = self.ask(read).await?;
             let is_last = piece.len() < MOST_JOBS;
             all.append(&mut piece);
             if is_last {
@@ -181,6 +204,10 @@ async fn waited<R: Send + 'static, T: Send + 'static, E: Error + Send + 'static>
         }
         Err(_) => Err(error(500, "the read was ended").into()),
     }
+}
+
+fn no_memory() -> HttpReply {
+    error(507, "memory ran out")
 }
 
 fn no_job(job: &str) -> HttpReply {

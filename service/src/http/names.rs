@@ -1,11 +1,10 @@
 //! Terms and names: a job that gets names, the term for whoever starts tasks, and which files may be deleted.
 use super::operate::only;
 use super::query::numbers;
-use super::reply::{bad_field, error, json_reply, refusal, Answered, HttpReply};
+use super::reply::{bad_field, json_reply, refusal, Answered, HttpReply};
 use super::writes::Given;
-use super::{gate, no_job, wire, App};
+use super::{gate, no_job, no_memory, wire, App};
 use crate::model::{Call, Fault, Garbage};
-use crate::writer::{Read, ReadDone};
 use serde_json::json;
 
 /// Of a job that a recovery has not made whole.
@@ -45,14 +44,10 @@ fn fenced(name: &str) -> HttpReply {
 /// The term that runs, for whoever starts the tasks.
 pub async fn term(app: &App, job: &str, query: &str) -> Answered {
     numbers(query, [])?;
-    match app.read(Read::Term(job.to_string())).await? {
-        ReadDone::Term(Some(now)) => {
-            let told = json!({"term": now.term, "next_name": now.next_name.to_string(), "log": app.board.log()});
-            Ok(json_reply(200, &told))
-        }
-        ReadDone::Term(None) => Err(fenced(NO_NAMES).into()),
-        _ => Err(no_job(job).into()),
-    }
+    let now = app.look(job, |job| job.engine().term()).await?.ok_or_else(|| no_job(job))?;
+    let now = now.ok_or_else(|| fenced(NO_NAMES))?;
+    let told = json!({"term": now.term, "next_name": now.next_name.to_string(), "log": app.board.log()});
+    Ok(json_reply(200, &told))
 }
 
 /// Which of some files may be deleted, by what is committed. The writer answers only while it surely leads, and this looks again:
@@ -60,21 +55,20 @@ pub async fn term(app: &App, job: &str, query: &str) -> Answered {
 pub async fn garbage(mut given: Given<'_>) -> Answered {
     let (bytes, _room) = given.read_body().await?;
     let (app, job, files) = (given.app, given.job, wire::garbage(&bytes)?);
-    let told = app.read(Read::Garbage { job: job.clone(), files }).await?;
+    let told = app.look(&job, move |job| job.engine().garbage(&files)).await?;
     if !app.board.is_ready() {
         return Err(gate::standby(app).await.into());
     }
-    match told {
-        ReadDone::Garbage(Ok(Garbage { garbage, unissued })) => {
+    match told.ok_or_else(|| no_job(&job))? {
+        Ok(Garbage { garbage, unissued }) => {
             let texts = |files: Vec<u64>| files.iter().map(u64::to_string).collect::<Vec<_>>();
             Ok(json_reply(
                 200,
                 &json!({"garbage": texts(garbage), "unissued": texts(unissued), "log": app.board.log()}),
             ))
         }
-        ReadDone::Garbage(Err(Fault::Fenced(why))) => Err(fenced(&why.name()).into()),
-        ReadDone::Garbage(Err(_)) => Err(error(507, "memory ran out").into()),
-        _ => Err(no_job(&job).into()),
+        Err(Fault::Fenced(why)) => Err(fenced(&why.name()).into()),
+        Err(_) => Err(no_memory().into()),
     }
 }
 

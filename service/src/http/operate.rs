@@ -1,11 +1,11 @@
 //! What an operator does to a job that is open: a checkpoint now, a stop and the beginning after it, and other settings.
 use super::audit::Did;
 use super::json_members::Checked;
-use super::reply::{error, json_reply, refusal, Answered, HttpReply, Refusable};
+use super::reply::{json_reply, refusal, Answered, HttpReply, Refusable};
 use super::writes::{answered, Given};
-use super::{no_job, render, wire};
+use super::{no_job, no_memory, render, wire};
 use crate::model::Call;
-use crate::writer::{Message, ReadDone};
+use crate::writer::Message;
 use serde_json::{json, Value};
 
 /// Makes the one call that the body of a path's request says. Under a key it is made once.
@@ -33,9 +33,8 @@ pub async fn settings(mut given: Given<'_>) -> Answered {
 pub async fn storage(mut given: Given<'_>) -> Answered {
     let (storage, _room) = given.said(wire::storage).await?;
     let (app, job, did) = (given.app, given.job, Did::storage(&storage));
-    let ReadDone::Job(state) = app.ask(|reply| Message::Locate { job: job.clone(), storage, reply }).await? else {
-        return Err(no_job(&job).into());
-    };
+    let told = app.ask(|reply| Message::Locate { job: job.clone(), storage, reply }).await?;
+    let state = told.ok_or_else(|| no_job(&job))?;
     let mut reply = json_reply(200, &render::job(&state, app.board.log()));
     reply.extensions_mut().insert(did);
     Ok(reply)
@@ -64,7 +63,7 @@ pub(super) fn only(
         return Err(refused(why).into());
     }
     if answer["seq"].is_null() {
-        return Err(error(507, "memory ran out").into());
+        return Err(no_memory().into());
     }
     answer["epoch"] = told["epoch"].take();
     answer["log"] = told["log"].take();

@@ -1,14 +1,15 @@
 //! Requests that read: jobs, records, files, the log, events and metrics.
 use super::log_position::{self, LogPosition};
 use super::query::{self, numbers, Parameter};
-use super::render::{self, Metadata};
+use super::render;
 use super::reply::{bad_field, body, error, json_reply, with_type, Answered, Refusable};
 use super::route::{Route, To};
-use super::{acks, names, no_job, states, App};
+use super::{acks, names, no_job, no_memory, states, App};
 use crate::auth::Caller;
 use crate::history::{FileRow, HistoryReader, Search};
+use crate::model::Job;
 use crate::store::Reader;
-use crate::writer::{JobState, Read, ReadDone, RecordState};
+use crate::writer::JobState;
 use serde_json::{json, Value};
 use std::time::Duration;
 
@@ -113,10 +114,7 @@ pub(super) fn damaged(app: &App, caller: &Caller) -> Vec<Value> {
 
 async fn one_job(app: &App, job: &str, query: &str) -> Answered {
     numbers(query, [])?;
-    match app.read(Read::Job(job.to_string())).await? {
-        ReadDone::Job(state) => Ok(json_reply(200, &render::job(&state, app.board.log()))),
-        _ => Err(no_job(job).into()),
-    }
+    Ok(json_reply(200, &render::job(&*app.state(job).await?, app.board.log())))
 }
 
 async fn records(app: &App, job: &str, query: &str) -> Answered {
@@ -155,30 +153,19 @@ fn word(name: &str, given: Option<&str>, words: &[&'static str]) -> Refusable<Op
 async fn record(app: &App, job: &str, id: u64, query: &str) -> Answered {
     numbers(query, [])?;
     let number = app.number(job)?;
-    let ReadDone::Record(live) = app.read(Read::Record { job: job.to_string(), id }).await? else {
-        return Err(no_job(job).into());
-    };
+    let live = app.record(job, id).await?;
     let history = app.read_history(move |history| history.record(number, id)).await?;
     if live.is_none() && history.is_none() {
         return Err(error(404, &format!("job {job} has no record {id}, or the history has not read of it yet")).into());
     }
-    Ok(body(200, render::record(id, metadata(live)?, history)))
-}
-
-/// The metadata of a live record, or nothing of one that is not live.
-pub(super) fn metadata(live: Option<RecordState>) -> Refusable<Option<Metadata>> {
-    let read = |state: RecordState| state.metadata.and_then(|text| Metadata::of(&text));
-    live.map(|state| read(state).ok_or_else(|| error(507, "memory ran out").into())).transpose()
+    Ok(body(200, render::record(id, live, history)))
 }
 
 /// The files that were taken and not reported, those taken first before the others, and the files that were deleted last.
 async fn files(app: &App, job: &str, query: &str) -> Answered {
     let before = Parameter { name: "before", most: u64::MAX, default: u64::MAX };
     let [before, most] = numbers(query, [before, limit(MOST_ROWS, 100)])?;
-    let ReadDone::Job(state) = app.read(Read::Job(job.to_string())).await? else {
-        return Err(no_job(job).into());
-    };
-    Ok(json_reply(200, &files_of(app, &state, before, most).await?))
+    Ok(json_reply(200, &files_of(app, &*app.state(job).await?, before, most).await?))
 }
 
 /// How far the history is, and at most this many taken files, and files that were deleted before a call.
@@ -196,10 +183,8 @@ pub(super) async fn files_of(app: &App, job: &JobState, before: u64, most: u64) 
 
 /// Taken files by the coordinator's whole list, for a history that does not know all of them.
 async fn taken_by_all(app: &App, job: &str, number: i64, most: u64) -> Refusable<Vec<FileRow>> {
-    let all = match app.read(Read::Taken(job.to_string())).await? {
-        ReadDone::Taken(all) => all.ok_or_else(|| error(507, "memory ran out"))?,
-        _ => return Err(no_job(job).into()),
-    };
+    let all = app.look(job, |job| job.engine().taken()).await?.ok_or_else(|| no_job(job))?;
+    let all = all.ok_or_else(no_memory)?;
     app.read_history(move |history| history.taken_of(number, &all, most)).await
 }
 
@@ -207,10 +192,9 @@ async fn taken_by_all(app: &App, job: &str, number: i64, most: u64) -> Refusable
 async fn one_file(app: &App, job: &str, file: u64, query: &str) -> Answered {
     numbers(query, [])?;
     let number = app.number(job)?;
-    let ReadDone::File { uses, bytes, live } = app.read(Read::File { job: job.to_string(), file }).await? else {
-        return Err(no_job(job).into());
-    };
-    let live = if uses == Some(0) { Vec::new() } else { live };
+    let look = move |job: &mut Job| (job.engine().uses(file), job.sizes.bytes_of(file), job.live().clone());
+    let (uses, bytes, live) = app.look(job, look).await?.ok_or_else(|| no_job(job))?;
+    let live = live.into_keys().filter(|_| uses != Some(0)).collect();
     let by = used_by(app, job, file, live).await?;
     let pins = uses.map(|uses| uses.saturating_sub(by.len() as u64));
     let (bytes, history) = app
@@ -234,9 +218,7 @@ async fn one_file(app: &App, job: &str, file: u64, query: &str) -> Answered {
 async fn used_by(app: &App, job: &str, file: u64, live: Vec<u64>) -> Refusable<Vec<Value>> {
     let mut by = Vec::new();
     for id in live {
-        if let ReadDone::Record(record) = app.read(Read::Record { job: job.to_string(), id }).await? {
-            by.extend(metadata(record)?.iter().flat_map(|record| record.uses(file)));
-        }
+        by.extend(app.record(job, id).await?.iter().flat_map(|record| record.uses(file)));
     }
     Ok(by)
 }

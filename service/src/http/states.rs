@@ -1,11 +1,9 @@
 //! A complete record as a whole, with all that its tasks begin with after a restore.
 use super::query::numbers;
-use super::reads::metadata;
 use super::render::{Acked, Metadata};
 use super::reply::{body, error, Answered, Refusable};
-use super::{no_job, App};
+use super::App;
 use crate::model::{Given, SubtaskState};
-use crate::writer::{Read, ReadDone};
 use serde::Serialize;
 use std::collections::HashMap;
 
@@ -45,10 +43,7 @@ pub async fn answer(app: &App, job: &str, id: u64, query: &str) -> Answered {
 }
 
 async fn complete(app: &App, job: &str, id: u64) -> Refusable<Metadata> {
-    let ReadDone::Record(live) = app.read(Read::Record { job: job.to_string(), id }).await? else {
-        return Err(no_job(job).into());
-    };
-    let record = metadata(live)?.filter(Metadata::is_done);
+    let record = app.record(job, id).await?.filter(Metadata::is_done);
     record.ok_or_else(|| error(404, &format!("job {job} has no record {id} that is complete and live")).into())
 }
 

@@ -1,14 +1,14 @@
 //! All that a tab of the page shows, in one answer: the jobs by name and mode, and one job with its pending records, its savepoints,
 //! its history and its files.
 use super::query::{numbers, Parameter};
-use super::reads::{files_of, metadata};
+use super::reads::files_of;
 use super::render;
 use super::reply::{self, json_reply, Answered, Refusable};
 use super::{reads, App};
 use crate::auth::Caller;
 use crate::history::{self, HistoryReader, Search};
 use crate::model::Kind;
-use crate::writer::{JobState, Read, ReadDone};
+use crate::writer::JobState;
 use serde_json::{json, Value};
 
 const RECORDS: Parameter = Parameter { name: "records", most: 1000, default: 60 };
@@ -61,9 +61,7 @@ fn names_of(jobs: Vec<JobState>, name: Option<&String>, caller: &Caller) -> (Val
 async fn pending(app: &App, job: &JobState) -> Refusable<Vec<Value>> {
     let mut found = Vec::new();
     for (record, _) in job.live.iter().filter(|(record, _)| !record.done).take(MOST_PENDING) {
-        let read = Read::Record { job: job.opening.name.clone(), id: record.id };
-        let ReadDone::Record(live) = app.read(read).await? else { continue };
-        if let Some(live) = metadata(live)? {
+        if let Some(live) = app.record(&job.opening.name, record.id).await? {
             let missing = live.missing();
             found.push(json!({
                 "id": record.id,

@@ -83,10 +83,9 @@ impl Writer {
         for (why, reply) in round.undeleted {
             let _ = reply.send(why);
         }
-        for (read, reply) in round.reads {
+        for read in round.reads {
             self.renew();
-            let lent = self.lent.as_ref().map(|lent| &lent.state);
-            let _ = reply.send(state::read(&mut self.jobs, read, self.clock.now(), lent));
+            state::read(&mut self.jobs, read, self.clock.now(), self.lent.as_ref().map(|lent| &lent.state));
         }
     }
 

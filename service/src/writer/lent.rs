@@ -34,11 +34,12 @@ fn needs(message: &Message) -> Option<&String> {
         // the state that is there meanwhile has the storage too
         Message::Locate { job, .. } => Some(job),
         Message::Delete(delete) => Some(&delete.job),
-        Message::Read(read, _) => match read {
-            Read::Record { job, .. } | Read::File { job, .. } | Read::Garbage { job, .. } => Some(job),
-            Read::Taken(job) | Read::Term(job) => Some(job),
-            Read::Jobs { .. } | Read::Job(_) => None,
-        },
-        Message::Keep(..) | Message::Returned(_) | Message::Imaged(_) | Message::Replayed(_) | Message::Stop => None,
+        Message::Read(Read::Look(job, _)) => Some(job),
+        Message::Read(Read::Jobs { .. } | Read::Job(..))
+        | Message::Keep(..)
+        | Message::Returned(_)
+        | Message::Imaged(_)
+        | Message::Replayed(_)
+        | Message::Stop => None,
     }
 }

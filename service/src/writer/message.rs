@@ -2,11 +2,9 @@
 use super::delete::Delete;
 use super::imager::{Imaged, Returned};
 use super::pool::Replayed;
-use super::state::{JobState, RecordState};
+use super::state::JobState;
 use crate::files::JobStorage;
-use crate::model::{
-    Call, Change, Fault, FileCounts, Garbage, NoJob, Outcome, PastRecord, RunningTerm, Settings, SummaryPart,
-};
+use crate::model::{Call, Change, FileCounts, Job, NoJob, Outcome, PastRecord, Settings, SummaryPart};
 use std::sync::Arc;
 use thiserror::Error;
 use tokio::sync::oneshot;
@@ -47,9 +45,9 @@ pub enum Message {
     Locate {
         job: String,
         storage: JobStorage,
-        reply: oneshot::Sender<ReadDone>,
+        reply: oneshot::Sender<Option<Box<JobState>>>,
     },
-    Read(Read, oneshot::Sender<ReadDone>),
+    Read(Read),
     /// What the history gives to the database. The answer says whether it was committed.
     Keep(ForKeeping, oneshot::Sender<bool>),
     Delete(Delete),
@@ -126,49 +124,18 @@ pub enum Created {
 /// How many jobs the writer reads at once, between two groups of calls.
 pub const MOST_JOBS: usize = 500;
 
-#[derive(Debug)]
+/// Looks at a job, or at none if there is no job of the name.
+pub type Look = Box<dyn FnOnce(Option<&mut Job>) + Send>;
+
+/// What is read of jobs between two commits.
 pub enum Read {
-    /// At most so many jobs with numbers above this one, in their order.
+    /// The states of at most so many jobs with numbers above this one, in their order.
     Jobs {
         after: i64,
         most: usize,
+        reply: oneshot::Sender<Vec<JobState>>,
     },
-    Job(String),
-    Record {
-        job: String,
-        id: u64,
-    },
-    File {
-        job: String,
-        file: u64,
-    },
-    /// The files that were taken and not reported.
-    Taken(String),
-    /// The term that runs.
-    Term(String),
-    /// Which of these files may be deleted.
-    Garbage {
-        job: String,
-        files: Vec<u64>,
-    },
-}
-
-#[derive(Debug)]
-pub enum ReadDone {
-    Jobs(Vec<JobState>),
-    Job(Box<JobState>),
-    /// A live record, or `None` if none has the number.
-    Record(Option<RecordState>),
-    /// How many uses the file has, its bytes if they are known, and which records are live.
-    File {
-        uses: Option<u64>,
-        bytes: Option<u64>,
-        live: Vec<u64>,
-    },
-    /// Ascending; `None` if memory ran out.
-    Taken(Option<Vec<u64>>),
-    /// `None` if a recovery has not made the job whole.
-    Term(Option<RunningTerm>),
-    Garbage(Result<Garbage, Fault>),
-    NoJob,
+    /// The state of a job, which is there while its coordinator is lent too.
+    Job(String, oneshot::Sender<Option<Box<JobState>>>),
+    Look(String, Look),
 }

@@ -26,11 +26,11 @@ pub use delete::Delete;
 pub use imager::Imager;
 pub use jobs::Jobs;
 pub use lease::Lease;
-pub use message::{CallsDone, Created, Deletion, ForKeeping, Key, Message, Read, ReadDone, MOST_JOBS};
+pub use message::{CallsDone, Created, Deletion, ForKeeping, Key, Message, Read, MOST_JOBS};
 pub use pool::{OpenReader, Pool, Progress};
 pub use queue::{queue, Inbox, Messages, NotSent};
 pub use replay::StartError;
-pub use state::{JobState, RecordState};
+pub use state::JobState;
 
 use crate::exit;
 use crate::log;
@@ -273,7 +273,7 @@ impl Writer {
             Message::Stop => round.stop = true,
             // taken in as the batch was gathered
             Message::Returned(_) | Message::Imaged(_) | Message::Replayed(_) => {}
-            Message::Read(read, reply) => round.reads.push((read, reply)),
+            Message::Read(read) => round.reads.push(read),
             Message::Keep(given, reply) => round.given.push((given, reply)),
             Message::Delete(delete) => round.deletions.push(delete),
             Message::Create { name, settings, shape, first, storage, reply } => {
@@ -283,7 +283,7 @@ impl Writer {
             }
             Message::Locate { job, storage, reply } => {
                 round.locate(&mut self.jobs, &job, storage);
-                round.reads.push((Read::Job(job), reply));
+                round.reads.push(Read::Job(job, reply));
             }
             Message::Configure { job, change, reply } => {
                 let untold = self.configure(round, &job, change);

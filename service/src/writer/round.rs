@@ -2,7 +2,7 @@
 use super::delete::Delete;
 use super::jobs::Jobs;
 use super::keeper::Upkeep;
-use super::message::{CallsDone, Created, Deletion, ForKeeping, Key, Read, ReadDone};
+use super::message::{CallsDone, Created, Deletion, ForKeeping, Key, Read};
 use crate::files::JobStorage;
 use crate::model::{Call, Held, NoJob, Opening, Settings, MAKING};
 use crate::store::{Group, Keyed};
@@ -33,7 +33,7 @@ pub struct Round {
     pub upkeep: Option<Upkeep>,
     pub done: Vec<Done>,
     pub created: Vec<(Created, Sender<Created>)>,
-    pub reads: Vec<(Read, Sender<ReadDone>)>,
+    pub reads: Vec<Read>,
     pub given: Vec<(ForKeeping, Sender<bool>)>,
     pub deletions: Vec<Delete>,
     /// Deletions that are not made, and why.

@@ -1,6 +1,6 @@
 //! The state of a job, as reads return it between two commits.
 use super::jobs::Jobs;
-use super::message::{Read, ReadDone};
+use super::message::Read;
 use crate::files::JobStorage;
 use crate::model::{
     Bytes, Choice, FileCounts, Job, KeptImage, Kind, LiveRecord, Mode, Opening, Phase, RunningTerm, Settings,
@@ -46,46 +46,26 @@ impl JobState {
     }
 }
 
-#[derive(Debug)]
-pub struct RecordState {
-    /// The coordinator's metadata, as JSON; `None` if memory ran out.
-    pub metadata: Option<String>,
-}
-
 /// Reads what is asked for, when the writer's clock says `now`. A job whose coordinator is lent has had this state since.
-pub fn read(jobs: &mut Jobs, read: Read, now: u64, lent: Option<&JobState>) -> ReadDone {
+pub fn read(jobs: &mut Jobs, read: Read, now: u64, lent: Option<&JobState>) {
     let state = |job: &mut Job| match lent.filter(|lent| lent.opening.number == job.opening.number) {
         Some(lent) => JobState { now: job.moment(now), ..lent.clone() },
         None => state(job, now),
     };
     match read {
-        Read::Jobs { after, most } => {
+        Read::Jobs { after, most, reply } => {
             let places = jobs.places_after(after, most);
-            ReadDone::Jobs(places.into_iter().map(|place| state(jobs.at(place))).collect())
+            drop(reply.send(places.into_iter().map(|place| state(jobs.at(place))).collect()));
         }
-        Read::Job(name) => of(jobs, &name, |job| ReadDone::Job(Box::new(state(job)))),
-        Read::Record { job, id } => of(jobs, &job, |job| ReadDone::Record(record(job, id))),
-        Read::Taken(name) => of(jobs, &name, |job| ReadDone::Taken(job.engine().taken())),
-        Read::Term(name) => of(jobs, &name, |job| ReadDone::Term(job.engine().term())),
-        Read::Garbage { job, files } => of(jobs, &job, |job| ReadDone::Garbage(job.engine().garbage(&files))),
-        Read::File { job, file } => of(jobs, &job, |job| ReadDone::File {
-            uses: job.engine().uses(file),
-            bytes: job.sizes.bytes_of(file),
-            live: job.live().keys().copied().collect(),
-        }),
+        Read::Job(name, reply) => {
+            let place = jobs.place(&name);
+            drop(reply.send(place.map(|place| Box::new(state(jobs.at(place))))));
+        }
+        Read::Look(name, look) => {
+            let place = jobs.place(&name);
+            look(place.map(|place| jobs.at(place)));
+        }
     }
-}
-
-fn of(jobs: &mut Jobs, name: &str, read: impl FnOnce(&mut Job) -> ReadDone) -> ReadDone {
-    match jobs.place(name) {
-        Some(place) => read(jobs.at(place)),
-        None => ReadDone::NoJob,
-    }
-}
-
-fn record(job: &mut Job, id: u64) -> Option<RecordState> {
-    job.live().get(&id)?;
-    Some(RecordState { metadata: job.engine().show(id) })
 }
 
 /// The state of a job when the writer's clock says `now`.
