@@ -1,6 +1,6 @@
 //! Tokens: which clients may read, which may change something, and of which jobs.
+use crate::disk::{of, FileError};
 use hyper::header::{HeaderMap, AUTHORIZATION};
-use std::io;
 use std::path::{Path, PathBuf};
 use std::time::SystemTime;
 use subtle::{Choice, ConstantTimeEq};
@@ -55,8 +55,8 @@ pub struct Tokens(Vec<Token>);
 /// Why a file of tokens can't be used. Another start over the same file ends in the same way.
 #[derive(Debug, Error)]
 pub enum NoTokens {
-    #[error("{}: {why}", .path.display())]
-    Unread { path: PathBuf, why: io::Error },
+    #[error(transparent)]
+    Unread(#[from] FileError),
     #[error("{}: {why}", .path.display())]
     Bad { path: PathBuf, why: BadTokens },
 }
@@ -80,7 +80,7 @@ pub enum BadTokens {
 
 impl Tokens {
     pub fn read(path: &Path) -> Result<Tokens, NoTokens> {
-        let text = std::fs::read_to_string(path).map_err(|why| NoTokens::Unread { path: path.to_path_buf(), why })?;
+        let text = std::fs::read_to_string(path).map_err(of(path))?;
         Tokens::parse(&text).map_err(|why| NoTokens::Bad { path: path.to_path_buf(), why })
     }
 

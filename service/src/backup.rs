@@ -2,13 +2,11 @@
 use crate::cli::{self, Ended};
 use crate::config::{database_of, BadConfig};
 use crate::database::{Database, NoDatabase};
+use crate::disk::{beside, of, private, sync_folder, FileError};
 use crate::exit;
 use crate::nightly;
 use rusqlite::{Connection, OpenFlags};
-use std::ffi::OsString;
-use std::fs::{self, File, OpenOptions};
-use std::io;
-use std::os::unix::fs::OpenOptionsExt;
+use std::fs::{self, File};
 use std::path::{Path, PathBuf};
 use std::process::{Command, ExitCode, Stdio};
 use std::time::{Duration, Instant};
@@ -37,9 +35,8 @@ pub enum NoBackup {
     Name(PathBuf),
     #[error("{} is no database of a service", .0.display())]
     Foreign(PathBuf),
-    /// What the system says of a file.
-    #[error("{}: {why}", .path.display())]
-    File { path: PathBuf, why: io::Error },
+    #[error(transparent)]
+    File(#[from] FileError),
     /// What SQLite says of the database.
     #[error("{}: {why}", .path.display())]
     Source { path: PathBuf, why: rusqlite::Error },
@@ -100,14 +97,10 @@ struct Unfinished {
 
 impl Unfinished {
     fn new(copy: &Path) -> Result<Unfinished, NoBackup> {
-        let mut name: OsString = copy.as_os_str().to_owned();
-        name.push(".part");
-        let path = PathBuf::from(name);
-        let failed = |why: io::Error| NoBackup::File { path: path.clone(), why };
-        let file =
-            OpenOptions::new().write(true).create(true).truncate(false).mode(0o600).open(&path).map_err(failed)?;
+        let path = beside(copy, ".part");
+        let file = private().open(&path).map_err(of(&path))?;
         file.try_lock().map_err(|_| NoBackup::Busy(path.clone()))?;
-        file.set_len(0).map_err(failed)?;
+        file.set_len(0).map_err(of(&path))?;
         Ok(Unfinished { path, file })
     }
 
@@ -147,16 +140,8 @@ impl Unfinished {
     }
 
     fn finish(&self, copy: &Path) -> Result<u64, NoBackup> {
-        let folder = match copy.parent() {
-            Some(folder) if !folder.as_os_str().is_empty() => folder,
-            _ => Path::new("."),
-        };
-        let done = || -> io::Result<u64> {
-            self.file.sync_all()?;
-            fs::rename(&self.path, copy)?;
-            File::open(folder)?.sync_all()?;
-            Ok(self.file.metadata()?.len())
-        };
-        done().map_err(|why| NoBackup::File { path: copy.to_path_buf(), why })
+        self.file.sync_all().and_then(|()| fs::rename(&self.path, copy)).map_err(of(copy))?;
+        sync_folder(copy)?;
+        Ok(self.file.metadata().map_err(of(copy))?.len())
     }
 }

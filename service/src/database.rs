@@ -1,4 +1,5 @@
 //! Where the database is: an SQLite file, or a URL of PostgreSQL.
+use crate::disk::beside;
 use std::net::SocketAddr;
 use std::path::PathBuf;
 use thiserror::Error;
@@ -47,11 +48,7 @@ impl Database {
     /// The default place of the history: beside the database, or in the folder of the service.
     pub fn history(&self, listen: &SocketAddr) -> PathBuf {
         match self {
-            Database::Sqlite(path) => {
-                let mut name = path.as_os_str().to_owned();
-                name.push(".history");
-                PathBuf::from(name)
-            }
+            Database::Sqlite(path) => beside(path, ".history"),
             Database::Postgres(_) => PathBuf::from(format!("relkvanu-{}.history", listen.port())),
         }
     }

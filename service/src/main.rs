@@ -8,6 +8,7 @@ mod clean;
 mod cli;
 mod config;
 mod database;
+mod disk;
 mod exit;
 mod files;
 mod history;

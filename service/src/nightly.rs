@@ -3,15 +3,14 @@
 use crate::backup::{self, NoBackup};
 use crate::cli::{self, made, Ended};
 use crate::database::Database;
+use crate::disk::{make_folder, of, private, sync, sync_folder};
 use crate::remote;
-use crate::store::sync_folder;
 use relkvanu_client::{new_key, Call, Error, Job, Service};
 use rustix::fs::{flock, FlockOperation};
 use serde::{Deserialize, Serialize};
 use std::collections::BTreeSet;
-use std::fs::{self, DirBuilder, File, OpenOptions};
+use std::fs::{self, File};
 use std::io::{self, ErrorKind, Write};
-use std::os::unix::fs::{DirBuilderExt, OpenOptionsExt};
 use std::path::Path;
 use std::time::{Duration, Instant, SystemTime};
 use tokio::runtime::{Builder, Runtime};
@@ -72,11 +71,6 @@ fn time(when: SystemTime) -> String {
     humantime::format_rfc3339_seconds(when).to_string().replace(['-', ':'], "")
 }
 
-/// What the system says of this file.
-fn of(path: &Path) -> impl Fn(io::Error) -> NoBackup + '_ {
-    |why| NoBackup::File { path: path.to_path_buf(), why }
-}
-
 /// The names in the folder that end so, in their order.
 fn names(folder: &Path, ends: &[&str]) -> io::Result<Vec<String>> {
     let entries = fs::read_dir(folder)?.map(|it| Ok(it?.file_name().to_string_lossy().into_owned()));
@@ -98,11 +92,9 @@ fn remove_left(folder: &Path, name: &str) -> io::Result<()> {
 impl Night<'_> {
     fn begin<'a>(given: &'a cli::Backup, database: &Database) -> Result<Night<'a>, NoBackup> {
         let folder = given.to.as_path();
-        match DirBuilder::new().mode(0o700).create(folder) {
+        if make_folder(folder).map_err(of(folder))? {
             // a loss of power does not take it with its notes
-            Ok(()) => File::open(folder.join("..")).and_then(|above| above.sync_all()).map_err(of(folder))?,
-            Err(why) if why.kind() == ErrorKind::AlreadyExists => {}
-            Err(why) => return Err(of(folder)(why)),
+            sync(&folder.join(".."))?;
         }
         let lock = File::open(folder).map_err(of(folder))?;
         flock(&lock, FlockOperation::NonBlockingLockExclusive).map_err(|_| NoBackup::Busy(folder.to_path_buf()))?;
@@ -123,13 +115,13 @@ impl Night<'_> {
     fn write(&self) -> Result<(), NoBackup> {
         let (path, new) = (self.given.to.join(NOTES), self.given.to.join(format!("{NOTES}{PART}")));
         let put = || -> io::Result<()> {
-            let mut file = OpenOptions::new().write(true).create(true).truncate(true).mode(0o600).open(&new)?;
+            let mut file = private().truncate(true).open(&new)?;
             file.write_all(&serde_json::to_vec(&self.notes)?)?;
             file.sync_all()?;
-            fs::rename(&new, &path)?;
-            sync_folder(&path)
+            fs::rename(&new, &path)
         };
-        put().map_err(of(&path))
+        put().map_err(of(&path))?;
+        Ok(sync_folder(&path)?)
     }
 
     /// The savepoints of this night, and those of which an earlier run was not told. A job that has stopped begins from the savepoint of its stop.
@@ -208,7 +200,7 @@ impl Night<'_> {
                 old.iter().try_for_each(|name| fs::remove_file(folder.join(name))).map_err(of(folder))?;
             }
         }
-        File::open(folder).and_then(|folder| folder.sync_all()).map_err(of(folder))
+        Ok(sync(folder)?)
     }
 
     /// Disposes of the savepoints whose copies are gone.

@@ -3,14 +3,15 @@
 use crate::check;
 use crate::cli;
 use crate::database::{Database, NoDatabase};
+use crate::disk::{self, beside, folder_of, if_there, of, private, sync, sync_folder, FileError};
 use crate::exit;
 use crate::put_back_pg;
-use crate::store::{beside, locked, sync_folder, DbError};
+use crate::store::{locked, DbError};
 use std::ffi::{OsStr, OsString};
-use std::fs::{self, DirBuilder, File, OpenOptions};
-use std::io::{self, ErrorKind, Read, Write};
+use std::fs::{self, File};
+use std::io::{self, Read, Write};
 use std::os::unix::ffi::OsStrExt;
-use std::os::unix::fs::{chown, DirBuilderExt, MetadataExt, OpenOptionsExt};
+use std::os::unix::fs::{chown, MetadataExt};
 use std::path::{Path, PathBuf};
 use std::process::ExitCode;
 use thiserror::Error;
@@ -41,14 +42,8 @@ pub enum NotPut {
     Nothing(PathBuf),
     #[error(transparent)]
     Locked(#[from] DbError),
-    /// What the system says of a file.
-    #[error("{}: {why}", .path.display())]
-    File { path: PathBuf, why: io::Error },
-}
-
-/// What the system says of this file.
-pub fn of(path: &Path) -> impl Fn(io::Error) -> NotPut + '_ {
-    |why| NotPut::File { path: path.to_path_buf(), why }
+    #[error(transparent)]
+    File(#[from] FileError),
 }
 
 pub fn run(given: &cli::PutBack) -> ExitCode {
@@ -72,7 +67,7 @@ struct Replaced {
 
 impl Replaced {
     fn open(given: &cli::PutBack, named: &Path) -> Result<Replaced, NotPut> {
-        let parent = named.parent().filter(|it| !it.as_os_str().is_empty()).unwrap_or(Path::new("."));
+        let parent = folder_of(named);
         let folder = made(parent).map_err(of(parent))?;
         let database = folder.join(named.file_name().unwrap_or(OsStr::new("relkvanu.db")));
         let lock = locked(&database)?;
@@ -93,7 +88,7 @@ impl Replaced {
         if (is.uid(), is.gid()) == (owner.uid(), owner.gid()) {
             return Ok(());
         }
-        chown(path, Some(owner.uid()), Some(owner.gid())).map_err(of(path))
+        Ok(chown(path, Some(owner.uid()), Some(owner.gid())).map_err(of(path))?)
     }
 
     /// The names of the database's files in a folder: all that begin with its own, which is the last: as long as it is there, it is not known that its log is gone.
@@ -115,34 +110,26 @@ impl Replaced {
         for name in names {
             fs::rename(from.join(&name), to.join(&name)).map_err(of(&from.join(&name)))?;
         }
-        synced(to)?;
-        synced(from)
+        sync(to)?;
+        Ok(sync(from)?)
     }
 }
 
 /// Makes the folder, whose disk may be lost. systemd has the folder of a unit behind a link.
 fn made(folder: &Path) -> io::Result<PathBuf> {
     let behind = fs::read_link(folder).map_or(folder.to_path_buf(), |to| folder.with_file_name(to));
-    match DirBuilder::new().mode(0o700).create(&behind) {
-        Err(why) if why.kind() != ErrorKind::AlreadyExists => Err(why),
-        _ => fs::canonicalize(folder),
-    }
+    disk::make_folder(&behind)?;
+    fs::canonicalize(folder)
 }
 
 fn begins(name: &OsStr, with: &OsStr) -> bool {
     name.as_bytes().starts_with(with.as_bytes())
 }
 
-fn synced(folder: &Path) -> Result<(), NotPut> {
-    File::open(folder).and_then(|it| it.sync_all()).map_err(of(folder))
-}
-
 /// Makes a folder, which may be there.
 fn make_folder(path: &Path) -> Result<(), NotPut> {
-    match DirBuilder::new().mode(0o700).create(path) {
-        Err(why) if why.kind() != ErrorKind::AlreadyExists => Err(of(path)(why)),
-        _ => sync_folder(path).map_err(of(path)),
-    }
+    disk::make_folder(path).map_err(of(path))?;
+    Ok(sync_folder(path)?)
 }
 
 /// Reads a file in pieces, which the function gets.
@@ -168,14 +155,13 @@ fn is_in_place(place: &Replaced, copy: &Path) -> Result<bool, NotPut> {
     let mut file = File::open(&place.database).map_err(of(&place.database))?;
     let mut own = vec![0; PIECE];
     let same = |piece: &[u8]| file.read_exact(&mut own[..piece.len()]).map(|()| own[..piece.len()] == *piece);
-    read(copy, same).map_err(of(copy))
+    Ok(read(copy, same).map_err(of(copy))?)
 }
 
 /// Writes the copy beside the database, under another name.
 fn write_new(place: &Replaced, copy: &Path) -> Result<PathBuf, NotPut> {
     let new = beside(&place.database, NEW);
-    let mut file =
-        OpenOptions::new().write(true).create(true).truncate(true).mode(0o600).open(&new).map_err(of(&new))?;
+    let mut file = private().truncate(true).open(&new).map_err(of(&new))?;
     read(copy, |piece| file.write_all(piece).map(|()| true)).map_err(of(&new))?;
     place.own(&new)?;
     file.sync_all().map_err(of(&new))?;
@@ -190,7 +176,7 @@ fn put(given: &cli::PutBack, database: &Path, copy: &Path) -> Result<String, Not
         return Err(NotPut::Unsound(copy.to_path_buf()));
     }
     if is_in_place(&place, copy)? {
-        synced(&place.folder)?;
+        sync(&place.folder)?;
         return Ok(format!("{} is the copy already", place.database.display()));
     }
     make_folder(&place.aside)?;
@@ -200,7 +186,7 @@ fn put(given: &cli::PutBack, database: &Path, copy: &Path) -> Result<String, Not
         let _ = fs::remove_file(&new);
     })?;
     fs::rename(&new, &place.database).map_err(of(&new))?;
-    synced(&place.folder)?;
+    sync(&place.folder)?;
     Ok(format!("{} is the copy, and what was there is in {}", place.database.display(), place.aside.display()))
 }
 
@@ -224,16 +210,13 @@ fn put_aside_back(given: &cli::PutBack, database: &Path) -> Result<String, NotPu
         make_folder(&unused)?;
         place.move_all(&place.folder, &unused)?;
         fs::rename(&place.aside, &back).map_err(of(&place.aside))?;
-        sync_folder(&back).map_err(of(&back))?;
+        sync_folder(&back)?;
     }
     let new = beside(&place.database, NEW);
-    match fs::remove_file(&new) {
-        Err(why) if why.kind() != ErrorKind::NotFound => return Err(of(&new)(why)),
-        _ => {}
-    }
+    if_there(fs::remove_file(&new)).map_err(of(&new))?;
     place.move_all(&back, &place.folder)?;
     fs::remove_dir(&back).map_err(of(&back))?;
-    sync_folder(&back).map_err(of(&back))?;
+    sync_folder(&back)?;
     Ok(told_back(&unused))
 }
 

@@ -3,7 +3,8 @@
 //! are by PGHOST, PGPORT and PGUSER; the check of the dump has the URL of the service alone.
 use crate::check;
 use crate::cli::PutBack;
-use crate::put_back::{of, read, NotPut};
+use crate::disk::of;
+use crate::put_back::{read, NotPut};
 use sha2::{Digest, Sha256};
 use std::path::Path;
 use std::process::{Command, Stdio};

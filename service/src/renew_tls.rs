@@ -1,10 +1,8 @@
 //! `relkvanu setup-tls --renew`: makes another certificate in a folder of its own, and puts it in the place of the one that is there, which gets another name. After
 //! an end at any moment the same command goes on.
 use crate::cli;
-use crate::setup_tls::{
-    locked, make_certificate, make_folder, of, synced, written, NotSet, CERTIFICATE, OF_CERTIFICATE,
-};
-use crate::store::sync_folder;
+use crate::disk::{if_there, of, sync_folder};
+use crate::setup_tls::{locked, make_certificate, make_whole, staged, NotSet, CERTIFICATE, OF_CERTIFICATE};
 use std::fs;
 use std::path::Path;
 
@@ -37,7 +35,7 @@ pub fn renew(given: &cli::SetupTls) -> Result<String, NotSet> {
     is_there(&whole)?;
     OF_CERTIFICATE.into_iter().try_for_each(|(name, mode)| put(&whole, &given.settings, name, mode))?;
     fs::rename(&whole, &new).map_err(of(&whole))?;
-    sync_folder(&new).map_err(of(&given.settings))?;
+    sync_folder(&new)?;
     fs::remove_dir_all(&new).map_err(of(&new))?;
     Ok("the certificate is renewed, and served after: systemctl reload relkvanu".to_string())
 }
@@ -58,32 +56,17 @@ fn make(given: &cli::SetupTls, whole: &Path) -> Result<(), NotSet> {
         return other.map_or(Ok(()), |_| Err(NotSet::Taken(whole.to_path_buf())));
     }
     let new = given.settings.join(NEW);
-    make_folder(&new)?;
-    if let Err(why) = make_certificate(given, &new) {
-        fs::remove_dir_all(&new).map_err(of(&new))?;
-        return Err(why);
-    }
-    OF_CERTIFICATE.into_iter().try_for_each(|(name, _)| synced(&new.join(name)))?;
-    sync_folder(&new.join(CERTIFICATE)).map_err(of(&new))?;
-    fs::rename(&new, whole).map_err(of(whole))?;
-    sync_folder(whole).map_err(of(&given.settings))
+    make_whole(&new, whole, &OF_CERTIFICATE, || make_certificate(given, &new))
 }
 
 /// Replaces a file, unless it was replaced before. The one that was there stays under another name.
 fn put(whole: &Path, settings: &Path, name: &str, mode: u32) -> Result<(), NotSet> {
     let (from, target) = (whole.join(name), settings.join(name));
     let contents = fs::read(&from).map_err(of(&from))?;
-    if fs::read(&target).map_err(of(&target))? == contents {
-        return Ok(());
-    }
-    let (before, new) = (settings.join(format!("{name}.before")), settings.join(format!(".{name}.{NEW}")));
-    for left in [&before, &new] {
-        if left.symlink_metadata().is_ok() {
-            fs::remove_file(left).map_err(of(left))?;
-        }
-    }
+    let Some(new) = staged(&target, &contents, mode)? else { return Ok(()) };
+    let before = settings.join(format!("{name}.before"));
+    if_there(fs::remove_file(&before)).map_err(of(&before))?;
     fs::hard_link(&target, &before).map_err(of(&before))?;
-    written(&new, &contents, mode)?;
     fs::rename(&new, &target).map_err(of(&target))?;
-    sync_folder(&target).map_err(of(settings))
+    Ok(sync_folder(&target)?)
 }

@@ -1,17 +1,17 @@
 //! `relkvanu setup-tls`: makes the tokens, the certificate and the settings with which a service speaks TLS. All is made in a folder of its own, and gets in its
 //! place once it is whole. So after an end at any moment the same command goes on, and nothing is replaced but the settings that were installed.
 use crate::cli;
+use crate::disk::{self, folder_of, if_there, of, private, sync, sync_folder, FileError};
 use crate::exit;
 use crate::http::{NoTls, Tls, TlsFiles};
 use crate::renew_tls;
-use crate::store::sync_folder;
 use openssl::pkey::PKey;
 use openssl::x509::X509;
 use rustix::fs::{flock, FlockOperation};
-use std::fs::{self, DirBuilder, File, OpenOptions, Permissions};
+use std::fs::{self, File, Permissions};
 use std::io::{self, ErrorKind, Write};
 use std::net::IpAddr;
-use std::os::unix::fs::{DirBuilderExt, OpenOptionsExt, PermissionsExt};
+use std::os::unix::fs::PermissionsExt;
 use std::path::{Path, PathBuf};
 use std::process::{Command, ExitCode};
 use thiserror::Error;
@@ -66,13 +66,8 @@ pub enum NotSet {
     InUse(PathBuf),
     #[error("{}: it is not there, so nothing is renewed", .0.display())]
     NotThere(PathBuf),
-    #[error("{}: {why}", .path.display())]
-    File { path: PathBuf, why: io::Error },
-}
-
-/// What the system says of this file.
-pub fn of(path: &Path) -> impl Fn(io::Error) -> NotSet + '_ {
-    |why| NotSet::File { path: path.to_path_buf(), why }
+    #[error(transparent)]
+    File(#[from] FileError),
 }
 
 pub fn run(given: &cli::SetupTls) -> ExitCode {
@@ -84,14 +79,14 @@ fn set_up(given: &cli::SetupTls) -> Result<String, NotSet> {
     let done = given.settings.join(DONE);
     if !setup.whole.exists() && !done.exists() {
         setup.check_free()?;
-        setup.make_or_nothing()?;
+        make_whole(&setup.new, &setup.whole, &PARTS, || setup.make())?;
     }
     if !done.exists() {
         PARTS.into_iter().try_for_each(|(name, mode)| setup.place(name, mode))?;
         fs::rename(&setup.whole, &done).map_err(of(&done))?;
     }
     fs::remove_dir_all(&done).map_err(of(&done))?;
-    sync_folder(&done).map_err(of(&given.settings))?;
+    sync_folder(&done)?;
     Ok("the service speaks TLS from its next start on: systemctl daemon-reload, and systemctl restart relkvanu"
         .to_string())
 }
@@ -124,12 +119,38 @@ pub fn make_certificate(given: &cli::SetupTls, folder: &Path) -> Result<(), NotS
     Ok(())
 }
 
-/// Makes a folder anew that an earlier run may have left, and which root alone reads.
-pub fn make_folder(path: &Path) -> Result<(), NotSet> {
-    if path.exists() {
-        fs::remove_dir_all(path).map_err(of(path))?;
+/// Makes a folder with these files in it, which root alone reads, under another name, and gives it its own once they are on the disk. One that an earlier
+/// run has left is made anew, and none is left if they can't be made.
+pub fn make_whole(
+    new: &Path,
+    whole: &Path,
+    parts: &[(&str, u32)],
+    make: impl FnOnce() -> Result<(), NotSet>,
+) -> Result<(), NotSet> {
+    if new.exists() {
+        fs::remove_dir_all(new).map_err(of(new))?;
     }
-    DirBuilder::new().mode(0o700).create(path).map_err(of(path))
+    disk::make_folder(new).map_err(of(new))?;
+    if let Err(why) = make() {
+        fs::remove_dir_all(new).map_err(of(new))?;
+        return Err(why);
+    }
+    parts.iter().try_for_each(|(name, _)| sync(&new.join(name)))?;
+    sync(new)?;
+    fs::rename(new, whole).map_err(of(whole))?;
+    Ok(sync_folder(whole)?)
+}
+
+/// Writes a file beside the one whose place it gets; `None` if that has the same contents.
+pub fn staged(target: &Path, contents: &[u8], mode: u32) -> Result<Option<PathBuf>, NotSet> {
+    let name = target.file_name().unwrap_or_default().to_string_lossy();
+    let new = target.with_file_name(format!(".{name}.{NEW}"));
+    if_there(fs::remove_file(&new)).map_err(of(&new))?;
+    if fs::read(target).is_ok_and(|it| it == contents) {
+        return Ok(None);
+    }
+    written(&new, contents, mode)?;
+    Ok(Some(new))
 }
 
 fn copied(from: &Path, to: &Path) -> Result<(), NotSet> {
@@ -166,24 +187,11 @@ impl Setup<'_> {
         targets.find(|it| it.symlink_metadata().is_ok()).map_or(Ok(()), |it| Err(NotSet::Taken(it)))
     }
 
-    fn make_or_nothing(&self) -> Result<(), NotSet> {
-        let made = self.make();
-        if made.is_err() && self.new.exists() {
-            fs::remove_dir_all(&self.new).map_err(of(&self.new))?;
-        }
-        made
-    }
-
-    /// Makes all parts, and gives their folder its name once they are on the disk.
+    /// Makes all parts.
     fn make(&self) -> Result<(), NotSet> {
-        make_folder(&self.new)?;
         self.make_tokens()?;
         make_certificate(self.given, &self.new)?;
-        self.make_settings()?;
-        PARTS.iter().try_for_each(|(name, _)| synced(&self.new.join(name)))?;
-        sync_folder(&self.new.join(SETTINGS)).map_err(of(&self.new))?;
-        fs::rename(&self.new, &self.whole).map_err(of(&self.whole))?;
-        sync_folder(&self.whole).map_err(of(&self.given.settings))
+        self.make_settings()
     }
 
     fn make_tokens(&self) -> Result<(), NotSet> {
@@ -216,17 +224,10 @@ impl Setup<'_> {
     /// Gets a part in its place, unless it is there.
     fn place(&self, name: &str, mode: u32) -> Result<(), NotSet> {
         let (source, target) = (self.whole.join(name), self.target(name));
-        let folder = target.parent().unwrap_or(Path::new("."));
+        let folder = folder_of(&target);
         let contents = fs::read(&source).map_err(of(&source))?;
-        let new = folder.join(format!(".{name}.{NEW}"));
         fs::create_dir_all(folder).map_err(of(folder))?;
-        if new.symlink_metadata().is_ok() {
-            fs::remove_file(&new).map_err(of(&new))?;
-        }
-        if fs::read(&target).is_ok_and(|it| it == contents) {
-            return Ok(());
-        }
-        written(&new, &contents, mode)?;
+        let Some(new) = staged(&target, &contents, mode)? else { return Ok(()) };
         if name == SETTINGS {
             self.check_settings(&target)?;
             fs::rename(&new, &target).map_err(of(&target))?;
@@ -234,7 +235,7 @@ impl Setup<'_> {
             fs::hard_link(&new, &target).map_err(|why| taken(why, &target))?;
             fs::remove_file(&new).map_err(of(&new))?;
         }
-        sync_folder(&target).map_err(of(folder))
+        Ok(sync_folder(&target)?)
     }
 
     /// The settings that are replaced are those that were read, if there were some.
@@ -253,20 +254,19 @@ fn taken(why: io::Error, path: &Path) -> NotSet {
     if why.kind() == ErrorKind::AlreadyExists {
         NotSet::Taken(path.to_path_buf())
     } else {
-        of(path)(why)
+        of(path)(why).into()
     }
 }
 
 /// Makes a file, which is on the disk then.
-pub fn written(path: &Path, contents: &[u8], mode: u32) -> Result<(), NotSet> {
-    let mut file = OpenOptions::new().write(true).create_new(true).mode(0o600).open(path).map_err(of(path))?;
-    file.write_all(contents).map_err(of(path))?;
-    file.set_permissions(Permissions::from_mode(mode)).map_err(of(path))?;
-    file.sync_all().map_err(of(path))
-}
-
-pub fn synced(path: &Path) -> Result<(), NotSet> {
-    File::open(path).and_then(|it| it.sync_all()).map_err(of(path))
+fn written(path: &Path, contents: &[u8], mode: u32) -> Result<(), NotSet> {
+    let make = || {
+        let mut file = private().create_new(true).open(path)?;
+        file.write_all(contents)?;
+        file.set_permissions(Permissions::from_mode(mode))?;
+        file.sync_all()
+    };
+    Ok(make().map_err(of(path))?)
 }
 
 /// Whether the key is that of the certificate.

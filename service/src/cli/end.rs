@@ -3,6 +3,7 @@
 use super::commands::{At, End};
 use super::ended::{made, Ended};
 use super::run::print_answer;
+use crate::disk::if_there;
 use crate::files::MARK;
 use relkvanu_client::{Call, Error, Job, Service};
 use serde_json::{json, Value};
@@ -107,7 +108,7 @@ fn remove_marks(folder: &Path, job: &str) -> Result<(), Ended> {
         Err(why) => return Err(failed(why)),
     }
     for end in BESIDE {
-        there(fs::remove_file(folder.join(format!("{MARK}{job}{end}")))).map_err(failed)?;
+        if_there(fs::remove_file(folder.join(format!("{MARK}{job}{end}")))).map_err(failed)?;
     }
     fs::File::open(folder).and_then(|folder| folder.sync_all()).map_err(failed)
 }
@@ -116,18 +117,10 @@ fn remove_records(folder: &Path, marker: &[u8]) -> std::io::Result<()> {
     let sum = Sha256::digest(marker);
     let identity = sum.iter().take(IDENTITY).fold(String::new(), |text, byte| text + &format!("{byte:02x}"));
     let records = folder.join(RECORDS);
-    there(fs::remove_dir_all(records.join(identity)))?;
+    if_there(fs::remove_dir_all(records.join(identity)))?;
     // another job may have manifests there too
     match fs::remove_dir(&records) {
         Err(why) if why.raw_os_error() == Some(libc::ENOTEMPTY) => Ok(()),
-        done => there(done),
-    }
-}
-
-/// What is not there is removed.
-fn there(done: std::io::Result<()>) -> std::io::Result<()> {
-    match done {
-        Err(why) if why.kind() == ErrorKind::NotFound => Ok(()),
-        done => done,
+        done => if_there(done),
     }
 }

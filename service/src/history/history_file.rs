@@ -2,8 +2,8 @@
 use super::error::Error;
 use super::read::HistoryReader;
 use super::tables::Tables;
+use crate::disk::{beside, if_there};
 use crate::log;
-use std::ffi::OsString;
 use std::fs;
 use std::io::{self, ErrorKind};
 use std::path::{Path, PathBuf};
@@ -64,12 +64,9 @@ impl HistoryFile {
 fn set_aside(path: &Path) -> io::Result<PathBuf> {
     let folder = new_folder(path)?;
     for end in ["-wal", "-shm", ""] {
-        let from = with_end(path, end);
+        let from = beside(path, end);
         let name = from.file_name().ok_or(ErrorKind::InvalidInput)?;
-        match fs::rename(&from, folder.join(name)) {
-            Err(error) if error.kind() != ErrorKind::NotFound => return Err(error),
-            _ => {}
-        }
+        if_there(fs::rename(&from, folder.join(name)))?;
     }
     Ok(folder)
 }
@@ -77,7 +74,7 @@ fn set_aside(path: &Path) -> io::Result<PathBuf> {
 /// Makes the first folder of `PATH.bad`, `PATH.bad.2`, `PATH.bad.3` .. that does not exist.
 fn new_folder(path: &Path) -> io::Result<PathBuf> {
     for number in 1_u64.. {
-        let folder = with_end(path, &if number == 1 { ".bad".to_string() } else { format!(".bad.{number}") });
+        let folder = beside(path, &if number == 1 { ".bad".to_string() } else { format!(".bad.{number}") });
         match fs::create_dir(&folder) {
             Ok(()) => return Ok(folder),
             Err(error) if error.kind() != ErrorKind::AlreadyExists => return Err(error),
@@ -85,12 +82,6 @@ fn new_folder(path: &Path) -> io::Result<PathBuf> {
         }
     }
     Err(ErrorKind::AlreadyExists.into())
-}
-
-pub fn with_end(path: &Path, end: &str) -> PathBuf {
-    let mut name: OsString = path.as_os_str().to_owned();
-    name.push(end);
-    PathBuf::from(name)
 }
 
 /// The reader of requests. It is opened at the first read, and again after the file was set aside.
@@ -126,7 +117,7 @@ mod tests {
         let mut aside = Vec::new();
         for content in ["first", "second", "third"] {
             fs::write(&path, content)?;
-            fs::write(with_end(&path, "-wal"), content)?;
+            fs::write(beside(&path, "-wal"), content)?;
             aside.push(set_aside(&path)?);
         }
         let read = |folder: &PathBuf, name: &str| fs::read_to_string(folder.join(name));

@@ -1,10 +1,10 @@
 //! TLS of the service's own: its certificate and key, which can be read again while it serves.
 use super::keys::fresh;
+use crate::disk::{of, FileError};
 use native_tls::{Identity, Protocol, TlsAcceptor};
 use openssl::asn1::Asn1Time;
 use openssl::x509::X509;
 use std::fs;
-use std::io;
 use std::path::{Path, PathBuf};
 use std::sync::{PoisonError, RwLock};
 use std::time::{Duration, SystemTime, UNIX_EPOCH};
@@ -13,8 +13,8 @@ use thiserror::Error;
 /// Why the certificate or the key can't be used. Another start over the same files ends in the same way.
 #[derive(Debug, Error)]
 pub enum NoTls {
-    #[error("{}: {why}", .path.display())]
-    Unread { path: PathBuf, why: io::Error },
+    #[error(transparent)]
+    Unread(#[from] FileError),
     #[error("tls_certificate {}, tls_key {}: {why}", .certificate.display(), .key.display())]
     Bad { certificate: PathBuf, key: PathBuf, why: native_tls::Error },
 }
@@ -69,7 +69,7 @@ impl Tls {
 }
 
 fn read(files: &TlsFiles) -> Result<Read, NoTls> {
-    let read = |path: &Path| fs::read(path).map_err(|why| NoTls::Unread { path: path.to_path_buf(), why });
+    let read = |path: &Path| fs::read(path).map_err(of(path));
     let (certificate, key) = (read(&files.certificate)?, read(&files.key)?);
     let built = Identity::from_pkcs8(&certificate, &key)
         .and_then(|identity| TlsAcceptor::builder(identity).min_protocol_version(Some(Protocol::Tlsv12)).build());

@@ -1,8 +1,8 @@
 //! Why a database did not do what it was asked, and whether it may do it later.
 use super::pq::Failed;
 use super::rows::VERSION;
+use crate::disk::FileError;
 use rusqlite::ErrorCode;
-use std::io;
 use std::path::{Path, PathBuf};
 use thiserror::Error;
 
@@ -16,8 +16,8 @@ pub enum DbError {
     #[error("{}: {why}", .path.display())]
     Unopened { path: PathBuf, why: rusqlite::Error },
     /// What the system says of a file of the database.
-    #[error("{}: {why}", .path.display())]
-    File { path: PathBuf, why: io::Error },
+    #[error(transparent)]
+    File(#[from] FileError),
     /// Another program has replaced or locked a file, or the folder can't have a write-ahead log.
     #[error("{}: {why}", .path.display())]
     Unfit { path: PathBuf, why: String },
@@ -53,7 +53,7 @@ impl DbError {
             DbError::Sqlite(why) | DbError::Unopened { why, .. } => is_damage(why),
             // data_corrupted and index_corrupted
             DbError::Pg(failed) => matches!(failed.state.as_deref(), Some("XX001" | "XX002")),
-            DbError::File { .. } | DbError::Unfit { .. } | DbError::NoSync => false,
+            DbError::File(_) | DbError::Unfit { .. } | DbError::NoSync => false,
             DbError::Odd(_) | DbError::NotLeading => false,
         }
     }
@@ -72,10 +72,6 @@ impl DbError {
             DbError::BadRow { table, column, cell, .. } => DbError::BadRow { job: Some(number), table, column, cell },
             other => other,
         }
-    }
-
-    pub fn file(path: &Path) -> impl Fn(io::Error) -> DbError + '_ {
-        |why| DbError::File { path: path.to_path_buf(), why }
     }
 
     pub fn unopened(path: &Path) -> impl Fn(rusqlite::Error) -> DbError + '_ {

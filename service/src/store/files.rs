@@ -1,8 +1,9 @@
 //! The files of an SQLite database: what a start does before SQLite opens them, and whether they are still those that were opened.
 use super::error::DbError;
+use crate::disk::{beside, of, private};
 use std::fs::{self, File};
 use std::io::{self, ErrorKind};
-use std::os::unix::fs::{FileExt, MetadataExt, OpenOptionsExt};
+use std::os::unix::fs::{FileExt, MetadataExt};
 use std::path::{Path, PathBuf};
 
 const PIECE: usize = 1 << 20;
@@ -10,15 +11,8 @@ const PIECE: usize = 1 << 20;
 /// Makes the database's file, which only its owner may read, if there is none. Returns its path without symbolic links, by which SQLite
 /// names the files beside it.
 pub fn make_file(path: &Path) -> io::Result<PathBuf> {
-    File::options().create(true).append(true).mode(0o600).open(path)?;
+    private().open(path)?;
     fs::canonicalize(path)
-}
-
-/// The path with this end.
-pub fn beside(path: &Path, end: &str) -> PathBuf {
-    let mut name = path.as_os_str().to_owned();
-    name.push(end);
-    PathBuf::from(name)
 }
 
 /// Writes the bytes of a write-ahead log again, and syncs them.
@@ -39,11 +33,6 @@ pub fn write_again(log: &Path) -> io::Result<()> {
         file.write_all_at(&piece[..length], at)?;
         at += length as u64;
     }
-}
-
-/// Syncs the folder of a file.
-pub fn sync_folder(path: &Path) -> io::Result<()> {
-    path.parent().map_or(Ok(()), |folder| File::open(folder)?.sync_all())
 }
 
 /// The database and its write-ahead log, as they were opened.
@@ -72,7 +61,7 @@ impl Opened {
 }
 
 fn identity(path: &Path) -> Result<Identity, DbError> {
-    fs::metadata(path).map(|it| (it.dev(), it.ino())).map_err(DbError::file(path))
+    fs::metadata(path).map(|it| (it.dev(), it.ino())).map_err(|why| of(path)(why).into())
 }
 
 #[cfg(test)]

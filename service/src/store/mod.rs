@@ -18,7 +18,6 @@ mod sqlite_read;
 
 pub use cells::entry_of;
 pub use error::{is_damage, DbError, Failure, Unusable};
-pub use files::{beside, sync_folder};
 pub use pg::Pg;
 pub use pg_read::PgReader;
 pub use reader::{Listed, LogReader, Reader};

@@ -1,6 +1,7 @@
 //! How much room an SQLite file takes, and its disk has.
 use super::rows::{Disk, Space};
-use std::ffi::{CString, OsString};
+use crate::disk::beside;
+use std::ffi::CString;
 use std::io::{Error, ErrorKind, Result};
 use std::mem::MaybeUninit;
 use std::os::unix::ffi::OsStrExt;
@@ -8,11 +9,7 @@ use std::path::Path;
 
 /// The room of an SQLite file with its write-ahead log.
 pub fn space_of(path: &Path) -> Result<Space> {
-    let length = |end: &str| {
-        let mut name: OsString = path.as_os_str().to_owned();
-        name.push(end);
-        std::fs::metadata(name).map(|it| it.len())
-    };
+    let length = |end: &str| std::fs::metadata(beside(path, end)).map(|it| it.len());
     let log = match length("-wal") {
         Err(error) if error.kind() == ErrorKind::NotFound => 0,
         told => told?,

@@ -7,6 +7,7 @@ use super::parts::{self, Part, Statement, Take};
 use super::rows::{
     signed, steps_after, Committed, Erasure, Group, Lead, Store, UnderKey, Written, MOST_STARTS, STORAGES, VERSION,
 };
+use crate::disk::{beside, of, sync_folder};
 use crate::model::lengths_text;
 use rusqlite::config::DbConfig;
 use rusqlite::{ffi, params, params_from_iter, Connection, ErrorCode, OptionalExtension, Transaction};
@@ -53,10 +54,10 @@ pub struct Sqlite {
 impl Sqlite {
     /// Opens the database, and makes or upgrades its tables if its version says so. What is committed is then in the database's own file.
     pub fn open(path: &Path) -> Result<Sqlite, Unusable> {
-        let (unread, failed) = (DbError::file(path), DbError::unopened(path));
+        let (unread, failed) = (of(path), DbError::unopened(path));
         let real = files::make_file(path).map_err(&unread)?;
         let lock = locked(&real)?;
-        files::write_again(&files::beside(&real, "-wal")).map_err(&unread)?;
+        files::write_again(&beside(&real, "-wal")).map_err(&unread)?;
         let connection = Connection::open(&real).map_err(&failed)?;
         // after a failure the log stays as it is until the next start
         connection.set_db_config(DbConfig::SQLITE_DBCONFIG_NO_CKPT_ON_CLOSE, true).map_err(&failed)?;
@@ -68,7 +69,7 @@ impl Sqlite {
         // the commit of this start is in the write-ahead log, if there is one: the journal's mode may say so and not be it
         let opened = Opened::now(&real)?;
         settle(&connection).map_err(&failed)?;
-        files::sync_folder(&real).map_err(&unread)?;
+        sync_folder(&real)?;
         Ok(Sqlite { connection, is_lax: false, opened, _lock: lock })
     }
 }
@@ -143,8 +144,8 @@ pub(super) fn settle(connection: &Connection) -> rusqlite::Result<()> {
 
 /// Takes the lock file beside the database. The system releases it when the process ends.
 pub fn locked(path: &Path) -> Result<File, DbError> {
-    let name = files::beside(path, ".lock");
-    let file = File::create(&name).map_err(DbError::file(&name))?;
+    let name = beside(path, ".lock");
+    let file = File::create(&name).map_err(of(&name))?;
     match file.try_lock() {
         Ok(()) => Ok(file),
         Err(_) => Err(DbError::Unfit { path: name, why: "another process serves this database".to_string() }),

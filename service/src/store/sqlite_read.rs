@@ -5,6 +5,7 @@ use super::reader::{LogReader, Reader, FIRST, IMAGES, LENGTHS_AFTER, LOG};
 use super::rows::{image_columns, signed, LogPage, SavedImage, Space, COLUMNS, IS_EVENT, PAGE_BYTES};
 use super::space::space_of;
 use super::sqlite::BUSY;
+use crate::disk::of;
 use crate::model::{Entry, FileBytes, KeptImage};
 use rusqlite::{params_from_iter, Connection, OpenFlags, OptionalExtension, Params};
 use std::path::Path;
@@ -99,7 +100,7 @@ impl Reader for SqliteReader {
 
     fn space(&mut self) -> Result<Space, DbError> {
         let path = self.0.path().ok_or(DbError::Odd("the database has no file"))?;
-        space_of(path).map_err(DbError::file(path))
+        space_of(path).map_err(|why| of(path)(why).into())
     }
 
     fn lengths(&mut self) -> Result<Vec<(i64, u64)>, DbError> {

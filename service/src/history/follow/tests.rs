@@ -115,7 +115,7 @@ impl File {
 impl Drop for File {
     fn drop(&mut self) {
         for end in ["", "-wal", "-shm", ".lock"] {
-            let _ = std::fs::remove_file(super::super::history_file::with_end(&self.0, end));
+            let _ = std::fs::remove_file(crate::disk::beside(&self.0, end));
         }
     }
 }
