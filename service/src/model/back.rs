@@ -85,7 +85,6 @@ impl Job {
 #[cfg(test)]
 mod tests {
     use super::super::lines::ack;
-    use super::super::outcome::Extra;
     use super::super::settings::settings_of;
     use super::super::Settings;
     use super::*;
@@ -108,47 +107,6 @@ mod tests {
 
     fn go_back(job: &mut Job, checkpoint: u64, now: u64) -> (Outcome, Vec<Logged>) {
         job.committed(&Call::Restore { target: Target::Checkpoint(checkpoint), shape: None }, now)
-    }
-
-    #[test]
-    fn an_older_checkpoint_is_one_to_go_back_to() -> Result<(), Box<dyn Error>> {
-        let mut job = with_three()?;
-        let before = job.engine().counts().in_use;
-        assert_eq!(before, 6);
-        let (outcome, made) = go_back(&mut job, 2, 40);
-        let lines: Vec<&str> = made.iter().map(|one| one.entry.line.as_str()).collect();
-        assert_eq!(lines, ["savepoint 40", "ack 40 4 0.0 =10 =20", "ack 40 4 0.1 =21", "restore 40 4"]);
-        assert!(matches!(outcome, Outcome::Made { beside: Extra::Nothing, .. }), "{outcome:?}");
-        // the savepoint alone is left, with the files of checkpoint 2 alone
-        assert_eq!(job.live().keys().copied().collect::<Vec<_>>(), [4]);
-        assert_eq!((job.engine().choice(), job.engine().counts().in_use), (Choice::Savepoint(4), 3));
-        Ok(())
-    }
-
-    #[test]
-    fn the_latest_needs_no_savepoint() -> Result<(), Box<dyn Error>> {
-        let mut job = with_three()?;
-        let (_, made) = go_back(&mut job, 3, 40);
-        let lines: Vec<&str> = made.iter().map(|one| one.entry.line.as_str()).collect();
-        assert_eq!((lines, job.live().len()), (vec!["restore 40 latest"], 3));
-        Ok(())
-    }
-
-    #[test]
-    fn what_can_not_be_begun_from_changes_nothing() -> Result<(), Box<dyn Error>> {
-        let mut job = with_three()?;
-        let (seq, image) = (job.seq, job.engine().image());
-        for id in [0, 4, 9] {
-            let (outcome, made) = go_back(&mut job, id, 40);
-            assert_eq!((outcome, made.len()), (Outcome::Unable(Unable::NoSuchCheckpoint), 0));
-        }
-        assert_eq!((job.seq, job.engine().image()), (seq, image));
-        job.call(&Call::Restore { target: Target::Latest, shape: Some(vec![1]) }, 50);
-        let (seq, image) = (job.seq, job.engine().image());
-        let (outcome, made) = go_back(&mut job, 2, 60);
-        assert_eq!((outcome, made.len()), (Outcome::Unable(Unable::OtherShape), 0));
-        assert_eq!((job.seq, job.engine().image()), (seq, image));
-        Ok(())
     }
 
     #[test]

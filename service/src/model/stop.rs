@@ -162,38 +162,23 @@ fn why(call: &Call, mode: Mode) -> StopFailed {
 
 #[cfg(test)]
 mod tests {
-    use super::super::call::Subtask;
     use super::super::settings::settings_of;
     use super::super::{lines, Settings};
     use super::*;
-    use relkvanu::Choice;
     use std::error::Error;
 
     const SETTINGS: Settings = settings_of([100, 0, 1, 5000, 0, 1], false);
     const STOP: Stop = Stop { savepoint: 2, at: 150 };
 
-    /// A job of two subtasks that gives out names, with checkpoint 1, which is complete.
-    fn running() -> Result<Job, Box<dyn Error>> {
+    /// A job of two subtasks that gives out names, with checkpoint 1, which is complete. It stops.
+    fn stopping() -> Result<Job, Box<dyn Error>> {
         let mut job = Job::tried(SETTINGS, &[2])?;
-        job.committed(&Call::Fence { first_name: 1 }, 0);
-        job.committed(&Call::Reserve { term: 1, count: 10 }, 0);
+        let calls = [Call::Fence { first_name: 1 }, Call::Reserve { term: 1, count: 10 }];
+        calls.iter().for_each(|call| drop(job.committed(call, 0)));
         job.committed(&Call::Tick, 100);
         (0..2).for_each(|index| assert!(is_made(&job.committed(&ack(1, index), 110).0)));
-        assert_eq!(job.engine().choice(), Choice::Checkpoint(1));
-        Ok(job)
-    }
-
-    fn stopping() -> Result<Job, Box<dyn Error>> {
-        let mut job = running()?;
         assert!(is_made(&job.committed(&Call::Stop, 150).0));
         assert_eq!(job.phase, Phase::Stopping(STOP));
-        Ok(job)
-    }
-
-    fn stopped() -> Result<Job, Box<dyn Error>> {
-        let mut job = stopping()?;
-        (0..2).for_each(|index| assert!(is_made(&job.committed(&ack(2, index), 160).0)));
-        assert_eq!(job.phase, Phase::Stopped(STOP, Some(2)));
         Ok(job)
     }
 
@@ -210,57 +195,12 @@ mod tests {
     }
 
     #[test]
-    fn the_last_acknowledgement_stops_the_job_in_its_commit() -> Result<(), Box<dyn Error>> {
-        let mut job = stopping()?;
-        assert_eq!(job.wake(), Some(5150));
-        let (_, made) = job.committed(&ack(2, 0), 160);
-        assert_eq!((lines_of(&made), job.phase), (vec!["in 1 ack 160 2 0.0 +4"], Phase::Stopping(STOP)));
-        let (outcome, made) = job.committed(&ack(2, 1), 170);
-        assert_eq!(lines_of(&made), ["in 1 ack 170 2 0.1 +5", "restore 170 2"]);
-        assert_eq!(outcome.json()["ack"], "completed");
-        assert_eq!((job.phase, job.engine().choice()), (Phase::Stopped(STOP, Some(2)), Choice::Savepoint(2)));
-        assert_eq!(job.wake(), None);
-        Ok(())
-    }
-
-    #[test]
-    fn a_restore_that_is_for_it_leaves_the_job_stopped() -> Result<(), Box<dyn Error>> {
-        let restore = Call::RestoreStopped { target: Target::Latest, shape: Some(vec![3]) };
-        let mut job = stopping()?;
-        assert_eq!(job.committed(&restore, 160).0, Outcome::Unable(Unable::NotStopped));
-        let mut job = stopped()?;
-        let (outcome, made) = job.committed(&restore, 9_000_000);
-        assert_eq!((is_made(&outcome), lines_of(&made)), (true, vec!["restore 9000000 latest 3"]));
-        assert_eq!((job.phase, job.shape.clone()), (Phase::Stopped(STOP, Some(3)), vec![3]));
-        let (_, made) = job.committed(&Call::Begin, 9_000_001);
-        assert_eq!((lines_of(&made), job.phase, job.shape), (vec!["restore 9000001 latest"], Phase::Running, vec![3]));
-        Ok(())
-    }
-
-    #[test]
-    fn what_only_tasks_can_do_is_refused_until_it_begins() -> Result<(), Box<dyn Error>> {
-        let mut job = stopped()?;
-        let (seq, image) = (job.seq, job.engine().image());
-        let latest = Call::Restore { target: Target::Latest, shape: None };
-        let older = Call::Restore { target: Target::Checkpoint(1), shape: None };
-        for call in [Call::Tick, Call::Trigger, Call::TriggerFull, Call::Savepoint, latest, older, Call::Stop] {
-            let (outcome, made) = job.committed(&call, 9_000_000);
-            assert_eq!((outcome, made.len()), (Outcome::Unable(Unable::Stopped), 0), "{call:?}");
-        }
-        assert_eq!((job.seq, job.engine().image()), (seq, image));
-        let (outcome, made) = job.committed(&Call::Begin, 9_000_000);
-        assert_eq!((lines_of(&made), job.phase), (vec!["restore 9000000 latest"], Phase::Running));
-        assert_eq!((&outcome.json()["restore"], &outcome.json()["id"]), (&"savepoint".into(), &2.into()));
-        assert_eq!(job.wake(), Some(9_000_100));
-        assert_eq!(job.committed(&Call::Begin, 9_000_000).0, Outcome::Unable(Unable::NotStopped));
-        Ok(())
-    }
-
-    #[test]
     fn nothing_is_triggered_while_a_job_stops() -> Result<(), Box<dyn Error>> {
         let mut job = stopping()?;
         let (seq, image) = (job.seq, job.engine().image());
-        for call in [Call::Trigger, Call::Savepoint, Call::Tick] {
+        let stopped = Call::RestoreStopped { target: Target::Latest, shape: Some(vec![3]) };
+        assert_eq!(job.committed(&stopped, 160).0, Outcome::Unable(Unable::NotStopped));
+        for call in [Call::Trigger, Call::TriggerFull, Call::Savepoint, Call::Tick] {
             // the interval is long over, and the savepoint expires a moment later
             let (outcome, made) = job.committed(&call, 5149);
             assert_eq!((outcome, made.len()), (Outcome::Unable(Unable::Stopping), 0), "{call:?}");
@@ -269,80 +209,27 @@ mod tests {
         job.committed(&Call::Tick, 5150);
         assert_eq!(job.phase, Phase::NotStopped(STOP, StopFailed::Expired));
         assert!(is_made(&job.committed(&Call::Savepoint, 5150).0));
-        // one that was triggered before still completes
-        let mut job = running()?;
-        job.committed(&Call::Trigger, 140);
-        job.committed(&Call::Stop, 150);
-        (0..2).for_each(|index| assert!(is_made(&job.committed(&ack(2, index), 160).0)));
-        assert_eq!((job.engine().choice(), job.phase.word()), (Choice::Checkpoint(2), "stopping"));
-        Ok(())
-    }
-
-    #[test]
-    fn settings_and_files_of_a_stopped_job_change() -> Result<(), Box<dyn Error>> {
-        let mut job = stopped()?;
-        assert!(is_made(&job.committed(&Call::Configure { numbers: [500, 0, 1, 5000, 0, 1, 0] }, 200).0));
-        assert!(is_made(&job.committed(&Call::Take { most: 9 }, 200).0));
-        assert!(job.phase.is_stopped() && job.wake().is_none());
-        job.committed(&Call::Begin, 1000);
-        assert_eq!(job.wake(), Some(1500));
-        let mut job = stopped()?;
-        assert!(is_made(&job.committed(&Call::Cancel, 200).0));
-        assert_eq!(job.phase, Phase::Running);
-        Ok(())
-    }
-
-    #[test]
-    fn a_stop_fails_with_its_savepoint() -> Result<(), Box<dyn Error>> {
-        let decline = |id| Call::Decline { term: 1, id, subtask: Subtask { vertex: 0, index: 0 }, reason: None };
-        let latest = Call::Restore { target: Target::Latest, shape: None };
-        for (call, now, why) in [
-            (Call::Tick, 5150, StopFailed::Expired),
-            (decline(2), 160, StopFailed::Declined),
-            (latest, 160, StopFailed::Restored),
-            (Call::Cancel, 160, StopFailed::Cancelled),
-        ] {
-            let mut job = stopping()?;
-            assert!(is_made(&job.committed(&call, now).0), "{call:?}");
-            assert_eq!((job.phase, job.phase.word()), (Phase::NotStopped(STOP, why), "running"));
-        }
-        // a checkpoint that was triggered before fails the job
-        let mut job = running()?;
-        job.committed(&Call::Trigger, 140);
-        job.committed(&Call::Stop, 150);
-        job.committed(&decline(2), 160);
-        assert_eq!(job.phase, Phase::NotStopped(Stop { savepoint: 3, at: 150 }, StopFailed::Failed));
-        Ok(())
-    }
-
-    #[test]
-    fn a_stop_is_asked_for_once() -> Result<(), Box<dyn Error>> {
-        let mut job = stopping()?;
-        let (outcome, made) = job.committed(&Call::Stop, 155);
-        assert_eq!((outcome, made.len()), (Outcome::Unable(Unable::Stopping), 0));
-        assert_eq!(job.committed(&Call::Begin, 155).0, Outcome::Unable(Unable::NotStopped));
-        job.committed(&Call::Cancel, 160);
-        let (outcome, made) = job.committed(&Call::Stop, 165);
-        assert_eq!((&outcome.json()["refused"], made.len()), (&"NotRunning".into(), 0));
-        assert_eq!(job.phase, Phase::NotStopped(STOP, StopFailed::Cancelled));
         Ok(())
     }
 
     #[test]
     fn a_stop_that_found_no_memory_is_made_by_the_timer_or_the_next_call() -> Result<(), Box<dyn Error>> {
-        let without_memory = || -> Result<Job, Box<dyn Error>> {
+        for (call, wanted) in
+            [(Call::Tick, vec!["restore 170 2"]), (Call::Take { most: 9 }, vec!["restore 170 2", "take 9"])]
+        {
             let mut job = stopping()?;
             // as if the restore had found none
             (0..2).for_each(|index| assert!(is_made(&job.call(&ack(2, index), 160).0.outcome)));
             assert_eq!((job.phase, job.wake()), (Phase::Stopping(STOP), Some(150)));
-            Ok(job)
-        };
-        for (call, wanted) in
-            [(Call::Tick, vec!["restore 170 2"]), (Call::Take { most: 9 }, vec!["restore 170 2", "take 9"])]
-        {
-            let mut job = without_memory()?;
             let (_, made) = job.committed(&call, 170);
             assert_eq!((lines_of(&made), job.phase), (wanted, Phase::Stopped(STOP, Some(2))));
+            // nothing that only tasks can do is made until it begins
+            let (seq, image) = (job.seq, job.engine().image());
+            for call in [Call::Tick, Call::TriggerFull, Call::Savepoint, Call::Stop] {
+                let (outcome, made) = job.committed(&call, 9_000_000);
+                assert_eq!((outcome, made.len()), (Outcome::Unable(Unable::Stopped), 0), "{call:?}");
+            }
+            assert_eq!((job.seq, job.engine().image(), job.wake()), (seq, image, None));
         }
         Ok(())
     }

@@ -115,7 +115,6 @@ fn has_stopped(savepoint: u64) -> String {
 
 #[cfg(test)]
 mod tests {
-    use super::super::phase::StopFailed;
     use super::super::settings::settings_of;
     use super::super::{lines, Settings};
     use super::*;
@@ -123,132 +122,33 @@ mod tests {
 
     const SETTINGS: Settings = settings_of([100, 0, 1, 5000, 0, 2], false);
 
-    /// A job with names, of one subtask, and what its log says.
-    struct Tried {
-        job: Job,
-        trail: Trail,
-        now: u64,
-    }
-
-    impl Tried {
-        fn new() -> Result<Tried, Box<dyn Error>> {
-            let job = Job::tried(SETTINGS, &[1])?;
-            let mut tried = Tried { job, trail: Trail::default(), now: 0 };
-            tried.makes(&[Call::Fence { first_name: 1 }, Call::Reserve { term: 1, count: 10 }]);
-            tried.completes(1, 1);
-            Ok(tried)
-        }
-
-        /// Makes calls, each 10 ms after the one before it.
-        fn makes(&mut self, calls: &[Call]) {
-            for call in calls {
-                self.now += 10;
-                let (_, made) = self.job.committed(call, self.now);
-                assert!(!made.is_empty(), "{call:?}");
-                for logged in &made {
-                    self.trail.follow(&logged.entry);
-                }
-            }
-        }
-
-        fn completes(&mut self, term: u64, id: u64) {
-            self.makes(&[Call::Trigger, ack(term, id)]);
-        }
-
-        /// What the log says against this phase.
-        fn told(&mut self, phase: Phase) -> Option<String> {
-            self.trail.contradicts(phase, &mut self.job)
-        }
-
-        fn is_itself(&mut self) {
-            let phase = self.job.phase;
-            assert_eq!(self.told(phase), None, "{phase:?}");
-        }
-    }
-
-    fn ack(term: u64, id: u64) -> Call {
-        lines::ack(term, id, (0, 0), &[id], &[])
-    }
-
-    fn stop(savepoint: u64) -> Stop {
-        Stop { savepoint, at: 1 }
-    }
-
+    /// What a log says of each phase that the job has is in `service/tests/test_stop_rows.py`; here is what else is called meanwhile.
     #[test]
     fn each_phase_is_as_its_log_says() -> Result<(), Box<dyn Error>> {
-        let mut tried = Tried::new()?;
+        let (mut job, mut trail) = (Job::tried(SETTINGS, &[1])?, Trail::default());
         let calls = [
+            Call::Fence { first_name: 1 },
+            Call::Reserve { term: 1, count: 10 },
             Call::Stop,
-            ack(1, 2),
+            lines::ack(1, 1, (0, 0), &[1], &[]),
             Call::Configure { numbers: [500, 0, 1, 5000, 0, 2, 0] },
             Call::Advance { term: 7, first_name: 90 },
             Call::Begin,
             Call::Stop,
             Call::Cancel,
         ];
-        tried.is_itself();
-        for call in calls {
-            tried.makes(&[call]);
-            tried.is_itself();
+        let mut stopped = None;
+        for (call, now) in calls.iter().zip((10..).step_by(10)) {
+            let (_, made) = job.committed(call, now);
+            assert!(!made.is_empty(), "{call:?}");
+            made.iter().for_each(|logged| trail.follow(&logged.entry));
+            let phase = job.phase;
+            assert_eq!(trail.contradicts(phase, &mut job), None, "{phase:?}");
+            stopped = stopped.or(Some(phase).filter(Phase::is_stopped));
         }
-        assert_eq!(tried.job.phase.row().4, Some(StopFailed::Cancelled.word()));
-        Ok(())
-    }
-
-    #[test]
-    fn a_log_that_went_on_is_not_that_of_a_stopped_job() -> Result<(), Box<dyn Error>> {
-        let mut tried = Tried::new()?;
-        tried.makes(&[Call::Stop, ack(1, 2)]);
-        let phase = tried.job.phase;
-        tried.makes(&[Call::Begin]);
-        assert_eq!(tried.told(phase).as_deref(), Some("the job has gone on since savepoint 2"));
-        tried.makes(&[Call::Trigger]);
-        assert_eq!(tried.told(phase).as_deref(), Some("the job has gone on since savepoint 2"));
         // the log has no call before its image any more
-        tried.trail = Trail::default();
-        assert_eq!(tried.told(phase).as_deref(), Some("the job has gone on since savepoint 2"));
-        Ok(())
-    }
-
-    #[test]
-    fn another_term_is_not_that_of_a_stopped_job() -> Result<(), Box<dyn Error>> {
-        let mut tried = Tried::new()?;
-        tried.makes(&[Call::Stop, ack(1, 2)]);
-        assert_eq!(tried.job.phase.row().3, Some(2));
-        for term in [None, Some(1), Some(3)] {
-            let told = tried.told(Phase::Stopped(Stop { savepoint: 2, at: 50 }, term));
-            assert_eq!(told.as_deref(), Some("another term has begun since"), "{term:?}");
-        }
-        Ok(())
-    }
-
-    #[test]
-    fn a_log_that_ends_with_a_stop_is_not_that_of_a_job_that_runs() -> Result<(), Box<dyn Error>> {
-        let mut tried = Tried::new()?;
-        tried.makes(&[Call::Stop]);
-        let failed = Phase::NotStopped(stop(2), StopFailed::Expired);
-        assert_eq!(tried.told(failed).as_deref(), Some("savepoint 2 is pending"));
-        tried.makes(&[ack(1, 2)]);
-        for phase in [Phase::Running, failed, Phase::Stopping(stop(2))] {
-            assert_eq!(tried.told(phase).as_deref(), Some("the job has stopped with savepoint 2"), "{phase:?}");
-        }
-        assert_eq!(tried.told(Phase::Stopping(stop(3))).as_deref(), Some("the job runs without savepoint 3"));
-        Ok(())
-    }
-
-    #[test]
-    fn a_restore_of_somebody_is_no_stop() -> Result<(), Box<dyn Error>> {
-        let mut tried = Tried::new()?;
-        // the way back, of one moment
-        tried.completes(1, 2);
-        tried.makes(&[Call::Restore { target: Target::Checkpoint(1), shape: None }]);
-        assert_eq!(tried.job.engine().choice(), Choice::Savepoint(3));
-        tried.is_itself();
-        // a restore after the completion
-        let last = lines::ack(2, 4, (0, 0), &[11], &[]);
-        tried.makes(&[Call::Reserve { term: 2, count: 1 }, Call::Savepoint, last]);
-        tried.makes(&[Call::Restore { target: Target::Savepoint(4), shape: None }]);
-        tried.is_itself();
+        let told = Trail::default().contradicts(stopped.ok_or("it has stopped")?, &mut job);
+        assert_eq!(told.as_deref(), Some("the job has gone on since savepoint 1"));
         Ok(())
     }
 }
