@@ -1,5 +1,5 @@
 //! What the process asks of the system for itself.
-use libc::{getrlimit, rlimit, setrlimit, umask, RLIMIT_NOFILE};
+use rustix::process::{getrlimit, setrlimit, Resource, Rlimit};
 use std::thread::{Builder, JoinHandle};
 
 /// Starts a thread under a name of at most 15 bytes, which `top -H` shows. The process ends if there can be no thread.
@@ -13,7 +13,7 @@ pub fn thread<T: Send + 'static>(name: &str, work: impl FnOnce() -> T + Send + '
 /// Files that are made from now on are this user's alone: a database has the names of jobs and files, and a log may have more.
 pub fn make_files_private() {
     // SAFETY: the call takes any mask, cannot fail and reads no memory of ours. No other thread runs yet.
-    unsafe { umask(0o077) };
+    unsafe { libc::umask(0o077) };
 }
 
 /// Gives memory back to the system that was freed here: what a thread has freed would stay with the process after its end.
@@ -24,23 +24,13 @@ pub fn free_memory() {
 
 /// How many files may be open.
 pub fn files_limit() -> u64 {
-    let mut limit = rlimit { rlim_cur: 0, rlim_max: 0 };
-    // SAFETY: the call writes to `limit`, which lives until it returns.
-    unsafe { getrlimit(RLIMIT_NOFILE, &raw mut limit) };
-    limit.rlim_cur
+    getrlimit(Resource::Nofile).current.unwrap_or(u64::MAX)
 }
 
 /// Raises the number of files that may be open as far as the system allows, and returns it.
 pub fn most_files() -> u64 {
-    let mut limit = rlimit { rlim_cur: 0, rlim_max: 0 };
-    // SAFETY: the call writes to `limit`, which lives until it returns.
-    if unsafe { getrlimit(RLIMIT_NOFILE, &raw mut limit) } != 0 {
-        return u64::MAX;
-    }
-    let raised = rlimit { rlim_cur: limit.rlim_max, ..limit };
-    // SAFETY: the call reads `raised`, which lives until it returns.
-    if limit.rlim_cur < limit.rlim_max && unsafe { setrlimit(RLIMIT_NOFILE, &raw const raised) } == 0 {
-        return raised.rlim_cur;
-    }
-    limit.rlim_cur
+    let limit = getrlimit(Resource::Nofile);
+    // one that can't be raised stays
+    let _ = setrlimit(Resource::Nofile, Rlimit { current: limit.maximum, ..limit });
+    files_limit()
 }

@@ -4,7 +4,7 @@ use super::Kind;
 use crate::files::Gone;
 use crate::log;
 use crate::metrics::{Families, Parted};
-use prometheus::{Gauge, GaugeVec, IntCounter, IntCounterVec, IntGauge, IntGaugeVec};
+use prometheus::{GaugeVec, IntCounter, IntCounterVec, IntGauge, IntGaugeVec};
 use relkvanu_client::Error;
 use std::time::{Duration, SystemTime, UNIX_EPOCH};
 
@@ -21,12 +21,10 @@ pub struct Metrics {
     reported: Parted<GaugeVec>,
     swept: Parted<GaugeVec>,
     unissued: Parted<IntGaugeVec>,
-    garbage: Parted<IntGaugeVec>,
     stopped: Parted<IntGaugeVec>,
     works: Parted<IntGaugeVec>,
-    listed: Gauge,
     lost: IntCounter,
-    threads: IntGauge,
+    pub threads: IntGauge,
 }
 
 impl Metrics {
@@ -53,7 +51,6 @@ impl Metrics {
                 "Files found last whose names were never given out. Nobody deletes them.",
                 &[],
             )?,
-            garbage: all.of_jobs("relkvanu_clean_garbage_files", "Garbage that was found last.", &[])?,
             // a job that goes says which reason it has
             stopped: all.of_jobs(
                 "relkvanu_clean_stopped",
@@ -65,7 +62,6 @@ impl Metrics {
                 "1 if the job is cleaned; 0 if something is in the way.",
                 &[],
             )?,
-            listed: all.gauge("relkvanu_clean_list_timestamp_seconds", "When the service last listed its jobs.")?,
             lost: all.add(IntCounter::new(
                 "relkvanu_clean_lost_requests_total",
                 "Tries to reach the service that were not answered, or with an error that passes.",
@@ -105,19 +101,10 @@ impl Metrics {
         self.works.with_label_values(&[job]).set(i64::from(works));
     }
 
-    /// The service has listed its jobs.
-    pub fn listed(&self) {
-        self.listed.set(now());
-    }
-
     /// A try was not answered.
     pub fn lost(&self, error: &Error) {
         self.lost.inc();
         log::warn(&format!("it tries again: {error}"));
-    }
-
-    pub fn threads(&self, count: usize) {
-        self.threads.set(count as i64);
     }
 
     /// Files were reported.
@@ -141,7 +128,6 @@ impl Metrics {
     /// A look for garbage came to its end.
     pub fn swept(&self, job: &str, swept: &Swept) {
         self.unissued.with_label_values(&[job]).set(swept.unissued as i64);
-        self.garbage.with_label_values(&[job]).set(swept.garbage as i64);
         self.swept.with_label_values(&[job]).set(now());
     }
 }

@@ -157,7 +157,6 @@ impl Schedule {
             Event::Listed(Ok(jobs), took) => {
                 self.list_pause = (took * LIST_SHARE).clamp(LIST_EACH, LIST_AT_LEAST);
                 (self.unlisted, self.is_listed) = (None, true);
-                self.shared.metrics.listed();
                 self.mounts = Mounts::now();
                 self.know(jobs);
             }
@@ -173,7 +172,6 @@ impl Schedule {
             }
             Event::Ended(turn, told) => {
                 self.running -= 1;
-                self.shared.metrics.threads(self.running);
                 self.slots.give_back(turn.storage.clone(), turn.kind);
                 let stopped = self.end_turn(&turn, told);
                 // who cleans one job looks, if somebody has to
@@ -235,7 +233,7 @@ impl Schedule {
                 self.begin(turn);
             }
         }
-        self.shared.metrics.threads(self.running);
+        self.shared.metrics.threads.set(self.running as i64);
     }
 
     /// The turns that are due: whether the job has had one of the kind, and since when.

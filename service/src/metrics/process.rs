@@ -1,6 +1,7 @@
 //! Metrics of the process, under the names that Prometheus' clients give them, and of what was built.
 use super::Families;
 use prometheus::{Counter, Gauge, IntGauge, IntGaugeVec, Opts};
+use rustix::param::{clock_ticks_per_second, page_size};
 use std::fs;
 use std::time::{SystemTime, UNIX_EPOCH};
 
@@ -42,12 +43,12 @@ impl Process {
 
     /// Asks the system. What it does not say stays as it was.
     pub fn look(&self) {
-        let said = fs::read_to_string("/proc/self/stat").ok().and_then(|text| ProcStat::of(&text, ticks_each_second()));
+        let said = fs::read_to_string("/proc/self/stat").ok().and_then(|text| ProcStat::of(&text, clock_ticks_per_second() as f64));
         if let Some(said) = said {
             self.cpu.inc_by((said.cpu_seconds - self.cpu.get()).max(0.0));
             self.threads.set(said.threads);
             self.virtual_memory.set(said.virtual_bytes);
-            self.resident.set(said.resident_pages.saturating_mul(page_bytes()));
+            self.resident.set(said.resident_pages.saturating_mul(page_size() as i64));
         }
         if let Ok(files) = fs::read_dir("/proc/self/fd") {
             // one of them is this list
@@ -64,26 +65,6 @@ impl ProcStat {
         let number = |place: usize| words.get(place)?.parse::<i64>().ok();
         let cpu_seconds = (number(11)? + number(12)?) as f64 / ticks_each_second;
         Some(ProcStat { cpu_seconds, threads: number(17)?, virtual_bytes: number(20)?, resident_pages: number(21)? })
-    }
-}
-
-fn ticks_each_second() -> f64 {
-    // SAFETY: the call reads no memory of ours.
-    let told = unsafe { libc::sysconf(libc::_SC_CLK_TCK) };
-    if told > 0 {
-        told as f64
-    } else {
-        100.0
-    }
-}
-
-fn page_bytes() -> i64 {
-    // SAFETY: as before.
-    let told = unsafe { libc::sysconf(libc::_SC_PAGESIZE) };
-    if told > 0 {
-        told
-    } else {
-        4096
     }
 }
 

@@ -76,6 +76,11 @@ impl Row {
         T::try_from(cell.number()?).ok().map(Some)
     }
 
+    /// What the next cells say.
+    fn within<T: FromRow>(&mut self) -> Option<T> {
+        T::read(self)
+    }
+
     /// A number of which the cell has the 64 bits, as a signed one.
     fn bits(&mut self) -> Option<u64> {
         self.number::<i64>().map(|number| number as u64)
@@ -124,20 +129,38 @@ pub trait FromRow: Sized {
     fn read(row: &mut Row) -> Option<Self>;
 }
 
-impl FromRow for Opening {
-    const TABLE: &'static str = "job";
-    const OF_JOB: bool = true;
+/// A row whose cells are fields in this order; where that is said, the first one is a job's number.
+macro_rules! fields {
+    ($kind:ident, $table:literal, $of_job:literal, $($field:ident: $read:ident$(($parse:expr))?),+) => {
+        impl FromRow for $kind {
+            const TABLE: &'static str = $table;
+            const OF_JOB: bool = $of_job;
 
-    fn read(row: &mut Row) -> Option<Opening> {
-        Some(Opening {
-            number: row.number()?,
-            name: row.text()?,
-            settings: row.parsed(parse_config)?,
-            shape: row.parsed(|words| words.split(' ').map(|word| word.parse().ok()).collect())?,
-            started: row.number()?,
-            first: row.number()?,
-        })
-    }
+            fn read(row: &mut Row) -> Option<$kind> {
+                Some($kind { $($field: row.$read($($parse)?)?),+ })
+            }
+        }
+    };
+}
+
+fields!(
+    Opening, "job", true,
+    number: number, name: text, settings: parsed(parse_config), shape: parsed(parallelisms), started: number, first: number
+);
+fields!(AnswerRow, "call", false, what: number, a: bits, b: bits, files: text_or_null);
+fields!(
+    Entry, "call", true,
+    job: number, seq: number, at: number, record: number_or_null, line: text, told: within, ended: text_or_null, waiting: number
+);
+fields!(Keyed, "request", false, job: number, key: text, at: number, digest: text, answers: text);
+fields!(KeptImage, "image", false, seq: number, at: number, bytes: number);
+fields!(KeptSummary, "summary", false, seq: number, bytes: number);
+fields!(PastRecord, "past", false, job: number, id: number, text: text);
+fields!(AckBytes, "ack_size", false, job: number, seq: number, fresh: parsed(parse_sizes), full: number);
+fields!(Figure, "figure", false, job: number, seq: number, bytes: number, millis: number, reason: text_or_null);
+
+fn parallelisms(words: &str) -> Option<Vec<u64>> {
+    words.split(' ').map(|word| word.parse().ok()).collect()
 }
 
 /// An opening as it can be shown though a part of it can't be read.
@@ -162,38 +185,6 @@ impl<T: FromRow> FromRow for Result<T, DbError> {
 
     fn read(row: &mut Row) -> Option<Result<T, DbError>> {
         Some(T::read(row).ok_or_else(|| row.bad::<(i64, T)>()))
-    }
-}
-
-impl FromRow for Entry {
-    const TABLE: &'static str = "call";
-    const OF_JOB: bool = true;
-
-    fn read(row: &mut Row) -> Option<Entry> {
-        Some(Entry {
-            job: row.number()?,
-            seq: row.number()?,
-            at: row.number()?,
-            record: row.number_or_null()?,
-            line: row.text()?,
-            told: AnswerRow { what: row.number()?, a: row.bits()?, b: row.bits()?, files: row.text_or_null()? },
-            ended: row.text_or_null()?,
-            waiting: row.number()?,
-        })
-    }
-}
-
-impl FromRow for Keyed {
-    const TABLE: &'static str = "request";
-
-    fn read(row: &mut Row) -> Option<Keyed> {
-        Some(Keyed {
-            job: row.number()?,
-            key: row.text()?,
-            at: row.number()?,
-            digest: row.text()?,
-            answers: row.text()?,
-        })
     }
 }
 
@@ -224,44 +215,12 @@ impl FromRow for SavedImage {
     }
 }
 
-impl FromRow for KeptImage {
-    const TABLE: &'static str = "image";
-
-    fn read(row: &mut Row) -> Option<KeptImage> {
-        Some(KeptImage { seq: row.number()?, at: row.number()?, bytes: row.number()? })
-    }
-}
-
-impl FromRow for KeptSummary {
-    const TABLE: &'static str = "summary";
-
-    fn read(row: &mut Row) -> Option<KeptSummary> {
-        Some(KeptSummary { seq: row.number()?, bytes: row.number()? })
-    }
-}
-
 /// A part of a summary, and how many bytes all parts have if it is the last one.
 impl FromRow for (String, u64) {
     const TABLE: &'static str = "summary";
 
     fn read(row: &mut Row) -> Option<(String, u64)> {
         Some((row.text()?, row.number()?))
-    }
-}
-
-impl FromRow for PastRecord {
-    const TABLE: &'static str = "past";
-
-    fn read(row: &mut Row) -> Option<PastRecord> {
-        Some(PastRecord { job: row.number()?, id: row.number()?, text: row.text()? })
-    }
-}
-
-impl FromRow for AckBytes {
-    const TABLE: &'static str = "ack_size";
-
-    fn read(row: &mut Row) -> Option<AckBytes> {
-        Some(AckBytes { job: row.number()?, seq: row.number()?, fresh: row.parsed(parse_sizes)?, full: row.number()? })
     }
 }
 
@@ -273,15 +232,6 @@ impl FromRow for SubtaskState {
         let (files, payload) = (row.parsed(parse_files)?, row.text()?);
         let given = Given { payload, bytes: Some(row.number()?), millis: Some(row.number()?) };
         Some(SubtaskState { job, record, subtask: Subtask { vertex, index }, files, given })
-    }
-}
-
-impl FromRow for Figure {
-    const TABLE: &'static str = "figure";
-
-    fn read(row: &mut Row) -> Option<Figure> {
-        let (job, seq, bytes, millis) = (row.number()?, row.number()?, row.number()?, row.number()?);
-        Some(Figure { job, seq, bytes, millis, reason: row.text_or_null()? })
     }
 }
 

@@ -1,10 +1,7 @@
 //! How much room an SQLite file takes, and its disk has.
 use super::rows::{Disk, Space};
 use crate::disk::beside;
-use std::ffi::CString;
-use std::io::{Error, ErrorKind, Result};
-use std::mem::MaybeUninit;
-use std::os::unix::ffi::OsStrExt;
+use std::io::{ErrorKind, Result};
 use std::path::Path;
 
 /// The room of an SQLite file with its write-ahead log.
@@ -19,13 +16,6 @@ pub fn space_of(path: &Path) -> Result<Space> {
 
 /// The disk of a file, and how many bytes a user without privileges may still write to it.
 fn disk(path: &Path) -> Result<Disk> {
-    let path = CString::new(path.as_os_str().as_bytes())?;
-    let mut told = MaybeUninit::<libc::statvfs>::uninit();
-    // SAFETY: `path` ends with a zero byte, and `told` has room for what the call writes.
-    if unsafe { libc::statvfs(path.as_ptr(), told.as_mut_ptr()) } != 0 {
-        return Err(Error::last_os_error());
-    }
-    // SAFETY: the call was successful, so it has written all of it.
-    let told = unsafe { told.assume_init() };
+    let told = rustix::fs::statvfs(path)?;
     Ok(Disk { size: told.f_blocks * told.f_frsize, free: told.f_bavail * told.f_frsize })
 }
