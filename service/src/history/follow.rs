@@ -117,10 +117,10 @@ impl Follower {
         self.records = Records::new(image.shape.clone());
         for record in &contents.records {
             let pending = tables.saved_record(self.job, record)?;
-            self.records.pending.extend((!record.is_done).then_some((record.id, pending)));
+            self.records.pending.extend((!record.is_done()).then_some((record.id, pending)));
         }
         self.outbox = Outbox::default();
-        self.outbox.push(tables, self.job, UNKNOWN, contents.waiting)?;
+        self.outbox.push(tables, self.job, UNKNOWN, contents.waiting())?;
         (self.upto, self.at) = (image.seq, image.at);
         Ok(tables.set_progress(self.job, self.upto, self.at, &self.records.shape)?)
     }

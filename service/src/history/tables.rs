@@ -147,12 +147,12 @@ impl Tables {
 
     /// A live record of an image, which is added if it is missing; what is known of it while it is pending.
     pub fn saved_record(&self, job: i64, saved: &SavedRecord) -> rusqlite::Result<Pending> {
-        let mut pending = Pending::new(saved.kind, saved.shape.clone(), saved.started);
+        let mut pending = Pending::new(saved.kind(), saved.shape.clone(), saved.started);
         pending.acked.extend(&saved.acked);
         let sql = "insert or ignore into record(job, id, kind, shape, started, how, acks) values(?, ?, ?, ?, ?, 'pending', 0)";
         let (id, shape) = (signed(saved.id), shape_words(&saved.shape));
-        self.run(sql, params![job, id, saved.kind.to_string(), shape, signed(saved.started)])?;
-        let how = if saved.is_done { "completed" } else { "pending" };
+        self.run(sql, params![job, id, saved.kind().to_string(), shape, signed(saved.started)])?;
+        let how = if saved.is_done() { "completed" } else { "pending" };
         let sql = "update record set how = ?3, acks = ?4, missing = null where job = ?1 and id = ?2";
         self.run(sql, params![job, id, how, i64::try_from(saved.acked.len()).unwrap_or(i64::MAX)])?;
         Ok(pending)

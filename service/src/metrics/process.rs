@@ -43,7 +43,9 @@ impl Process {
 
     /// Asks the system. What it does not say stays as it was.
     pub fn look(&self) {
-        let said = fs::read_to_string("/proc/self/stat").ok().and_then(|text| ProcStat::of(&text, clock_ticks_per_second() as f64));
+        let said = fs::read_to_string("/proc/self/stat")
+            .ok()
+            .and_then(|text| ProcStat::of(&text, clock_ticks_per_second() as f64));
         if let Some(said) = said {
             self.cpu.inc_by((said.cpu_seconds - self.cpu.get()).max(0.0));
             self.threads.set(said.threads);

@@ -1,11 +1,12 @@
 //! The calls that change a job.
 use super::states::Given;
+use serde::Deserialize;
 use std::fmt;
 use std::num::NonZeroU64;
 use std::str::FromStr;
 
 /// A parallel subtask of a job, written `vertex.index`.
-#[derive(Clone, Copy, Debug, PartialEq, Eq, PartialOrd, Ord, Hash)]
+#[derive(Clone, Copy, Debug, PartialEq, Eq, PartialOrd, Ord, Hash, Deserialize)]
 pub struct Subtask {
     pub vertex: u16,
     pub index: u16,

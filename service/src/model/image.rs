@@ -31,20 +31,44 @@ pub struct ImagePart {
 }
 
 /// A live record of an image.
+#[derive(Deserialize)]
 pub struct SavedRecord {
     pub id: u64,
-    pub kind: Kind,
-    pub is_done: bool,
+    kind: String,
+    state: String,
     pub shape: Vec<u64>,
     pub started: u64,
+    #[serde(rename = "acks")]
     pub acked: Vec<Subtask>,
 }
 
-/// What the history reads of an image.
+impl SavedRecord {
+    pub fn kind(&self) -> Kind {
+        kind_of(&self.kind)
+    }
+
+    pub fn is_done(&self) -> bool {
+        self.state == "done"
+    }
+}
+
+/// What the history reads of an image, as the library writes it, without the numbers of files: there may be millions.
+#[derive(Deserialize)]
 pub struct Contents {
     pub records: Vec<SavedRecord>,
+    outbox: Outbox,
+}
+
+impl Contents {
     /// How many files wait for deletion.
-    pub waiting: u64,
+    pub fn waiting(&self) -> u64 {
+        self.outbox.waiting.len() as u64
+    }
+}
+
+#[derive(Deserialize)]
+struct Outbox {
+    waiting: Vec<IgnoredAny>,
 }
 
 impl Image {
@@ -86,23 +110,13 @@ impl Image {
     /// The settings that the job had then; `None` if it is no image.
     pub fn settings(&self) -> Option<Settings> {
         let Head { opening } = serde_json::from_str(&self.text).ok()?;
-        let Config { interval, pause, at_once, timeout, tolerable, retained, keep_on_cancel } = opening.config;
-        Some(Settings { interval, pause, at_once, timeout, tolerable, retained, keep_on_cancel })
+        Some(opening.config)
     }
 
     /// `None` if it is no image.
     pub fn contents(&self) -> Option<Contents> {
-        let Saved { records, outbox } = serde_json::from_str(&self.text).ok()?;
-        let records = records.into_iter().map(SavedRecord::from).collect();
-        Some(Contents { records, waiting: outbox.waiting.len() as u64 })
+        serde_json::from_str(&self.text).ok()
     }
-}
-
-/// An image as the library writes it, without the numbers of files: there may be millions.
-#[derive(Deserialize)]
-struct Saved {
-    records: Vec<Record>,
-    outbox: Waiting,
 }
 
 /// What an image says of the job's opening. Its settings are those of now.
@@ -113,10 +127,12 @@ struct Head {
 
 #[derive(Deserialize)]
 struct Begun {
-    config: Config,
+    #[serde(with = "Config")]
+    config: Settings,
 }
 
 #[derive(Deserialize)]
+#[serde(remote = "Settings")]
 struct Config {
     interval: u64,
     pause: u64,
@@ -125,36 +141,6 @@ struct Config {
     tolerable: u64,
     retained: u64,
     keep_on_cancel: bool,
-}
-
-#[derive(Deserialize)]
-struct Waiting {
-    waiting: Vec<IgnoredAny>,
-}
-
-#[derive(Deserialize)]
-struct Record {
-    id: u64,
-    kind: String,
-    state: String,
-    shape: Vec<u64>,
-    started: u64,
-    acks: Vec<Ack>,
-}
-
-#[derive(Deserialize)]
-struct Ack {
-    vertex: u16,
-    index: u16,
-}
-
-impl From<Record> for SavedRecord {
-    fn from(record: Record) -> SavedRecord {
-        let Record { id, kind, state, shape, started, acks } = record;
-        let kind = kind_of(&kind);
-        let acked = acks.into_iter().map(|Ack { vertex, index }| Subtask { vertex, index }).collect();
-        SavedRecord { id, kind, is_done: state == "done", shape, started, acked }
-    }
 }
 
 /// The kind of this name.
@@ -201,12 +187,11 @@ mod tests {
 
     #[test]
     fn tells_what_the_history_needs() {
-        let Some(Contents { records, waiting }) = example().contents() else {
-            panic!("it is an image");
-        };
-        let told: Vec<_> = records.iter().map(|it| (it.id, it.is_done, it.started, it.acked.len())).collect();
+        let contents = example().contents().expect("it is an image");
+        let told: Vec<_> =
+            contents.records.iter().map(|it| (it.id, it.is_done(), it.started, it.acked.len())).collect();
         assert_eq!(told, [(2, true, 2000, 2), (3, false, 3000, 1)]);
-        assert_eq!((waiting, records[1].acked[0]), (1, Subtask { vertex: 0, index: 0 }));
+        assert_eq!((contents.waiting(), contents.records[1].acked[0]), (1, Subtask { vertex: 0, index: 0 }));
         assert!(Image { text: "{}".to_string(), ..example() }.contents().is_none());
     }
 
