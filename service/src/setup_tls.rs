@@ -339,24 +339,4 @@ mod tests {
         let long = "a".repeat(LONGEST_NAME + 1);
         assert!(["", "a/CN=b", "-a", "a.", "a b", "a,DNS:b", "*.a", &long].into_iter().all(|it| !is_name(it)));
     }
-
-    #[test]
-    fn the_settings_that_are_installed_get_tls() {
-        let installed = INSTALLED;
-        let changed = with_tls(installed, "0.0.0.0:7780").unwrap_or_default();
-        let lines: Vec<(&str, &str)> =
-            installed.lines().zip(changed.lines()).filter(|(before, after)| before != after).collect();
-        assert_eq!(changed.lines().count(), installed.lines().count());
-        let folder = "/run/credentials/relkvanu.service";
-        assert_eq!(
-            lines.iter().map(|it| it.1).collect::<Vec<_>>(),
-            [
-                "listen = \"0.0.0.0:7780\"",
-                &format!("tls_certificate = \"{folder}/certificate.pem\""),
-                &format!("tls_key = \"{folder}/key.pem\""),
-            ]
-        );
-        assert_eq!(with_tls(&changed, "0.0.0.0:7780"), None);
-        assert_eq!(with_tls("", "0.0.0.0:7780"), None);
-    }
 }

@@ -117,8 +117,9 @@ impl App {
     /// The metadata of a live record; `None` if none has the number.
     async fn record(&self, job: &str, id: u64) -> Refusable<Option<Metadata>> {
         let shown = self.look(job, move |job| job.live().contains_key(&id).then(|| job.engine().show(id))).await?;
-        let read = |text: Option<String>| text.and_then(|text| Metadata::of(&text)).ok_or_else(no_memory);
-        Ok(shown.flatten().map(read).transpose()?)
+        let Some(text) = shown.flatten() else { return Ok(None) };
+        let read = text.and_then(|text| Metadata::of(&text));
+        Ok(Some(read.ok_or_else(no_memory)?))
     }
 
     /// The jobs in the order of their numbers. The writer makes calls between two pieces.

@@ -382,98 +382,94 @@ mod tests {
     use super::*;
     use crate::model::ack;
 
-    fn calls(bytes: &[u8], most: usize) -> Checked<Vec<Call>> {
-        super::calls(bytes, most).map(|(calls, _)| calls)
+    /// Calls, without `{"call":` and `}`, and the field that is wrong in each, behind `calls[0]`. tests/test_api.py has more, and those of jobs.
+    const WRONG: [(&str, &str); 35] = [
+        (r#""show","id":1"#, ".call"),
+        (r#""fence","first_name":"1""#, ".call"),
+        (r#""tick","term":3"#, ".term"),
+        (r#""take","most":0"#, ".most"),
+        (r#""deleted","file":7"#, ".file"),
+        (r#""reserve","count":0"#, ".count"),
+        (r#""reserve","count":65537"#, ".count"),
+        (r#""reserve","count":1,"term":0"#, ".term"),
+        (r#""reserve","count":1,"term":"3""#, ".term"),
+        (r#""forfeit","term":3"#, ".names"),
+        (r#""forfeit","term":3,"names":[7]"#, ".names[0]"),
+        (r#""restore","from":"last""#, ".from"),
+        (r#""restore","from":"latest","shape":[0]"#, ".shape"),
+        (r#""restore","from":{"checkpoint":3}"#, ".accept_published"),
+        (r#""restore","from":{"checkpoint":3},"accept_published":false"#, ".accept_published"),
+        (r#""restore","from":{"checkpoint":0},"accept_published":true"#, ".from.checkpoint"),
+        (r#""restore","from":{"checkpoint":3,"term":1},"accept_published":true"#, ".from.term"),
+        (r#""restore","from":3,"accept_published":true"#, ".accept_published"),
+        (r#""restore","from":"latest","accept_published":true"#, ".accept_published"),
+        (r#""ack","subtask":"1.0""#, ".id"),
+        (r#""ack","id":1.5,"subtask":"1.0""#, ".id"),
+        (r#""ack","id":-1,"subtask":"1.0""#, ".id"),
+        (r#""ack","id":1,"subtask":"1""#, ".subtask"),
+        (r#""ack","id":1,"subtask":"1.65536""#, ".subtask"),
+        (r#""ack","id":1,"subtask":"+1.0""#, ".subtask"),
+        (r#""ack","id":1,"subtask":"1.0","reused":["18446744073709551616"]"#, ".reused[0]"),
+        (r#""ack","id":1,"subtask":"1.0","fresh":{}"#, ".fresh"),
+        (r#""ack","id":1,"subtask":"1.0","bytes":[1]"#, ".bytes"),
+        (r#""ack","id":1,"subtask":"1.0","fresh":["1"],"bytes":{}"#, ".bytes"),
+        (r#""ack","id":1,"subtask":"1.0","fresh":["1"],"bytes":["1"]"#, ".bytes[0]"),
+        (r#""ack","id":1,"subtask":"1.0","fresh":["1"],"bytes":[9007199254740993]"#, ".bytes[0]"),
+        (r#""ack","id":1,"subtask":"1.0","millis":-1"#, ".millis"),
+        (r#""ack","id":1,"subtask":"1.0","snapshot_bytes":-1"#, ".snapshot_bytes"),
+        (r#""ack","id":1,"subtask":"1.0","snapshot_bytes":7,"bytes":7"#, ".snapshot_bytes"),
+        (r#""ack","id":1,"subtask":"1.0","payload":7"#, ".payload"),
+    ];
+
+    fn calls(body: &str) -> Result<Vec<Call>, String> {
+        super::calls(body.as_bytes(), 10).map(|(calls, _)| calls).map_err(|invalid| invalid.field)
+    }
+
+    /// The call of these members, as in [`WRONG`].
+    fn one(members: &str) -> Result<Call, String> {
+        calls(&format!(r#"{{"calls":[{{"call":{members}}}]}}"#)).map(|mut calls| calls.remove(0))
     }
 
     #[test]
-    fn a_request_may_ask_what_ended() {
-        let tells = |rest: &str| {
-            let body = format!(r#"{{"calls":[{{"call":"tick"}}]{rest}}}"#);
-            super::calls(body.as_bytes(), 1).map(|(_, tells)| tells).map_err(|invalid| invalid.field)
-        };
-        assert_eq!((tells(""), tells(r#","ended":true"#)), (Ok(false), Ok(true)));
-        assert_eq!(tells(r#","ended":1"#), Err("ended".to_string()));
-    }
-
-    fn field_of(body: &str) -> String {
-        calls(body.as_bytes(), 10).map_or_else(|invalid| invalid.field, |calls| format!("{calls:?}"))
+    fn names_the_field() {
+        for (members, field) in WRONG {
+            assert_eq!(one(members), Err(format!("calls[0]{field}")), "{members}");
+        }
+        let many = vec![r#""7""#; MOST_FORFEITED + 1].join(",");
+        assert_eq!(one(&format!(r#""forfeit","names":[{many}]"#)), Err("calls[0].names".to_string()));
+        for (body, field) in [
+            ("{", "body"),
+            ("{}", "calls"),
+            (r#"{"calls":[{"call":"tick"}],"key":1}"#, "key"),
+            (r#"{"calls":[{"call":"tick"}],"ended":1}"#, "ended"),
+            (r#"{"calls":[{"call":"tick"},7]}"#, "calls[1]"),
+        ] {
+            assert_eq!(calls(body), Err(field.to_string()));
+        }
     }
 
     #[test]
     fn reads_calls() {
-        let body = r#"{"calls":[{"call":"ack","id":12,"subtask":"1.0","fresh":["31"],"reused":["18446744073709551615"]},
-            {"call":"ack","id":12,"subtask":"1.0","fresh":["32","30"],"bytes":[0,9007199254740992]},
-            {"call":"take","most":64},{"call":"restore","from":3,"shape":[2]},{"call":"restore","from":"latest"}]}"#;
-        let subtask = Subtask { vertex: 1, index: 0 };
+        let body = r#"{"term":5,"calls":[{"call":"ack","id":12,"subtask":"1.0","fresh":["31"],"reused":["18446744073709551615"]},
+            {"call":"ack","term":3,"id":12,"subtask":"1.0","fresh":["32","30"],"bytes":[0,9007199254740992]},
+            {"call":"take","most":64},{"call":"restore","from":3,"shape":[2]},{"call":"restore","from":"latest"},
+            {"call":"restore","from":{"checkpoint":3},"accept_published":true},{"call":"decline","id":12,"subtask":"1.0"},
+            {"call":"reserve","count":1000},{"call":"forfeit","term":3,"names":["31","32"]},{"call":"cancel"}]}"#;
+        let (subtask, fresh, bytes) = (Subtask { vertex: 1, index: 0 }, vec![32, 30], vec![0, 1 << 53]);
         let wanted = vec![
-            ack(0, 12, (1, 0), &[31], &[u64::MAX]),
-            Call::Ack {
-                term: 0,
-                id: 12,
-                subtask,
-                fresh: vec![32, 30],
-                reused: vec![],
-                bytes: vec![0, 1 << 53],
-                given: None,
-            },
+            ack(5, 12, (1, 0), &[31], &[u64::MAX]),
+            Call::Ack { term: 3, id: 12, subtask, fresh, reused: vec![], bytes, given: None },
             Call::Take { most: 64 },
             Call::Restore { target: Target::Savepoint(3), shape: Some(vec![2]) },
             Call::Restore { target: Target::Latest, shape: None },
+            Call::Restore { target: Target::Checkpoint(3), shape: None },
+            Call::Decline { term: 5, id: 12, subtask, reason: None },
+            Call::Reserve { term: 5, count: 1000 },
+            Call::Forfeit { term: 3, names: vec![31, 32] },
+            Call::Cancel,
         ];
-        assert_eq!(calls(body.as_bytes(), 10), Ok(wanted));
-    }
-
-    #[test]
-    fn a_restore_to_an_older_checkpoint_needs_consent() {
-        let body = |rest: &str| format!(r#"{{"calls":[{{"call":"restore","from":{rest}}}]}}"#);
-        let wanted = Call::Restore { target: Target::Checkpoint(3), shape: None };
-        let told = calls(body(r#"{"checkpoint":3},"accept_published":true"#).as_bytes(), 10);
-        assert_eq!(told, Ok(vec![wanted]));
-        for (rest, field) in [
-            (r#"{"checkpoint":3}"#, "calls[0].accept_published"),
-            (r#"{"checkpoint":3},"accept_published":false"#, "calls[0].accept_published"),
-            (r#"{"checkpoint":0},"accept_published":true"#, "calls[0].from.checkpoint"),
-            (r#"{"checkpoint":3,"term":1},"accept_published":true"#, "calls[0].from.term"),
-            (r#"3,"accept_published":true"#, "calls[0].accept_published"),
-            (r#""latest","accept_published":true"#, "calls[0].accept_published"),
-        ] {
-            assert_eq!(field_of(&body(rest)), field, "{rest}");
-        }
-    }
-
-    #[test]
-    fn reads_calls_of_tasks_with_a_term() {
-        let subtask = Subtask { vertex: 1, index: 0 };
-        let first = |term| ack(term, 12, (1, 0), &[31], &[]);
-        let body = |of_all: &str| {
-            format!(
-                r#"{{{of_all}"calls":[{{"call":"ack","id":12,"subtask":"1.0","fresh":["31"]}},
-                {{"call":"ack","term":3,"id":12,"subtask":"1.0","fresh":["31"]}},{{"call":"decline","id":12,"subtask":"1.0"}},
-                {{"call":"reserve","count":1000}},{{"call":"forfeit","term":3,"names":["31","32"]}},{{"call":"cancel"}}]}}"#
-            )
-        };
-        let wanted = |term| {
-            let decline = Call::Decline { term, id: 12, subtask, reason: None };
-            let forfeit = Call::Forfeit { term: 3, names: vec![31, 32] };
-            Ok(vec![first(term), first(3), decline, Call::Reserve { term, count: 1000 }, forfeit, Call::Cancel])
-        };
-        assert_eq!(calls(body("").as_bytes(), 10), wanted(0));
-        assert_eq!(calls(body(r#""term":5,"#).as_bytes(), 10), wanted(5));
-        for (call, field) in [
-            (r#"{"call":"reserve","count":0}"#, "calls[0].count"),
-            (r#"{"call":"reserve","count":65537}"#, "calls[0].count"),
-            (r#"{"call":"reserve","count":1,"term":0}"#, "calls[0].term"),
-            (r#"{"call":"reserve","count":1,"term":"3"}"#, "calls[0].term"),
-            (r#"{"call":"forfeit","term":3}"#, "calls[0].names"),
-            (r#"{"call":"forfeit","term":3,"names":[7]}"#, "calls[0].names[0]"),
-            (r#"{"call":"tick","term":3}"#, "calls[0].term"),
-            (r#"{"call":"fence","first_name":"1"}"#, "calls[0].call"),
-        ] {
-            assert_eq!(field_of(&format!(r#"{{"calls":[{call}]}}"#)), field);
-        }
-        let many = vec![r#""7""#; MOST_FORFEITED + 1].join(",");
-        assert_eq!(field_of(&format!(r#"{{"calls":[{{"call":"forfeit","names":[{many}]}}]}}"#)), "calls[0].names");
+        assert_eq!(calls(body), Ok(wanted));
+        assert_eq!(one(r#""reserve","count":1"#), Ok(Call::Reserve { term: 0, count: 1 }));
     }
 
     #[test]
@@ -486,90 +482,24 @@ mod tests {
             let body = format!(r#"{{"first_name":{bad}}}"#);
             assert_eq!(first_name(body.as_bytes()).err().map(|it| it.field).as_deref(), Some("first_name"), "{bad}");
         }
-        assert_eq!(advance(br#"{"term":3,"first_name":"20"}"#), Ok(Call::Advance { term: 3, first_name: 20 }));
-        let other = advance(br#"{"term":3,"first_name":"20","shape":[1]}"#);
-        assert_eq!(other.err().map(|it| it.field).as_deref(), Some("shape"));
     }
 
     #[test]
     fn reads_what_is_given_beside_files() {
-        let with = |rest: &str| format!(r#"{{"calls":[{{"call":"ack","id":1,"subtask":"0.0"{rest}}}]}}"#);
-        let given = |rest: &str| match calls(with(rest).as_bytes(), 1).ok().and_then(|mut calls| calls.pop()) {
-            Some(Call::Ack { given, .. }) => given.map(|it| (it.payload, it.bytes, it.millis)),
+        let ack = |rest: &str| one(&format!(r#""ack","id":1,"subtask":"0.0"{rest}"#));
+        let given = |rest: &str| match ack(rest) {
+            Ok(Call::Ack { given, .. }) => given.map(|it| (it.payload, it.bytes, it.millis)),
             _ => None,
         };
         assert_eq!(given(""), None);
         assert_eq!(given(r#","payload":"""#), Some((String::new(), None, None)));
         assert_eq!(given(r#","payload":"eA==","bytes":7,"millis":8"#), Some(("eA==".to_string(), Some(7), Some(8))));
         assert_eq!(given(r#","millis":0"#), Some((String::new(), None, Some(0))));
-        let beside_sizes = |more: &str| format!(r#","fresh":["3"],"bytes":[5],"snapshot_bytes":{more}"#);
-        assert_eq!(given(&beside_sizes("7")), Some((String::new(), Some(7), None)));
+        let beside_sizes = r#","fresh":["3"],"bytes":[5],"snapshot_bytes":7"#;
+        assert_eq!(given(beside_sizes), Some((String::new(), Some(7), None)));
         assert_eq!(given(r#","snapshot_bytes":0"#), Some((String::new(), Some(0), None)));
-        let most = encode_block(&[255; MOST_PAYLOAD]);
-        assert_eq!(given(&format!(r#","payload":"{most}""#)), Some((most, None, None)));
-        let wrong = |rest: &str| calls(with(rest).as_bytes(), 1).err().map(|it| format!("{} {}", it.field, it.why));
-        let long = encode_block(&[255; MOST_PAYLOAD + 1]);
-        let told = wrong(&format!(r#","payload":"{long}""#));
-        assert_eq!(told.as_deref(), Some("calls[0].payload has 4097 bytes, and not at most 4096"));
-        for other in [r#""x""#, r#""eA""#, r#"" eA==""#, r#""eB==""#, "7", r#""eA==\n""#] {
-            let told = wrong(&format!(r#","payload":{other}"#));
-            assert!(told.is_some_and(|it| it.starts_with("calls[0].payload ")), "{other}");
+        for other in [r#""x""#, r#""eA""#, r#"" eA==""#, r#""eB==""#, r#""eA==\n""#] {
+            assert_eq!(ack(&format!(r#","payload":{other}"#)), Err("calls[0].payload".to_string()), "{other}");
         }
-        assert!(wrong(r#","millis":-1"#).is_some_and(|it| it.starts_with("calls[0].millis ")));
-        for whole in ["-1", r#"7,"bytes":7"#] {
-            let told = wrong(&format!(r#","snapshot_bytes":{whole}"#));
-            assert!(told.is_some_and(|it| it.starts_with("calls[0].snapshot_bytes ")), "{whole}");
-        }
-        let longest = "x".repeat(MOST_REASON);
-        let decline = format!(r#"{{"calls":[{{"call":"decline","id":1,"subtask":"0.0","reason":"{longest}"}}]}}"#);
-        assert!(field_of(&decline).contains("reason: Some(\"xx"));
-    }
-
-    #[test]
-    fn names_the_field() {
-        let ack = |rest: &str| field_of(&format!(r#"{{"calls":[{{"call":"tick"}},{{"call":"ack",{rest}}}]}}"#));
-        assert_eq!(ack(r#""subtask":"1.0""#), "calls[1].id");
-        assert_eq!(ack(r#""id":1.5,"subtask":"1.0""#), "calls[1].id");
-        assert_eq!(ack(r#""id":-1,"subtask":"1.0""#), "calls[1].id");
-        assert_eq!(ack(r#""id":1,"subtask":"1""#), "calls[1].subtask");
-        assert_eq!(ack(r#""id":1,"subtask":"1.65536""#), "calls[1].subtask");
-        assert_eq!(ack(r#""id":1,"subtask":"+1.0""#), "calls[1].subtask");
-        assert_eq!(ack(r#""id":1,"subtask":"1.0","reused":["18446744073709551616"]"#), "calls[1].reused[0]");
-        assert_eq!(ack(r#""id":1,"subtask":"1.0","fresh":{}"#), "calls[1].fresh");
-        assert_eq!(ack(r#""id":1,"subtask":"1.0","bytes":[1]"#), "calls[1].bytes");
-        assert_eq!(ack(r#""id":1,"subtask":"1.0","fresh":["1"],"bytes":{}"#), "calls[1].bytes");
-        assert_eq!(ack(r#""id":1,"subtask":"1.0","fresh":["1"],"bytes":["1"]"#), "calls[1].bytes[0]");
-        assert_eq!(ack(r#""id":1,"subtask":"1.0","fresh":["1"],"bytes":[9007199254740993]"#), "calls[1].bytes[0]");
-    }
-
-    #[test]
-    fn names_the_field_of_other_calls() {
-        assert_eq!(field_of("{"), "body");
-        assert_eq!(field_of("[]"), "body");
-        assert_eq!(field_of("{}"), "calls");
-        assert_eq!(field_of(r#"{"calls":[{"call":"tick"}],"key":1}"#), "key");
-        assert_eq!(field_of(r#"{"calls":[7]}"#), "calls[0]");
-        assert_eq!(field_of(r#"{"calls":[{"call":"show","id":1}]}"#), "calls[0].call");
-        assert_eq!(field_of(r#"{"calls":[{"call":"take","most":0}]}"#), "calls[0].most");
-        assert_eq!(field_of(r#"{"calls":[{"call":"deleted","file":7}]}"#), "calls[0].file");
-        assert_eq!(field_of(r#"{"calls":[{"call":"restore","from":"last"}]}"#), "calls[0].from");
-        assert_eq!(field_of(r#"{"calls":[{"call":"restore","from":"latest","shape":[0]}]}"#), "calls[0].shape");
-    }
-
-    #[test]
-    fn reads_jobs() {
-        let body = br#"{"name":"orders","settings":{"interval":1000,"retained":2},"shape":[2,1]}"#;
-        let settings = settings_of([1000, 0, 1, 600_000, 0, 2], false);
-        let name = "orders".to_string();
-        assert_eq!(new_job(body), Ok(NewJob { name, settings, shape: vec![2, 1], first: 1, storage: None }));
-        let wrong = |body: &str| new_job(body.as_bytes()).err().map(|invalid| invalid.field).unwrap_or_default();
-        assert_eq!(wrong(r#"{"name":"../x","settings":{"interval":1000},"shape":[1]}"#), "name");
-        assert_eq!(wrong(r#"{"name":"x","settings":{},"shape":[1]}"#), "settings.interval");
-        assert_eq!(wrong(r#"{"name":"x","settings":{"interval":9},"shape":[1]}"#), "settings.interval");
-        assert_eq!(wrong(r#"{"name":"x","settings":{"interval":1000,"at_once":65},"shape":[1]}"#), "settings.at_once");
-        assert_eq!(wrong(r#"{"name":"x","settings":{"interval":1000,"every":1},"shape":[1]}"#), "settings.every");
-        assert_eq!(wrong(r#"{"name":"x","settings":{"interval":1000},"shape":[]}"#), "shape");
-        assert_eq!(wrong(r#"{"name":"x","settings":{"interval":1000}}"#), "shape");
-        assert_eq!(wrong(r#"{"name":"x","settings":{"interval":1000},"shape":[1],"names":false}"#), "names");
     }
 }

@@ -156,25 +156,12 @@ mod tests {
     }
 
     #[test]
-    fn moments_never_go_back() {
-        let mut clock = Clock::starting_after(wall() + 10_000);
-        let mut last = clock.now();
-        for _ in 0..50 {
-            assert!(clock.follow() > 0);
-            let now = clock.now();
-            assert!(now >= last);
-            last = now;
-        }
-        assert_eq!(clock.pace, Pace::Slow);
-    }
-
-    #[test]
-    fn a_pace_that_goes_on_has_its_base() {
+    fn moments_never_go_back_and_a_pace_that_goes_on_has_its_base() {
         let mut clock = Clock::starting_after(wall() + 10_000);
         for _ in 0..50 {
-            let before = (clock.pace, clock.since);
-            clock.follow();
-            assert!(clock.pace != before.0 || clock.since == before.1);
+            let before = (clock.now(), clock.pace, clock.since);
+            assert!(clock.follow() > 0 && clock.now() >= before.0);
+            assert!(clock.pace != before.1 || clock.since == before.2);
         }
         assert_eq!(clock.pace, Pace::Slow);
     }

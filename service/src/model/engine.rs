@@ -235,17 +235,6 @@ mod tests {
     const SETTINGS: Settings = settings_of([10, 0, 1, 5000, 0, 1], false);
 
     #[test]
-    fn a_call_is_made_with_its_line() -> Result<(), Box<dyn Error>> {
-        let mut engine = Engine::open(&SETTINGS, &[1], 0, 1)?;
-        let ticked = engine.make(&Call::Tick, 10)?.made?;
-        assert_eq!((ticked.line.as_str(), ticked.released), ("tick 10", 0..0));
-        let acknowledged = engine.make(&ack(0, 1, (0, 0), &[8, 7], &[]), 11)?.made?;
-        assert_eq!((acknowledged.line.as_str(), acknowledged.released), ("ack 11 1 0.0 +7 +8", 0..0));
-        assert_eq!(engine.make(&Call::Cancel, 12)?.made?.released, 0..2);
-        Ok(())
-    }
-
-    #[test]
     fn a_take_may_find_more_files_than_most_do() -> Result<(), Box<dyn Error>> {
         let mut engine = Engine::open(&SETTINGS, &[1], 0, 1)?;
         let files: Vec<u64> = (1..=100).collect();

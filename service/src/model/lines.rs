@@ -131,8 +131,6 @@ fn decline(term: u64, id: u64, subtask: (u16, u16)) -> Call {
 #[cfg(test)]
 mod tests {
     use super::*;
-    use std::collections::BTreeSet;
-    use std::fs;
 
     const SUBTASK: (u16, u16) = (1, 7);
 
@@ -167,47 +165,18 @@ mod tests {
     }
 
     #[test]
-    fn the_library_writes_the_lines() {
-        for (call, line) in lines() {
-            assert_eq!(call.line(1234).as_deref(), Ok(line));
-        }
-    }
-
-    #[test]
     fn files_ascend_in_a_line() {
         let call = ack(0, 1, SUBTASK, &[31, 11], &[9, 8]);
         assert_eq!(call.line(5).as_deref(), Ok("ack 5 1 1.7 +11 +31 =8 =9"));
     }
 
     #[test]
-    fn reads_the_lines() {
+    fn the_library_writes_and_reads_the_lines() {
         for (call, line) in lines() {
+            assert_eq!(call.line(1234).as_deref(), Ok(line));
             let now = if line.contains("1234") { 1234 } else { 0 };
             assert_eq!(parse_line(line), Some((now, call)));
         }
-    }
-
-    /// bindings/python/tests/test_rows.py says that each call is in a row.
-    #[test]
-    fn calls_of_the_rows_are_written_again() -> std::io::Result<()> {
-        let mut written = BTreeSet::new();
-        for row in fs::read_dir(concat!(env!("CARGO_MANIFEST_DIR"), "/../examples/rows"))? {
-            let row = row?.path();
-            if row.extension().is_none_or(|it| it != "in") {
-                continue;
-            }
-            for (now, call) in String::from_utf8_lossy(&fs::read(row)?).lines().filter_map(parse_line) {
-                let line = call.line(now).unwrap_or_default();
-                assert_eq!(line.split(' ').next(), Some(call.name()));
-                assert_eq!(parse_line(&line), Some((now, call.clone())), "{line}");
-                written.insert(call.name());
-            }
-        }
-        let in_logs_alone = ["fence", "reserve", "forfeit", "advance", "trigger", "configure"];
-        for (call, line) in lines() {
-            assert!(written.contains(call.name()) || in_logs_alone.contains(&call.name()), "{line}");
-        }
-        Ok(())
     }
 
     #[test]

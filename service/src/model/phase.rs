@@ -146,13 +146,4 @@ mod tests {
             assert_eq!(Phase::of_row(row), None, "{row:?}");
         }
     }
-
-    #[test]
-    fn the_api_tells_the_stop() {
-        assert_eq!(Phase::Running.stop_json(), None);
-        let told = Phase::NotStopped(STOP, StopFailed::Expired).stop_json();
-        assert_eq!(told, Some(json!({"savepoint": 7, "at": 1200, "failed": "expired"})));
-        let told = Phase::Stopped(STOP, Some(3)).stop_json();
-        assert_eq!(told, Some(json!({"savepoint": 7, "at": 1200, "failed": null})));
-    }
 }

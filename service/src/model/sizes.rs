@@ -190,60 +190,12 @@ mod tests {
     use super::super::call::Subtask;
     use super::*;
 
-    fn ack(fresh: &[u64], reused: &[u64], bytes: &[u64]) -> Call {
-        let subtask = Subtask { vertex: 0, index: 0 };
-        Call::Ack {
-            term: 0,
-            id: 1,
-            subtask,
-            fresh: fresh.to_vec(),
-            reused: reused.to_vec(),
-            bytes: bytes.to_vec(),
-            given: None,
-        }
-    }
-
-    fn answered(answer: Answer) -> Reply {
-        Reply::Answered(answer)
-    }
-
-    #[test]
-    fn bytes_follow_a_file_through_its_life() {
-        let mut sizes = Sizes::default();
-        assert!(
-            sizes.ignores(&Call::Cancel)
-                && sizes.ignores(&ack(&[1], &[], &[]))
-                && !sizes.ignores(&ack(&[1], &[], &[5]))
-        );
-        let pending = answered(Answer::AckPending { missing: 1 });
-        let change = sizes.follow(&ack(&[1, 2], &[], &[100, 20]), &pending, &[]);
-        assert_eq!(change.files, [(1, Some(100)), (2, Some(20))]);
-        assert_eq!(change.said, Some(AckBytes { fresh: vec![(1, 100), (2, 20)], full: 120, ..AckBytes::default() }));
-        // a file of which nothing was said counts as 0 bytes
-        let change = sizes.follow(&ack(&[3], &[1, 9], &[7]), &pending, &[]);
-        assert_eq!(change.said.map(|said| (said.fresh_bytes(), said.full)), Some((7, 107)));
-        let sum = |sizes: &Sizes| (sizes.sum().in_use, sizes.sum().waiting, sizes.sum().taken, sizes.sum().files);
-        assert_eq!(sum(&sizes), (127, 0, 0, 3));
-        assert_eq!(
-            sizes.follow(&Call::Cancel, &answered(Answer::Cancelled { dropped: 1, released: 2 }), &[1, 3]),
-            SizeChange::default()
-        );
-        assert_eq!(sum(&sizes), (20, 107, 0, 3));
-        sizes.follow(&Call::Take { most: 2 }, &Reply::Taken(vec![1, 3]), &[]);
-        assert_eq!(sum(&sizes), (20, 0, 107, 3));
-        sizes.follow(&Call::Undeleted { file: 3 }, &answered(Answer::Undeleted(3)), &[3]);
-        assert_eq!(sum(&sizes), (20, 7, 100, 3));
-        let change = sizes.follow(&Call::Deleted { file: 1 }, &answered(Answer::Deleted(1)), &[]);
-        assert_eq!((change.files, sum(&sizes)), (vec![(1, None)], (20, 7, 0, 2)));
-        // one whose bytes are not known
-        assert!(sizes.follow(&Call::Deleted { file: 9 }, &answered(Answer::Deleted(9)), &[]).files.is_empty());
-    }
-
     #[test]
     fn a_late_acknowledgement_tells_only_what_it_handed_out() {
         let mut sizes = Sizes::of(&[(1, 10)], |_| Some(Use::Needed));
-        let late = answered(Answer::AckLate { handed_out: 1 });
-        let change = sizes.follow(&ack(&[1, 2], &[], &[99, 5]), &late, &[2]);
+        let (subtask, fresh, bytes) = (Subtask { vertex: 0, index: 0 }, vec![1, 2], vec![99, 5]);
+        let ack = Call::Ack { term: 0, id: 1, subtask, fresh, reused: vec![], bytes, given: None };
+        let change = sizes.follow(&ack, &Reply::Answered(Answer::AckLate { handed_out: 1 }), &[2]);
         let said = AckBytes { fresh: vec![(2, 5)], ..AckBytes::default() };
         assert_eq!((change.files, change.said), (vec![(2, Some(5))], Some(said)));
         assert_eq!(sizes.sum(), Bytes { in_use: 10, waiting: 5, taken: 0, files: 2 });

@@ -152,62 +152,12 @@ fn given(call: &Call, reply: &Reply, job: i64) -> Option<SubtaskState> {
 
 #[cfg(test)]
 mod tests {
-    use super::super::answer_row::AnswerRow;
     use super::*;
 
-    fn followed(states: &mut States, call: &Call, answer: Answer, ended: Option<&str>) -> StateChange {
-        let reply = Reply::Answered(answer);
-        let (told, ended) = (AnswerRow::of(&reply), ended.map(str::to_string));
-        let entry = Entry { job: 7, seq: 1, at: 1, record: None, line: String::new(), told, ended, waiting: 0 };
-        states.follow(call, &reply, &entry).map_or_else(StateChange::default, |change| *change)
-    }
-
-    fn ack(id: u64, given: Option<Given>) -> Call {
-        let subtask = Subtask { vertex: 1, index: 2 };
-        let (fresh, reused, given) = (vec![9, 8], vec![3], given.map(Box::new));
-        Call::Ack { term: 0, id, subtask, fresh, reused, bytes: vec![], given }
-    }
-
     #[test]
-    fn rows_come_with_acknowledgements_and_go_with_records() {
-        let (mut states, pending) = (States::default(), Answer::AckPending { missing: 1 });
-        assert_eq!(followed(&mut states, &ack(4, None), pending, None), StateChange::default());
-        let given = Given { payload: "eA==".to_string(), bytes: Some(5), millis: Some(6) };
-        let change = followed(&mut states, &ack(4, Some(given.clone())), pending, None);
-        assert_eq!(change.figure, Some(Figure { job: 7, seq: 1, bytes: 5, millis: 6, reason: None }));
-        let (subtask, files) = (Subtask { vertex: 1, index: 2 }, vec![9, 8, 3]);
-        assert_eq!(change.new, Some(SubtaskState { job: 7, record: 4, subtask, files, given: given.clone() }));
-        let completes = Answer::AckCompleted { dropped: 1, released: 0 };
-        let change = followed(&mut states, &ack(5, Some(given.clone())), completes, Some("3 4"));
-        assert_eq!((change.gone, states.has(4), states.has(5)), (vec![4], false, true));
-        let late = followed(&mut states, &ack(4, Some(given)), Answer::AckLate { handed_out: 1 }, None);
-        assert_eq!((late, states.copy(4, 6), states.copy(5, 6)), (StateChange::default(), None, Some((5, 6))));
-        let cancelled = Answer::Cancelled { dropped: 2, released: 0 };
-        assert_eq!(followed(&mut states, &Call::Cancel, cancelled, Some("5 6")).gone, [5, 6]);
-    }
-
-    #[test]
-    fn what_an_acknowledgement_did_not_tell_is_not_told() {
-        for told in [(None, None), (Some(0), None), (None, Some(0)), (Some(0), Some(3)), (Some(7), Some(0))] {
-            let given = Given { payload: String::new(), bytes: told.0, millis: told.1 };
-            let pending = Answer::AckPending { missing: 1 };
-            let figure = followed(&mut States::default(), &ack(4, Some(given)), pending, None).figure;
-            assert_eq!(figure.map_or((None, None), |it| it.told()), told);
-        }
-        // as rows of before have it
+    fn a_row_of_before_tells_what_it_told() {
         let old = Figure { bytes: 0, millis: 3, ..Figure::default() };
         assert_eq!(old.told(), (Some(0), Some(3)));
-    }
-
-    #[test]
-    fn a_decline_tells_its_reason() {
-        let reason = |answer| {
-            let (subtask, reason) = (Subtask { vertex: 0, index: 0 }, Some("no disk".to_string()));
-            let decline = Call::Decline { term: 0, id: 4, subtask, reason };
-            followed(&mut States::default(), &decline, answer, None).figure.and_then(|it| it.reason)
-        };
-        assert_eq!(reason(Answer::DeclineAborted { released: 0 }).as_deref(), Some("no disk"));
-        assert_eq!(reason(Answer::DeclineLate), None);
     }
 
     #[test]

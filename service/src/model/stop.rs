@@ -173,8 +173,8 @@ mod tests {
     /// A job of two subtasks that gives out names, with checkpoint 1, which is complete. It stops.
     fn stopping() -> Result<Job, Box<dyn Error>> {
         let mut job = Job::tried(SETTINGS, &[2])?;
-        let calls = [Call::Fence { first_name: 1 }, Call::Reserve { term: 1, count: 10 }];
-        calls.iter().for_each(|call| drop(job.committed(call, 0)));
+        job.committed(&Call::Fence { first_name: 1 }, 0);
+        job.committed(&Call::Reserve { term: 1, count: 10 }, 0);
         job.committed(&Call::Tick, 100);
         (0..2).for_each(|index| assert!(is_made(&job.committed(&ack(1, index), 110).0)));
         assert!(is_made(&job.committed(&Call::Stop, 150).0));

@@ -141,7 +141,7 @@ mod tests {
         for (call, now) in calls.iter().zip((10..).step_by(10)) {
             let (_, made) = job.committed(call, now);
             assert!(!made.is_empty(), "{call:?}");
-            made.iter().for_each(|logged| trail.follow(&logged.entry));
+            made.iter().map(|logged| &logged.entry).for_each(|entry| trail.follow(entry));
             let phase = job.phase;
             assert_eq!(trail.contradicts(phase, &mut job), None, "{phase:?}");
             stopped = stopped.or(Some(phase).filter(Phase::is_stopped));
