@@ -124,7 +124,7 @@ impl Leader {
         epoch: u64,
     ) -> Result<(Jobs, Lease), Stop> {
         let mut jobs = followed.jobs;
-        let mut lease = Lease::of(self.store.as_ref(), asked);
+        let mut lease = Lease::of(self.store.lease(), asked);
         let (store, board) = (self.store.as_mut(), &self.board);
         let mut keep = || {
             board.beat();

@@ -139,16 +139,14 @@ pub struct Log {
 
 #[derive(Args)]
 pub struct Files {
-    /// The job
-    #[arg(value_parser = job_name)]
-    pub job: String,
     /// The number of a file
+    #[arg(index = 2)]
     pub file: Option<u64>,
     /// At most so many files of each list
     #[arg(long, value_name = "FILES", default_value_t = 100, value_parser = clap::value_parser!(u64).range(1..=1000))]
     pub most: u64,
     #[command(flatten)]
-    pub at: At,
+    pub of: OfJob,
 }
 
 #[derive(Args)]
@@ -182,18 +180,15 @@ pub struct Checkpoint {
 #[derive(Args)]
 #[command(group(ArgGroup::new("where").args(["folder", "bucket"])))]
 pub struct Set {
-    /// The job
-    #[arg(value_parser = job_name)]
-    pub job: String,
     /// A setting and its new value, as interval=30000
-    #[arg(value_name = "SETTING=VALUE", required_unless_present = "where", conflicts_with = "where", value_parser = setting)]
+    #[arg(index = 2, value_name = "SETTING=VALUE", required_unless_present = "where", conflicts_with = "where", value_parser = setting)]
     pub settings: Vec<(String, Value)>,
     #[command(flatten)]
     pub place: Where,
     #[command(flatten)]
     pub names: FileNames,
     #[command(flatten)]
-    pub at: At,
+    pub of: OfJob,
 }
 
 /// A setting and its value. Which there are, and their limits, says the service.
@@ -304,12 +299,12 @@ impl Ask {
     pub fn parts(&mut self) -> (&mut At, Option<&mut String>) {
         let of = match self {
             Ask::Jobs(at) => return (at, None),
-            Ask::Files(given) => return (&mut given.at, Some(&mut given.job)),
-            Ask::Set(given) => return (&mut given.at, Some(&mut given.job)),
             Ask::End(given) => return (&mut given.at, Some(&mut given.job)),
             Ask::Show(given) => &mut given.of,
             Ask::History(given) => &mut given.of,
             Ask::Log(given) => &mut given.of,
+            Ask::Files(given) => &mut given.of,
+            Ask::Set(given) => &mut given.of,
             Ask::Savepoints(given) => &mut given.of,
             Ask::Savepoint(given) => &mut given.of,
             Ask::Checkpoint(given) => &mut given.awaited.of,

@@ -107,8 +107,8 @@ async fn show(job: &Job, given: &commands::Show) -> Result<(), Ended> {
 
 async fn files(job: &Job, given: &commands::Files) -> Result<(), Ended> {
     match given.file {
-        None => print_answer(given.at.json, &job.files(given.most).await?, tables::files),
-        Some(file) => print_answer(given.at.json, &job.file(file).await?, tables::file),
+        None => print_answer(given.of.at.json, &job.files(given.most).await?, tables::files),
+        Some(file) => print_answer(given.of.at.json, &job.file(file).await?, tables::file),
     }
 }
 
@@ -244,10 +244,10 @@ async fn stopped(job: &Job, at: &At, until: Instant) -> Result<u64, Ended> {
 async fn set(job: &Job, given: &commands::Set) -> Result<(), Ended> {
     if let Some(storage) = given.place.storage(&given.names).map_err(Ended::Word)? {
         let told = job.set_storage(&json!(storage)).await?;
-        return print_answer(given.at.json, &told, |told| format!("storage  {}\n", told["storage"]));
+        return print_answer(given.of.at.json, &told, |told| format!("storage  {}\n", told["storage"]));
     }
     let settings = Value::Object(given.settings.iter().cloned().collect());
-    print_answer(given.at.json, &job.set(&settings).await?, tables::set)
+    print_answer(given.of.at.json, &job.set(&settings).await?, tables::set)
 }
 
 /// Waits until a record is complete, by the events after its trigger.

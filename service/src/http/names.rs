@@ -71,22 +71,3 @@ pub async fn garbage(mut given: Given<'_>) -> Answered {
         Err(_) => Err(no_memory().into()),
     }
 }
-
-#[cfg(test)]
-mod tests {
-    use super::*;
-    use serde_json::Value;
-
-    #[test]
-    fn each_answer_of_a_fence_has_its_status() {
-        let status = |answer: Value| {
-            let told = json!({"epoch": 1, "log": "ab", "answers": [answer]});
-            turned(&told.to_string(), 20).status().as_u16()
-        };
-        assert_eq!(status(json!({"fence": "named", "term": 1, "seq": 7})), 200);
-        assert_eq!(status(json!({"fenced": "HasNames"})), 409);
-        assert_eq!(status(json!({"fenced": "NameInUse"})), 409);
-        assert_eq!(status(json!({"refused": "BadName"})), 400);
-        assert_eq!(status(json!({"no_memory": true})), 507);
-    }
-}

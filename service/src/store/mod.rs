@@ -24,7 +24,7 @@ pub use reader::{Listed, LogReader, Reader};
 pub use rows::Disk;
 pub use rows::{signed, steps_after, Committed, GoneJob, Group, Keyed, Lead, SavedImage, Store};
 #[cfg(test)]
-pub use rows::{Erasure, UnderKey, IS_EVENT, TABLES};
+pub use rows::{IS_EVENT, TABLES};
 pub use space::space_of;
 pub use sqlite::{count_no_memory, locked, Sqlite, ERASE};
 pub use sqlite_read::SqliteReader;

@@ -17,7 +17,7 @@ const OLD_RECORDS: u64 = 1000;
 impl Writer {
     /// Commits a group, or ends the process: what it left uncommitted was never answered.
     pub(super) fn commit(&mut self, round: &mut Round) {
-        if round.group.is_empty() && self.lease.age() < self.store.beat() {
+        if round.group.is_empty() && !self.lease.is_due(self.store.beat()) {
             return;
         }
         self.write(round);

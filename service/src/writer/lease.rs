@@ -15,8 +15,8 @@ pub struct Lease {
 
 impl Lease {
     /// The lease of a store that leads since it was asked then.
-    pub fn of(store: &dyn Store, asked: Moment) -> Lease {
-        Lease { length: store.lease(), since: asked }
+    pub fn of(length: Option<Duration>, asked: Moment) -> Lease {
+        Lease { length, since: asked }
     }
 
     /// Commits a group. A commit that renews the lease counts from before the database wrote it.
@@ -49,12 +49,17 @@ impl Lease {
         self.length.map_or(u64::MAX, |length| self.since.millis().saturating_add(crate::model::millis(length)))
     }
 
+    /// Whether it is renewed now, by a store that renews its own after so long.
+    pub fn is_due(&self, beat: Duration) -> bool {
+        self.age() >= beat
+    }
+
     /// Renews it if that is due.
     pub fn keep(&mut self, store: &mut dyn Store) -> Result<(), Failure> {
-        if self.age() < store.beat() {
-            return Ok(());
+        if self.is_due(store.beat()) {
+            self.renew(store)?;
         }
-        self.renew(store)
+        Ok(())
     }
 
     /// Renews it by an empty commit.
@@ -66,58 +71,6 @@ impl Lease {
 #[cfg(test)]
 mod tests {
     use super::*;
-    use crate::store::{DbError, Erasure, Lead, UnderKey};
-
-    /// What a commit of [`Slow`] takes.
-    const PAUSE: Duration = Duration::from_millis(20);
-    const ASKED: &str = "a lease asks a store for nothing but commits";
-
-    /// A store whose commits take a while, and renew the lease.
-    #[derive(Default)]
-    struct Slow {
-        beat: Duration,
-        commits: u64,
-    }
-
-    impl Store for Slow {
-        fn lead(&mut self) -> Result<Lead, DbError> {
-            unreachable!("{ASKED}")
-        }
-
-        fn begin(&mut self, _: &str, _: &[(i64, u64)]) -> Result<(), DbError> {
-            unreachable!("{ASKED}")
-        }
-
-        fn commit(&mut self, _: &Group) -> Result<Committed, Failure> {
-            std::thread::sleep(PAUSE);
-            self.commits += 1;
-            Ok(Committed { renews: true })
-        }
-
-        fn keyed(&mut self, _: &[(i64, String)]) -> Result<Vec<UnderKey>, DbError> {
-            unreachable!("{ASKED}")
-        }
-
-        fn erase(&mut self, _: &[Erasure]) -> Result<bool, DbError> {
-            unreachable!("{ASKED}")
-        }
-
-        fn note(&mut self, _: u64) -> Result<(), Failure> {
-            unreachable!("{ASKED}")
-        }
-
-        fn beat(&self) -> Duration {
-            self.beat
-        }
-
-        fn lease(&self) -> Option<Duration> {
-            Some(Duration::from_secs(10_800))
-        }
-
-        fn release(&mut self) {
-            unreachable!("{ASKED}")
-        }
-    }
 
     /// Renewed at the machine's start, and so many tenths as long as the time since. So no pause of a busy machine matters.
     fn renewed_long_ago(tenths: u32) -> Lease {
@@ -145,25 +98,12 @@ mod tests {
     /// Its first commit may be long after another process could lead.
     #[test]
     fn a_lease_counts_from_when_it_was_asked_for() {
-        let asked = Moment::now();
-        std::thread::sleep(PAUSE);
-        assert!(Lease::of(&Slow::default(), asked).age() >= PAUSE);
-    }
-
-    #[test]
-    fn a_renewed_lease_counts_from_before_the_commit() {
-        let (mut store, mut lease) = (Slow::default(), renewed_long_ago(14));
-        lease.renew(&mut store).expect("a commit");
-        assert!(lease.age() >= PAUSE && lease.is_sure());
+        assert_eq!(Lease::of(None, Moment::first()).since, Moment::first());
     }
 
     #[test]
     fn a_lease_is_renewed_once_it_is_as_old_as_a_beat() {
-        let mut lease = renewed_long_ago(14);
-        for (beat, commits) in [(lease.age() * 2, 0), (lease.age(), 1)] {
-            let mut store = Slow { beat, commits: 0 };
-            lease.keep(&mut store).expect("a commit, if it is due");
-            assert_eq!(store.commits, commits);
-        }
+        let lease = renewed_long_ago(14);
+        assert!(lease.is_due(lease.age()) && !lease.is_due(lease.age() * 2));
     }
 }

@@ -76,17 +76,6 @@ mod tests {
     }
 
     #[test]
-    fn the_next_is_asked_at_once() {
-        let all = three();
-        assert_eq!(all.current(), (0, "http://a"));
-        assert_eq!((all.after(0, PAUSE, None), all.current().0), (Duration::ZERO, 1));
-        assert_eq!((all.after(1, PAUSE, None), all.current().0), (Duration::ZERO, 2));
-        // all have failed: the first of them, after its pause
-        let rest = all.after(2, PAUSE, None);
-        assert!(rest > PAUSE / 2 && rest <= PAUSE && all.current().0 == 0);
-    }
-
-    #[test]
     fn the_leader_is_asked_first() {
         let all = three();
         assert_eq!((all.after(0, PAUSE, Some("http://c")), all.current().0), (Duration::ZERO, 2));
