@@ -1,5 +1,6 @@
 //! Where the database is: an SQLite file, or a URL of PostgreSQL.
 use crate::disk::beside;
+use crate::store::{DbError, PgReader, Reader, SqliteReader};
 use std::net::SocketAddr;
 use std::path::PathBuf;
 use thiserror::Error;
@@ -27,6 +28,14 @@ pub enum Because {
 }
 
 impl Database {
+    /// A connection that reads it.
+    pub fn reader(&self) -> Result<Box<dyn Reader>, DbError> {
+        Ok(match self {
+            Database::Sqlite(path) => Box::new(SqliteReader::open(path)?),
+            Database::Postgres(url) => Box::new(PgReader::open(url)?),
+        })
+    }
+
     /// A URL of PostgreSQL, or the path of an SQLite file.
     pub fn of(text: &str) -> Result<Database, NoDatabase> {
         if let Some((scheme, rest)) = text.split_once("://") {

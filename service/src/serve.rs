@@ -12,7 +12,7 @@ use crate::metrics::Metrics;
 use crate::model::wall;
 use crate::process;
 use crate::stop::Stop;
-use crate::store::{count_no_memory, DbError, Pg, PgReader, Reader, Sqlite, SqliteReader, Store, Unusable};
+use crate::store::{count_no_memory, Pg, Sqlite, Store, Unusable};
 use crate::systemd_start::Starting;
 use crate::writer::{queue, Board, Inbox, Message, Messages};
 use sd_notify::NotifyState;
@@ -104,8 +104,8 @@ impl Shared {
             board: Arc::clone(&self.board),
             metrics: Arc::clone(&self.metrics),
             inbox: self.inbox.clone(),
-            reader: Arc::new(Mutex::new(open_reader(&config.database)?)),
-            events: Arc::new(Mutex::new(open_reader(&config.database)?)),
+            reader: Arc::new(Mutex::new(config.database.reader()?)),
+            events: Arc::new(Mutex::new(config.database.reader()?)),
             history: Arc::new(Mutex::new(Door::new(Arc::clone(&self.history)))),
             history_file: Arc::clone(&self.history),
             keys,
@@ -119,7 +119,7 @@ impl Shared {
     fn historian(&self, config: &Config) -> Result<Historian, Stop> {
         Ok(Historian {
             file: Arc::clone(&self.history),
-            reader: open_reader(&config.database)?,
+            reader: config.database.reader()?,
             board: Arc::clone(&self.board),
             metrics: Arc::clone(&self.metrics),
             inbox: self.inbox.clone(),
@@ -134,10 +134,10 @@ impl Shared {
     fn leader(&self, config: &Config, store: Box<dyn Store>, messages: Messages) -> Result<Leader, Stop> {
         Ok(Leader {
             store,
-            reader: open_reader(&config.database)?,
+            reader: config.database.reader()?,
             open: Box::new({
                 let database = config.database.clone();
-                move || open_reader(&database)
+                move || database.reader()
             }),
             board: Arc::clone(&self.board),
             metrics: Arc::clone(&self.metrics),
@@ -154,13 +154,6 @@ fn open_store(config: &Config) -> Result<Box<dyn Store>, Unusable> {
     match &config.database {
         Database::Sqlite(path) => Ok(Box::new(Sqlite::open(path)?)),
         Database::Postgres(url) => Ok(Box::new(Pg::open(url, &config.advertise, config.lease)?)),
-    }
-}
-
-fn open_reader(database: &Database) -> Result<Box<dyn Reader>, DbError> {
-    match database {
-        Database::Sqlite(path) => Ok(Box::new(SqliteReader::open(path)?)),
-        Database::Postgres(url) => Ok(Box::new(PgReader::open(url)?)),
     }
 }
 

@@ -7,7 +7,7 @@ use crate::database::{Database, NoDatabase};
 use crate::exit::{NOT_TO_START, START_AGAIN};
 use crate::log;
 use crate::model::{Entry, Job, NoJob, Opening, Phase, Trail};
-use crate::store::{DbError, Listed, LogReader, PgReader, Reader, SavedImage, SqliteReader, Unusable};
+use crate::store::{DbError, Listed, LogReader, Reader, SavedImage, Unusable};
 use crate::writer::{replay, StartError};
 use durable::Durable;
 use serde_json::json;
@@ -137,10 +137,7 @@ fn is_alike(given: &cli::Check, job: &str, compared: Result<Compared, StartError
 
 /// Opens a database to read it as it is now, whatever a service commits meanwhile.
 fn opened(database: &Database) -> Result<Box<dyn Reader>, Unusable> {
-    let mut reader: Box<dyn Reader> = match database {
-        Database::Sqlite(path) => Box::new(SqliteReader::open(path)?),
-        Database::Postgres(url) => Box::new(PgReader::open(url)?),
-    };
+    let mut reader = database.reader()?;
     reader.hold()?;
     Unusable::check(reader.version()?)?;
     Ok(reader)

@@ -164,19 +164,6 @@ impl Known {
 #[cfg(test)]
 mod tests {
     use super::*;
-    use serde_json::json;
-
-    #[test]
-    fn a_row_of_the_list_is_read() {
-        let mut row = json!({"name": "a", "opened": 7, "files": {"in_use": 1, "waiting": 2, "taken": 3}});
-        let read = |row: &Value| Listed::of(row).map(|it| (it.waiting, it.taken, it.storage));
-        assert_eq!(read(&row), Some((2, 3, None)));
-        row["storage"] = json!({"folder": "/a", "prefix": "s-"});
-        let folder = JobStorage { folder: Some("/a".to_string()), prefix: "s-".to_string(), ..JobStorage::default() };
-        assert_eq!(read(&row), Some((2, 3, Some(folder))));
-        row["opened"] = json!(null);
-        assert_eq!(read(&row), None);
-    }
 
     #[test]
     fn pauses_grow_until_a_turn_ends() {

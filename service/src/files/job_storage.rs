@@ -86,20 +86,6 @@ mod tests {
     }
 
     #[test]
-    fn it_is_a_folder_or_a_bucket() -> Result<(), serde_json::Error> {
-        for text in [
-            r#"{"folder":"/srv/orders","prefix":"state-","suffix":".bin"}"#,
-            r#"{"bucket":"states","prefix":"orders/s-","suffix":"","endpoint":"http://127.0.0.1:9","region":"eu","keeps_versions":true}"#,
-        ] {
-            let storage = of(text)?;
-            assert_eq!(storage.wrong(), None, "{text}");
-            assert_eq!(serde_json::to_string(&storage)?, text);
-        }
-        assert_eq!(of(r#"{"bucket":"states","prefix":"orders/s-"}"#)?.names().of(7), "s-7");
-        Ok(())
-    }
-
-    #[test]
     fn what_is_wrong_has_a_member() -> Result<(), serde_json::Error> {
         for (text, member) in [
             ("{}", "folder"),

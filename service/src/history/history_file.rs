@@ -104,27 +104,3 @@ impl Door {
         Ok(&self.opened.insert((replaced, opened)).1)
     }
 }
-
-#[cfg(test)]
-mod tests {
-    use super::*;
-
-    #[test]
-    fn nothing_is_overwritten() -> io::Result<()> {
-        let folder = std::env::temp_dir().join(format!("relkvanu-place-{}", std::process::id()));
-        fs::create_dir(&folder)?;
-        let path = folder.join("h.db");
-        let mut aside = Vec::new();
-        for content in ["first", "second", "third"] {
-            fs::write(&path, content)?;
-            fs::write(beside(&path, "-wal"), content)?;
-            aside.push(set_aside(&path)?);
-        }
-        let read = |folder: &PathBuf, name: &str| fs::read_to_string(folder.join(name));
-        for (folder, content) in aside.iter().zip(["first", "second", "third"]) {
-            assert_eq!((read(folder, "h.db")?, read(folder, "h.db-wal")?), (content.to_string(), content.to_string()));
-        }
-        assert!(!path.exists());
-        fs::remove_dir_all(&folder)
-    }
-}

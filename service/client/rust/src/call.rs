@@ -238,33 +238,26 @@ mod tests {
     use super::*;
 
     #[test]
-    fn an_acknowledgement_may_say_bytes() {
-        let call = Call::SizedAck { id: 7, subtask: (1, 0), fresh: vec![(31, 5), (u64::MAX, 0)], reused: vec![11] };
-        let wanted = json!({"call": "ack", "id": 7, "subtask": "1.0", "fresh": ["31", "18446744073709551615"],
-            "reused": ["11"], "bytes": [5, 0]});
-        assert_eq!(call.json(), wanted);
-    }
-
-    #[test]
-    fn calls_may_have_more() {
-        let beside = Beside { payload: b"x".to_vec(), bytes: 7, millis: 8 };
-        let call = Call::AckWith { id: 7, subtask: (1, 0), fresh: vec![31, 30], reused: vec![], beside };
-        let wanted = json!({"call": "ack", "id": 7, "subtask": "1.0", "fresh": ["31", "30"], "reused": [], "payload": "eA==",
-            "bytes": 7, "millis": 8});
-        assert_eq!(call.json(), wanted);
-        let call = Call::DeclineWith { id: 7, subtask: (1, 0), reason: "no disk".to_string() };
-        assert_eq!(call.json(), json!({"call": "decline", "id": 7, "subtask": "1.0", "reason": "no disk"}));
-    }
-
-    #[test]
-    fn a_call_may_have_a_term() {
-        let decline = Call::Decline { id: 7, subtask: (1, 0) }.in_term(3);
-        assert_eq!(decline.json(), json!({"call": "decline", "term": 3, "id": 7, "subtask": "1.0"}));
-        let ack = Call::Ack { id: 7, subtask: (1, 0), fresh: vec![31], reused: vec![] }.in_term(3);
-        let wanted = json!({"call": "ack", "term": 3, "id": 7, "subtask": "1.0", "fresh": ["31"], "reused": []});
-        assert_eq!(ack.json(), wanted);
-        let forfeit = Call::Forfeit { term: 3, names: vec![31, 32] };
-        assert_eq!(forfeit.json(), json!({"call": "forfeit", "term": 3, "names": ["31", "32"]}));
+    fn calls_are_written() {
+        let (id, subtask, beside) = (7, (1, 0), Beside { payload: b"x".to_vec(), bytes: 7, millis: 8 });
+        for (call, wanted) in [
+            (
+                Call::SizedAck { id, subtask, fresh: vec![(31, 5), (u64::MAX, 0)], reused: vec![11] },
+                json!({"call": "ack", "id": 7, "subtask": "1.0", "fresh": ["31", "18446744073709551615"], "reused": ["11"], "bytes": [5, 0]}),
+            ),
+            (
+                Call::AckWith { id, subtask, fresh: vec![31, 30], reused: vec![], beside }.in_term(3),
+                json!({"call": "ack", "term": 3, "id": 7, "subtask": "1.0", "fresh": ["31", "30"], "reused": [], "payload": "eA==", "bytes": 7,
+                    "millis": 8}),
+            ),
+            (
+                Call::DeclineWith { id, subtask, reason: "no disk".to_string() },
+                json!({"call": "decline", "id": 7, "subtask": "1.0", "reason": "no disk"}),
+            ),
+            (Call::Forfeit { term: 3, names: vec![31] }, json!({"call": "forfeit", "term": 3, "names": ["31"]})),
+        ] {
+            assert_eq!(call.json(), wanted);
+        }
     }
 
     #[test]

@@ -1,7 +1,7 @@
 //! A history that goes on from a summary, and tables of other versions.
 use super::super::version::{upgrade, STEPS};
 use super::*;
-use crate::model::{parse_config, AnswerRow, Cut};
+use crate::model::{ack, settings_of, Cut, Job};
 use crate::store::{Group, Sqlite, SqliteReader, Store};
 use std::path::PathBuf;
 use std::sync::atomic::{AtomicU64, Ordering};
@@ -16,11 +16,11 @@ struct Database {
 }
 
 impl Database {
-    fn with(log: &[Entry]) -> Database {
+    fn with(opening: &Opening, log: &[Entry]) -> Database {
         let file = File::new("log");
         let store = Sqlite::open(&file.0).unwrap_or_else(|why| panic!("{why}"));
         let mut database = Database { store, file };
-        database.keep(Group { jobs: vec![opening()], entries: log.to_vec(), ..Group::default() });
+        database.keep(Group { jobs: vec![opening.clone()], entries: log.to_vec(), ..Group::default() });
         database
     }
 
@@ -33,42 +33,28 @@ impl Database {
     }
 }
 
-fn opening() -> Opening {
-    let settings = parse_config("config 1000 0 1 600000 0 1 delete");
-    let settings = settings.unwrap_or_else(|| panic!("it is a configuration"));
-    Opening { number: 1, name: "a".to_string(), settings, shape: vec![2], started: 1, first: 1 }
-}
-
-const COMPLETED: Answer = Answer::AckCompleted { dropped: 0, released: 0 };
-
-/// Six savepoints of two files each, all but the last two disposed of; files that were taken, deleted and not deleted.
-fn log() -> Vec<Entry> {
-    let mut log: Vec<Entry> = Vec::new();
-    let mut add = |record: Option<u64>, line: String, reply: Reply, ended: Option<&str>, waiting| {
-        let seq = log.len() as u64 + 1;
-        let (told, ended) = (AnswerRow::of(&reply), ended.map(str::to_string));
-        log.push(Entry { job: 1, seq, at: 1000 + seq, record, line, told, ended, waiting });
-    };
-    let said = Reply::Answered;
+/// A job of two subtasks, with six savepoints of two files each, all but the last two disposed of; files that were taken, deleted and not
+/// deleted; and its log.
+fn made() -> (Opening, Vec<Entry>) {
+    let mut job = Job::tried(settings_of([1 << 40, 0, 1, 1 << 40, 0, 1], false), &[2]).expect("a job");
+    let mut calls = Vec::new();
     for id in 1..=6_u64 {
-        add(Some(id), format!("savepoint {}", id * 10), said(Answer::SavepointTriggered(id)), None, 0);
-        let pending = said(Answer::AckPending { missing: 1 });
-        add(Some(id), format!("ack {} {id} 0.0 +{}", id * 10, id * 100), pending, None, 0);
-        if id == 6 {
-            break;
-        }
-        add(Some(id), format!("ack {} {id} 0.1 +{}", id * 10, id * 100 + 1), said(COMPLETED), None, 0);
-        if let Some(old) = id.checked_sub(2).filter(|old| *old > 0) {
-            let disposed = said(Answer::Disposed { released: 2 });
-            add(Some(old), format!("dispose {old}"), disposed, Some(&old.to_string()), 2);
-            add(None, "take 1".to_string(), Reply::Taken(vec![old * 100]), None, 0);
-        }
-        if id == 4 {
-            add(None, "deleted 100".to_string(), said(Answer::Deleted(100)), None, 0);
-            add(None, "undeleted 200".to_string(), said(Answer::Undeleted(200)), None, 1);
-        }
+        calls.extend([Call::Savepoint, ack(0, id, (0, 0), &[id * 100], &[])]);
+        calls.extend((id < 6).then(|| ack(0, id, (0, 1), &[id * 100 + 1], &[])));
+        calls.extend(
+            (3..6)
+                .contains(&id)
+                .then_some([Call::Dispose { id: id - 2 }, Call::Take { most: 1 }])
+                .into_iter()
+                .flatten(),
+        );
+        calls.extend(
+            (id == 4).then_some([Call::Deleted { file: 100 }, Call::Undeleted { file: 101 }]).into_iter().flatten(),
+        );
     }
-    log
+    let log = calls.iter().zip(1001..).flat_map(|(call, now)| job.committed(call, now).1);
+    let log = log.map(|logged| logged.entry).collect();
+    (job.opening, log)
 }
 
 /// What the acknowledgements of the log said: a file has ten times its number of bytes, and each uses one of 7 again.
@@ -122,27 +108,21 @@ impl Drop for File {
 
 #[test]
 fn a_summary_and_the_rest_of_the_log_give_the_same_history() -> Result<(), Error> {
-    let whole = log();
+    let (opening, whole) = made();
     let file = File::new("whole");
     let tables = Tables::open(&file.0)?;
-    let database = Database::with(&whole);
+    let database = Database::with(&opening, &whole);
     let mut reader = database.reader();
     let said = ack_bytes_of(&whole);
-    Follower::open(&tables, &mut reader, &opening())?.follow(&tables, &whole, &said, &[])?;
+    Follower::open(&tables, &mut reader, &opening)?.follow(&tables, &whole, &said, &[])?;
     let wanted = dump(&tables);
-    // record 1 has the files 100 and 101, and record 6 the file 600 so far
-    let bytes: Vec<(i64, i64)> =
-        tables.all("select fresh_bytes, full_bytes from record where id in (1, 6) order by id", [], |row| {
-            row.try_into()
-        })?;
-    assert_eq!(bytes, [(2010, 2024), (6000, 6007)]);
     for place in 1..whole.len() {
         let (before, after) = whole.split_at(place);
         let files = [File::new("old"), File::new("new")];
         let old = Tables::open(&files[0].0)?;
-        let mut database = Database::with(&whole);
+        let mut database = Database::with(&opening, &whole);
         let mut reader = database.reader();
-        let mut follower = Follower::open(&old, &mut reader, &opening())?;
+        let mut follower = Follower::open(&old, &mut reader, &opening)?;
         follower.follow(&old, before, &said, &[])?;
         let past = old.unsaved(1, 100)?;
         old.set_saved(&past)?;
@@ -151,7 +131,7 @@ fn a_summary_and_the_rest_of_the_log_give_the_same_history() -> Result<(), Error
             (Summary::of(&old, &follower)?.parts(&follower)?, Cut { job: 1, after: 0, upto: place as u64 });
         database.keep(Group { past, summaries, cuts: vec![cut], ..Group::default() });
         let new = Tables::open(&files[1].0)?;
-        let mut follower = Follower::open(&new, &mut reader, &opening())?;
+        let mut follower = Follower::open(&new, &mut reader, &opening)?;
         assert!(follower.load(&new, &mut reader)? && follower.upto == place as u64);
         assert!(!follower.load(&new, &mut reader)?, "it would load it for ever");
         follower.follow(&new, after, &said, &[])?;
@@ -168,21 +148,6 @@ fn a_summary_and_the_rest_of_the_log_give_the_same_history() -> Result<(), Error
             missing.is_empty() || place >= whole.iter().position(|it| it.line == "deleted 100").unwrap_or(0),
             "{place}: {missing:?}"
         );
-        // a start in between knows who has acknowledged
-        let mut follower = Follower::open(&new, &mut reader, &opening())?;
-        let last = Entry {
-            line: "ack 70 6 0.1".to_string(),
-            told: AnswerRow::of(&Reply::Answered(COMPLETED)),
-            seq: whole.len() as u64 + 1,
-            record: Some(6),
-            ..whole[0].clone()
-        };
-        let more = AckBytes { seq: last.seq, full: 30, ..AckBytes::default() };
-        follower.follow(&new, &[last], &[more], &[])?;
-        let acks = new.all("select acks, how, full_bytes from record where id = 6", [], |row| {
-            Ok((row.get::<_, i64>(0)?, row.get::<_, String>(1)?, row.get::<_, i64>(2)?))
-        })?;
-        assert_eq!(acks, [(2, "completed".to_string(), 6037)]);
     }
     Ok(())
 }
