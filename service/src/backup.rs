@@ -5,7 +5,8 @@ use crate::database::{Database, NoDatabase};
 use crate::disk::{beside, of, private, sync_folder, FileError};
 use crate::exit;
 use crate::nightly;
-use rusqlite::{Connection, OpenFlags};
+use crate::store::read_only;
+use rusqlite::Connection;
 use std::fs::{self, File};
 use std::path::{Path, PathBuf};
 use std::process::{Command, ExitCode, Stdio};
@@ -78,13 +79,6 @@ pub fn copy(database: &Database, to: &Path) -> Result<u64, NoBackup> {
     })
 }
 
-fn read_only(path: &Path) -> rusqlite::Result<Connection> {
-    let connection =
-        Connection::open_with_flags(path, OpenFlags::SQLITE_OPEN_READ_ONLY | OpenFlags::SQLITE_OPEN_NO_MUTEX)?;
-    connection.busy_timeout(BUSY)?;
-    Ok(connection)
-}
-
 fn version(connection: &Connection) -> rusqlite::Result<i64> {
     connection.pragma_query_value(None, "user_version", |row| row.get(0))
 }
@@ -110,7 +104,7 @@ impl Unfinished {
 
     fn fill(&self, database: &Path) -> Result<(), NoBackup> {
         let failed = |why: rusqlite::Error| NoBackup::Source { path: database.to_path_buf(), why };
-        let source = read_only(database).map_err(failed)?;
+        let source = read_only(database, BUSY).map_err(failed)?;
         let version = version(&source).map_err(failed)?;
         if version == 0 {
             return Err(NoBackup::Foreign(database.to_path_buf()));
@@ -131,7 +125,7 @@ impl Unfinished {
 
     /// Reads all of the copy.
     fn check(&self, version_of_source: i64) -> Result<(), NoBackup> {
-        let copy = read_only(&self.path).map_err(NoBackup::Unread)?;
+        let copy = read_only(&self.path, BUSY).map_err(NoBackup::Unread)?;
         let check: String = copy.query_row("pragma quick_check(1)", [], |row| row.get(0)).map_err(NoBackup::Unread)?;
         match version(&copy).map_err(NoBackup::Unread)? {
             version if check == "ok" && version == version_of_source => Ok(()),

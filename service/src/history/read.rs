@@ -2,12 +2,11 @@
 use super::error::Error;
 use super::tables::bits;
 use crate::model::Entry;
-use crate::store::entry_of;
-use rusqlite::{params, Connection, OpenFlags, OptionalExtension, Params, Row};
+use crate::store::{entry_of, read_only, BUSY};
+use rusqlite::{params, Connection, OptionalExtension, Params, Row};
 use serde::{Deserialize, Serialize};
 use std::collections::HashSet;
 use std::path::Path;
-use std::time::Duration;
 
 pub const RECORD: &str =
     "id, kind, shape, started, finished, how, gone, why, first_ack, last_ack, slowest, acks, missing, fresh_bytes, full_bytes,
@@ -111,12 +110,7 @@ pub struct HistoryReader(Connection);
 
 impl HistoryReader {
     pub fn open(path: &Path) -> Result<HistoryReader, Error> {
-        let flags = OpenFlags::SQLITE_OPEN_READ_ONLY | OpenFlags::SQLITE_OPEN_NO_MUTEX;
-        let opened = Connection::open_with_flags(path, flags).and_then(|connection| {
-            connection.busy_timeout(Duration::from_secs(2))?;
-            Ok(connection)
-        });
-        opened.map(HistoryReader).map_err(|why| Error::Unopened { path: path.to_path_buf(), why })
+        read_only(path, BUSY).map(HistoryReader).map_err(|why| Error::Unopened { path: path.to_path_buf(), why })
     }
 
     fn all<T>(&self, sql: &str, given: impl Params, row: fn(&Row) -> rusqlite::Result<T>) -> Result<Vec<T>, Error> {

@@ -26,5 +26,5 @@ pub use rows::{signed, steps_after, Committed, GoneJob, Group, Keyed, Lead, Save
 #[cfg(test)]
 pub use rows::{IS_EVENT, TABLES};
 pub use space::space_of;
-pub use sqlite::{count_no_memory, locked, Sqlite, ERASE};
-pub use sqlite_read::SqliteReader;
+pub use sqlite::{count_no_memory, locked, Sqlite, BUSY, ERASE};
+pub use sqlite_read::{read_only, SqliteReader};

@@ -18,7 +18,7 @@ use std::time::{Duration, Instant};
 /// What makes each version of the tables from the one before.
 const STEPS: [&str; VERSION] =
     [concat!(include_str!("../../sql/tables.sql"), include_str!("../../sql/sqlite.sql")), STORAGES];
-pub(super) const BUSY: Duration = Duration::from_secs(2);
+pub const BUSY: Duration = Duration::from_secs(2);
 /// How long a start waits for readers of another program.
 const SETTLE_FOR: Duration = Duration::from_secs(10);
 /// Deletes the parts of images that were not written whole.

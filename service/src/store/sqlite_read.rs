@@ -9,6 +9,7 @@ use crate::disk::of;
 use crate::model::{Entry, FileBytes, KeptImage};
 use rusqlite::{params_from_iter, Connection, OpenFlags, OptionalExtension, Params};
 use std::path::Path;
+use std::time::Duration;
 
 /// The text of a long image. An aggregate of SQLite gets its rows in the order of the subquery.
 const JOINED: &str = "select group_concat(part.text, '') from (
@@ -17,15 +18,18 @@ const JOINED: &str = "select group_concat(part.text, '') from (
 /// A connection that only reads.
 pub struct SqliteReader(Connection);
 
+/// A connection that one thread reads an SQLite file by. It waits so long for another one.
+pub fn read_only(path: &Path, busy: Duration) -> rusqlite::Result<Connection> {
+    let flags = OpenFlags::SQLITE_OPEN_READ_ONLY | OpenFlags::SQLITE_OPEN_NO_MUTEX;
+    let connection = Connection::open_with_flags(path, flags)?;
+    connection.busy_timeout(busy)?;
+    Ok(connection)
+}
+
 impl SqliteReader {
     /// Opens a database that a [`Sqlite`](super::Sqlite) has made.
     pub fn open(path: &Path) -> Result<SqliteReader, DbError> {
-        let flags = OpenFlags::SQLITE_OPEN_READ_ONLY | OpenFlags::SQLITE_OPEN_NO_MUTEX;
-        let opened = Connection::open_with_flags(path, flags).and_then(|connection| {
-            connection.busy_timeout(BUSY)?;
-            Ok(SqliteReader(connection))
-        });
-        opened.map_err(DbError::unopened(path))
+        read_only(path, BUSY).map(SqliteReader).map_err(DbError::unopened(path))
     }
 
     fn one<T: FromRow>(&self, sql: &str, given: impl Params) -> Result<Option<T>, DbError> {
