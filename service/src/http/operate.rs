@@ -69,21 +69,3 @@ pub(super) fn only(
     answer["log"] = told["log"].take();
     Ok(answer)
 }
-
-#[cfg(test)]
-mod tests {
-    use super::*;
-
-    #[test]
-    fn each_answer_has_its_status() {
-        let status = |answer: Value| {
-            let told = json!({"epoch": 1, "log": "ab", "answers": [answer]});
-            turned(told.to_string()).status().as_u16()
-        };
-        assert_eq!(status(json!({"tick": "triggered", "expired": 0, "id": 3, "seq": 7})), 200);
-        assert_eq!(status(json!({"configure": "configured", "dropped": 0, "released": 0, "seq": 7})), 200);
-        assert_eq!(status(json!({"refused": "AtOnce"})), 409);
-        assert_eq!(status(json!({"fenced": "NoNames"})), 409);
-        assert_eq!(status(json!({"no_memory": true})), 507);
-    }
-}

@@ -61,23 +61,6 @@ mod tests {
     }
 
     #[test]
-    fn an_answer_is_kept_as_numbers() {
-        for (kept, text) in [
-            (told(1, 0, 7, None), "tick expired 0 triggered 7"),
-            (told(8, 3, 12, None), "ack completed 3 12"),
-            (told(15, 8, 4, None), "restored savepoint 4 8"),
-            (told(19, u64::MAX, 0, None), "deleted 18446744073709551615"),
-            (told(18, 3, 0, Some("7 8 18446744073709551615")), "take 7 8 18446744073709551615"),
-            (told(18, 0, 0, Some("")), "take none"),
-        ] {
-            assert_eq!(
-                (kept.reply().map(|reply| AnswerRow::of(&reply)), kept.text().as_str()),
-                (Some(kept.clone()), text)
-            );
-        }
-    }
-
-    #[test]
     fn what_is_no_answer_is_none() {
         for (kept, text) in [
             (told(0, 1, 2, None), "unknown 0 1 2"),

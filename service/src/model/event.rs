@@ -128,17 +128,6 @@ mod tests {
         let listed: Vec<u32> = answers().iter().map(|(reply, _)| AnswerRow::of(reply).what).collect();
         let left_out = (0..200).find(|what| Answer::of_numbers(*what, 0, 0).is_some() && !listed.contains(what));
         assert_eq!(left_out, None);
-        let restored = |from| answered(A::Restored { from, released: 0 });
-        let kinds = [
-            answered(A::Triggered { expired: 0, id: 1 }),
-            answered(A::SavepointTriggered(4)),
-            restored(Choice::Savepoint(4)),
-            restored(Choice::Fresh),
-        ];
-        assert_eq!(
-            kinds.map(|reply| kind(&reply)),
-            [Some("checkpoint"), Some("savepoint"), Some("savepoint"), Some("fresh")]
-        );
     }
 
     /// The index has the rows that are events, by the condition that the statements have.

@@ -141,17 +141,6 @@ mod tests {
     }
 
     #[test]
-    fn a_change_keeps_what_it_does_not_name() {
-        let before = settings_of([1000, 0, 1, 600_000, 0, 1], true);
-        assert!(Change::default().is_none());
-        assert_eq!(Change::default().of(&before), before);
-        let mut change = Change { keep_on_cancel: Some(false), ..Change::default() };
-        change.numbers[0] = Some(30_000);
-        assert!(!change.is_none());
-        assert_eq!(change.of(&before), settings_of([30_000, 0, 1, 600_000, 0, 1], false));
-    }
-
-    #[test]
     fn shapes_have_limits() {
         assert!(check_shape(&[1, 2]).is_ok());
         assert!(check_shape(&[4096]).is_ok());

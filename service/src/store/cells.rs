@@ -300,8 +300,9 @@ mod tests {
     use super::*;
     use rusqlite::Connection;
 
-    fn of_pg<const N: usize>(cells: [Option<&str>; N]) -> Row {
-        Row::of_pg(cells.into_iter().map(|cell| cell.map(str::to_string)).collect())
+    /// Cells with `|` between them; an empty one is null.
+    fn of_pg(cells: &str) -> Row {
+        Row::of_pg(cells.split('|').map(|cell| (!cell.is_empty()).then(|| cell.to_string())).collect())
     }
 
     fn of_sqlite(values: &str) -> Result<Row, DbError> {
@@ -311,34 +312,20 @@ mod tests {
 
     #[test]
     fn both_databases_give_the_same() -> Result<(), DbError> {
-        let cells = [
-            Some("1"),
-            Some("9"),
-            Some("3010"),
-            None,
-            Some("take 2"),
-            Some("18"),
-            Some("2"),
-            Some("-1"),
-            Some("7 8"),
-            None,
-            Some("0"),
-        ];
         let entry: Entry = of_sqlite("1, 9, 3010, null, 'take 2', 18, 2, -1, '7 8', null, 0")?.read()?;
-        assert_eq!(entry, of_pg(cells).read()?);
+        assert_eq!(entry, of_pg("1|9|3010||take 2|18|2|-1|7 8||0").read()?);
         assert_eq!((entry.job, entry.seq, entry.at, entry.record), (1, 9, 3010, None));
         let told = AnswerRow { what: 18, a: 2, b: u64::MAX, files: Some("7 8".to_string()) };
         assert_eq!((entry.line.as_str(), &entry.told, &entry.ended, entry.bytes()), ("take 2", &told, &None, 9));
-        let cells = [Some("1"), Some("9"), Some("3010"), Some("d"), Some("2 3"), None, Some("8"), Some("{}")];
         let saved: SavedImage = of_sqlite("1, 9, 3010, 'd', '2 3', null, 8, '{}'")?.read()?;
-        assert_eq!(saved, of_pg(cells).read()?);
+        assert_eq!(saved, of_pg("1|9|3010|d|2 3||8|{}").read()?);
         assert_eq!((saved.image.shape, saved.image.last_completed, saved.digest.as_str()), (vec![2, 3], None, "d"));
         Ok(())
     }
 
     #[test]
     fn an_error_names_the_cell() {
-        let told = of_pg([Some("1"), Some("x"), None, None, None, None, None, None]).read::<Entry>();
+        let told = of_pg("1|x||||||").read::<Entry>();
         let told = told.map_err(|error| error.to_string());
         assert_eq!(told, Err("a row of call has Text(\"x\") in column 2".to_string()));
         let told = of_sqlite("1, -9, 0").and_then(Row::read::<(i64, KeptSummary)>).map_err(|error| error.to_string());

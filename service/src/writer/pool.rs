@@ -196,12 +196,12 @@ impl Pool {
 #[cfg(test)]
 mod tests {
     use super::*;
-    use crate::model::{parse_config, Opening};
+    use crate::model::settings_of;
 
     fn job(number: i64) -> Job {
-        let settings = parse_config("config 1000 0 1 600000 0 1 delete").expect("settings");
-        let opening = Opening { number, name: format!("j{number}"), settings, shape: vec![1], started: 5, first: 1 };
-        Job::open(opening).expect("a job")
+        let mut job = Job::tried(settings_of([1000, 0, 1, 600_000, 0, 1], false), &[1]).expect("a job");
+        (job.opening.number, job.opening.name) = (number, format!("j{number}"));
+        job
     }
 
     #[test]

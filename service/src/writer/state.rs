@@ -107,14 +107,12 @@ mod tests {
     use super::super::Served;
     use super::*;
     use crate::metrics::Metrics;
-    use crate::model::parse_config;
+    use crate::model::settings_of;
     use std::time::Duration;
 
     #[test]
     fn a_job_that_has_gone_since_it_was_read_gets_no_metrics() -> Result<(), Box<dyn std::error::Error>> {
-        let settings = parse_config("config 1000 0 1 600000 0 1 delete").ok_or("settings")?;
-        let opening = Opening { number: 1, name: "orders".to_string(), settings, shape: vec![1], started: 5, first: 1 };
-        let mut job = Job::open(opening).map_err(|_| "a job")?;
+        let mut job = Job::tried(settings_of([1000, 0, 1, 600_000, 0, 1], false), &[1])?;
         let (read, metrics) = ([state(&mut job, 5)], Metrics::new()?);
         let has_it = |text: Vec<u8>| String::from_utf8_lossy(&text).contains("orders");
         let (names, served) = (["orders".to_string()], Served { since: 7, lag: Duration::ZERO });

@@ -41,16 +41,12 @@ fn made() -> (Opening, Vec<Entry>) {
     for id in 1..=6_u64 {
         calls.extend([Call::Savepoint, ack(0, id, (0, 0), &[id * 100], &[])]);
         calls.extend((id < 6).then(|| ack(0, id, (0, 1), &[id * 100 + 1], &[])));
-        calls.extend(
-            (3..6)
-                .contains(&id)
-                .then_some([Call::Dispose { id: id - 2 }, Call::Take { most: 1 }])
-                .into_iter()
-                .flatten(),
-        );
-        calls.extend(
-            (id == 4).then_some([Call::Deleted { file: 100 }, Call::Undeleted { file: 101 }]).into_iter().flatten(),
-        );
+        if (3..6).contains(&id) {
+            calls.extend([Call::Dispose { id: id - 2 }, Call::Take { most: 1 }]);
+        }
+        if id == 4 {
+            calls.extend([Call::Deleted { file: 100 }, Call::Undeleted { file: 101 }]);
+        }
     }
     let log = calls.iter().zip(1001..).flat_map(|(call, now)| job.committed(call, now).1);
     let log = log.map(|logged| logged.entry).collect();
