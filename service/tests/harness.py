@@ -76,6 +76,25 @@ def save(path, text):
         it.write(text)
 
 
+def process_status(pid):
+    """What the system says of a process, by its names: sizes are in kB."""
+    return dict(line.split(":", 1) for line in content(f"/proc/{pid}/status").splitlines())
+
+
+def told_by(*words, before=(), **around):
+    """The status of the program with these words, what it says on standard output, and what on standard error. `before` are words before its name."""
+    given = [str(it) for it in (*before, PROGRAM, *words)]
+    told = subprocess.run(given, env={**ENVIRONMENT, **around}, capture_output=True, text=True, timeout=COMMAND, check=False)
+    return told.returncode, told.stdout, told.stderr
+
+
+def ran(*words, status=0, **given):
+    """What the program prints on standard output, and after it on standard error, where it says nothing if it has done its work."""
+    found, out, wrong = told_by(*words, **given)
+    assert found == status and (status or not wrong), (words, found, out, wrong)
+    return out + wrong
+
+
 # The folder of a run (run.py) with what its tests make once, if they are tests of such a run.
 TEMPLATES = os.environ.get("RELKVANU_TEMPLATES")
 
@@ -189,6 +208,13 @@ class Server:
         """The value of a metric; None: it has none."""
         found = re.search(rf"^{re.escape(name)} (\S+)$", self.get("/metrics")[2], re.M)
         return found and float(found[1])
+
+    def ask(self, *words, status=0):
+        """What a command prints that asks it."""
+        return ran(*words, "--url", self.url, status=status)
+
+    def ask_json(self, *words):
+        return json.loads(self.ask(*words, "--json"))
 
     def get(self, path, token=None):
         return self.request("GET", path, token=token)
@@ -314,10 +340,14 @@ def small_disk(at, size):
 
 
 @contextmanager
-def served(config=None, args=(), **given):
-    """A service in a folder of its own, with the text of a configuration or none."""
+def served(config=None, args=(), tokens=(), **given):
+    """A service in a folder of its own, with the text of a configuration and the lines of a file `tokens`, or without."""
     with folder() as at:
-        yield Server(at, args=[*args, *(configured(at, config) if config else ())], **given).start()
+        more = [*args, *(configured(at, config) if config else ())]
+        if tokens:
+            save(f"{at}/tokens", "".join(f"{line}\n" for line in tokens))
+            more += ["--token-file", f"{at}/tokens"]
+        yield Server(at, args=more, **given).start()
 
 
 @contextmanager
@@ -491,11 +521,26 @@ def sqlite(path, statement, *given):
         return base.execute(statement, given).fetchall()
 
 
+@contextmanager
+def locked(path):
+    """Nobody writes to an SQLite database meanwhile."""
+    with closing(sqlite3.connect(path, isolation_level=None, timeout=LOCKED)) as base:
+        base.execute("begin immediate")
+        yield
+        base.execute("rollback")
+
+
 def beside(work, *given):
     """A thread that has begun to do this."""
     thread = threading.Thread(target=work, args=given)
     thread.start()
     return thread
+
+
+def at_once(work, each):
+    """Does this with each of these, all at the same time."""
+    for thread in [beside(work, one) for one in each]:
+        thread.join()
 
 
 def raised(kind, call, *words):

@@ -13,8 +13,8 @@ import sys
 import time
 
 from harness import (
-    ACK_COMPLETED, COMMAND, ENVIRONMENT, HERE, PROGRAM, SETTINGS, TOP, Server, Service, beside, caught_up, content, folder, free_port, save, served,
-    served_job, sqlite, until
+    COMMAND, ENVIRONMENT, HERE, PROGRAM, SETTINGS, TOP, Server, Service, beside, caught_up, content, folder, free_port, ran, save, served, served_job, sqlite,
+    told_by, until
 )
 from places import Bucket, around
 from postgres import postgres
@@ -25,96 +25,73 @@ from test_runner import Lines
 KEEPING = ["--image-calls", "20", "--keep-calls", "40"]
 
 
-def ran(*words, status=0):
-    """What the program prints on standard output, and after it on standard error, where it says nothing if it has done its work."""
-    told = subprocess.run([PROGRAM, *map(str, words)], env=ENVIRONMENT, stdout=subprocess.PIPE, stderr=subprocess.PIPE, text=True, timeout=COMMAND, check=False)
-    assert told.returncode == status and (status or not told.stderr), (words, told)
-    return told.stdout + told.stderr
-
-
-class Asked:
-    """Commands of one service."""
-
-    def __init__(self, server, *more):
-        self.more = ["--url", server.url, *more]
-
-    def __call__(self, *words, status=0):
-        return ran(*words, *self.more, status=status)
-
-    def json(self, *words):
-        return json.loads(self(*words, "--json"))
-
-
 def test_what_a_job_is():
     with served() as server:
-        ask = Asked(server)
-        assert ask("jobs").split() == "JOB MODE CALLS PENDING IN USE WAITING TAKEN LAST COMPLETED".split() and ask.json("jobs") == []
+        assert server.ask("jobs").split() == "JOB MODE CALLS PENDING IN USE WAITING TAKEN LAST COMPLETED".split() and server.ask_json("jobs") == []
         job = Service(server.url).open("orders", SETTINGS, [1, 2])
         job.calls([savepoint(), ack(1, "0.0", [11]), ack(1, "1.0", [21]), ack(1, "1.1"), savepoint(), ack(2, "0.0", [12], [11])])
         job.calls([dispose(1)])
         [file] = job.take(1)
         assert file == 21
         caught_up(job)
-        row = ask("jobs").splitlines()[1].split()
+        row = server.ask("jobs").splitlines()[1].split()
         assert row == ["orders", "running", "10", "1", "2", "0", "1"], row
         # what each says as JSON is what the API says, at the same moment or another
-        [listed], shown = ask.json("jobs"), ask.json("show", "orders")
+        [listed], shown = server.ask_json("jobs"), server.ask_json("show", "orders")
         for told in (listed, shown):
             assert {**told, "now": 0} == {**job.state(), "now": 0}
-        text = ask("show", "orders")
+        text = server.ask("show", "orders")
         for words in ("mode                   running", "2 in use, 0 waiting, 1 taken", "shape                  1 2", "2       savepoint  pending  2"):
             assert words in text, (words, text)
-        assert ask.json("show", "orders", 2) == job.record(2) and ask.json("files", "orders") == job.files()
-        text = ask("show", "orders", 2)
+        assert server.ask_json("show", "orders", 2) == job.record(2) and server.ask_json("files", "orders") == job.files()
+        text = server.ask("show", "orders", 2)
         assert "2 of 3: 1.0 1.1" in text and "savepoint" in text, text
-        text = ask("show", "orders", 1)
+        text = server.ask("show", "orders", 1)
         assert "completed" in text and "disposed" in text, text
-        assert ask("files", "orders").splitlines()[1].split() == ["21", "taken", "5", "9", "10"], ask("files", "orders")
-        assert ask.json("files", "orders", 21) == job.file(21)
-        text = ask("files", "orders", 21)
+        assert server.ask("files", "orders").splitlines()[1].split() == ["21", "taken", "5", "9", "10"], server.ask("files", "orders")
+        assert server.ask_json("files", "orders", 21) == job.file(21)
+        text = server.ask("files", "orders", 21)
         assert "savepoint 1 was disposed of" in text and "by call 5: in * ack" in text, text
-        assert "record 2, subtask 0.0" in ask("files", "orders", 11)
+        assert "record 2, subtask 0.0" in server.ask("files", "orders", 11)
 
 
 def test_a_record_that_expired_names_who_was_missing():
     """And not the slowest of those that came, which did nothing wrong."""
-    with served() as server:
-        ask, job = Asked(server), Service(server.url).open("orders", {**SETTINGS, "tolerable": 1}, [1, 3])
+    with served_job("orders", {**SETTINGS, "tolerable": 1}, [1, 3]) as (server, job):
         job.calls([savepoint(), ack(1, "0.0"), ack(1, "1.0"), ack(1, "1.1")])
         for how, timeout in (("pending", 1 << 40), ("expired", 1)):
             job.set(timeout=timeout)
             caught_up(job)
             until(lambda wanted=how: job.record(1)["history"]["how"] == wanted)
-            words = [line.split() for line in ask("show", "orders", 1).splitlines()]
+            words = [line.split() for line in server.ask("show", "orders", 1).splitlines()]
             assert ["missing", "1", "of", "4:", "1.2"] in words and not [it for it in words if it[0] == "slowest"], (how, words)
         job.set(timeout=1 << 40)
         job.calls([savepoint(), *(ack(2, subtask) for subtask in ("0.0", "1.1", "1.2", "1.0"))])
         caught_up(job)
-        assert ["slowest", "1.0"] in [line.split() for line in ask("show", "orders", 2).splitlines()], ask("show", "orders", 2)
+        assert ["slowest", "1.0"] in [line.split() for line in server.ask("show", "orders", 2).splitlines()], server.ask("show", "orders", 2)
 
 
 def test_the_log():
-    with served() as server:
-        ask, job = Asked(server), Service(server.url).open("orders", SETTINGS, [1])
+    with served_job("orders", SETTINGS, [1]) as (server, job):
         for _ in range(3):
             job.calls([{"call": "tick"}] * 700)
         log = list(job.log(terms=False))
-        lines = ask("log", "orders", "--json").splitlines()
+        lines = server.ask("log", "orders", "--json").splitlines()
         assert [json.loads(line) for line in lines] == log and len(log) == 2102
-        text = ask("log", "orders", "--after", 1995, "--most", 10).splitlines()
+        text = server.ask("log", "orders", "--after", 1995, "--most", 10).splitlines()
         assert [int(line.split()[0]) for line in text] == list(range(1996, 2006)), text
         assert text[0].endswith(f"{log[1995]['line']}  ->  {log[1995]['answer']}"), text[0]
-        assert len(ask("log", "orders", "--most", 1500).splitlines()) == 1500 and ask("log", "orders", "--after", 2102) == ""
+        assert len(server.ask("log", "orders", "--most", 1500).splitlines()) == 1500 and server.ask("log", "orders", "--after", 2102) == ""
         # a reader that has read enough
-        piped = subprocess.run(["bash", "-c", 'set -o pipefail; "$@" | head -1', "log", PROGRAM, "log", "orders", *ask.more], stdout=subprocess.PIPE, stderr=subprocess.PIPE, text=True, check=False)
+        words = ["bash", "-c", 'set -o pipefail; "$@" | head -1', "log", PROGRAM, "log", "orders", "--url", server.url]
+        piped = subprocess.run(words, capture_output=True, text=True, check=False)
         assert piped.returncode == 0 and len(piped.stdout.splitlines()) == 1 and not piped.stderr, piped
         return f"{len(log)} calls"
 
 
 def test_calls_of_a_user():
-    with served() as server:
-        ask, job = Asked(server), Service(server.url).open("orders", SETTINGS, [1])
-        assert ask("savepoint", "orders") == "savepoint 1 is triggered\n"
+    with served_job("orders", SETTINGS, [1]) as (server, job):
+        assert server.ask("savepoint", "orders") == "savepoint 1 is triggered\n"
         job.call(ack(1, "0.0", [11]))
 
         def complete():
@@ -123,63 +100,62 @@ def test_calls_of_a_user():
             job.call(ack(2, "0.0", [12]))
 
         engine = beside(complete)
-        told = [json.loads(line) for line in ask("savepoint", "orders", "--wait", COMMAND // 2, "--json").splitlines()]
+        told = [json.loads(line) for line in server.ask("savepoint", "orders", "--wait", COMMAND // 2, "--json").splitlines()]
         engine.join()
         assert [told[0]["savepoint"], told[0]["id"], told[1]] == ["triggered", 2, {"completed": 2}], told
         began = time.monotonic()
-        told = ask("savepoint", "orders", "--wait", 1, status=75)
+        told = server.ask("savepoint", "orders", "--wait", 1, status=75)
         assert told.startswith("savepoint 3 is triggered\n") and "savepoint 3 is not complete yet" in told and time.monotonic() - began > 0.9, told
-        assert ask("dispose", "orders", 1) == "the savepoint is disposed of; files that wait for deletion now: 1 more\n"
-        assert "the coordinator refuses it: NoSuchSavepoint" in ask("dispose", "orders", 1, status=1)
-        assert ask("restore", "orders", "--savepoint", 2, "--shape", "2,1", "--without-look") == "the job begins again, from savepoint 2; files that wait for deletion now: 0 more; the term is 2\n"
+        assert server.ask("dispose", "orders", 1) == "the savepoint is disposed of; files that wait for deletion now: 1 more\n"
+        assert "the coordinator refuses it: NoSuchSavepoint" in server.ask("dispose", "orders", 1, status=1)
+        assert server.ask("restore", "orders", "--savepoint", 2, "--shape", "2,1", "--without-look") == "the job begins again, from savepoint 2; files that wait for deletion now: 0 more; the term is 2\n"
         assert job.state()["shape"] == [2, 1]
-        assert ask.json("restore", "orders")["restore"] == "savepoint"
-        assert "NoSuchSavepoint" in ask("restore", "orders", "--savepoint", 9, status=1)
+        assert server.ask_json("restore", "orders")["restore"] == "savepoint"
+        assert "NoSuchSavepoint" in server.ask("restore", "orders", "--savepoint", 9, status=1)
         # one that ends before it is complete
-        ending = beside(lambda: until(lambda: (live := job.state()["live"]) and live[-1]["id"] == 4) and ask("cancel", "orders"))
-        told = ask("savepoint", "orders", "--wait", COMMAND // 2, status=1)
+        ending = beside(lambda: until(lambda: (live := job.state()["live"]) and live[-1]["id"] == 4) and server.ask("cancel", "orders"))
+        told = server.ask("savepoint", "orders", "--wait", COMMAND // 2, status=1)
         ending.join()
         assert "savepoint 4 ended before it was complete" in told, told
-        assert "NotRunning" in ask("cancel", "orders", status=1) and job.state()["mode"] == "cancelled"
+        assert "NotRunning" in server.ask("cancel", "orders", status=1) and job.state()["mode"] == "cancelled"
 
 
 def test_statuses():
-    with folder() as at:
-        for name, text in ("write", "w" * 20), ("read", "r" * 20), ("bad", "x" * 20):
-            save(f"{at}/{name}", f"{text}\n")
-        save(f"{at}/tokens", f"write {'w' * 20}\nread {'r' * 20}\n")
-        server = Server(at, args=["--token-file", f"{at}/tokens"]).start()
+    with served(tokens=[f"write {'w' * 20}", f"read {'r' * 20}"]) as server:
+        for token in "wrx":
+            save(f"{server.folder}/{token}", f"{token * 20}\n")
         Service(server.url, token="w" * 20).open("orders", SETTINGS, [1])
-        ask = {name: Asked(server, "--token-file", f"{at}/{name}") for name in ("write", "read", "bad")}
-        assert "orders" in ask["read"]("jobs") and ask["write"]("savepoint", "orders").startswith("savepoint 1")
+
+        def asked(*words, token="r", status=0):
+            return server.ask(*words, "--token-file", f"{server.folder}/{token}", status=status)
+
+        assert "orders" in asked("jobs") and asked("savepoint", "orders", token="w").startswith("savepoint 1")
         for words, status, text in [
             (("show", "other"), 1, "404: there is no job other"), (("show", "orders", 9), 1, "has no record 9"),
             (("savepoint", "../x"), 2, "1 to 64 of a-z"), (("show", "orders", "x"), 2, "invalid"), (("files", "orders", "--most", 0), 2, "1..=1000"),
             (("restore", "orders", "--shape", "1,x"), 2, "invalid"), (("nothing",), 2, "nothing"),
         ]:
-            assert text in ask["read"](*words, status=status), words
-        assert "401" in ask["bad"]("jobs", status=78) and "401" in ask["read"]("cancel", "orders", status=78)
-        assert "--token-file: No such file" in ran("jobs", "--token-file", f"{at}/none", status=78) and "ftp" in ran("jobs", "--url", "ftp://x", status=78)
+            assert text in asked(*words, status=status), words
+        assert "401" in asked("jobs", token="x", status=78) and "401" in asked("cancel", "orders", status=78)
+        assert "--token-file: No such file" in asked("jobs", token="none", status=78) and "ftp" in ran("jobs", "--url", "ftp://x", status=78)
         server.process.send_signal(signal.SIGSTOP)
         # a half of the time for each try: the client has one address, and asks it again
-        assert "not reached: it did not answer within 1.0 s" in ask["read"]("jobs", "--within", 2, status=75)
+        assert "not reached: it did not answer within 1.0 s" in asked("jobs", "--within", 2, status=75)
         server.process.send_signal(signal.SIGCONT)
         server.stop()
-        told = ask["read"]("jobs", "--within", 3, status=75)
+        told = asked("jobs", "--within", 3, status=75)
         assert "not reached" in told and "it is asked again" in told, told
         # the next address is asked
         server.start()
-        gone = f"http://127.0.0.1:{free_port()}"
-        assert "orders" in ran("jobs", "--url", gone, *ask["read"].more)
+        assert "orders" in asked("jobs", "--url", f"http://127.0.0.1:{free_port()}")
 
 
 def test_terms():
     with served_job("orders", SETTINGS, [1], 0) as (server, job):
-        ask = Asked(server)
-        assert "the term is 2" in ask("restore", "orders")
-        assert ask.json("term", "orders")["term"] == 2 and ask("term", "orders").split() == ["term", "2", "next", "name", "1"]
+        assert "the term is 2" in server.ask("restore", "orders")
+        assert server.ask_json("term", "orders")["term"] == 2 and server.ask("term", "orders").split() == ["term", "2", "next", "name", "1"]
         job.begin().session().name()
-        assert "reserve * " in ask("log", "orders") and "reserve 3 " in ask("log", "orders", "--terms") and "next name" in ask("show", "orders")
+        assert "reserve * " in server.ask("log", "orders") and "reserve 3 " in server.ask("log", "orders", "--terms") and "next name" in server.ask("show", "orders")
 
 
 def worked(job, rounds, first=1):
@@ -209,41 +185,23 @@ def test_check():
             assert told.startswith("job orders: ") and "are as this program has them" in told, told
         working.join()
         assert server.stop() == 0
-        last, first = job_rows(database)
+        last, first = sqlite(database, "select max(seq), min(seq) from call where job = 1")[0]
         assert first > 1
-        # an answer, an image that its digest fits, an image that it does not, a gap, and a row that can't be read
-        base = sqlite(database, f"select min(seq) from image where job = 1 and seq >= {first - 1}")[0][0]
-        place, *was = sqlite(database, f"select seq, a, b from call where job = 1 and seq > {base} and what = {ACK_COMPLETED} order by seq limit 1")[0]
-        sqlite(database, "update call set a = 7, b = 7 where job = 1 and seq = ?", place)
-        told = ran(*check, status=1)
-        assert f'job orders, call {place} ' in told and f'the log says "ack completed 7 7", and this program answers "ack completed {was[0]} {was[1]}"' in told, told
-        assert "job users: 3 calls" in told and json.loads(ran(*check, "--json", "--job", "orders", status=1))["alike"] is False
-        ran(*check, "--job", "users")
-        sqlite(database, "update call set a = ?, b = ? where job = 1 and seq = ?", *was, place)
+        # an image that its digest fits, and a log that ends before it (test_damaged.py has other damages)
         row = sqlite(database, "select job, seq, at, shape, completed, event, text, digest from image where job = 1 order by seq desc limit 1")[0]
-        moved = (*row[:5], row[5] - 1, row[6])
         completed = "None" if row[4] is None else f"Some({row[4]})"
-        digest = hashlib.sha256(f"{row[0]} {row[1]} {row[2]} {row[3]} {completed} {moved[5]} {row[6]}".encode()).hexdigest()
-        sqlite(database, "update image set event = ?, digest = ? where job = 1 and seq = ?", moved[5], digest, row[1])
-        assert f"the image after call {row[1]}: it is not what the calls before it give" in ran(*check, status=1)
-        sqlite(database, "update image set digest = 'x' where job = 1 and seq = ?", row[1])
-        assert "its digest is not that of what it says" in ran(*check, status=1)
-        sqlite(database, "update image set event = ?, digest = ? where job = 1 and seq = ?", row[5], row[7], row[1])
+        digest = hashlib.sha256(f"{row[0]} {row[1]} {row[2]} {row[3]} {completed} {row[5] - 1} {row[6]}".encode()).hexdigest()
+        change = "update image set event = ?, digest = ? where job = 1 and seq = ?"
+        sqlite(database, change, row[5] - 1, digest, row[1])
+        told = ran(*check, status=1)
+        assert f"the image after call {row[1]}: it is not what the calls before it give" in told and "job users: 3 calls" in told, told
+        assert json.loads(ran(*check, "--json", "--job", "orders", status=1))["alike"] is False
+        ran(*check, "--job", "users")
+        sqlite(database, change, row[5], row[7], row[1])
         ran(*check)
-        sqlite(database, "update call set waiting = -1 where job = 1 and seq = ?", last)
-        assert "a row of call has Number(-1) in column 11" in ran(*check, status=1)
-        sqlite(database, "delete from call where job = 1 and seq = ?", last - 1)
-        sqlite(database, "update call set waiting = 0 where job = 1 and seq = ?", last)
-        assert f"call {last - 1} is missing" in ran(*check, status=1)
-        # the log ends before the last image
         sqlite(database, "delete from call where job = 1 and seq >= ?", row[1])
-        assert f"call {min(row[1], last - 1)} is missing" in ran(*check, status=1)
+        assert f"call {row[1]} is missing" in ran(*check, status=1)
         return f"{last - first + 1} calls of {last}, with 10 checks beside a service"
-
-
-def job_rows(database):
-    """The last and the first call that the log of the first job has."""
-    return sqlite(database, "select max(seq), min(seq) from call where job = 1")[0]
 
 
 def test_check_of_other_databases():
@@ -256,9 +214,6 @@ def test_check_of_other_databases():
         until(lambda: job.state()["first"] > 1)
         told = ran(*check)
         assert "are as this program has them" in told and "and 0 images" not in told, told
-        seq = int(database.sql(f"select max(seq) from call where what = {ACK_COMPLETED}"))
-        database.sql(f"update call set a = 5, b = 5 where seq = {seq}")
-        assert f"job orders, call {seq} " in ran(*check, status=1)
         assert "there is no job other" in ran(*check, "--job", "other", status=78)
         database.sql("update schema_version set number = 99")
         assert "have version 99" in ran(*check, status=78)
@@ -279,15 +234,14 @@ def test_the_environment_gives_the_address_and_the_token():
     helps = {name: ran(name, "--help") for name in verbs()}
     asking = {name: text for name, text in helps.items() if "--url" in text}
     assert len(asking) > 15 and all("RELKVANU_URL" in text and "RELKVANU_TOKEN_FILE" in text for text in asking.values()), asking
-    with folder() as at:
-        for name, token in ("tokens", "write 0123456789abcdef0123"), ("token", "0123456789abcdef0123"):
-            save(f"{at}/{name}", token + "\n")
-        server = Server(at, args=["--token-file", f"{at}/tokens"], token="0123456789abcdef0123").start()
-        environment = {**ENVIRONMENT, "RELKVANU_URL": f"http://127.0.0.1:{free_port()} {server.url}", "RELKVANU_TOKEN_FILE": f"{at}/token"}
+    token = "0123456789abcdef0123"
+    with served(tokens=[f"write {token}"], token=token) as server:
+        at = server.folder
+        save(f"{at}/token", f"{token}\n")
 
-        def asked(*words, **more):
-            told = subprocess.run([PROGRAM, *words], env={**environment, **more}, stdout=subprocess.PIPE, stderr=subprocess.STDOUT, text=True, timeout=COMMAND, check=False)
-            return told.returncode, told.stdout
+        def asked(*words, file="token"):
+            status, out, wrong = told_by(*words, RELKVANU_URL=f"http://127.0.0.1:{free_port()} {server.url}", RELKVANU_TOKEN_FILE=f"{at}/{file}")
+            return status, out + wrong
 
         assert asked("jobs", "--json") == (0, "[]\n")
         # what Python does
@@ -295,8 +249,7 @@ def test_the_environment_gives_the_address_and_the_token():
             status, told = asked(*words)
             assert status == 1 and "there is no job none" in told, (status, told)
         assert asked("jobs", "--url", f"http://127.0.0.1:{free_port()}", "--within", "1")[0] == 75
-        assert asked("jobs", RELKVANU_TOKEN_FILE=f"{at}/none")[0] == 78
-        server.stop()
+        assert asked("jobs", file="none")[0] == 78
     return f"{len(asking)} commands"
 
 

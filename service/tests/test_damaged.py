@@ -1,8 +1,6 @@
 """A job whose log can't be replayed is kept out, and the others are served: over SQLite and PostgreSQL, at a start and a take-over."""
-import subprocess
-
 from described import fits
-from harness import CALL, COMMAND, PROGRAM, Server, Service, configured, folder, lease_of, served, sqlite, until
+from harness import CALL, Server, Service, configured, folder, lease_of, ran, served, sqlite, told_by, until
 from postgres import postgres
 from relkvanu_service import ack, savepoint
 from test_metrics import scraped
@@ -127,15 +125,13 @@ def looked_at(server, database, sound):
         is_kept_out(server, name, said)
         assert f'relkvanu_job_damaged{{job_name="{name}"}}' in scraped(server)[1], name
         assert f"job {name} is damaged, and is kept out: " in server.log(), name
-    told = subprocess.run([PROGRAM, "jobs", "--url", server.url], stdout=subprocess.PIPE, stderr=subprocess.PIPE, text=True, check=True, timeout=COMMAND)
-    assert all(f"job {name} is damaged" in told.stderr and name not in told.stdout for name in DAMAGES), told
+    status, told, wrong = told_by("jobs", "--url", server.url)
+    assert status == 0 and all(f"job {name} is damaged" in wrong and name not in told for name in DAMAGES), (told, wrong)
     fit_the_description(server)
-    address = server.database if isinstance(database, Sqlite) else database.url
-    told = subprocess.run([PROGRAM, "check", "--database", address], stdout=subprocess.PIPE, stderr=subprocess.PIPE, text=True, check=False, timeout=COMMAND)
-    lines = told.stdout.splitlines()
+    told = ran("check", "--database", server.database if isinstance(database, Sqlite) else database.url, status=1)
     for name, (_, said) in DAMAGES.items():
-        assert any(f"job {name}" in line and said in line for line in lines), (name, told)
-    assert told.returncode == 1 and f"job good: {sound['good']['seq']} calls" in told.stdout, told
+        assert any(f"job {name}" in line and said in line for line in told.splitlines()), (name, told)
+    assert f"job good: {sound['good']['seq']} calls" in told, told
 
 
 def damaged_and_mended(server, database, start, stop):

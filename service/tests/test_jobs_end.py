@@ -1,11 +1,9 @@
 """Jobs that are deleted, with what was kept of them; and logs that are cut by their bytes."""
-import json
 import math
 import shutil
 import signal
-import subprocess
 
-from harness import PROGRAM, Server, Service, beside, caught_up, configured, folder, lease_of, served, sqlite, until
+from harness import Server, Service, beside, caught_up, configured, folder, lease_of, served, sqlite, until
 from postgres import postgres
 from relkvanu_service import Failed, ack, cancel, deleted, dispose, savepoint
 from run import Skipped
@@ -164,18 +162,11 @@ def test_the_command_deletes():
         service = Service(server.url)
         job = service.open("orders", {**SETTINGS, "keep_on_cancel": True}, [1])
         job.calls([savepoint(), ack(1, "0.0", [1])])
-
-        def run(*words):
-            told = subprocess.run([PROGRAM, "delete", *words, "--url", server.url], stdout=subprocess.PIPE, stderr=subprocess.PIPE, text=True, check=False)
-            return told.returncode, told.stdout, told.stderr
-
-        assert run("orders")[0] == 1 and "cancel it first" in run("orders")[2], run("orders")
+        assert "cancel it first" in server.ask("delete", "orders", status=1)
         job.call(cancel())
-        told = run("orders")
-        assert told[0] == 1 and "1 in use, 0 waiting for deletion, 0 taken" in told[2], told
-        assert run("orders", "--abandon", "--json") == (0, json.dumps({"deleted": "orders"}, separators=(",", ":")) + "\n", "")
-        told = run("orders")
-        assert told[0] == 1 and "there is no job orders" in told[2], told
+        assert "1 in use, 0 waiting for deletion, 0 taken" in server.ask("delete", "orders", status=1)
+        assert server.ask("delete", "orders", "--abandon", "--json") == '{"deleted":"orders"}\n'
+        assert "there is no job orders" in server.ask("delete", "orders", status=1)
 
 
 def test_logs_are_cut_by_their_bytes():

@@ -1,19 +1,11 @@
 """What an operator does to a job that runs: a checkpoint now, and other settings, over the API, the client and the commands."""
 import json
-import subprocess
 
-
-from harness import COMMAND, PROGRAM, Service, caught_up, raised, served, served_job, until
+from harness import Service, caught_up, raised, ran, served, served_job, until
 from relkvanu_service import Failed, Fenced, Refused, ack, cancel
 
 NEVER = 1 << 40
 DEFAULTS = {"pause": 0, "at_once": 1, "timeout": 600_000, "tolerable": 0, "retained": 1, "keep_on_cancel": False}
-
-
-def ran(server, *words, status=0):
-    told = subprocess.run([PROGRAM, *map(str, words), "--url", server.url], stdout=subprocess.PIPE, stderr=subprocess.PIPE, text=True, timeout=COMMAND, check=False)
-    assert told.returncode == status, (words, told)
-    return told.stdout + told.stderr
 
 
 def refused(make):
@@ -119,23 +111,23 @@ def test_a_checkpoint_under_a_key_is_triggered_once():
 
 def test_the_commands():
     with served_job("orders", {"interval": NEVER}, [1]) as (server, job):
-        assert ran(server, "checkpoint", "orders") == "checkpoint 1 is triggered\n"
-        assert "the coordinator refuses it: AtOnce" in ran(server, "checkpoint", "orders", status=1)
+        assert server.ask("checkpoint", "orders") == "checkpoint 1 is triggered\n"
+        assert "the coordinator refuses it: AtOnce" in server.ask("checkpoint", "orders", status=1)
         job.call(ack(1, "0.0", [11]))
-        told = ran(server, "checkpoint", "orders", "--wait", 1, status=75)
+        told = server.ask("checkpoint", "orders", "--wait", 1, status=75)
         assert told.startswith("checkpoint 2 is triggered\n") and "checkpoint 2 is not complete yet" in told, told
-        told = ran(server, "set", "orders", "interval=30000", "keep_on_cancel=true")
+        told = server.ask("set", "orders", "interval=30000", "keep_on_cancel=true")
         assert "interval 30000" in told and "keep_on_cancel true" in told and "retained 1" in told, told
-        assert json.loads(ran(server, "set", "orders", "retained=2", "--json"))["settings"] == {**DEFAULTS, "interval": 30_000, "retained": 2, "keep_on_cancel": True}
-        assert "interval is no whole number from 10 to" in ran(server, "set", "orders", "interval=9", status=2)
-        assert "speed is no field here" in ran(server, "set", "orders", "speed=9", status=2)
-        assert "is no number" in ran(server, "set", "orders", "interval=30s", status=2)
-        ran(server, "set", "orders", status=2)
-        assert "there is no job" in ran(server, "set", "users", "interval=30000", status=1)
-        assert server.folder in ran(server, "set", "orders", "--folder", server.folder, "--prefix", "state-")
+        assert json.loads(server.ask("set", "orders", "retained=2", "--json"))["settings"] == {**DEFAULTS, "interval": 30_000, "retained": 2, "keep_on_cancel": True}
+        assert "interval is no whole number from 10 to" in server.ask("set", "orders", "interval=9", status=2)
+        assert "speed is no field here" in server.ask("set", "orders", "speed=9", status=2)
+        assert "is no number" in server.ask("set", "orders", "interval=30s", status=2)
+        server.ask("set", "orders", status=2)
+        assert "there is no job" in server.ask("set", "users", "interval=30000", status=1)
+        assert server.folder in server.ask("set", "orders", "--folder", server.folder, "--prefix", "state-")
         assert job.state()["storage"] == {"folder": server.folder, "prefix": "state-", "suffix": ""}, job.state()
         for words in (["--folder", "/srv", "interval=30000"], ["--bucket", "a/b"], ["--folder", "/srv", "--bucket", "a"], ["--prefix", "state-"]):
-            ran(server, "set", "orders", *words, status=2)
+            server.ask("set", "orders", *words, status=2)
         try:
             job.set(interval=9)
         except Failed as failed:
@@ -153,7 +145,7 @@ def test_a_full_checkpoint_has_no_base():
 
         completed(job, 11)
         completed(job, 12)
-        assert ran(server, "checkpoint", "orders", "--full") == "checkpoint 3 is triggered\n"
+        assert server.ask("checkpoint", "orders", "--full") == "checkpoint 3 is triggered\n"
         told = [{"kind": "fresh"}, {"kind": "checkpoint", "id": 1}, {"kind": "fresh"}]
         assert bases() == told, bases()
         job.call(ack(3, "0.0", [13]))
@@ -207,8 +199,8 @@ def test_back_to_an_older_checkpoint():
         old = tasks.start
         told = server.request("POST", "/v1/jobs/orders/calls", {"calls": [{"call": "restore", "from": {"checkpoint": made[1]}}]})
         assert told[0] == 400 and told[2]["field"] == "calls[0].accept_published" and "not taken back" in told[2]["error"], told
-        assert "--accept-published" in ran(server, "restore", "orders", "--checkpoint", made[1], status=2)
-        assert "NoSuchCheckpoint" in ran(server, "restore", "orders", "--checkpoint", 99, "--accept-published", status=1)
+        assert "--accept-published" in server.ask("restore", "orders", "--checkpoint", made[1], status=2)
+        assert "NoSuchCheckpoint" in server.ask("restore", "orders", "--checkpoint", 99, "--accept-published", status=1)
         assert [one["id"] for one in job.state()["live"] if one["done"]] == made
         tasks.take_over(job.go_back(made[1], accept_published=True))
         assert (tasks.start.kind, tasks.start.term) == ("savepoint", old.term + 1), tasks.start
@@ -231,8 +223,7 @@ def test_back_to_an_older_checkpoint():
         job.call(cancel())
         assert refused(lambda: job.go_back(last, True)) in ("NoSuchCheckpoint", "NotRunning")
         assert server.stop() == 0
-        told = subprocess.run([PROGRAM, "check", "--database", server.database], stdout=subprocess.PIPE, stderr=subprocess.STDOUT, text=True, timeout=COMMAND, check=False)
-        assert told.returncode == 0, told
+        ran("check", "--database", server.database)
 
 
 def test_an_advance():
@@ -250,10 +241,10 @@ def test_an_advance():
         assert [job.advance(0, 1, "k")["term"] for _ in range(2)] == [102, 102] and job.term() == {"term": 102, "next_name": 6000}
         [first, *_] = [entry for entry in job.log(terms=False) if entry["line"].startswith("advance")]
         assert first["line"].split()[2:] == ["*", "5000"] and next(entry for entry in job.log(terms=True) if entry["seq"] == first["seq"])["line"].split()[2:] == ["100", "5000"], first
-        told = ran(server, "advance", "orders")
+        told = server.ask("advance", "orders")
         assert told == f"the job begins again, from checkpoint {made}; files that wait for deletion now: 0 more; the term is {102 + 2**32 + 1}\n", told
         assert job.term()["next_name"] == 6000 + 2**40
-        ran(server, "advance", "orders", "--term", 2**33, "--name", 2**41)
+        server.ask("advance", "orders", "--term", 2**33, "--name", 2**41)
         before = job.term()
         assert before == {"term": 2**33 + 1, "next_name": 2**41} and server.log().count("calls=advance") == 5, before
         server.again()
@@ -269,6 +260,5 @@ def test_an_advance():
         job.call(cancel())
         assert refused(lambda: job.advance(0, 1)) == "NotRunning"
         assert server.stop() == 0
-        told = subprocess.run([PROGRAM, "check", "--database", server.database], stdout=subprocess.PIPE, stderr=subprocess.STDOUT, text=True, timeout=COMMAND, check=False)
-        assert told.returncode == 0, told
+        ran("check", "--database", server.database)
         return f"terms up to {before['term']}"

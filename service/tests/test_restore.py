@@ -3,10 +3,10 @@ import json
 import os
 import subprocess
 
-from harness import COMMAND, PROGRAM, Server, Service, caught_up, folder, raised, served, until
+from harness import PROGRAM, Server, Service, caught_up, folder, raised, served, told_by, until
 from postgres import postgres
 from relkvanu_service import ack, savepoint
-from test_commands import SETTINGS, Asked
+from test_commands import SETTINGS
 
 
 def write(folder, *files):
@@ -26,11 +26,10 @@ def test_files_of_another_length():
         job.calls([savepoint(), ack(1, "0.0", [1, 2], sizes=[5, 5]), ack(1, "0.1", [3])])
         job.calls([savepoint(), ack(2, "0.0", [], [1, 3]), ack(2, "0.1", [], [1])])
         caught_up(job)
-        words = [PROGRAM, "savepoints", "orders", "--folder", files, "--prefix", "s-", "--suffix", ".bin", "--url", server.url]
 
         def absent():
-            told = subprocess.run([*words, "--json"], stdout=subprocess.PIPE, stderr=subprocess.PIPE, text=True, timeout=COMMAND, check=False)
-            return told.returncode, {row["id"]: row["absent"] for row in json.loads(told.stdout)}
+            status, told, _ = told_by("savepoints", "orders", "--folder", files, "--prefix", "s-", "--suffix", ".bin", "--url", server.url, "--json")
+            return status, {row["id"]: row["absent"] for row in json.loads(told)}
 
         assert absent() == (0, {1: [], 2: []})
         for length in (4, 6):
@@ -48,7 +47,7 @@ def test_a_restore_by_number_looks_first():
         os.mkdir(files)
         job = Service(server.url).open("orders", {**SETTINGS, "retained": 3}, [1], 0)
         job.claim(files)
-        session, ask, numbers = job.begin().session(), Asked(server), []
+        session, numbers = job.begin().session(), []
         for _ in range(3):
             name, id = session.name(), job.checkpoint()["id"]
             write(files, name)
@@ -60,22 +59,22 @@ def test_a_restore_by_number_looks_first():
         at = ["--folder", files, "--prefix", "s-", "--suffix", ".bin"]
         os.remove(f"{files}/s-1.bin")
         os.truncate(f"{files}/s-{name}.bin", 4)
-        rows, choice = ask.json("savepoints", "orders", *at), job.state()["choice"]["id"]
+        rows, choice = server.ask_json("savepoints", "orders", *at), job.state()["choice"]["id"]
         assert {row["id"]: row["absent"] for row in rows} == {numbers[0]: ["1"], numbers[1]: [], numbers[2]: [], saved: [str(name)]}, rows
         assert [(row["kind"], row["files"], row["latest"]) for row in rows] == [("savepoint" if row["id"] == saved else "checkpoint", 1, row["id"] == choice) for row in rows], rows
-        assert "No such file" in ask("savepoints", "orders", "--folder", f"{files}/none", status=78)
+        assert "No such file" in server.ask("savepoints", "orders", "--folder", f"{files}/none", status=78)
         before = job.state()
         for words, file in ((["--checkpoint", numbers[0], "--accept-published"], 1), (["--savepoint", saved], name)):
-            told = ask("restore", "orders", *words, *at, status=1)
+            told = server.ask("restore", "orders", *words, *at, status=1)
             assert "nothing has changed" in told and told.rstrip().endswith(f": {file}"), told
-            assert "nothing has changed" in ask("restore", "orders", *words, status=2)
+            assert "nothing has changed" in server.ask("restore", "orders", *words, status=2)
         after = job.state()
         assert (after["seq"], after["live"], after["files"]) == (before["seq"], before["live"], before["files"]), after
         with open(f"{files}/{name}", "wb") as it:
             it.write(b"stat")
         why = raised(FileNotFoundError, lambda: job.begin(saved, folder=files))
         assert "it has 4 bytes" in str(why) and job.state()["seq"] == before["seq"], why
-        assert "the job begins again" in ask("restore", "orders", "--checkpoint", numbers[1], "--accept-published", *at)
+        assert "the job begins again" in server.ask("restore", "orders", "--checkpoint", numbers[1], "--accept-published", *at)
         assert [one["kind"] for one in job.state()["live"] if one["done"]] == ["savepoint", "savepoint"]
 
 
@@ -86,7 +85,7 @@ def test_a_job_goes_on_from_a_backup():
         os.mkdir(files)
         job = Service(server.url).open("orders", SETTINGS, [1], 0)
         job.claim(files)
-        ask, words = Asked(server), ["restore", "orders", "--from-backup", "--folder", files, "--prefix", "s-", "--suffix", ".bin"]
+        words = ["restore", "orders", "--from-backup", "--folder", files, "--prefix", "s-", "--suffix", ".bin"]
         start = job.begin()
         session = start.session()
         names = [session.name() for _ in range(3)]
@@ -97,15 +96,15 @@ def test_a_job_goes_on_from_a_backup():
         os.truncate(f"{files}/s-{names[2]}.bin", 4)
         for _ in range(2):
             before = job.term()
-            told = subprocess.run([PROGRAM, *words, *ask.more], stdout=subprocess.PIPE, stderr=subprocess.PIPE, text=True, timeout=COMMAND, check=False)
-            assert told.returncode == 0, told
+            told = told_by(*words, "--url", server.url)
+            assert told[0] == 0, told
             after = job.term()
             assert after["term"] > before["term"] + (1 << 32) - 1 and int(after["next_name"]) >= int(before["next_name"]) + (1 << 40), (before, after)
             assert job.state()["choice"]["id"] == 2, job.state()["choice"]
         for name in names[:2]:
             os.remove(f"{files}/s-{name}.bin")
         term = job.term()
-        assert "no such record has all its files in the folder" in ask(*words, status=1) and job.term() == term
+        assert "no such record has all its files in the folder" in server.ask(*words, status=1) and job.term() == term
 
 
 def test_a_dump_is_restored():

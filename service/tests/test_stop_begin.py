@@ -16,7 +16,7 @@ from harness import BUSY, COMMAND, PROGRAM, Server, Service, beside, caught_up, 
 from preloaded import SHIM, Clocks, built, shim
 from relkvanu_service import Failed, OtherLog, ack, cancel, decline, restore
 from test_events import Copy
-from test_operate import NEVER, Tasks, ran, refused
+from test_operate import NEVER, Tasks, refused
 
 HOUR = 3600
 
@@ -174,32 +174,32 @@ def test_a_stopped_job_is_cancelled_and_deleted():
 
 def test_the_commands_of_a_stop():
     with served_job("orders", {"interval": NEVER}, [1]) as (server, job):
-        assert ran(server, "stop", "orders") == "the job stops: savepoint 1 is triggered\n"
-        told = ran(server, "stop", "orders", "--wait", 1, status=75)
+        assert server.ask("stop", "orders") == "the job stops: savepoint 1 is triggered\n"
+        told = server.ask("stop", "orders", "--wait", 1, status=75)
         assert "savepoint 1 is not complete yet" in told, told
-        assert "stopping, savepoint 1" in ran(server, "show", "orders") and "stopping" in ran(server, "jobs")
+        assert "stopping, savepoint 1" in server.ask("show", "orders") and "stopping" in server.ask("jobs")
         waits = subprocess.Popen([PROGRAM, "stop", "orders", "--wait", "600", "--url", server.url], stdout=subprocess.PIPE, text=True)
         job.call(ack(1, "0.0", [11]))
         assert waits.communicate(timeout=COMMAND)[0] == "the job has stopped at savepoint 1\n" and waits.returncode == 0
-        assert json.loads(ran(server, "stop", "orders", "--wait", 1, "--json")) == {"stopped": 1}
-        assert "Stopped" in ran(server, "checkpoint", "orders", status=1)
+        assert json.loads(server.ask("stop", "orders", "--wait", 1, "--json")) == {"stopped": 1}
+        assert "Stopped" in server.ask("checkpoint", "orders", status=1)
         # another shape for a job that has stopped: it stays stopped, and begins in it
-        told = ran(server, "restore", "orders", "--shape", "1,2")
+        told = server.ask("restore", "orders", "--shape", "1,2")
         assert told.startswith("the job stays stopped, and begins from savepoint 1") and job.state()["phase"] == "stopped", told
-        told = ran(server, "begin", "orders")
+        told = server.ask("begin", "orders")
         assert told.startswith("the job begins again, from savepoint 1") and job.state()["shape"] == [1, 2], told
-        ran(server, "restore", "orders", "--shape", "1")
-        assert "NotStopped" in ran(server, "begin", "orders", status=1)
-        ran(server, "stop", "orders")
+        server.ask("restore", "orders", "--shape", "1")
+        assert "NotStopped" in server.ask("begin", "orders", status=1)
+        server.ask("stop", "orders")
         job.call(decline(2, "0.0"))
-        ran(server, "stop", "orders")
+        server.ask("stop", "orders")
         asked = server.log().count("calls=stop")
         waits = subprocess.Popen([PROGRAM, "stop", "orders", "--wait", "600", "--url", server.url], stderr=subprocess.PIPE, text=True)
         until(lambda: server.log().count("calls=stop") > asked)
         job.call(decline(3, "0.0"))
         assert "has not stopped at savepoint 3: declined" in waits.communicate(timeout=COMMAND)[1] and waits.returncode == 1
-        assert "its last stop failed: declined" in ran(server, "show", "orders")
-        assert "there is no job" in ran(server, "begin", "users", status=1)
+        assert "its last stop failed: declined" in server.ask("show", "orders")
+        assert "there is no job" in server.ask("begin", "users", status=1)
         done = [line.rpartition("calls=")[2] for line in server.log().splitlines() if "status=200" in line and "calls=" in line]
         assert done == ["stop", "restore", "begin", "restore", "stop", "stop"], done
 

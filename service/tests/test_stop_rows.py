@@ -1,12 +1,11 @@
 """The rows of a stop and a begin: over PostgreSQL they are committed whole or not at all, and `relkvanu check` compares the phase with the log."""
 import sqlite3
-import subprocess
 import threading
 from contextlib import closing
 
 import requests
 
-from harness import COMMAND, PROGRAM, Server, Service, folder, served, served_job, sqlite, until
+from harness import Server, Service, folder, ran, served, served_job, sqlite, until
 from postgres import postgres
 from relkvanu_service import Failed, ack, restore, savepoint
 from slow import Proxy
@@ -118,19 +117,14 @@ def test_a_stop_and_a_begin_at_each_message_to_postgresql():
                         wanted -= set(enumerate(made[answered:], answered))
                         told[how] += 1
                 assert not wanted, (how, wanted)
-            check = subprocess.run([PROGRAM, "check", "--database", database.url], stdout=subprocess.PIPE, text=True, timeout=COMMAND, check=False)
-            assert check.returncode == 0, check.stdout
+            ran("check", "--database", database.url)
         finally:
             server.stop()
         return ", ".join(f"{count} ends {how}" for how, count in told.items())
 
 
 def checked(server, status):
-    told = subprocess.run(
-        [PROGRAM, "check", "--database", server.database], stdout=subprocess.PIPE, stderr=subprocess.STDOUT, text=True, timeout=COMMAND, check=False
-    )
-    assert told.returncode == status, told
-    return told.stdout
+    return ran("check", "--database", server.database, status=status)
 
 
 class Phase:
