@@ -5,12 +5,10 @@ import os
 import re
 import shutil
 import sqlite3
-import sys
 
-from under_systemd import WRITE, given, install, is_ready, procedure, property_of, request, run, until
-
-sys.path.insert(0, "/try")
-from relkvanu_service import Service, cancel, dispose, savepoint  # noqa: E402
+from harness import ENVIRONMENT, Service, save
+from relkvanu_service import cancel, dispose, savepoint
+from under_systemd import JOB, SERVER, SERVICE, WRITE, given, install, is_ready, procedure, property_of, run, until
 
 FOLDER, MARKER = "/srv/orders", ".relkvanu-orders"
 UNIT, TOKEN = "relkvanu-clean", "/srv/token-orders"
@@ -18,17 +16,12 @@ UNIT, TOKEN = "relkvanu-clean", "/srv/token-orders"
 RECORDS = 40
 
 
-def service():
-    return Service("http://127.0.0.1:7780", token=WRITE)
-
-
 def files():
     return sorted(name for name in os.listdir(FOLDER) if not name.startswith("."))
 
 
 def write(name):
-    with open(f"{FOLDER}/state-{name}.bin", "x", encoding="utf-8") as it:
-        it.write("state")
+    save(f"{FOLDER}/state-{name}.bin", "state")
 
 
 def pending(job):
@@ -44,7 +37,7 @@ def acknowledge(task, record):
 def worked(**settings):
     """A job beside the cleaner. Its records are 40, each with a file: savepoint 12, and checkpoints, of which
     the second waits until the savepoint is there. One more file is begun, and its task ends before it is acknowledged. Returns the job."""
-    job = service().open("orders", {"interval": 10, **settings}, [1])
+    job = SERVICE.open("orders", {"interval": 10, **settings}, [1], 0)
     job.set_storage({"folder": FOLDER, "prefix": "state-", "suffix": ".bin"})
     until(lambda: os.path.exists(f"{FOLDER}/{MARKER}"))
     task, last = job.begin().session(block=100), 0
@@ -61,7 +54,7 @@ def worked(**settings):
 
 
 def is_gone():
-    return request("GET", "/v1/jobs/orders")[0] == 404
+    return SERVER.get("/v1/jobs/orders")[0] == 404
 
 
 def check_the_end_of_a_job():
@@ -85,7 +78,6 @@ def check_a_lost_database():
     until(is_ready)
     assert is_gone() and "relkvanu.db" in os.listdir("/var/lib/relkvanu/aside")
     assert f"orders goes on from checkpoint {last}" in given(*procedure("recover"))
-    job = service().job("orders")
     assert job.state()["storage"] == {"folder": FOLDER, "prefix": "state-", "suffix": ".bin"}
     job.claim(FOLDER)
     task, before = job.begin().session(block=10), files()
@@ -117,7 +109,7 @@ def check_another_machine():
 
 def check_a_damaged_job():
     """The row of one of two jobs is damaged. It goes on from its manifest in a second service, and the first one keeps it out."""
-    service().open("bills", {"interval": 1 << 40}, [1])
+    SERVICE.open("bills", {"interval": 1 << 40}, [1])
     worked(retained=2)
     last = by_its_user("keep")
     run("systemctl", "stop", "relkvanu")
@@ -131,7 +123,7 @@ def check_a_damaged_job():
     assert f"orders goes on from checkpoint {last}" in given(*procedure("damaged"))
     run("systemctl", "start", UNIT)
     second = Service("http://127.0.0.1:7781", token=WRITE).job("orders")
-    assert second.state()["choice"]["id"] == last and request("GET", "/v1/jobs/orders")[1]["reason"] == "damaged"
+    assert second.state()["choice"]["id"] == last and SERVER.get("/v1/jobs/orders")[2]["reason"] == "damaged"
     run("systemctl", "restart", "relkvanu-second")
     assert second.state()["choice"]["id"] == last and property_of("ActiveState", UNIT) == "active"
     end("orders", FOLDER, "--url", "http://127.0.0.1:7781")
@@ -148,9 +140,9 @@ def check_missing_files():
     number = sorted(int(re.sub(r"\D", "", name)) for name in files())[-2]  # the last one is of no record
     os.remove(f"{FOLDER}/state-{number}.bin")
     assert re.search(rf"^{RECORDS} +checkpoint.* 1: {number}$", given(*procedure("missing")), re.MULTILINE)
-    assert service().job("orders").state()["choice"] == {"kind": "savepoint", "id": 12}
+    assert JOB.state()["choice"] == {"kind": "savepoint", "id": 12}
     given("relkvanu cancel orders", "relkvanu delete orders --abandon", *procedure("from-export"))
-    assert service().job("orders").state()["choice"] == {"kind": "checkpoint", "id": RECORDS}
+    assert JOB.state()["choice"] == {"kind": "checkpoint", "id": RECORDS}
     end("orders", "/srv/new/orders")
     for path in ("/srv/export", FOLDER):
         shutil.rmtree(path)
@@ -168,7 +160,7 @@ def check_a_job_that_keeps_its_checkpoints():
     job = worked(keep_on_cancel=True)
     job.call(cancel())
     given(*procedure("cancelled"))
-    assert service().job("orders-2").state()["choice"]["id"] == 12
+    assert SERVICE.job("orders-2").state()["choice"]["id"] == 12
     end("orders-2", "/srv/orders-2")
     assert "so it keeps its checkpoints" in given("relkvanu end orders $FILES", status=1)
     run("systemctl", "stop", UNIT)
@@ -193,11 +185,8 @@ def main():
     for path in (FOLDER, "/srv/kept", "/mnt/var/lib"):
         os.makedirs(path)
     shutil.chown(FOLDER, "orders")
-    shutil.copytree("/try", "/srv/python", ignore=lambda at, names: set(names) - {"relkvanu_service.py", "relkvanu", "library"} if at == "/try" else [])
-    os.environ.update(PYTHONPATH="/srv/python", RELKVANU_LIB="/srv/python/library")
-    os.chmod("/srv/python", 0o755)
-    with open(TOKEN, "w", encoding="utf-8") as it:
-        it.write(f"{WRITE}\n")
+    os.environ["PYTHONPATH"] = ENVIRONMENT["PYTHONPATH"]
+    save(TOKEN, f"{WRITE}\n")
     given(*procedure("clean"))
     check_another_machine()
     check_a_damaged_job()

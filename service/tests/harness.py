@@ -125,9 +125,9 @@ _servers = []
 class Server:
     """A service in a folder of its own, or over the database of another one. At another address than that of this machine requests have its token."""
 
-    def __init__(self, folder, database=None, args=(), prefix=(), host="127.0.0.1", token=None):
+    def __init__(self, folder, database=None, args=(), prefix=(), host="127.0.0.1", token=None, port=None):
         self.folder, self.args, self.prefix, self.host, self.token = folder, list(args), list(prefix), host, token
-        self.port = free_port()
+        self.port = port or free_port()
         self.url = f"http://{host}:{self.port}"
         self.database = database or f"{folder}/relkvanu.db"
         self.log_path = f"{folder}/log-{self.port}"
@@ -273,6 +273,26 @@ class Service(relkvanu_service.Service):
 
     def job(self, name):
         return Numbered(self, name)
+
+
+class Engine(threading.Thread):
+    """Acknowledges each record of these jobs, without a file, until it is told to stop."""
+
+    def __init__(self, *jobs):
+        super().__init__(daemon=True)
+        self.jobs, self.over = jobs, threading.Event()
+        self.start()
+
+    def run(self):
+        while not self.over.wait(0.02):
+            for job in self.jobs:
+                for record in (it["id"] for it in job.state()["live"] if not it["done"]):
+                    if missing := job.record(record)["missing"]:
+                        job.calls([relkvanu_service.ack(record, subtask) for subtask in missing])  # somebody may have ended it, or the term
+
+    def stop(self):
+        self.over.set()
+        self.join()
 
 
 @contextmanager

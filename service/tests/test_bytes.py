@@ -1,10 +1,8 @@
 """Memory is bounded by bytes: bodies, parts of the log, and a start over calls that name thousands of files."""
-import http.client
 import json
 import os
-import threading
 
-from harness import COMMAND, Server, Service, beside, folder, served, until
+from harness import Server, Service, at_once, folder, served, until
 from relkvanu_service import ack, savepoint
 from test_connections import memory
 
@@ -86,33 +84,7 @@ def test_a_start_over_large_calls():
             after, pages = calls[-1]["seq"], pages + 1
         assert [place for place, _ in got] == list(range(1, seq + 1)) and pages > 5, (len(got), pages)
         assert largest < 3 << 20, largest
-        readers = [threading.Thread(target=server.get, args=("/v1/jobs/large/log?after=69&limit=1000",)) for _ in range(16)]
-        rose = kept_peak(server, lambda: [it.start() for it in readers] + [it.join() for it in readers])
+        rose = kept_peak(server, lambda: at_once(server.get, ["/v1/jobs/large/log?after=69&limit=1000"] * 16))
         server.stop()
         assert peak < 45 and later < 45 and rose < 40, (size, live, peak, later, rose)
         return f"a log of {size:.0f} MiB: the start took {peak:.0f} MiB, with the history {later:.0f}, 16 readers {rose:.0f} more; {pages} parts of {largest >> 10} KiB at most"
-
-
-def test_bodies_without_a_length_share_the_room():
-    """Each gets room for what has come, and not for the longest body."""
-    body, statuses = b'{"calls":[{"call":"tick"}]}', []
-
-    def send(server):
-        it = http.client.HTTPConnection("127.0.0.1", server.port, timeout=COMMAND)
-        for _ in range(10):
-            it.request("POST", PATH, iter([body[:9], body[9:]]), {"Content-Type": "application/json"}, encode_chunked=True)
-            told = it.getresponse()
-            told.read()
-            statuses.append(told.status)
-        it.close()
-
-    with served() as server:
-        server.request("POST", "/v1/jobs", LARGE)
-        senders = [beside(send, server) for _ in range(32)]
-        for it in senders:
-            it.join()
-        assert statuses == [200] * 320, {status: statuses.count(status) for status in set(statuses)}
-        long = http.client.HTTPConnection("127.0.0.1", server.port, timeout=COMMAND)
-        long.request("POST", PATH, iter([b"x" * (1 << 20)] * 9), {"Content-Type": "application/json"}, encode_chunked=True)
-        assert long.getresponse().status == 413
-        return f"{len(statuses)} of 32 connections"

@@ -108,7 +108,8 @@ def test_calls_of_a_user():
         assert told.startswith("savepoint 3 is triggered\n") and "savepoint 3 is not complete yet" in told and time.monotonic() - began > 0.9, told
         assert server.ask("dispose", "orders", 1) == "the savepoint is disposed of; files that wait for deletion now: 1 more\n"
         assert "the coordinator refuses it: NoSuchSavepoint" in server.ask("dispose", "orders", 1, status=1)
-        assert server.ask("restore", "orders", "--savepoint", 2, "--shape", "2,1", "--without-look") == "the job begins again, from savepoint 2; files that wait for deletion now: 0 more; the term is 2\n"
+        told = server.ask("restore", "orders", "--savepoint", 2, "--shape", "2,1", "--without-look")
+        assert told == "the job begins again, from savepoint 2; files that wait for deletion now: 0 more; the term is 2\n"
         assert job.state()["shape"] == [2, 1]
         assert server.ask_json("restore", "orders")["restore"] == "savepoint"
         assert "NoSuchSavepoint" in server.ask("restore", "orders", "--savepoint", 9, status=1)

@@ -4,10 +4,9 @@ import os
 import re
 import select
 import socket
-import sqlite3
 import time
 
-from harness import COMMAND, SETTINGS, Server, beside, caught_up, configured, content, folder, lease_of, served, served_job, slowed, sqlite, until
+from harness import COMMAND, SETTINGS, Server, beside, caught_up, configured, content, folder, lease_of, locked, served, served_job, slowed, sqlite, until
 from relkvanu_service import Service, ack, cancel, deleted, dispose, restore, savepoint, undeleted
 from test_api import JOB
 
@@ -220,11 +219,9 @@ def test_a_commit_is_measured():
         for _ in range(3):
             job.call(savepoint())
         job.calls([savepoint()] * 2)
-        base = sqlite3.connect(server.database, isolation_level=None)
-        base.execute("begin immediate")
-        thread = beside(lambda: job.call(savepoint()))
-        until(lambda: server.metric("relkvanu_commit_under_way_seconds") > 0.5)
-        base.execute("rollback")
+        with locked(server.database):
+            thread = beside(lambda: job.call(savepoint()))
+            until(lambda: server.metric("relkvanu_commit_under_way_seconds") > 0.5)
         thread.join()
         more = {name: server.metric(name) - before[name] for name in MEASURED}
         assert more["relkvanu_commit_seconds_count"] == more["relkvanu_commit_calls_count"] == 5, more

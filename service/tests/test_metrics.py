@@ -77,15 +77,7 @@ def test_metrics_say_what_was_done():
         needed("promtool")
         told = subprocess.run(["promtool", "check", "metrics"], input=text, text=True, stdout=subprocess.PIPE, stderr=subprocess.STDOUT, check=False)
         assert told.returncode == 0 and not told.stdout.strip(), told.stdout
-        until(lambda: "relkvanu_oldest_file_age_seconds" in scraped(server)[0])  # the historian tells it
-        text = scraped(server)[0]
-        # test_places looks at those of a cleaner, and test_damaged at a job that is kept out; those of backups and copies are the exporter's of the machine
-        with open(f"{DEPLOY}/alerts.yml", encoding="utf-8") as it:
-            rules = re.sub(r'__name__=~"relkvanu_\((.*?)\)(\w+)"', lambda it: " ".join(f"relkvanu_{one}{it[2]}" for one in it[1].split("|")), it.read())
-        named = set(re.findall(r"relkvanu_(?!clean_|backup_|copy_|job_damaged)[a-z_]+", rules))
-        missing = [name for name in named if not re.search(rf"^{name}\b", text, re.M)]
-        assert not missing, f"alerts use what there is not: {missing}"
-        return f"{len(values)} values, and {len(named)} that alerts use"
+        return f"{len(values)} values"
 
 
 def tried(name, cases):
@@ -119,8 +111,7 @@ def test_the_rules_of_what_was_not_set_up():
 
 def test_each_alert_has_its_section():
     """Its annotation names a heading of a page, and it has a severity and a summary."""
-    with open(f"{DEPLOY}/alerts.yml", encoding="utf-8") as it:
-        rules = it.read()
+    rules = content(f"{DEPLOY}/alerts.yml")
     alerts = re.findall(r"- alert: \w+\n.*?severity: (?:page|ticket)\}\n    annotations:\n      runbook_url: '([\w-]+\.md#[\w-]+)'\n      summary: '", rules, re.DOTALL)
     pages = {page: content(f"{TOP}/docs/{page}") for page in {it.partition("#")[0] for it in alerts}}
     headings = {f"{page}#{re.sub('[^a-z0-9 -]', '', title.lower()).replace(' ', '-')}" for page, text in pages.items() for title in re.findall(r"^#+ (.*)$", text, re.MULTILINE)}

@@ -2,9 +2,8 @@
 import importlib
 import os
 import re
-import sqlite3
 
-from harness import LOCKED, SERVICE, TOP, Service, beside, content, served, until
+from harness import SERVICE, TOP, Service, beside, content, locked, served, until
 from relkvanu_service import ack, cancel, savepoint
 from test_metrics import scraped
 
@@ -38,8 +37,8 @@ OF_SETTINGS = {"relkvanu_interval_seconds": ((1 << 40) / 1000, 0.2), "relkvanu_t
 
 
 def named():
-    with open(f"{SERVICE}/deploy/alerts.yml", encoding="utf-8") as it:
-        rules = re.sub(r'__name__=~"relkvanu_\((.*?)\)(\w+)"', lambda it: " ".join(f"relkvanu_{one}{it[2]}" for one in it[1].split("|")), it.read())
+    rules = content(f"{SERVICE}/deploy/alerts.yml")
+    rules = re.sub(r'__name__=~"relkvanu_\((.*?)\)(\w+)"', lambda it: " ".join(f"relkvanu_{one}{it[2]}" for one in it[1].split("|")), rules)
     return set(re.findall(r"relkvanu_[a-z_]+", rules)) - {"relkvanu_clean"}
 
 
@@ -84,17 +83,13 @@ def work(server, service, seen):
 
 def stuck(server, seen):
     """Requests wait for a commit that the database does not take."""
-    other = sqlite3.connect(server.database, isolation_level=None, timeout=LOCKED)
-    other.execute("begin immediate")
-    threads = [beside(server.request, "POST", "/v1/jobs/orders/calls", {"calls": [{"call": "tick"}]}) for _ in range(4)]
-
     def both():
         values = seen.look()
         return values["relkvanu_queue_requests"] > 0 and values["relkvanu_commit_under_way_seconds"] > 0
 
-    until(both, each=0.01)
-    other.execute("rollback")
-    other.close()
+    with locked(server.database):
+        threads = [beside(server.request, "POST", "/v1/jobs/orders/calls", {"calls": [{"call": "tick"}]}) for _ in range(4)]
+        until(both, each=0.01)
     for it in threads:
         it.join()
 

@@ -6,38 +6,17 @@ import pathlib
 import random
 import sqlite3
 import subprocess
-import threading
 
-from harness import COMMAND, LOCKED, PROGRAM, Service, save, served, until
+from harness import COMMAND, LOCKED, PROGRAM, Engine, Service, save, served, served_job, until
 from postgres import postgres
 from preloaded import SHIM, Clocks, built, shim
-from relkvanu_service import ack, cancel, dispose, savepoint
+from relkvanu_service import cancel, dispose, savepoint
 from test_commands import SETTINGS
 
 DAY = 86400
 # a kill is at each so many writes of a night, which are some hundred; the first one depends on the seed
 EACH = min(12, int(os.environ.get("RELKVANU_EACH", "12")))
 FIRST = 1 + random.Random(os.environ.get("SEED", "1")).randrange(EACH)
-
-
-class Engine(threading.Thread):
-    """Acknowledges each record of these jobs, until it is told to stop."""
-
-    def __init__(self, *jobs):
-        super().__init__(daemon=True)
-        self.jobs, self.over = jobs, threading.Event()
-        self.start()
-
-    def run(self):
-        while not self.over.wait(0.02):
-            for job in self.jobs:
-                for it in job.state()["live"]:
-                    if not it["done"]:
-                        job.calls([ack(it["id"], "0.0")])  # somebody may have ended it, or the term
-
-    def stop(self):
-        self.over.set()
-        self.join()
 
 
 class Nights:
@@ -104,9 +83,8 @@ def test_a_savepoint_goes_with_its_copy():
 
 def test_nights_of_a_wrong_clock():
     """A copy that was just made is kept if the clock is behind, and no other is deleted then. One from the future is told of each night."""
-    with served() as server:
-        nights, job = Nights(server, "--database", server.database), Service(server.url).open("orders", SETTINGS, [1])
-        engine = Engine(job)
+    with served_job("orders", SETTINGS, [1]) as (server, job):
+        nights, engine = Nights(server, "--database", server.database), Engine(job)
         for _ in range(3):
             nights.night()
         for day in (-9000, -9001):
@@ -120,8 +98,8 @@ def test_nights_of_a_wrong_clock():
 
 def test_what_a_night_can_not_do():
     """The copy is made without the service, and without a savepoint that does not get complete. A copy that can't be made leaves no savepoint."""
-    with served() as server:
-        nights, job = Nights(server, "--database", server.database), Service(server.url).open("orders", {**SETTINGS, "timeout": 500}, [1])
+    with served_job("orders", {**SETTINGS, "timeout": 500}, [1]) as (server, job):
+        nights = Nights(server, "--database", server.database)
         status, told = nights.run()
         assert status == 1 and "orders: savepoint 1 ended before it was complete" in told and len(nights.copies()) == 1, told
         broken = Nights(server, "--database", f"{server.folder}/none.db")
@@ -139,9 +117,8 @@ def test_what_a_night_can_not_do():
 
 def test_ends_at_each_write_of_a_night():
     """The next one knows the savepoint that this one has asked for, also if it was not told its number."""
-    with served() as server:
-        nights, job = Nights(server, "--database", server.database), Service(server.url).open("orders", SETTINGS, [1])
-        engine, ended, nth = Engine(job), 0, FIRST - EACH
+    with served_job("orders", SETTINGS, [1]) as (server, job):
+        nights, engine, ended, nth = Nights(server, "--database", server.database), Engine(job), 0, FIRST - EACH
         library = f"{built(server.folder, SHIM)}:{nights.clocks.environment['LD_PRELOAD']}"
         os.mkdir(nights.at, 0o700)
         status = None
@@ -165,9 +142,8 @@ def test_ends_at_each_write_of_a_night():
 
 def test_a_savepoint_whose_number_nobody_was_told():
     """After a loss of power the next night comes when the service has forgotten the key: it asks for no second one, and tells of the first."""
-    with served() as server:
-        nights, job = Nights(server, "--database", server.database), Service(server.url).open("orders", SETTINGS, [1])
-        engine = Engine(job)
+    with served_job("orders", SETTINGS, [1]) as (server, job):
+        nights, engine = Nights(server, "--database", server.database), Engine(job)
         nights.night()
         [(left, copy)] = nights.noted().items()
         notes = pathlib.Path(f"{nights.at}/savepoints.json")
@@ -184,9 +160,8 @@ def test_a_savepoint_whose_number_nobody_was_told():
 
 
 def test_nights_of_postgresql():
-    with postgres() as database, served(database=database.url) as server:
-        nights, job = Nights(server, "--database", database.url), Service(server.url).open("orders", SETTINGS, [1])
-        engine, path = Engine(job), os.environ["PATH"]
+    with postgres() as database, served_job("orders", SETTINGS, [1], database=database.url) as (server, job):
+        nights, engine, path = Nights(server, "--database", database.url), Engine(job), os.environ["PATH"]
         os.environ["PATH"] = f"{database.bin}:{path}"
         try:
             for _ in range(4):

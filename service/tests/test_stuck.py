@@ -1,11 +1,9 @@
 """While the database takes no commits, or does not answer: what health checks, metrics and reads say then, and what they do not."""
 import os
 import re
-import sqlite3
-import threading
 import time
 
-from harness import BUSY, LOCKED, SERVICE, Server, content, folder, free_port, served, slowed, sqlite, until
+from harness import BUSY, SERVICE, Server, beside, content, folder, free_port, locked, served, slowed, sqlite, until
 from postgres import postgres
 from slow import Forgetful
 from test_api import JOB
@@ -13,49 +11,39 @@ from test_connections import within
 from test_start import refused
 
 CALLS = {"calls": [{"call": "tick"}]}
-
-
-def value(text, name):
-    """A metric, in the text of all."""
-    lines = [line for line in text.splitlines() if line.startswith(f"{name} ")]
-    return float(lines[0].split()[1])
+UNDER_WAY = "relkvanu_commit_under_way_seconds"
 
 
 def looked(server):
     """What the health checks, the metrics and the call say while no commit is possible, and how long that lasted."""
-    told, base = [], sqlite3.connect(server.database, isolation_level=None, timeout=LOCKED)
-    base.execute("begin immediate")
-    calling = threading.Thread(target=lambda: told.append(server.request("POST", "/v1/jobs/orders/calls", CALLS)[0]))
-    started = time.monotonic()
-    calling.start()
-    refused = until(lambda: (it := within(9 * slowed(), lambda: server.get("/readyz")))[0] in (0, 503) and it, 8)
-    after = time.monotonic() - started
-    health, text = server.get("/healthz")[0], server.get("/metrics")
-    base.execute("rollback")
+    told = []
+    with locked(server.database):
+        started, calling = time.monotonic(), beside(lambda: told.append(server.request("POST", "/v1/jobs/orders/calls", CALLS)[0]))
+        refused = until(lambda: (it := within(9 * slowed(), lambda: server.get("/readyz")))[0] in (0, 503) and it, 8)
+        after = time.monotonic() - started
+        health, text, under_way = server.get("/healthz")[0], server.get("/metrics"), server.metric(UNDER_WAY)
     lasted = time.monotonic() - started
-    base.close()
     calling.join()
-    return lasted, (refused, after, health, text, told)
+    return lasted, (refused, after, health, text, under_way, told)
 
 
 def test_health_and_metrics_answer_while_a_commit_is_stuck():
     with served() as server:
         server.request("POST", "/v1/jobs", JOB)
-        assert "relkvanu_commit_under_way_seconds 0\n" in server.get("/metrics")[2]
+        assert server.metric(UNDER_WAY) == 0
         # a commit is given up after 10 s: then the process ends, and the call is not answered. A busy machine may look too late
         for _ in range(BUSY):
             lasted, found = looked(server)
             if lasted < 9:
                 break
             server.again()
-        refused, after, health, text, told = found
+        refused, after, health, text, under_way, told = found
         assert "no commit is possible" in refused[2]["error"] and refused[1]["retry-after"] == "1", refused
         assert 2 < after and health == 200, (after, health)
         assert text[0] == 200 and 'relkvanu_files{job_name="orders"' in text[2], text
-        assert value(text[2], "relkvanu_commit_under_way_seconds") > 2, text[2]
-        assert told == [200], told
+        assert under_way > 2 and told == [200], (text[2], told)
         until(lambda: server.get("/readyz")[0] == 200, 5)
-        assert value(server.get("/metrics")[2], "relkvanu_commit_under_way_seconds") == 0
+        assert server.metric(UNDER_WAY) == 0
         return f"/readyz was 503 after {after:.1f} s, and 200 again after the commit"
 
 

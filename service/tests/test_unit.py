@@ -29,7 +29,9 @@ TimeoutStartSec=1740
 def booted(at):
     """Boots systemd over a root of its own, with /usr of this machine, and runs a script in it."""
     binds = [f"--bind={at}:/try", f"--bind-ro={HERE}:/tests", f"--bind-ro={SERVICE}/deploy:/deploy", f"--bind-ro={PROGRAM}:/relkvanu", f"--bind-ro={TOP}/docs:/docs"]
-    binds += [f"--bind-ro={TOP}/examples/service/procedures.sh:/procedures.sh"]
+    binds += [f"--bind-ro={TOP}/examples/service/procedures.sh:/procedures.sh", f"--bind-ro={os.environ['RELKVANU_LIB']}:/target/library"]
+    # where harness.py looks for them, beside /tests
+    binds += [f"--bind-ro={SERVICE}/client:/client", f"--bind-ro={TOP}/bindings:/bindings", f"--bind-ro={TOP}/store/tests:/store/tests"]
     binds += [f"--bind-ro={at}/try.service:/etc/systemd/system/try.service", "--bind-ro=/dev/null:/etc/systemd/system/systemd-firstboot.service", "--bind-ro=/etc/ssl/openssl.cnf"]
     words = ["--quiet", "--console=pipe", "--directory=/", "--volatile=yes", "--private-network", "--register=no", "--keep-unit", f"--machine=relkvanu-test-{os.getpid()}"]
     # the program is installed where /usr of this machine can't be written
@@ -63,8 +65,5 @@ def test_under_systemd():
 def test_the_end_of_a_job():
     """The end of a job with its units, and of one with `keep_on_cancel`."""
     with folder() as at:
-        shutil.copy(f"{SERVICE}/client/python/relkvanu_service.py", at)
-        shutil.copytree(f"{TOP}/bindings/python/relkvanu", f"{at}/relkvanu")
-        shutil.copytree(os.environ["RELKVANU_LIB"], f"{at}/library")
         told = told_by("end_under_systemd", at)
         return f"a lost job goes on from record {told['recovered']}, a job ended with its {told['ended']} files, and one kept {told['kept']}"

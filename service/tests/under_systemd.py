@@ -1,5 +1,4 @@
 """What test_unit.py does inside the container. Prints what it found as JSON, or an error."""
-import http.client
 import json
 import os
 import re
@@ -10,10 +9,17 @@ import subprocess
 import threading
 import time
 
+import harness
+from harness import Engine, Server, Service, content, counts, process_status, raised, save
+from relkvanu_service import Failed, ack, cancel, dispose, savepoint
+
 WRITE = "w" * 20
-OVER_TLS = "https://relkvanu.example:7780"
+SERVER = Server("/", token=WRITE, port=7780)
+SERVICE = Service(SERVER.url, token=WRITE, patience=240)
+JOB = SERVICE.job("orders")
 # no checkpoint is due between two looks at the job
-JOB = {"name": "orders", "settings": {"interval": 1 << 40}, "shape": [1]}
+SETTINGS = {"interval": 1 << 40}
+OVER_TLS = "https://relkvanu.example:7780"
 
 
 def run(*words, check=True):
@@ -35,39 +41,18 @@ def property_of(name, unit="relkvanu"):
     return run("systemctl", "show", "--value", "--property", name, unit)
 
 
-def request(method, path, body=None, key="first", token=WRITE):
-    """A status and a body of JSON; 0 if there is no answer."""
-    connection = http.client.HTTPConnection("127.0.0.1", 7780, timeout=60)
-    headers = {"Authorization": f"Bearer {token}", "Content-Type": "application/json", "Idempotency-Key": key}
-    try:
-        connection.request(method, path, body and json.dumps(body), headers)
-        answer = connection.getresponse()
-        text = answer.read()
-        return answer.status, json.loads(text) if path.startswith("/v1/") else None
-    except (OSError, http.client.HTTPException):
-        return 0, None
-    finally:
-        connection.close()
-
-
-def until(said, seconds=240):
-    """Waits until it is so, on a busy machine too. Returns how many seconds that took."""
-    started, pause = time.monotonic(), 0.02
-    while not said():
-        assert time.monotonic() < started + seconds, journal()[-2000:]
-        time.sleep(pause)
-        pause = min(0.2, 1.1 * pause)  # a look takes programs
-    return time.monotonic() - started
+def until(said):
+    """Waits until it is so, on a busy machine too."""
+    return harness.until(said, 30, told=lambda: journal()[-2000:])
 
 
 def is_ready():
-    return request("GET", "/readyz")[0] == 200
+    return SERVER.get("/readyz")[0] == 200
 
 
 def procedure(name):
     """The commands of a procedure that the pages quote, but for those that fetch packages."""
-    with open("/procedures.sh", encoding="utf-8") as it:
-        lines = re.search(rf"^# {name}: .*\n((?:.+\n)+)", it.read(), re.MULTILINE)[1].splitlines()
+    lines = re.search(rf"^# {name}: .*\n((?:.+\n)+)", content("/procedures.sh"), re.MULTILINE)[1].splitlines()
     return [line for line in lines if not line.startswith("apt-get ")]
 
 
@@ -88,11 +73,10 @@ def lost_groups():
     return run("journalctl", "--no-pager", "--output=cat", check=False).count("status=219/CGROUP")
 
 
-def place(name, text, mode=0o600):
+def place(name, text):
     os.makedirs("/etc/relkvanu", exist_ok=True)
-    with open(f"/etc/relkvanu/{name}", "w", encoding="utf-8") as it:
-        it.write(text)
-    os.chmod(f"/etc/relkvanu/{name}", mode)
+    save(f"/etc/relkvanu/{name}", text)
+    os.chmod(f"/etc/relkvanu/{name}", 0o600)
 
 
 def install():
@@ -104,8 +88,7 @@ def install():
     os.symlink("/relkvanu", "build/bin/relkvanu")
     # no backup begins by itself meanwhile: the hour of the night may be now
     os.makedirs("/etc/systemd/system/relkvanu-backup.timer.d")
-    with open("/etc/systemd/system/relkvanu-backup.timer.d/later.conf", "w", encoding="utf-8") as it:
-        it.write("[Timer]\nOnCalendar=\nOnCalendar=2090-01-01\n")
+    save("/etc/systemd/system/relkvanu-backup.timer.d/later.conf", "[Timer]\nOnCalendar=\nOnCalendar=2090-01-01\n")
     place("token", f"read {'r' * 20}\nwrite {WRITE}\n")
     place("write-token", f"{WRITE}\n")
     shutil.copy("service/deploy/service.toml", "/etc/relkvanu")
@@ -116,88 +99,52 @@ def install():
 def check_it_runs():
     until(is_ready)
     assert property_of("ActiveState") == "active" and property_of("NRestarts") == "0"
-    with open(f"/proc/{property_of('MainPID')}/status", encoding="utf-8") as it:
-        uid = int(re.search(r"^Uid:\s+(\d+)", it.read(), re.MULTILINE)[1])
+    uid = int(process_status(property_of("MainPID"))["Uid"].split()[0])
     assert 61184 <= uid <= 65519, f"{uid} is no dynamic user"
     assert os.stat("/var/lib/private/relkvanu/relkvanu.db").st_uid == uid
     assert os.stat("/etc/relkvanu/token").st_mode & 0o777 == 0o600
-    assert request("POST", "/v1/jobs", JOB)[0] == 201
-    calls("names", {"call": "reserve", "term": 1, "count": 50})
-    told = request("POST", "/v1/jobs/orders/calls", {"calls": [{"call": "savepoint"}]})
-    assert told[0] == 200 and told[1]["answers"][0]["id"] == 1, told
+    assert SERVICE.open("orders", SETTINGS, [1]).call(savepoint())["id"] == 1
 
 
 def check_a_reload():
     """The same process takes a new token. If the file is bad it keeps those that it has."""
-    process, new = property_of("MainPID"), "n" * 20
-    with open("/etc/relkvanu/token", encoding="utf-8") as it:
-        tokens = it.read()
-    for text, status in ((f"{tokens}read {new}\n", 200), ("read short\n", 200), (tokens, 401)):
-        with open("/etc/relkvanu/token", "w", encoding="utf-8") as it:
-            it.write(text)
+    process, tokens = property_of("MainPID"), content("/etc/relkvanu/token")
+    for text, status in ((f"{tokens}read {'n' * 20}\n", 200), ("read short\n", 200), (tokens, 401)):
+        save("/etc/relkvanu/token", text)
         before = journal().count("as they were") + journal().count("are read again")
         run("systemctl", "reload", "relkvanu")
         until(lambda: journal().count("as they were") + journal().count("are read again") > before)
-        assert request("GET", "/v1/jobs", token=new)[0] == status and request("GET", "/v1/jobs")[0] == 200, text
+        assert SERVER.get("/v1/jobs", "n" * 20)[0] == status and SERVER.get("/v1/jobs")[0] == 200, text
     assert property_of("MainPID") == process and os.stat("/etc/relkvanu/token").st_mode & 0o777 == 0o600
     assert not os.stat("/run/relkvanu-keys/token").st_mode & 0o077
 
 
 def main_process():
     """The number of the service's process. There is none for a moment where it is started again."""
-    found = []
-
-    def is_there():
-        found[:] = [int(property_of("MainPID"))]
-        return found[0] > 0
-
-    until(is_there)
-    return found[0]
+    return until(lambda: int(property_of("MainPID")))
 
 
 def after(number):
     """How long it takes until the service is ready again after a signal, with the job that it had."""
-    restarts = int(property_of("NRestarts"))
+    restarts, began = int(property_of("NRestarts")), time.monotonic()
     os.kill(main_process(), number)
     # a busy machine may have it late at its watchdog once more
-    took = until(lambda: int(property_of("NRestarts")) > restarts and is_ready())
-    until(lambda: (request("GET", "/v1/jobs/orders/records/1")[1] or {}).get("missing") == ["0.0"])
+    until(lambda: int(property_of("NRestarts")) > restarts and is_ready())
+    took = time.monotonic() - began
+    assert JOB.record(1)["missing"] == ["0.0"]
     return took
 
 
-def term_of(ask):
-    """The term that runs, as `ask` is told it."""
-    return (ask("/v1/jobs/orders/term")[1] or {}).get("term", 1)
-
-
-def calls(key, *made):
-    told = []
-
-    # it has a key: where it was not answered it may be asked again
-    def is_answered():
-        body = {"calls": list(made)}
-        if any(call["call"] == "ack" for call in made):
-            body["term"] = term_of(lambda path: request("GET", path))
-        told[:] = request("POST", "/v1/jobs/orders/calls", body, key)
-        return told[0] not in (0, 503)
-
-    until(is_answered)
-    assert told[0] == 200 and all("seq" in answer for answer in told[1]["answers"]), told
-    return told[1]["answers"]
-
-
 def state_file(number):
-    path = f"/srv/orders/state-{number}.bin"
-    with open(path, "w", encoding="utf-8") as it:
-        it.write("state")
-    return path
+    save(f"/srv/orders/state-{number}.bin", "state")
+    return f"/srv/orders/state-{number}.bin"
 
 
 def savepoint_of(number):
     """A savepoint with one file."""
     state_file(number)
-    record = calls(f"savepoint of {number}", {"call": "savepoint"})[0]["id"]
-    calls(f"file {number}", {"call": "ack", "id": record, "subtask": "0.0", "fresh": [str(number)]})
+    record = JOB.call(savepoint())["id"]
+    JOB.call(ack(record, "0.0", [number]))
     return record
 
 
@@ -205,11 +152,11 @@ def check_a_backup_is_restored():
     """Nothing is overwritten, and nothing starts by itself meanwhile. Then a record is found that has all its files, and what nobody needs."""
     lost, kept = savepoint_of(31), savepoint_of(32)
     given("relkvanu backup --database $DATABASE --to copy.db")
-    before = request("GET", "/v1/jobs/orders")[1]
-    calls("later", {"call": "dispose", "id": lost})
+    before = JOB.state()
+    JOB.call(dispose(lost))
     until(lambda: not os.path.exists("/srv/orders/state-31.bin"))
     assert savepoint_of(41) > kept
-    calls("last", {"call": "cancel"})
+    JOB.call(cancel())
     os.mkdir("/var/lib/relkvanu/relkvanu.db.history.bad")
     check_files_set_aside(before)
     assert run("systemctl", "is-enabled", "relkvanu") == "enabled"
@@ -219,10 +166,10 @@ def check_a_backup_is_restored():
     rows = [line.split()[:2] + line.split()[3:] for line in given("relkvanu savepoints orders $FILES").splitlines()[1:]]
     assert rows == [[str(lost), "savepoint", "1", "1:", "31"], [str(kept), "savepoint", "1", "none"]], rows
     given(*procedure("from-backup"))
-    assert request("GET", "/v1/jobs/orders")[1]["choice"]["id"] == kept
+    assert JOB.state()["choice"]["id"] == kept
     # the file that is gone waits for deletion once nobody needs it
-    calls("gone", {"call": "dispose", "id": lost})
-    until(lambda: not sum(request("GET", "/v1/jobs/orders")[1]["files"][it] for it in ("waiting", "taken")))
+    JOB.call(dispose(lost))
+    until(lambda: counts(JOB) == (0, 0))
     assert "--allow-absent" in words("relkvanu-clean") and not os.path.exists("/run/relkvanu-clean.options")
     run("systemctl", "restart", "relkvanu-clean")
     assert "--allow-absent" not in words("relkvanu-clean")
@@ -232,14 +179,14 @@ def check_restored(before):
     """The service serves what the copy has when the commands of the page have ended."""
     given(*procedure("put-back"))
     until(is_ready)
-    after = request("GET", "/v1/jobs/orders")[1]
+    after = JOB.state()
     assert after["mode"] == "running" and after["seq"] == before["seq"] and after["live"] == before["live"], (before, after)
     assert words()[-1] == "--accept-clock" and not os.path.exists("/run/relkvanu.options")
     assert "relkvanu.db.restored" not in os.listdir("/var/lib/relkvanu")
 
 
 def check_files_set_aside(before):
-    """None is replaced once the copy is in place, and the way back is the same. (test_put_back.py has what a loss of power or of the disk leaves.)"""
+    """The way back is the same. (test_put_back.py has what is not replaced, and what a loss of power or of the disk leaves.)"""
     aside = "/var/lib/relkvanu/aside"
 
     def check_aside():
@@ -251,13 +198,9 @@ def check_files_set_aside(before):
 
     check_restored(before)
     check_aside()
-    there = sorted(os.listdir(aside))
-    told = given(*procedure("put-back"), status=1)
-    assert "aside has relkvanu.db already" in told and sorted(os.listdir(aside)) == there, (told, there, os.listdir(aside))
-    assert "relkvanu.db.restored" not in os.listdir("/var/lib/relkvanu")
-    given("relkvanu put-back --back --database $DATABASE", "systemctl enable --now relkvanu")
+    given("systemctl stop relkvanu", "relkvanu put-back --back --database $DATABASE", "systemctl enable --now relkvanu")
     until(is_ready)
-    assert request("GET", "/v1/jobs/orders")[1]["mode"] == "cancelled" and not os.path.exists(aside)
+    assert JOB.state()["mode"] == "cancelled" and not os.path.exists(aside)
     run("systemctl", "stop", "relkvanu")
     shutil.rmtree("/var/lib/relkvanu/aside.not-used")
     check_restored(before)
@@ -265,8 +208,7 @@ def check_files_set_aside(before):
 
 
 def words(unit="relkvanu"):
-    with open(f"/proc/{property_of('MainPID', unit)}/cmdline", encoding="utf-8") as it:
-        return it.read().split("\0")[:-1]
+    return content(f"/proc/{property_of('MainPID', unit)}/cmdline").split("\0")[:-1]
 
 
 def check_an_upgrade():
@@ -274,10 +216,10 @@ def check_an_upgrade():
     shutil.copy("/relkvanu", "relkvanu-new")
     with open("relkvanu-new", "ab") as it:
         it.write(b"x")
-    seq = request("GET", "/v1/jobs/orders")[1]["seq"]
+    seq = JOB.state()["seq"]
     assert "job orders: " in given(*procedure("upgrade")) and os.path.getsize("before-upgrade.db") > 4096
     until(is_ready)
-    assert request("GET", "/v1/jobs/orders")[1]["seq"] == seq and os.path.getsize("/usr/local/bin/relkvanu") == os.path.getsize("/relkvanu") + 1
+    assert JOB.state()["seq"] == seq and os.path.getsize("/usr/local/bin/relkvanu") == os.path.getsize("/relkvanu") + 1
 
 
 def check_backups_of_each_night():
@@ -285,23 +227,20 @@ def check_backups_of_each_night():
     metric = "/var/lib/prometheus/node-exporter/relkvanu.prom"
     os.makedirs("/var/backups/relkvanu")
     for name in (*(f"202001{day}T000000Z.db" for day in range(10, 25)), "20200101T000000Z.db.part"):
-        with open(f"/var/backups/relkvanu/{name}", "w", encoding="utf-8") as it:
-            it.write("old")
-    engine = Engine(lambda path, body=None: request("POST" if body else "GET", path, body, f"engine {time.monotonic_ns()}"))
+        save(f"/var/backups/relkvanu/{name}", "old")
+    engine = Engine(JOB)
     run("systemctl", "start", "relkvanu-backup")
     assert not os.path.exists(metric)  # there is no node exporter
     names = copies()
     assert len(names) == 14 and names[0] == "20200112T000000Z.db" and names[-1] > "2026", names
     assert run("relkvanu", "check", "--database", f"/var/backups/relkvanu/{names[-1]}").startswith("job orders: ")
-    with open("/var/backups/relkvanu/savepoints.json", encoding="utf-8") as it:
-        [note] = json.load(it)
-    assert (note["job"], note["copy"]) == ("orders", names[-1]) and request("GET", f"/v1/jobs/orders/records/{note['made'][0]}")[1]["missing"] == [], note
+    [note] = json.loads(content("/var/backups/relkvanu/savepoints.json"))
+    assert (note["job"], note["copy"]) == ("orders", names[-1]) and JOB.record(note["made"][0])["missing"] == [], note
     os.makedirs(os.path.dirname(metric))
     until(lambda: f"{time.strftime('%Y%m%dT%H%M%SZ', time.gmtime())}.db" > names[-1])
     run("systemctl", "start", "relkvanu-backup")
     engine.stop()
-    with open(metric, encoding="utf-8") as it:
-        name, _, at = it.read().partition(" ")
+    name, _, at = content(metric).partition(" ")
     assert name == "relkvanu_backup_timestamp_seconds" and abs(float(at) - time.time()) < 600, (name, at)
     os.remove(metric)
     place("write-token", "x" * 20)
@@ -320,7 +259,7 @@ def copies():
 def check_a_restore_is_tried():
     """Beside the service, over the newest copy: each of its savepoints has its file. Nothing is changed, and nothing is left."""
     def found():
-        return request("GET", "/v1/jobs/orders")[1]["seq"], sorted(os.listdir("/srv/orders")), copies(), sorted(os.listdir("/var/tmp")), property_of("MainPID")
+        return JOB.state()["seq"], sorted(os.listdir("/srv/orders")), copies(), sorted(os.listdir("/var/tmp")), property_of("MainPID")
 
     def has_nothing(unit):
         """systemd deletes what a unit had there after it tells its end."""
@@ -334,26 +273,6 @@ def check_a_restore_is_tried():
     assert run("systemctl", "is-active", "relkvanu-try", check=False) == "inactive" and found() == before, (found(), before)
 
 
-class Engine(threading.Thread):
-    """Acknowledges each savepoint of the job `orders`, without files, until it is told to stop."""
-
-    def __init__(self, ask):
-        super().__init__(daemon=True)
-        self.ask, self.over = ask, threading.Event()
-        self.start()
-
-    def run(self):
-        while not self.over.wait(0.1):
-            for record in (self.ask("/v1/jobs/orders")[1] or {}).get("live", ()):
-                told = {} if record["done"] else self.ask(f"/v1/jobs/orders/records/{record['id']}")[1] or {}
-                for subtask in told.get("missing") or ():
-                    self.ask("/v1/jobs/orders/calls", {"term": term_of(self.ask), "calls": [{"call": "ack", "id": record["id"], "subtask": subtask}]})
-
-    def stop(self):
-        self.over.set()
-        self.join()
-
-
 def check_the_cleaner():
     """It deletes files of the engine's user, and comes again after a kill. Without its marker a folder is left alone, and that is told."""
     unit, marker = "relkvanu-clean", "/srv/orders/.relkvanu-orders"
@@ -365,11 +284,9 @@ def check_the_cleaner():
     assert os.stat(marker).st_uid == os.stat("/srv/orders").st_uid
 
     def disposed(number):
-        path = state_file(number)
-        told = request("POST", "/v1/jobs/orders/calls", {"calls": [{"call": "savepoint"}]}, f"savepoint {number}")
-        record = told[1]["answers"][0]["id"]
-        calls(f"dispose {number}", {"call": "ack", "id": record, "subtask": "0.0", "fresh": [str(number)]}, {"call": "dispose", "id": record})
-        return path
+        record = savepoint_of(number)
+        JOB.call(dispose(record))
+        return f"/srv/orders/state-{number}.bin"
 
     for number in (7, 8):
         path = disposed(number)
@@ -387,8 +304,7 @@ def check_the_cleaner():
 
 
 def check_an_option_for_one_start():
-    with open("/run/relkvanu.options", "w", encoding="utf-8") as it:
-        it.write("RELKVANU_OPTIONS=--accept-clock\n")
+    save("/run/relkvanu.options", "RELKVANU_OPTIONS=--accept-clock\n")
     for more in (["--accept-clock"], []):
         run("systemctl", "restart", "relkvanu")
         until(is_ready)
@@ -396,8 +312,7 @@ def check_an_option_for_one_start():
 
 
 def check_a_wrong_option_ends_it():
-    with open("/run/relkvanu.options", "w", encoding="utf-8") as it:
-        it.write("RELKVANU_OPTIONS=--accept-clok\n")
+    save("/run/relkvanu.options", "RELKVANU_OPTIONS=--accept-clok\n")
     run("systemctl", "restart", "relkvanu", check=False)
     until(lambda: property_of("ActiveState") == "failed")
     assert property_of("ExecMainStatus") == "2" and property_of("NRestarts") == "0", run("systemctl", "status", "relkvanu", check=False)
@@ -434,9 +349,11 @@ def check_tls_from_nothing():
     open("/etc/ca-certificates.conf", "a", encoding="utf-8").close()
     given(*procedure("install"))
     given(*procedure("trust"))
-    assert given(f"curl --silent {OVER_TLS}/readyz") == "ready\n" and over_tls("write", "/v1/jobs", {**JOB, "shape": [1, 2]})[0] == 201
+    assert given(f"curl --silent {OVER_TLS}/readyz") == "ready\n"
+    service = {it: Service(OVER_TLS, token=content(f"/etc/relkvanu/{it}-token").strip(), ca="/etc/relkvanu/certificate.pem") for it in ("read", "write")}
+    job = service["write"].open("orders", SETTINGS, [1, 2])
     given(*procedure("over-tls"), "systemctl enable --now relkvanu-backup.timer")
-    engine = Engine(lambda path, body=None: over_tls("write", path, body))
+    engine = Engine(job)
     given("systemctl start relkvanu-backup")
     engine.stop()
     shown = given(*procedure("over-tls"), "relkvanu show orders --token-file /etc/relkvanu/read-token")
@@ -446,26 +363,15 @@ def check_tls_from_nothing():
     assert re.search(r"^\d+ +savepoint(, the latest)? +\S+ +0 +none$", told, re.MULTILINE) and os.path.exists("copy.db"), told
     for name in ("key.pem", "token", "read-token", "write-token"):
         assert os.stat(f"/etc/relkvanu/{name}").st_mode & 0o777 == 0o600, name
-    assert over_tls("read", "/v1/jobs")[1]["jobs"][0]["name"] == "orders"
-    cancel = {"calls": [{"call": "cancel"}]}
-    assert over_tls("read", "/v1/jobs/orders/calls", cancel)[0] == 401
-    assert "cancel" in over_tls("write", "/v1/jobs/orders/calls", cancel)[1]["answers"][0]
-    assert request("GET", "/readyz")[0] == 0, "it speaks without TLS too"
-
-
-def over_tls(token, path, body=None):
-    """A status and a body, by a certificate and a token of the steps."""
-    with open(f"/etc/relkvanu/{token}-token", encoding="utf-8") as it:
-        words = ["--header", f"Authorization: Bearer {it.read().strip()}", "--header", "Content-Type: application/json"]
-    words += ["--data", json.dumps(body)] if body else []
-    told, _, status = run("curl", "--silent", "--write-out", "\n%{http_code}", *words, f"{OVER_TLS}{path}").rpartition("\n")
-    return int(status), json.loads(told)
+    assert [it["name"] for it in service["read"].jobs()] == ["orders"]
+    assert raised(Failed, lambda: service["read"].job("orders").call(cancel())).status == 401
+    assert "cancel" in job.call(cancel())
+    assert SERVER.get("/readyz")[0] == 0, "it speaks without TLS too"
 
 
 def with_setting(name, text):
     os.makedirs("/run/systemd/system/relkvanu.service.d", exist_ok=True)
-    with open(f"/run/systemd/system/relkvanu.service.d/{name}.conf", "w", encoding="utf-8") as it:
-        it.write(f"[Service]\n{text}\n")
+    save(f"/run/systemd/system/relkvanu.service.d/{name}.conf", f"[Service]\n{text}\n")
     run("systemctl", "daemon-reload")
 
 
