@@ -81,6 +81,11 @@ def process_status(pid):
     return dict(line.split(":", 1) for line in content(f"/proc/{pid}/status").splitlines())
 
 
+def memory(server, name="VmRSS"):
+    """What a service has in memory, in KiB, by a name of the system's; `Threads` is a number."""
+    return int(process_status(server.process.pid)[name].split()[0])
+
+
 def told_by(*words, before=(), **around):
     """The status of the program with these words, what it says on standard output, and what on standard error. `before` are words before its name."""
     given = [str(it) for it in (*before, PROGRAM, *words)]

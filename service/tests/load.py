@@ -7,7 +7,7 @@ import subprocess
 import sys
 from contextlib import nullcontext
 
-from harness import HERE, Server, content, folder, until
+from harness import HERE, Server, content, folder, memory, until
 from postgres import postgres
 from relkvanu_service import Service
 
@@ -50,11 +50,6 @@ def loaded(server, ways, seconds):
         assert bad == 0, f"{bad} requests were not answered with 200"
         told.append((connections, batch, rate * batch, slow, acks, 1e6 * ran / max(acks, 1), 1e6 * wrk_ran / max(acks, 1)))
     return told, made
-
-
-def memory(server):
-    """KiB that the process has in memory."""
-    return int(re.search(r"VmRSS:\s+(\d+)", content(f"/proc/{server.process.pid}/status")).group(1))
 
 
 def main(seconds=10, where="sqlite"):

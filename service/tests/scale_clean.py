@@ -9,7 +9,7 @@ import time
 from concurrent.futures import ThreadPoolExecutor
 from contextlib import closing, contextmanager
 
-from harness import PROGRAM, Server, content, counts, folder, until
+from harness import PROGRAM, Server, content, counts, folder, process_status, until
 from places import Folder
 from relkvanu_service import Service
 from test_clean import SETTINGS, Cleaner, kept, of, worked
@@ -32,8 +32,7 @@ class Usage:
 
     def look(self):
         while not self.over.wait(0.1):
-            with open(f"/proc/{self.pid}/status", encoding="ascii") as it:
-                said = dict(line.split(":", 1) for line in it)
+            said = process_status(self.pid)
             self.threads = max(self.threads, int(said["Threads"]))
             self.kilobytes = max(self.kilobytes, int(said["VmRSS"].split()[0]))
             sockets = sum(self.is_socket(f"/proc/{self.pid}/fd/{fd}") for fd in os.listdir(f"/proc/{self.pid}/fd"))

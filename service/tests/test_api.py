@@ -14,33 +14,21 @@ DEFAULTS = {"pause": 0, "at_once": 1, "timeout": 600_000, "tolerable": 0, "retai
 MAKING = {"interval": (1 << 40) - 77, "pause": (1 << 40) - 77, "at_once": 1, "timeout": (1 << 40) - 77, "tolerable": 1000, "retained": 1, "keep_on_cancel": True}
 ACK = {"call": "ack", "id": 1, "subtask": "0.0"}
 
-# method, path, body, status, field
+# method, path, body, status, field. (The units of http/wire.rs, files/job_storage.rs and model/settings.rs have more bodies.)
 BAD = [
-    ("POST", "/v1/jobs", "", 400, "body"),
     ("POST", "/v1/jobs", "[]", 400, "body"),
     ("POST", "/v1/jobs", {**JOB, "name": ""}, 400, "name"),
-    ("POST", "/v1/jobs", {**JOB, "name": "a/b"}, 400, "name"),
     ("POST", "/v1/jobs", {**JOB, "name": "x" * 65}, 400, "name"),
     ("POST", "/v1/jobs", {**JOB, "name": 7}, 400, "name"),
     ("POST", "/v1/jobs", {"name": "b", "shape": [1]}, 400, "settings"),
-    ("POST", "/v1/jobs", {**JOB, "name": "b", "settings": {}}, 400, "settings.interval"),
     ("POST", "/v1/jobs", {**JOB, "name": "b", "settings": {"interval": "10"}}, 400, "settings.interval"),
-    ("POST", "/v1/jobs", {**JOB, "name": "b", "settings": {"interval": 9}}, 400, "settings.interval"),
     ("POST", "/v1/jobs", {**JOB, "name": "b", "settings": {"interval": 2**40 + 1}}, 400, "settings.interval"),
     ("POST", "/v1/jobs", {**JOB, "name": "b", "settings": {"interval": 10, "at_once": 0}}, 400, "settings.at_once"),
     ("POST", "/v1/jobs", {**JOB, "name": "b", "settings": {"interval": 10, "tolerable": 1001}}, 400, "settings.tolerable"),
     ("POST", "/v1/jobs", {**JOB, "name": "b", "settings": {"interval": 10, "keep_on_cancel": 1}}, 400, "settings.keep_on_cancel"),
-    ("POST", "/v1/jobs", {**JOB, "name": "b", "settings": {"interval": 10, "more": 1}}, 400, "settings.more"),
-    ("POST", "/v1/jobs", {**JOB, "name": "b", "shape": [4097]}, 400, "shape"),
     ("POST", "/v1/jobs", {**JOB, "name": "b", "shape": [1.5]}, 400, "shape"),
-    ("POST", "/v1/jobs", {**JOB, "name": "b", "shape": [1] * 257}, 400, "shape"),
-    ("POST", "/v1/jobs", {**JOB, "name": "b", "names": False}, 400, "names"),
     ("POST", "/v1/jobs", {**JOB, "name": "b", "storage": "/srv"}, 400, "storage"),
-    ("POST", "/v1/jobs", {**JOB, "name": "b", "storage": {}}, 400, "storage.folder"),
     ("POST", "/v1/jobs", {**JOB, "name": "b", "storage": {"folder": "srv"}}, 400, "storage.folder"),
-    ("POST", "/v1/jobs", {**JOB, "name": "b", "storage": {"folder": "/srv", "bucket": "b"}}, 400, "storage.folder"),
-    ("POST", "/v1/jobs", {**JOB, "name": "b", "storage": {"folder": "/srv", "prefix": "a/"}}, 400, "storage.prefix"),
-    ("POST", "/v1/jobs", {**JOB, "name": "b", "storage": {"bucket": "b", "endpoint": "b"}}, 400, "storage.endpoint"),
     ("POST", "/v1/jobs", {**JOB, "name": "b", "storage": {"folder": "/srv", "more": 1}}, 400, "storage.more"),
     ("PUT", "/v1/jobs/orders/storage", {"folder": "/srv", "suffix": 7}, 400, "suffix"),
     ("PUT", "/v1/jobs/none/storage", {"folder": "/srv"}, 404, None),
@@ -48,9 +36,7 @@ BAD = [
     ("POST", "/v1/jobs/orders/calls", {"calls": []}, 400, "calls"),
     ("POST", "/v1/jobs/orders/calls", {"calls": [ACK] * 1001}, 400, "calls"),
     ("POST", "/v1/jobs/orders/calls", {"calls": [ACK, {**ACK, "id": 2**53 + 1}]}, 400, "calls[1].id"),
-    ("POST", "/v1/jobs/orders/calls", {"calls": [ACK, {**ACK, "subtask": "0.0.0"}]}, 400, "calls[1].subtask"),
     ("POST", "/v1/jobs/orders/calls", {"calls": [ACK, {**ACK, "fresh": ["1", "-2"]}]}, 400, "calls[1].fresh[1]"),
-    ("POST", "/v1/jobs/orders/calls", {"calls": [ACK, {**ACK, "fresh": [1]}]}, 400, "calls[1].fresh[0]"),
     ("POST", "/v1/jobs/orders/calls", {"calls": [{**ACK, "now": 5}]}, 400, "calls[0].now"),
     ("POST", "/v1/jobs/orders/calls", {"calls": [{"call": "take", "most": 5}]}, 400, "Idempotency-Key"),
     ("POST", "/v1/jobs/orders/calls", {"calls": [{"call": "savepoint"}]}, 400, "Idempotency-Key"),
@@ -86,11 +72,7 @@ def test_bad_requests_name_the_field_and_change_nothing():
         assert server.request("GET", "/v1/jobs", headers=[("Host", "evil.example")])[0] == 403
         assert server.request("POST", "/v1/jobs/orders/calls", b"x" * (8 << 20) + b"x")[0] == 413
         assert [it["line"] for it in server.get("/v1/jobs/orders/log")[2]["calls"]] == ["fence 1"]
-        after = server.get("/v1/jobs")[2]["jobs"]
-        moving = {"now"}
-        assert [{k: v for k, v in job.items() if k not in moving} for job in before] == [
-            {k: v for k, v in job.items() if k not in moving} for job in after
-        ]
+        assert [{**job, "now": 0} for job in before] == [{**job, "now": 0} for job in server.get("/v1/jobs")[2]["jobs"]]
         return f"{len(BAD) + 3} requests"
 
 
@@ -239,25 +221,6 @@ def over_a_take_over(service, _):
     yield
     found = {job["name"]: job["storage"] for job in service.jobs()}
     assert {name: found[name] for name in known} == known, found
-
-
-def test_a_job_that_was_rescaled_is_opened_with_any_shape():
-    with served() as server:
-        def opened(*shape):
-            return server.request("POST", "/v1/jobs", {**JOB, "shape": shape})[0]
-
-        def rescaled(*shape):
-            body = {"calls": [{"call": "restore", "from": "latest", "shape": shape}]}
-            told = server.request("POST", "/v1/jobs/orders/calls", body)[2]["answers"]
-            assert told[0].get("restore") == "fresh", told
-
-        assert (opened(2), opened(2), opened(2, 1)) == (201, 200, 200)
-        rescaled(2, 1)
-        rescaled(4)
-        for _ in range(2):
-            assert (opened(2), opened(4), opened(3)) == (200, 200, 200)
-            assert server.get("/v1/jobs/orders")[2]["shape"] == [4]
-            server.again()
 
 
 def test_refusals_and_large_files():

@@ -2,9 +2,8 @@
 import json
 import os
 
-from harness import Server, Service, at_once, folder, served, until
+from harness import Server, Service, at_once, folder, memory, served, until
 from relkvanu_service import ack, savepoint
-from test_connections import memory
 
 FILES, SUBTASKS, ROUNDS = 4096, 32, 4
 BODY = 2 << 20

@@ -10,7 +10,7 @@ from contextlib import closing, contextmanager
 from places import Bucket, Folder, around, metrics_of
 from preloaded import SHIM, built, shim
 from proxy import Proxy
-from harness import COMMAND, PROGRAM, SETTINGS, Server, content, counts, folder, free_port, save, served, until
+from harness import COMMAND, PROGRAM, SETTINGS, content, counts, folder, free_port, served, until
 from relkvanu_service import Service, cancel, dispose, savepoint
 from run import Skipped
 
@@ -272,12 +272,10 @@ def test_a_job_that_is_deleted_in_between():
 
 def test_inside_the_service():
     """The service runs the cleaner, which ends with it."""
-    with folder() as at:
-        port = free_port()
-        for name, text in (("tokens", f"read {'r' * 20}\nwrite {'w' * 20}\n"), ("config", f'[clean]\nrun = true\noptions = ["--every", "1s", "--metrics", "127.0.0.1:{port}"]\n')):
-            save(f"{at}/{name}", text)
-        server = Server(at, args=["--config", f"{at}/config", "--token-file", f"{at}/tokens"]).start()
-        place = Folder(at)
+    port = free_port()
+    config = f'[clean]\nrun = true\noptions = ["--every", "1s", "--metrics", "127.0.0.1:{port}"]\n'
+    with served(config, tokens=[f"read {'r' * 20}", f"write {'w' * 20}"]) as server:
+        place = Folder(server.folder)
         job = Service(server.url, token="w" * 20).open("a", SETTINGS, [1], storage=place.storage("s-"))
         names = worked(job, place, "s-")
         until(lambda: kept(job, place, "s-", names), told=server.log)

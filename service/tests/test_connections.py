@@ -6,18 +6,12 @@ import resource
 import socket
 import time
 
-from harness import COMMAND, Server, Service, folder, lease_of, save, served, until
+from harness import COMMAND, Service, lease_of, memory, served, until
 from relkvanu_service import ack, savepoint
 from test_api import JOB
 
 POLLS = 1500
 SOON = 40  # seconds: much less than a poll waits
-
-
-def memory(server, name="VmRSS"):
-    """A line of the process's status, in KiB; `Threads` is a number."""
-    with open(f"/proc/{server.process.pid}/status", encoding="utf-8") as it:
-        return next(int(line.split()[1]) for line in it if line.startswith(f"{name}:"))
 
 
 def opened(server, text):
@@ -99,11 +93,8 @@ def test_an_event_wakes_all_polls():
 
 
 def test_connections_without_a_token_keep_nobody_out():
-    with folder() as at:
-        token = "0123456789abcdef0123"
-        save(f"{at}/tokens", f"write {token}\n")
-        save(f"{at}/service.toml", "[limits]\nconnections = 30\nnew_connections = 20\n")
-        server = Server(at, args=["--config", f"{at}/service.toml", "--token-file", f"{at}/tokens"]).start()
+    token = "0123456789abcdef0123"
+    with served("[limits]\nconnections = 30\nnew_connections = 20\n", tokens=[f"write {token}"]) as server:
         assert server.request("POST", "/v1/jobs", JOB, token)[0] == 201
         head = "GET {} HTTP/1.1\r\nHost: localhost\r\n\r\n"
         silent = [opened(server, "") for _ in range(100)]

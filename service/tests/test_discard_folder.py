@@ -138,12 +138,10 @@ def test_it_never_gives_up_by_itself():
     """There is no such job yet; then its token is refused, and the service is away, at the first of two addresses. Its metrics, which alerts read, say that
     it waits, and what it did."""
     token, other, port = "a" * 20, "b" * 20, free_port()
-    with folder() as at:
-        files = f"{at}/files"
+    with served(tokens=[f"write {token}"]) as server:
+        at, files = server.folder, f"{server.folder}/files"
         os.mkdir(files)
-        for name, words in (("tokens", f"write {token}"), ("token", token)):
-            written(f"{at}/{name}", words)
-        server = Server(at, args=["--token-file", f"{at}/tokens"]).start()
+        written(f"{at}/token", token)
         more = ["--url", f"http://127.0.0.1:{free_port()}", "--token-file", f"{at}/token", "--metrics", f"127.0.0.1:{port}"]
         with at_work(server, files, *more) as run:
             time.sleep(1)

@@ -5,7 +5,7 @@ import signal
 import subprocess
 import time
 
-from harness import PROGRAM, TOP, Server, folder, until
+from harness import PROGRAM, TOP, Server, folder, process_status, until
 from relkvanu_service import Service
 from run import Skipped
 from writers import SETTINGS, SHAPE, Writer, check, end
@@ -13,9 +13,7 @@ from writers import SETTINGS, SHAPE, Writer, check, end
 
 def is_taken(process, number):
     """Whether a process has no signal of this number to take: two that wait for it are one."""
-    with open(f"/proc/{process}/status", encoding="utf-8") as it:
-        waiting = next(line.split()[1] for line in it if line.startswith("ShdPnd:"))
-    return not int(waiting, 16) >> number - 1 & 1
+    return not int(process_status(process)["ShdPnd"], 16) >> number - 1 & 1
 
 
 def test_no_memory_in_calls():

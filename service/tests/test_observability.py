@@ -4,7 +4,7 @@ import os
 import re
 import time
 
-from harness import SETTINGS, Server, Service, folder, save, served, until
+from harness import SETTINGS, Service, process_status, served, until
 from relkvanu_service import ack, savepoint
 from test_metrics import scraped
 
@@ -23,8 +23,7 @@ def test_the_process_and_what_waits():
         def agreed():
             """The metrics, and what the system says in the same moment: threads may come and go between the two."""
             values = scraped(server)[1]
-            with open(f"/proc/{pid}/status", encoding="utf-8") as it:
-                status = dict(line.split(":", 1) for line in it)
+            status = process_status(pid)
             return values["process_threads"] == int(status["Threads"]) and (values, int(status["VmRSS"].split()[0]) * 1024)
 
         values, resident = until(agreed)
@@ -58,11 +57,8 @@ def make_requests(server):
 
 
 def test_the_log_is_json_by_a_setting():
-    with folder() as at:
-        save(f"{at}/service.toml", 'log = "json"\n')
-        server = Server(at, args=["--config", f"{at}/service.toml"])
-        # it has another form than the line for which `stand_by` and others look
-        server.start()
+    # it has another form than the line for which `stand_by` and others look
+    with served('log = "json"\n') as server:
         make_requests(server)
         told = [json.loads(line) for line in lines(server)]
         assert all({"time", "level", "message"} <= set(line) for line in told), told
@@ -86,9 +82,7 @@ def test_the_log_as_text():
 
 
 def test_each_request_has_a_line_by_a_setting():
-    with folder() as at:
-        save(f"{at}/service.toml", "log_requests = true\n")
-        server = Server(at, args=["--config", f"{at}/service.toml", "--log", "json"]).start()
+    with served("log_requests = true\n", ["--log", "json"]) as server:
         server.get("/v1/jobs")
         server.get("/v1/jobs/none")
         told = [json.loads(line) for line in lines(server)]

@@ -4,11 +4,12 @@ import json
 import time
 
 import test_page
-from harness import Server, Service, caught_up, folder, save, served, served_job, until
+from harness import Service, caught_up, served, served_job, until
 from relkvanu_service import ack, decline, savepoint
 
 SETTINGS = {"interval": 3_600_000, "timeout": 7_200_000, "tolerable": 1000}
 READ, WRITE = "r" * 20, "w" * 20
+TOKENS = [f"read {READ}", f"write {WRITE}"]
 
 
 def focus(page):
@@ -64,9 +65,8 @@ def nameless(page):
 
 
 def test_a_user_acts_by_the_keyboard():
-    with test_page.started(1200, 1000) as page, folder() as at:
-        save(f"{at}/token", f"read {READ}\nwrite {WRITE}\n")
-        return act_by_keyboard(page, Server(at, args=["--token-file", f"{at}/token"]).start())
+    with test_page.started(1200, 1000) as page, served(tokens=TOKENS) as server:
+        return act_by_keyboard(page, server)
 
 
 def act_by_keyboard(page, server):
@@ -383,9 +383,7 @@ def check_records_page(page, job):
 def test_the_term_is_shown_when_it_is_asked_for():
     from selenium.webdriver.common.keys import Keys
 
-    with test_page.started(1200, 1000) as page, folder() as at:
-        save(f"{at}/token", f"read {READ}\nwrite {WRITE}\n")
-        server = Server(at, args=["--token-file", f"{at}/token"]).start()
+    with test_page.started(1200, 1000) as page, served(tokens=TOKENS) as server:
         job = Service(server.url, token=WRITE).open("orders", SETTINGS, [1], 0)
         page.get(f"{server.url}/#/jobs/orders")
         until(lambda: not page.execute_script("return document.getElementById('token').hidden"), 10)

@@ -33,9 +33,7 @@ def told_again(server, says="read again"):
 
 
 def test_tokens_for_some_jobs():
-    with folder() as at:
-        written(f"{at}/token", f"write {ALL} name=root", f"write {ORDERS} jobs=orders,eu-* name=alice", f"read {READER} jobs=eu-*")
-        server = Server(at, args=["--token-file", f"{at}/token"]).start()
+    with served(tokens=[f"write {ALL} name=root", f"write {ORDERS} jobs=orders,eu-* name=alice", f"read {READER} jobs=eu-*"]) as server:
         for name, token, status in [
             ("orders", ORDERS, 201), ("eu-1", ORDERS, 201), ("us", ORDERS, 403), ("us", ALL, 201), ("eu-1", READER, 401), ("eu-1", None, 401),
         ]:
@@ -71,20 +69,19 @@ def test_tokens_for_some_jobs():
 
 
 def test_tokens_are_read_again():
-    with folder() as at:
-        written(f"{at}/token", f"write {ALL}", f"read {READER}")
-        server = Server(at, args=["--token-file", f"{at}/token"]).start()
+    with served(tokens=[f"write {ALL}", f"read {READER}"]) as server:
+        tokens = f"{server.folder}/tokens"
         server.request("POST", "/v1/jobs", {**JOB, "name": "orders"}, ALL)
         stream = Stream(server, "/v1/jobs/orders/stream", [("Authorization", f"Bearer {READER}")])
         until(lambda: stream.head)
-        written(f"{at}/token", f"write {ALL} until=2999-01-01", f"read {ORDERS}")
+        written(tokens, f"write {ALL} until=2999-01-01", f"read {ORDERS}")
         assert server.get("/v1/jobs", READER)[0] == 200  # not yet
         told_again(server)
         assert [server.get("/v1/jobs", token)[0] for token in (ALL, READER, ORDERS)] == [200, 401, 200]
         until(lambda: stream.over, 5)  # its token is no more
         until(lambda: 'relkvanu_token_until_timestamp_seconds{access="write"} 32472144000' in server.get("/metrics", ALL)[2])
         # a bad file changes nothing
-        written(f"{at}/token", "write short")
+        written(tokens, "write short")
         told_again(server, "stay as they were")
         assert [server.get("/v1/jobs", token)[0] for token in (ALL, ORDERS)] == [200, 200] and "line 1" in server.log()
 

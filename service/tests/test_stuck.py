@@ -3,7 +3,7 @@ import os
 import re
 import time
 
-from harness import BUSY, SERVICE, Server, beside, content, folder, free_port, locked, served, slowed, sqlite, until
+from harness import BUSY, SERVICE, Server, beside, content, folder, free_port, locked, lose_history, served, slowed, sqlite, until
 from postgres import postgres
 from slow import Forgetful
 from test_api import JOB
@@ -61,22 +61,17 @@ def test_errors_of_the_database_are_not_for_clients():
 
 
 def test_long_names_are_not_repeated_whole():
-    long = "x" * 100_000
+    long, tick = "x" * 100_000, {"call": "tick"}
+    calls = [{"call": long}, {**tick, long: 1}, {"call": "ack", "id": 1, "subtask": long}, {"call": "restore", "from": long}, {"call": "deleted", "file": long}]
+    jobs = [{**JOB, long: 1}, {**JOB, "settings": {"interval": 100, long: 1}}, {**JOB, "name": long}]
     with served() as server:
         server.request("POST", "/v1/jobs", JOB)
-        bodies = [
-            {"calls": [{"call": long}]}, {"calls": [{"call": "tick", long: 1}]}, {long: 1, "calls": [{"call": "tick"}]},
-            {"calls": [{"call": "ack", "id": 1, "subtask": long}]}, {"calls": [{"call": "restore", "from": long}]},
-            {"calls": [{"call": "deleted", "file": long}]},
-        ]
-        for body in bodies:
-            status, _, told = server.request("POST", "/v1/jobs/orders/calls", body)
-            assert status == 400 and len(str(told)) < 500, (status, str(told)[:600])
-        for body in {**JOB, long: 1}, {**JOB, "settings": {"interval": 100, long: 1}}, {**JOB, "name": long}:
-            status, _, told = server.request("POST", "/v1/jobs", body)
+        bodies = [("/orders/calls", {"calls": [it]}) for it in calls] + [("/orders/calls", {long: 1, "calls": [tick]})] + [("", it) for it in jobs]
+        for path, body in bodies:
+            status, _, told = server.request("POST", f"/v1/jobs{path}", body)
             assert status == 400 and len(str(told)) < 500, (status, str(told)[:600])
         assert len(str(server.get(f"/v1/jobs?{long[:20000]}=1"))) < 1000
-        return f"{len(bodies) + 4} requests"
+        return f"{len(bodies) + 1} requests"
 
 
 def test_a_connection_to_postgresql_that_was_forgotten():
@@ -111,20 +106,17 @@ def test_events_are_read_by_an_index():
     with served() as server:
         plan = sqlite(server.database, f"explain query plan select * from call indexed by call_event where job = ? and seq > ? and {is_event} order by seq limit ?", 1, 0, 10)
         assert len(plan) == 1 and "USING INDEX call_event (job=? AND seq>?)" in plan[0][3], plan
-    with folder() as at, postgres() as database:
-        server = Server(at, database=database.url).start()
+    with postgres() as database, served(database=database.url):
         told = database.sql(
             "set enable_seqscan = off; set enable_bitmapscan = off;"
             f"explain select * from call where job = 1 and seq > 0 and {is_event} order by seq limit 10"
         )
         assert "Index Scan using call_event" in told and "Sort" not in told, told
-        server.stop()
 
 
 def test_files_of_long_lists():
     """The oldest of the taken files come first, whether the history knows them or not."""
-    with folder() as at:
-        server = Server(at).start()
+    with served() as server:
         server.request("POST", "/v1/jobs", JOB)
         path = "/v1/jobs/orders/calls"
         files = [str(9000 - place) for place in range(3000)]
@@ -146,7 +138,7 @@ def test_files_of_long_lists():
         assert [row["file"] for row in listed()[1]["deleted"]] == [taken[0]]
         assert len(listed(1000)[0]) == 59 and len(listed(5)[0]) == 5
         server.stop()
-        os.remove(f"{at}/history-{server.port}")
+        lose_history(server)
         server.start()
         assert sorted(listed(1000)[0], key=int) == sorted(taken[1:], key=int)
 

@@ -3,7 +3,7 @@ import sqlite3
 import threading
 import time
 
-from harness import BUSY, LOCKED, SETTINGS, Server, beside, folder, save, served, slowed, until
+from harness import BUSY, LOCKED, SETTINGS, beside, served, slowed, until
 from postgres import postgres
 from relkvanu_service import Service, savepoint
 from test_metrics import scraped
@@ -112,13 +112,10 @@ def test_samples_do_not_stop_the_history():
 
 
 def test_a_token_ends_with_its_day():
-    with folder() as at:
-        day = time.strftime("%Y-%m-%d", time.gmtime(time.time() + 10 * 86_400))
-        save(f"{at}/token", f"read {'r' * 20} until={day}\nwrite {'w' * 20}\nwrite {'o' * 20} until=2020-01-01\n")
-        server = Server(at, args=["--token-file", f"{at}/token"]).start()
+    day = time.strftime("%Y-%m-%d", time.gmtime(time.time() + 10 * 86_400))
+    with served(tokens=[f"read {'r' * 20} until={day}", f"write {'w' * 20}", f"write {'o' * 20} until=2020-01-01"]) as server:
         told = [server.get("/v1/jobs", token * 20)[0] for token in "rwo"]
         text = server.get("/metrics", "r" * 20)[2]
-        server.stop()
         ends = sorted(float(line.rsplit(" ", 1)[1]) for line in text.splitlines() if line.startswith("relkvanu_token_until_timestamp_seconds"))
         assert told == [200, 200, 401] and len(ends) == 2, (told, ends)
         assert time.strftime("%Y-%m-%d %H:%M", time.gmtime(ends[0])) == f"{day} 00:00" and ends[1] == float("inf"), ends
