@@ -13,14 +13,14 @@ import subprocess
 import sys
 import tempfile
 import time
-import uuid
 
 from harness import COMMAND, ENVIRONMENT, HERE, PROGRAM, TOP, Server, content, free_port, served
 from harness import folder as temporary
-from places import s3_server
+from places import Bucket
 from postgres import postgres
 from publishing_engine import PREFIX, SETTINGS, SUFFIX, TASKS, write
 from relkvanu_service import Failed, Service, cancel, savepoint
+from test_payloads import whole
 
 LOSSES = int(os.environ.get("RELKVANU_LOST_LOGS", "4"))
 ALL_JOBS = int(os.environ.get("RELKVANU_ALL_JOBS", "3"))
@@ -82,6 +82,17 @@ def published(folder):
 
 def state_in(folder):
     return {int(it.name[len(PREFIX):-len(SUFFIX)]): it.read_text() for it in folder.glob(f"{PREFIX}*{SUFFIX}")}
+
+
+@contextlib.contextmanager
+def claimed(shape, **settings):
+    """A service, and a job with its folder and the session of its tasks."""
+    with served() as server:
+        at = pathlib.Path(server.folder) / "state"
+        at.mkdir()
+        job = Service(server.url).open("orders", {**SETTINGS, **settings}, shape)
+        job.claim(at)
+        yield server, at, job, job.begin().session(block=10)
 
 
 class Racing(Service):
@@ -364,7 +375,7 @@ def has_jobs(server, at, found):
         job, texts = service.job(name), state_in(at / name)
         state, now = job.state(), job.term()
         assert (state["choice"]["id"], state["settings"], whole(job, id)) == (id, settings, parts), state
-        assert [texts[file] for files, _ in parts.values() for file in files] == [f"{name[4:]} {id} {task}" for task in range(TASKS)], texts
+        assert [texts[file] for files, *_ in parts.values() for file in files] == [f"{name[4:]} {id} {task}" for task in range(TASKS)], texts
         assert now["term"] > term["term"] and now["next_name"] >= term["next_name"], (now, term)
         job.claim(at / name)
 
@@ -519,13 +530,7 @@ def test_what_the_commands_refuse():
 
 def test_savepoints_live_on():
     """A job whose database is lost keeps its savepoints, under new numbers, and its shape and settings. A manifest whose files are gone is passed over."""
-    with served() as server:
-        at = pathlib.Path(server.folder) / "state"
-        at.mkdir()
-        job = Service(server.url).open("orders", {**SETTINGS, "pause": 5}, [1, 2])
-        job.claim(at)
-        task = job.begin().session(block=10)
-
+    with claimed([1, 2], pause=5) as (server, at, job, task):
         def completes(call, reused=()):
             record = call["id"]
             for nth, subtask in enumerate(("0.0", "1.0", "1.1")):
@@ -556,13 +561,7 @@ def test_checksums():
     """Each file is read once: what changes afterwards is found in a folder that is exported, after later checkpoints and after a recovery too."""
     from relkvanu.manifest import sums_in
 
-    with served() as server:
-        at = pathlib.Path(server.folder) / "state"
-        at.mkdir()
-        job = Service(server.url).open("orders", SETTINGS, [1])
-        job.claim(at)
-        task = job.begin().session(block=10)
-
+    with claimed([1]) as (server, at, job, task):
         def completes(reused=()):
             record, name = job.checkpoint()["id"], task.name()
             write(at / f"{PREFIX}{name}{SUFFIX}", "123456789")
@@ -593,70 +592,43 @@ def test_checksums():
         return f"record {record}"
 
 
-def whole(job, record):
-    """The files and the payload of each subtask."""
-    return {name: (it["files"], it["payload"]) for name, it in job.load(record)["subtasks"].items()}
-
-
-def with_payloads(server, at):
-    """A job with a savepoint of payloads alone, one whose files are in an order of their own, and a checkpoint that has some of these. Returns what their
-    subtasks have."""
-    at.mkdir()
-    job = Service(server.url).open("orders", SETTINGS, [2, 1])
-    job.claim(at)
-    task = job.begin().session(block=10)
+def with_payloads(at, job, task):
+    """Gives a job with two vertices a savepoint of payloads alone, one whose files are in an order of their own, and a checkpoint that has some of these, some with
+    figures. Returns what their subtasks have."""
     names = [task.name() for _ in range(5)]
     for name in names:
         write(at / f"{PREFIX}{name}{SUFFIX}", f"of {name}")
     one, two, three, four, five = names
     wanted = {}
 
-    def completes(record, states):
+    def completes(record, states, **figures):
+        """Of the last subtask the figures are told."""
         for name, (fresh, reused, payload) in states.items():
-            task.ack(record, name, fresh, reused, payload=payload)
-        wanted[record] = {name: (fresh + reused, payload or b"") for name, (fresh, reused, payload) in states.items()}
+            task.ack(record, name, fresh, reused, payload=payload, **(figures if name == "1.0" else {}))
+        wanted[record] = {name: (fresh + reused, payload or b"", 0, 0) for name, (fresh, reused, payload) in states.items()}
+        wanted[record]["1.0"] = (*wanted[record]["1.0"][:2], figures.get("size", 0), figures.get("millis", 0))
         return record
 
-    alone = completes(job.call(savepoint())["id"], {"0.0": ([], [], bytes(range(256)) * 16), "0.1": ([], [], b"\0"), "1.0": ([], [], b"alone")})
+    payloads = {"0.0": ([], [], bytes(range(256)) * 16), "0.1": ([], [], b"\0"), "1.0": ([], [], b"alone")}
+    alone = completes(job.call(savepoint())["id"], payloads, size=5, millis=7)
     completes(job.checkpoint()["id"], {"0.0": ([two, one], [], b"first"), "0.1": ([], [], b"x"), "1.0": ([three], [], None)})
-    ordered = completes(job.call(savepoint())["id"], {"0.0": ([four], [two, one], b"second"), "0.1": ([], [three], b""), "1.0": ([], [three, two], b"y")})
-    last = completes(job.checkpoint()["id"], {"0.0": ([five], [four], bytes(4096)), "0.1": ([], [one], b"z"), "1.0": ([], [], None)})
+    ordered = completes(job.call(savepoint())["id"], {"0.0": ([four], [two, one], b"second"), "0.1": ([], [three], b""), "1.0": ([], [three, two], b"y")}, millis=9)
+    last = completes(job.checkpoint()["id"], {"0.0": ([five], [four], bytes(4096)), "0.1": ([], [one], b"z"), "1.0": ([], [], None)}, size=40)
     assert all(whole(job, record) == wanted[record] for record in (alone, ordered, last)), wanted
-    return job, alone, ordered, last, wanted
+    return alone, ordered, last, wanted
 
 
-def test_figures_go_with_their_records():
-    """What tasks told of their snapshots is in manifests, each if it was told, and so in a job of the durable coordinator, in one that is imported, and in one that is
-    recovered, which also know the lengths of its files. Manifests without it, or with what it can't be."""
-    from relkvanu import Settings
+def test_figures_that_can_not_be():
+    """Nobody begins from a manifest with bytes or milliseconds that are none."""
     from relkvanu.manifest import sealed
-    from relkvanu.store import Store
 
-    with served() as server:
-        at = pathlib.Path(server.folder) / "state"
-        at.mkdir()
-        job = Service(server.url).open("orders", SETTINGS, [3, 1])
-        job.claim(at)
-        task = job.begin().session(block=4)
-        name, other = task.name(), task.name()
-        for it, text in ((name, "state"), (other, "another")):
-            write(at / f"{PREFIX}{it}{SUFFIX}", text)
+    with claimed([1]) as (server, at, job, task):
         record = job.checkpoint()["id"]
         task.ack(record, "0.0", payload=b"small", size=5, millis=7)
-        task.ack(record, "0.1", millis=9)
-        task.ack(record, "0.2", [name], sizes=[5])
-        task.ack(record, "1.0", [other], size=40)
-        wanted = {"0.0": {"bytes": 5, "millis": 7}, "0.1": {"millis": 9}, "0.2": {}, "1.0": {"bytes": 40}}
-
-        def figures(subtasks):
-            return {key: {it: value[it] for it in ("bytes", "millis") if value.get(it)} for key, value in subtasks.items()}
-
         out, store, state = (at.parent / it for it in ("out", "store.db", "store"))
-        did([PROGRAM, "export", "orders", out, "--record", str(record), *place_of(server, at)])
+        did([PROGRAM, "export", "orders", out, *place_of(server, at)])
         path = out / f"record-{record}.manifest"
         text = path.read_bytes()
-        fits_the_schema(text)
-        assert figures({f"{it['vertex']}.{it['index']}": it for it in json.loads(text)["subtasks"]}) == wanted, text
         for wrong, why in ((-1, ""), ("7", ""), (1.5, ""), (1 << 64, ""), (True, "can't be bytes or milliseconds")):
             found = json.loads(text)
             del found["sum"]
@@ -665,22 +637,6 @@ def test_figures_go_with_their_records():
             if not why:  # SQLite reads `true` as a number
                 did([PROGRAM, "import", out, store, state], 1)
             did([PROGRAM, "import", out, "other", *place_of(server, at.parent / "other")], 1, why)
-        path.write_bytes(text)
-        did([PROGRAM, "import", out, store, state])
-        settings = Settings(interval=SETTINGS["interval"], timeout=SETTINGS["timeout"], tolerable=1000, retained=2)
-        with Store(store, settings, [3, 1], storage=state, manifests=True) as durable:
-            parts = {f"{it.vertex}.{it.index}": {"bytes": it.bytes, "millis": it.millis} for it in durable.load(record).parts}
-        assert figures(parts) == wanted, parts
-        # what the durable coordinator writes says the same
-        (kept,) = state.glob("record-*.manifest")
-        assert figures({f"{it['vertex']}.{it['index']}": it for it in json.loads(kept.read_text())["subtasks"]}) == wanted, kept.read_text()
-        did([PROGRAM, "keep", "orders", *place_of(server, at)])
-        lose(server)
-        did([PROGRAM, "recover", "orders", *place_of(server, at)])
-        did([PROGRAM, "import", out, "copy", *place_of(server, at.parent / "copy")])
-        for it in (Service(server.url).job(of) for of in ("orders", "copy")):
-            assert figures(it.load(record)["subtasks"]) == wanted, it.load(record)
-            assert (it.state()["bytes"]["in_use"], it.file(name)["bytes"], it.file(other)["bytes"]) == (12, 5, 7), it.state()
 
 
 def test_a_look_at_the_records_of_a_job():
@@ -714,12 +670,8 @@ def test_a_manifest_says_what_was_acknowledged():
     """A file that is cut short stays lost: a record that uses it again does not make it whole, and no engine that starts."""
     from relkvanu.service_manifests import Manifests, NotKept, service_folder
 
-    with served() as server:
-        at = pathlib.Path(server.folder) / "state"
-        at.mkdir()
-        job = Service(server.url).open("orders", {**SETTINGS, "retained": 4}, [1])
-        job.claim(at)
-        session, place = job.begin().session(), place_of(server, at)
+    with claimed([1], retained=4) as (server, at, job, session):
+        place = place_of(server, at)
 
         def completes(text, reused=(), **told):
             """A checkpoint with a new file of this text, if there is one."""
@@ -758,12 +710,12 @@ def test_a_manifest_says_what_was_acknowledged():
 
 
 def test_payloads_go_with_their_records():
-    """A job that is recovered has the payloads of each record, and the order of its files, though a savepoint has files that the last checkpoint has too."""
+    """A job that is recovered has the payloads and the figures of each record, and the order and the lengths of its files, though a savepoint has files that the
+    last checkpoint has too."""
     from relkvanu.manifest import sealed
 
-    with served() as server:
-        at = pathlib.Path(server.folder) / "state"
-        job, alone, ordered, last, wanted = with_payloads(server, at)
+    with claimed([2, 1]) as (server, at, job, task):
+        alone, ordered, last, wanted = with_payloads(at, job, task)
         did([PROGRAM, "keep", "orders", *place_of(server, at)], 0, f"record {last} has a manifest")
         (kept,) = (at / ".relkvanu.records").iterdir()
         for record, shown in (alone, bytes(range(256)) * 16), (last, bytes(4096)):
@@ -788,6 +740,7 @@ def test_payloads_go_with_their_records():
         told = did([PROGRAM, "recover", "orders", *place_of(server, at)])
         assert record_of(told) == last and "2 other savepoints live on" in told, told
         assert whole(job, last) == wanted[last], whole(job, last)
+        assert [job.file(it)["bytes"] for files, *_ in wanted[last].values() for it in files] == [4] * 3, job.state()
         living = [it["id"] for it in job.state()["live"] if it["kind"] == "savepoint"]
         assert [whole(job, it) for it in living] == [wanted[alone], wanted[ordered]], [whole(job, it) for it in living]
         # and once more, from a savepoint of payloads alone
@@ -799,13 +752,12 @@ def test_payloads_go_with_their_records():
 
 
 def test_payloads_of_a_record_that_is_carried():
-    """To another job of the service, to the durable coordinator, and from there back. Each has the payloads and the order of the files."""
+    """To another job of the service, to the durable coordinator, and from there back. Each has the payloads, the figures and the order of the files."""
     from relkvanu import Settings
     from relkvanu.store import Store
 
-    with served() as server:
-        at = pathlib.Path(server.folder) / "state"
-        _, alone, ordered, last, wanted = with_payloads(server, at)
+    with claimed([2, 1]) as (server, at, job, task):
+        alone, ordered, last, wanted = with_payloads(at, job, task)
         for record in (alone, ordered, last):
             out, store, state = (at.parent / f"{record}-{it}" for it in ("out", "store.db", "store"))
             did([PROGRAM, "export", "orders", out, "--record", str(record), *place_of(server, at)])
@@ -813,38 +765,31 @@ def test_payloads_of_a_record_that_is_carried():
             did([PROGRAM, "import", out, store, state])
             with Store(store, Settings(interval=SETTINGS["interval"], timeout=SETTINGS["timeout"], tolerable=1000, retained=2), [2, 1], storage=state,
                        manifests=True) as durable:
-                found = {f"{it.vertex}.{it.index}": (list(it.files), it.payload) for it in durable.load(record).parts}
+                found = {f"{it.vertex}.{it.index}": (list(it.files), it.payload, it.bytes or 0, it.millis or 0) for it in durable.load(record).parts}
             assert found == wanted[record], (record, found)
-            for source, job in ((out, f"there-{record}"), (state, f"back-{record}")):
-                did([PROGRAM, "import", source, job, *place_of(server, at.parent / job)])
-                assert whole(Service(server.url).job(job), record) == wanted[record], (source, whole(Service(server.url).job(job), record))
+            for source, name in ((out, f"there-{record}"), (state, f"back-{record}")):
+                did([PROGRAM, "import", source, name, *place_of(server, at.parent / name)])
+                other = Service(server.url).job(name)
+                assert whole(other, record) == wanted[record], (source, whole(other, record))
         return f"records {alone}, {ordered} and {last}"
-
-
-def s3_client():
-    """A client of this process's server, and the words of a command."""
-    env = s3_server()
-    import boto3
-
-    os.environ.update(env)
-    ENVIRONMENT.update(env)
-    return boto3.client("s3", endpoint_url=env["S3_ENDPOINT"], region_name=env["S3_REGION"]), ["--endpoint", env["S3_ENDPOINT"], "--region", env["S3_REGION"]]
 
 
 def test_a_job_over_a_bucket():
     """Its database is lost. Its record goes to a folder, to another bucket, and back."""
     from relkvanu.service_manifests import Manifests, service_bucket
 
-    s3, words = s3_client()
+    place = Bucket(None)
+    s3, bucket, words = place.s3, place.bucket, place.words("", "")[-4:]
+    for it in (os.environ, ENVIRONMENT):
+        it.update(place.said)
     with served() as server:
-        bucket, at = f"b{uuid.uuid4().hex}", pathlib.Path(server.folder)
-        s3.create_bucket(Bucket=bucket)
+        at = pathlib.Path(server.folder)
         job = Service(server.url).open("orders", SETTINGS, [TASKS])
-        s3.put_object(Bucket=bucket, Key="orders/.relkvanu-orders", Body=job.marker()[1].encode())
+        place.put(".relkvanu-orders", job.marker()[1].encode())
         task = job.begin().session(block=10)
         record, names = job.checkpoint()["id"], [task.name() for _ in range(TASKS)]
         for subtask, name in enumerate(names):
-            s3.put_object(Bucket=bucket, Key=f"orders/s-{name}.bin", Body=b"state %d" % name)
+            place.put(f"s-{name}.bin", b"state %d" % name)
             task.ack(record, f"0.{subtask}", [name])
         manifests = Manifests(job, service_bucket("orders", bucket, "orders/s-", ".bin", s3))
         assert manifests.keep() == record
