@@ -3,13 +3,14 @@ records."""
 import json
 import time
 
-import test_page
 from harness import Service, caught_up, served, served_job, until
 from relkvanu_service import ack, decline, savepoint
+from test_page import contrast, picture, records, shown, started, texts
 
 SETTINGS = {"interval": 3_600_000, "timeout": 7_200_000, "tolerable": 1000}
 READ, WRITE = "r" * 20, "w" * 20
 TOKENS = [f"read {READ}", f"write {WRITE}"]
+ENTER, ESCAPE, SPACE = "\ue007", "\ue00c", "\ue00d"  # as the protocol of WebDriver has the keys
 
 
 def focus(page):
@@ -28,12 +29,11 @@ def keys_at(page, field, *pressed):
 def opened(page, button):
     """Opens a question by the keyboard."""
     from selenium.common.exceptions import ElementNotInteractableException, StaleElementReferenceException
-    from selenium.webdriver.common.keys import Keys
 
     def is_opened():
         try:
             page.execute_script("arguments[0].focus()", page.find_element("css selector", button))
-            keys(page, Keys.ENTER)
+            keys(page, ENTER)
         except (ElementNotInteractableException, StaleElementReferenceException):
             return False  # a question that was closed gives the focus back a moment later, and a new state replaces the button
         # a button that was replaced between its focus and the key has lost the key: it is pressed again
@@ -53,6 +53,20 @@ def asked_call(page):
     return page.execute_script("return document.getElementById('ask-call').textContent")
 
 
+def property_of(page, field, name):
+    return page.execute_script("return document.getElementById(arguments[0])[arguments[1]]", field, name)
+
+
+def agree(page):
+    """Presses the button of a question, which makes its call."""
+    keys_at(page, "ask-yes", ENTER)
+    until(lambda: not is_asking(page), 10, told=lambda: texts(page, "#ask-wrong"))
+
+
+def look_at(page, number):
+    page.execute_script("document.getElementById('record-number').value = arguments[0]; document.getElementById('record-form').requestSubmit()", number)
+
+
 def nameless(page):
     """The fields and buttons that a screen reader can't name, and labels that name nothing."""
     return page.execute_script("""
@@ -65,47 +79,45 @@ def nameless(page):
 
 
 def test_a_user_acts_by_the_keyboard():
-    with test_page.started(1200, 1000) as page, served(tokens=TOKENS) as server:
+    with started(1200, 1000) as page, served(tokens=TOKENS) as server:
         return act_by_keyboard(page, server)
 
 
 def act_by_keyboard(page, server):
-    from selenium.webdriver.common.keys import Keys
-
     job = Service(server.url, token=WRITE).open("orders", SETTINGS, [1, 2])
     page.get(f"{server.url}/#/jobs/orders")
-    until(lambda: not page.execute_script("return document.getElementById('token').hidden"), 10)
-    assert "a token is needed" in test_page.texts(page, "#status")[0]
-    keys_at(page, "token-text", "none of its tokens", Keys.ENTER)
-    until(lambda: test_page.texts(page, "#status") == ["the service does not take this token"], 10)
+    until(lambda: not property_of(page, "token", "hidden"), 10)
+    assert "a token is needed" in texts(page, "#status")[0]
+    keys_at(page, "token-text", "none of its tokens", ENTER)
+    until(lambda: texts(page, "#status") == ["the service does not take this token"], 10)
     page.execute_script("document.getElementById('token-text').value = ''; document.getElementById('token-text').focus()")
-    keys(page, READ, Keys.ENTER)
-    until(lambda: test_page.texts(page, "#job-name") == ["orders"], 10)
+    keys(page, READ, ENTER)
+    until(lambda: texts(page, "#job-name") == ["orders"], 10)
     assert nameless(page) == [], nameless(page)
 
     # a savepoint: the request is shown, a read token is not enough, and a write token makes it
     opened(page, "#do-savepoint")
     assert asked_call(page) == 'POST /v1/jobs/orders/calls\n{\n "calls": [\n  {\n   "call": "savepoint"\n  }\n ]\n}', asked_call(page)
     assert focus(page) == "ask-yes" and nameless(page) == []
-    keys(page, Keys.ENTER)
+    keys(page, ENTER)
     until(lambda: focus(page) == "ask-token", 5)
-    assert "write token" in test_page.texts(page, "#ask-wrong")[0] and job.state()["seq"] == 2
-    test_page.picture(page, "service-page-asks")
-    keys(page, WRITE, Keys.ENTER)
+    assert "write token" in texts(page, "#ask-wrong")[0] and job.state()["seq"] == 2
+    picture(page, "service-page-asks")
+    keys(page, WRITE, ENTER)
     until(lambda: not is_asking(page), 5)
-    assert test_page.texts(page, "#done") == ["Savepoint 1 is triggered, as call 3."], test_page.texts(page, "#done")
+    assert texts(page, "#done") == ["Savepoint 1 is triggered, as call 3."], texts(page, "#done")
     until(lambda: focus(page) == "do-savepoint", 5)
     assert [entry["line"].split()[0] for entry in job.log()] == ["fence", "reserve", "savepoint"]
 
     # what can't be taken back begins at the other button, and Escape does nothing
     job.calls([ack(1, "0.0", [1]), ack(1, "1.0", [2]), ack(1, "1.1", [3])])
-    until(lambda: test_page.texts(page, "#savepoints button"), 10)
+    until(lambda: texts(page, "#savepoints button"), 10)
     opened(page, "#savepoints button")
-    assert focus(page) == "ask-no" and "can't be taken back" in test_page.texts(page, "#ask-question")[0] and '"id": 1' in asked_call(page), asked_call(page)
-    keys(page, Keys.ESCAPE)
+    assert focus(page) == "ask-no" and "can't be taken back" in texts(page, "#ask-question")[0] and '"id": 1' in asked_call(page), asked_call(page)
+    keys(page, ESCAPE)
     until(lambda: not is_asking(page), 5)
     opened(page, "#savepoints button")
-    keys(page, Keys.ENTER)
+    keys(page, ENTER)
     until(lambda: not is_asking(page), 5)
     assert job.state()["seq"] == 6
 
@@ -115,9 +127,8 @@ def act_by_keyboard(page, server):
     page.execute_script("const it = document.getElementById('restore-from'); it.value = '1'; it.dispatchEvent(new Event('input', {bubbles: true}))")
     keys_at(page, "restore-shape", "1 3")
     assert '"from": 1' in asked_call(page) and "3" in asked_call(page).split("shape")[1], asked_call(page)
-    keys_at(page, "ask-yes", Keys.ENTER)
-    until(lambda: not is_asking(page), 5)
-    assert "begins again from savepoint 1" in test_page.texts(page, "#done")[0] and job.state()["shape"] == [1, 3], job.state()["shape"]
+    agree(page)
+    assert "begins again from savepoint 1" in texts(page, "#done")[0] and job.state()["shape"] == [1, 3], job.state()["shape"]
 
     # an answer that is lost: the second try makes no second call
     page.execute_script("""
@@ -129,61 +140,57 @@ def act_by_keyboard(page, server):
           throw new TypeError("the line is cut");
         };""")
     opened(page, "#do-savepoint")
-    keys(page, Keys.ENTER)
-    until(lambda: "made or not" in test_page.texts(page, "#ask-wrong")[0], 5)
-    until(lambda: page.execute_script("return !document.getElementById('ask-yes').disabled"), 5)
-    keys_at(page, "ask-yes", Keys.ENTER)
-    until(lambda: not is_asking(page), 5)
+    keys(page, ENTER)
+    until(lambda: "made or not" in texts(page, "#ask-wrong")[0], 5)
+    until(lambda: not property_of(page, "ask-yes", "disabled"), 5)
+    agree(page)
     assert [entry["line"].split()[0] for entry in job.log()].count("savepoint") == 2, list(job.log())
 
     # a disposal, and one that is refused
     job.call({"call": "decline", "id": 2, "subtask": "0.0"})
-    until(lambda: test_page.texts(page, "#savepoints button"), 10)
+    until(lambda: texts(page, "#savepoints button"), 10)
     opened(page, "#savepoints button")
-    keys_at(page, "ask-yes", Keys.ENTER)
-    until(lambda: test_page.texts(page, "#ask-wrong")[0] or not is_asking(page), 5)
-    first = test_page.texts(page, "#ask-wrong")[0] or test_page.texts(page, "#done")[0]
+    keys_at(page, "ask-yes", ENTER)
+    until(lambda: texts(page, "#ask-wrong")[0] or not is_asking(page), 5)
+    first = texts(page, "#ask-wrong")[0] or texts(page, "#done")[0]
     assert "refuses" in first or "disposed" in first, first
     if is_asking(page):
-        keys(page, Keys.ESCAPE)
+        keys(page, ESCAPE)
 
     # the end
     opened(page, "#do-cancel")
     assert focus(page) == "ask-no"
-    keys_at(page, "ask-yes", Keys.ENTER)
-    until(lambda: not is_asking(page), 5)
+    agree(page)
     until(lambda: job.state()["mode"] == "cancelled", 5)
-    until(lambda: page.execute_script("return document.getElementById('do-savepoint').disabled"), 10)
+    until(lambda: property_of(page, "do-savepoint", "disabled"), 10)
     # the job goes, though its files are left
     opened(page, "#do-delete")
     assert asked_call(page) == "DELETE /v1/jobs/orders", asked_call(page)
-    keys_at(page, "ask-yes", Keys.ENTER)
-    until(lambda: "files of the job are left" in test_page.texts(page, "#ask-wrong")[0], 5)
-    keys_at(page, "delete-abandon", Keys.SPACE)
+    keys_at(page, "ask-yes", ENTER)
+    until(lambda: "files of the job are left" in texts(page, "#ask-wrong")[0], 5)
+    keys_at(page, "delete-abandon", SPACE)
     assert asked_call(page) == "DELETE /v1/jobs/orders?abandon=1", asked_call(page)
     calls = job.state()["seq"]
-    keys_at(page, "ask-yes", Keys.ENTER)
-    until(lambda: not is_asking(page) and test_page.texts(page, "#done") == ["Job orders is deleted."], 5)
-    until(lambda: not page.execute_script("return document.getElementById('no-jobs').hidden"), 10)
+    keys_at(page, "ask-yes", ENTER)
+    until(lambda: not is_asking(page) and texts(page, "#done") == ["Job orders is deleted."], 5)
+    until(lambda: not property_of(page, "no-jobs", "hidden"), 10)
     wrong = [entry["message"] for entry in page.get_log("browser") if entry["level"] == "SEVERE" and "status of 40" not in entry["message"]]
     assert not wrong, wrong
     return f"{calls} calls, {first!r}"
 
 
 def test_a_stop_and_older_checkpoints():
-    with test_page.started(1200, 1000) as page, served() as server:
+    with started(1200, 1000) as page, served() as server:
         return stopped_and_back(page, server, Service(server.url).open("orders", {**SETTINGS, "retained": 3}, [1]))
 
 
 def test_settings_are_changed():
     """The form has the settings of now, the request those that differ, and what is refused stays on the page with its reason."""
-    with test_page.started(1200, 1000) as page, served() as server:
+    with started(1200, 1000) as page, served() as server:
         return settings_changed(page, server, Service(server.url).open("orders", SETTINGS, [1]))
 
 
 def settings_changed(page, server, job):
-    from selenium.webdriver.common.keys import Keys
-
     def typed(field, text):
         page.execute_script("const it = document.getElementById(arguments[0]); it.focus(); it.select()", field)
         keys(page, text)
@@ -192,82 +199,78 @@ def settings_changed(page, server, job):
     opened(page, "#do-settings")
     assert nameless(page) == [], nameless(page)
     before = job.state()["settings"]
-    assert page.execute_script("return document.getElementById('set-interval').value") == str(before["interval"])
+    assert property_of(page, "set-interval", "value") == str(before["interval"])
     typed("set-interval", "30000")
     typed("set-retained", "0")
-    keys_at(page, "set-keep", Keys.SPACE)
+    keys_at(page, "set-keep", SPACE)
     wanted = {"interval": 30_000, "retained": 0, "keep_on_cancel": not before["keep_on_cancel"]}
     method, body = asked_call(page).split("\n", 1)
     assert (method, json.loads(body)) == ("PATCH /v1/jobs/orders/settings", wanted), asked_call(page)
-    keys_at(page, "ask-yes", Keys.ENTER)
-    until(lambda: "retained" in test_page.texts(page, "#ask-wrong")[0], 10, told=lambda: test_page.texts(page, "#ask-wrong"))
+    keys_at(page, "ask-yes", ENTER)
+    until(lambda: "retained" in texts(page, "#ask-wrong")[0], 10, told=lambda: texts(page, "#ask-wrong"))
     assert job.state()["settings"] == before
     typed("set-retained", "2")
-    keys(page, Keys.ENTER)
-    until(lambda: not is_asking(page), 10, told=lambda: test_page.texts(page, "#ask-wrong"))
-    assert test_page.texts(page, "#done") == ["The settings are changed, as call 3."], test_page.texts(page, "#done")
+    keys(page, ENTER)
+    until(lambda: not is_asking(page), 10, told=lambda: texts(page, "#ask-wrong"))
+    assert texts(page, "#done") == ["The settings are changed, as call 3."], texts(page, "#done")
     assert job.state()["settings"] == {**before, **wanted, "retained": 2}
-    until(lambda: "30" in test_page.texts(page, "[data-fact='Interval']")[0], 10, told=lambda: test_page.texts(page, "[data-fact='Interval']"))
+    until(lambda: "30" in texts(page, "[data-fact='Interval']")[0], 10, told=lambda: texts(page, "[data-fact='Interval']"))
     return "an interval, a number that is refused, and a choice"
 
 
 def stopped_and_back(page, server, job):
-    from selenium.webdriver.common.keys import Keys
-
     def are(*wanted):
         """What the buttons of a stop, a beginning, a restore and a checkpoint may be pressed, and what the job does."""
         ids = ["do-stop", "do-begin", "do-restore", "do-checkpoint"]
         until(lambda: [page.execute_script("return !document.getElementById(arguments[0]).disabled", one) for one in ids] == list(wanted[1:]), 10)
-        until(lambda: test_page.texts(page, "[data-fact='Mode']") == [wanted[0]] == test_page.texts(page, "#jobs .mode"), 10)
+        until(lambda: texts(page, "[data-fact='Mode']") == [wanted[0]] == texts(page, "#jobs .mode"), 10)
 
     def done(button, said_then):
         opened(page, button)
         assert nameless(page) == [], nameless(page)
-        keys_at(page, "ask-yes", Keys.ENTER)
-        until(lambda: not is_asking(page), 10)
-        assert test_page.texts(page, "#done") == [said_then], test_page.texts(page, "#done")
+        agree(page)
+        assert texts(page, "#done") == [said_then], texts(page, "#done")
 
     page.get(f"{server.url}/#/jobs/orders")
     are("running", True, False, True, True)
     done("#do-stop", "The job stops: savepoint 1 is triggered, as call 3.")
     assert asked_call(page) == "POST /v1/jobs/orders/stop\n{}", asked_call(page)
     are("stopping", False, False, True, False)
-    assert "waits for the acknowledgements of savepoint 1" in test_page.texts(page, "#hint")[0]
+    assert "waits for the acknowledgements of savepoint 1" in texts(page, "#hint")[0]
     job.call(ack(1, "0.0", [1]))
     are("stopped", False, True, False, False)
-    assert "has stopped at savepoint 1" in test_page.texts(page, "#hint")[0] and test_page.texts(page, "[data-fact='Next is due']") == ["not while it is stopped"]
-    assert test_page.contrast(page) >= 4.5
+    assert "has stopped at savepoint 1" in texts(page, "#hint")[0] and texts(page, "[data-fact='Next is due']") == ["not while it is stopped"]
+    assert contrast(page) >= 4.5
     done("#do-begin", "The job begins again from savepoint 1, as call 6. The term is 3.")
     are("running", True, False, True, True)
     # a stop that fails
     job.stop_job()
     job.call(decline(2, "0.0"))
-    until(lambda: "savepoint 2 has ended (declined)" in test_page.texts(page, "#hint")[0], 10)
+    until(lambda: "savepoint 2 has ended (declined)" in texts(page, "#hint")[0], 10)
     # the older checkpoints that are retained, and the word of consent
     for number, name in zip((3, 4, 5), job.reserve(3)):
         job.checkpoint()
         job.call(ack(number, "0.0", [name]))
-    until(lambda: test_page.texts(page, "[data-fact='Would restart']") == ["from checkpoint 5"], 10)
+    until(lambda: texts(page, "[data-fact='Would restart']") == ["from checkpoint 5"], 10)
     opened(page, "#do-restore")
-    offered = test_page.texts(page, "#restore-from option")
+    offered = texts(page, "#restore-from option")
     assert offered == ["the latest: checkpoint 5", "savepoint 1", "checkpoint 4, an older one", "checkpoint 3, an older one"], offered
     hidden = "return document.getElementById('restore-consent').parentElement.hidden"
     assert page.execute_script(hidden) and nameless(page) == []
     page.execute_script("const it = document.getElementById('restore-from'); it.selectedIndex = 3; it.dispatchEvent(new Event('input', {bubbles: true}))")
     assert not page.execute_script(hidden) and '"checkpoint": 3' in asked_call(page) and '"accept_published": false' in asked_call(page), asked_call(page)
-    keys_at(page, "ask-yes", Keys.ENTER)
-    until(lambda: "not taken back" in test_page.texts(page, "#ask-wrong")[0], 10)
-    keys_at(page, "restore-consent", Keys.SPACE)
+    keys_at(page, "ask-yes", ENTER)
+    until(lambda: "not taken back" in texts(page, "#ask-wrong")[0], 10)
+    keys_at(page, "restore-consent", SPACE)
     assert '"accept_published": true' in asked_call(page), asked_call(page)
-    keys_at(page, "ask-yes", Keys.ENTER)
-    until(lambda: not is_asking(page), 10)
-    assert test_page.texts(page, "#done")[0].startswith("The job begins again from savepoint 6"), test_page.texts(page, "#done")
+    agree(page)
+    assert texts(page, "#done")[0].startswith("The job begins again from savepoint 6"), texts(page, "#done")
     assert job.state()["choice"] == {"kind": "savepoint", "id": 6}
     return "a stop, a beginning, a stop that failed, and the way back to checkpoint 3"
 
 
 def test_a_record_and_older_ones():
-    with test_page.started(1200, 1000) as page, served_job("orders", {**SETTINGS, "timeout": 6500}, [2]) as (server, job):
+    with started(1200, 1000) as page, served_job("orders", {**SETTINGS, "timeout": 6500}, [2]) as (server, job):
         for number in range(1, 61):
             acks = [ack(number, "0.0", [number], sizes=[1500]), ack(number, "0.1", sizes=[])]
             job.calls([savepoint(), *([decline(number, "0.1", reason="no disk" if number == 57 else None)] if number % 2 else acks)])
@@ -282,7 +285,7 @@ def test_a_record_and_older_ones():
 
 
 def first_of(page):
-    cells = test_page.texts(page, "#records td:first-child")
+    cells = texts(page, "#records td:first-child")
     return (cells or [""])[0], len(cells)
 
 
@@ -338,7 +341,7 @@ def check_records_page(page, job):
     pressed(page, "#older")
     until(lambda: first_of(page) == ("9", 5), 10)
     chosen(page, "kind", "checkpoint")
-    until(lambda: first_of(page) == ("", 0) and not page.execute_script("return document.getElementById('no-records').hidden"), 10)
+    until(lambda: first_of(page) == ("", 0) and not property_of(page, "no-records", "hidden"), 10)
     chosen(page, "kind", "")
     chosen(page, "how", "")
     until(lambda: first_of(page)[1] == 25, 10)
@@ -346,33 +349,33 @@ def check_records_page(page, job):
     for limit, count in (("10", 10), ("100", 62), ("25", 25)):
         chosen(page, "most", limit)
         until(lambda wanted=count: first_of(page) == ("62", wanted), 10)
-    reasons = {row["No"]: (row["Ended"], row["Reason"]) for row in test_page.records(page)}
+    reasons = {row["No"]: (row["Ended"], row["Reason"]) for row in records(page)}
     assert reasons["57"] == ("declined by 0.1", "no disk") and reasons["59"][1] == reasons["58"][1] == "", reasons
     # one record: why, how large, and when each subtask acknowledged
     row = page.find_element("css selector", "#records tr[data-record='61'] button")
     pressed(page, "#records tr[data-record='61'] button")
     until(lambda: focus(page) == "record-title", 10)
-    of_61 = test_page.records(page)[1]
+    of_61 = records(page)[1]
     assert row.text == of_61["No"] == "61" and (of_61["Size"], of_61["New"]) == ("5.0 MB", "5.0 MB"), of_61
     log = [entry["at"] for entry in job.log() if entry["line"].split()[2:5:2] == ["ack", "61"]]
     started = job.record(61)["history"]["started"]
     rows = page.execute_script("return [...document.querySelectorAll('#acks tr')].map(it => [...it.children].map(c => c.textContent))")
-    assert [row[:2] for row in rows] == [["0.1", test_page.shown(log[1] - started)], ["0.0", test_page.shown(log[0] - started)]], (rows, log, started)
-    times = dict(zip(test_page.texts(page, "#record dt"), test_page.texts(page, "#record dd")))
+    assert [row[:2] for row in rows] == [["0.1", shown(log[1] - started)], ["0.0", shown(log[0] - started)]], (rows, log, started)
+    times = dict(zip(texts(page, "#record dt"), texts(page, "#record dd")))
     assert times == {"First": rows[1][1], "Median": rows[1][1], "99 of 100": rows[0][1], "Slowest": rows[0][1]}, times
-    assert test_page.texts(page, "#record-size") == ["Its files have 5.0 MB, of which 5.0 MB are new."], test_page.texts(page, "#record-size")
-    test_page.picture(page, "service-page-record")
+    assert texts(page, "#record-size") == ["Its files have 5.0 MB, of which 5.0 MB are new."], texts(page, "#record-size")
+    picture(page, "service-page-record")
     for number, why in (("59", "Subtask 0.1 declined it."), ("57", "Subtask 0.1 declined it: no disk"), ("60", "Each subtask acknowledged it, and it is kept.")):
-        page.execute_script("document.getElementById('record-number').value = arguments[0]; document.getElementById('record-form').requestSubmit()", number)
-        until(lambda said=why: test_page.texts(page, "#record-why") == [said], 10, told=lambda: test_page.texts(page, "#record-why"))
+        look_at(page, number)
+        until(lambda said=why: texts(page, "#record-why") == [said], 10, told=lambda: texts(page, "#record-why"))
     # the last one expires
     until(lambda: job.record(62)["history"]["how"] == "expired", 10)
-    page.execute_script("document.getElementById('record-number').value = '62'; document.getElementById('record-form').requestSubmit()")
+    look_at(page, "62")
     why = "It expired: within its timeout of 6.5 s there was no acknowledgement of 0.1."
-    until(lambda: test_page.texts(page, "#record-why") == [why], 10, told=lambda: test_page.texts(page, "#record-why"))
-    page.execute_script("document.getElementById('record-number').value = '999'; document.getElementById('record-form').requestSubmit()")
-    until(lambda: "no record 999" in "".join(test_page.texts(page, "#record")), 10)
-    least = test_page.contrast(page)
+    until(lambda: texts(page, "#record-why") == [why], 10, told=lambda: texts(page, "#record-why"))
+    look_at(page, "999")
+    until(lambda: "no record 999" in "".join(texts(page, "#record")), 10)
+    least = contrast(page)
     assert least >= 4.5 and nameless(page) == [], (least, nameless(page))
     caught_up(job)
     time.sleep(3)  # the stream has told of that: each second at most
@@ -381,28 +384,25 @@ def check_records_page(page, job):
 
 
 def test_the_term_is_shown_when_it_is_asked_for():
-    from selenium.webdriver.common.keys import Keys
-
-    with test_page.started(1200, 1000) as page, served(tokens=TOKENS) as server:
+    with started(1200, 1000) as page, served(tokens=TOKENS) as server:
         job = Service(server.url, token=WRITE).open("orders", SETTINGS, [1], 0)
         page.get(f"{server.url}/#/jobs/orders")
-        until(lambda: not page.execute_script("return document.getElementById('token').hidden"), 10)
-        keys_at(page, "token-text", READ, Keys.ENTER)
-        until(lambda: test_page.texts(page, "#job-name") == ["orders"], 10)
-        assert test_page.texts(page, "#term") == [""] and test_page.texts(page, "[data-fact='Next name']") == ["1"] and nameless(page) == []
+        until(lambda: not property_of(page, "token", "hidden"), 10)
+        keys_at(page, "token-text", READ, ENTER)
+        until(lambda: texts(page, "#job-name") == ["orders"], 10)
+        assert texts(page, "#term") == [""] and texts(page, "[data-fact='Next name']") == ["1"] and nameless(page) == []
 
         def asked():
-            keys_at(page, "do-term", Keys.ENTER)
-            until(lambda: test_page.texts(page, "#term") != [""], 10)
-            return test_page.texts(page, "#term")[0]
+            keys_at(page, "do-term", ENTER)
+            until(lambda: texts(page, "#term") != [""], 10)
+            return texts(page, "#term")[0]
 
         assert asked() == "The term needs a write token."
         page.execute_script(f"sessionStorage.setItem('relkvanu-token', '{WRITE}'); document.getElementById('term').textContent = ''")
         assert asked().startswith("The term is 1:")
         # a restore by somebody else ends it, so the page does not say it any more; one of the page says the next
         assert job.begin().term == 2
-        until(lambda: test_page.texts(page, "#term") == [""], 20)
+        until(lambda: texts(page, "#term") == [""], 20)
         opened(page, "#do-restore")
-        keys_at(page, "ask-yes", Keys.ENTER)
-        until(lambda: not is_asking(page), 10)
-        assert test_page.texts(page, "#done")[0].endswith("The term is 3."), test_page.texts(page, "#done")
+        agree(page)
+        assert texts(page, "#done")[0].endswith("The term is 3."), texts(page, "#done")

@@ -1,9 +1,9 @@
 """The page's state: it agrees with itself as time passes, keeps the focus, says what is waited for and what is old, and asks once."""
 import time
 
-import test_page
 from harness import BUSY, Service, caught_up, served, until
 from relkvanu_service import ack, decline, savepoint
+from test_page import records, started, texts
 
 SETTINGS = {"interval": 3_600_000, "timeout": 7_200_000, "tolerable": 0, "retained": 2}
 
@@ -28,16 +28,16 @@ def opened(server):
 
 
 def test_the_page_agrees_with_itself():
-    with test_page.started(1200, 900) as page, served() as server:
+    with started(1200, 900) as page, served() as server:
         job = opened(server)
         caught_up(job)  # so the first look has the last acknowledgement
         page.get(f"{server.url}/#/jobs/orders")
-        until(lambda: len(test_page.texts(page, "#records tr")) == 3, 20)
-        rows = test_page.records(page)
+        until(lambda: len(texts(page, "#records tr")) == 3, 20)
+        rows = records(page)
         # who declined, what the pending one lacks and for how long
         assert [(row["No"], row["Ended"]) for row in rows[:2]] == [("3", "pending"), ("2", "declined by 0.1")], rows
         assert rows[0]["Took"].endswith(" so far") and rows[0]["Reason"] == "waits for 0.1" and rows[0]["Acks"] == "1 of 2", rows
-        assert [text.split(",")[0] for text in test_page.texts(page, "#savepoints li")] == ["savepoint 1"], test_page.texts(page, "#savepoints li")
+        assert [text.split(",")[0] for text in texts(page, "#savepoints li")] == ["savepoint 1"], texts(page, "#savepoints li")
         # the chart ends with the state that the facts have, at its moment, and so does its table
         told = page.execute_script("""
             const facts = (name) => Number(document.querySelector(`[data-fact="${name}"]`).textContent);
@@ -51,7 +51,7 @@ def test_the_page_agrees_with_itself():
         asks_once(page, job)
         server.kill()
         until(lambda: page.execute_script("return document.body.classList.contains('old')"), 20)
-        assert "what is shown is of" in test_page.texts(page, "#status")[0], test_page.texts(page, "#status")
+        assert "what is shown is of" in texts(page, "#status")[0], texts(page, "#status")
         server.start()
         until(lambda: not page.execute_script("return document.body.classList.contains('old')"), 20)
         return f"{len(rows)} records"
@@ -99,17 +99,17 @@ def asks_once(page, job):
     time.sleep(3)
     assert len(asked()) <= 1, asked()  # the seldom look for other jobs
     page.execute_script("performance.clearResourceTimings()")
-    before = int(test_page.texts(page, '[data-fact="Calls made"]')[0])
+    before = int(texts(page, '[data-fact="Calls made"]')[0])
     job.calls([ack(3, "0.0", [4]), savepoint()])
-    until(lambda: int(test_page.texts(page, '[data-fact="Calls made"]')[0]) == before + 1, 5)
+    until(lambda: int(texts(page, '[data-fact="Calls made"]')[0]) == before + 1, 5)
     assert set(asked()) == {"/v1/view/orders"} and len(asked()) <= 3, asked()
 
 
 def test_what_the_page_says():
-    with test_page.started(1200, 900) as page, served() as server:
+    with started(1200, 900) as page, served() as server:
         opened(server)
         page.get(f"{server.url}/#/jobs/orders")
-        until(lambda: test_page.texts(page, "#job-name") == ["orders"], 20)
+        until(lambda: texts(page, "#job-name") == ["orders"], 20)
         told = evaluated(page, """
             const job = {mode: "running", due: 5, now: 9, seq: 293, settings: {pause: 0, at_once: 1}, choice: {kind: "checkpoint", id: 4},
                          files: {in_use: 0, waiting: 0, taken: 0}, bytes: {in_use: 0, waiting: 0, taken: 0, files: 0}, shape: [1], last_completed: null, image: null};
