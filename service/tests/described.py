@@ -1,6 +1,7 @@
 """The description of the API, and whether an answer is as it says."""
 import functools
 import json
+import re
 
 from harness import SERVICE
 from run import Skipped
@@ -20,6 +21,15 @@ def as_json_schema(node):
 def description():
     with open(f"{SERVICE}/web/openapi.json", encoding="utf-8") as it:
         return as_json_schema(json.load(it))
+
+
+# What the description's routes have behind these words.
+NAMES = {"jobs": "{job}", "view": "{job}", "records": "{id}", "files": "{file}"}
+
+
+def route_of(path):
+    """That of a path with a query or without."""
+    return re.sub(f"/({'|'.join(NAMES)})/[^/]+", lambda it: f"/{it[1]}/{NAMES[it[1]]}", path.partition("?")[0])
 
 
 def validate(told, content):

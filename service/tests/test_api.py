@@ -73,7 +73,6 @@ def test_bad_requests_name_the_field_and_change_nothing():
         assert server.request("POST", "/v1/jobs/orders/calls", b"x" * (8 << 20) + b"x")[0] == 413
         assert [it["line"] for it in server.get("/v1/jobs/orders/log")[2]["calls"]] == ["fence 1"]
         assert [{**job, "now": 0} for job in before] == [{**job, "now": 0} for job in server.get("/v1/jobs")[2]["jobs"]]
-        return f"{len(BAD) + 3} requests"
 
 
 def raw(server, request):
@@ -212,7 +211,6 @@ def test_a_job_says_where_its_files_are():
         sqlite(server.database, "update storage set text = '{' where job = 2")  # a row that can't be read takes no job along
         server.start()
         assert service.job("later").state()["storage"] is None and "a row of storage has" in server.log()
-        return f"{len(known)} jobs"
 
 
 def over_a_take_over(service, _):
@@ -270,7 +268,6 @@ def test_refusals_and_large_files():
         ], told
         log = server.get("/v1/jobs/orders/log?terms=1")[2]["calls"]
         check_log(server.get("/v1/jobs/orders")[2], [2], log)
-        return f"{len(told)} answers"
 
 
 def test_the_timer_triggers_and_expires():

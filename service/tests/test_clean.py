@@ -127,7 +127,6 @@ def all_jobs(server):
         assert Service(server.url).delete("later")
         until(lambda: not [key for key in cleaner.metrics() if '"later"' in key])
         assert cleaner.metrics()["threads"] <= 40 and cleaner.process.poll() is None
-    return f"{len(jobs) + 2} jobs in {len(kinds) + 1} places"
 
 
 def test_all_jobs():
@@ -200,7 +199,6 @@ def test_a_storage_that_hangs_holds_up_no_other():
                 os.close(end)
             for it, names in hanging:
                 until(lambda it=it, names=names: kept(*it, names), seconds=60, told=cleaner.log)
-        return f"{len(good)} jobs beside 4 that hang"
 
 
 def test_two_cleaners_at_once():

@@ -86,7 +86,6 @@ def test_the_log():
         words = ["bash", "-c", 'set -o pipefail; "$@" | head -1', "log", PROGRAM, "log", "orders", "--url", server.url]
         piped = subprocess.run(words, capture_output=True, text=True, check=False)
         assert piped.returncode == 0 and len(piped.stdout.splitlines()) == 1 and not piped.stderr, piped
-        return f"{len(log)} calls"
 
 
 def test_calls_of_a_user():
@@ -251,7 +250,6 @@ def test_the_environment_gives_the_address_and_the_token():
             assert status == 1 and "there is no job none" in told, (status, told)
         assert asked("jobs", "--url", f"http://127.0.0.1:{free_port()}", "--within", "1")[0] == 75
         assert asked("jobs", file="none")[0] == 78
-    return f"{len(asking)} commands"
 
 
 @contextlib.contextmanager
@@ -355,4 +353,3 @@ def test_completions_and_the_manual_pages():
         assert told.returncode == 0, told.stdout
         for verb in verbs():
             assert f"\nrelkvanu-{verb} \\- " in content(f"{at}/relkvanu-{verb}.1"), verb
-    return f"bash completes commands and options, and {len(pages)} pages"

@@ -175,7 +175,6 @@ def damaged_and_mended(server, database, start, stop):
         assert server.get(f"/v1/jobs/{name}/events?after={state['seq']}&log={state['log']}")[0] == 200, name
     service.job("cut").calls([ack(3, "0.0", [7]), ack(3, "0.1", [8])])
     until(lambda: any(record["id"] == 3 and record["how"] == "completed" for record in service.job("cut").records()))
-    return f"{len(DAMAGES)} damages, {len(REQUESTS)} kinds of requests"
 
 
 def damaged_key(server, database, damage):
@@ -196,7 +195,6 @@ def damaged_key(server, database, damage):
     assert "can't be read: a row of request has" in server.log()
     assert job.state()["seq"] == seq and told("second")[0] == 200 and told("third")[0] == 200 and job.state()["seq"] == seq + 1
     assert server.process.poll() is None and Service(server.url).damaged() == {}
-    return "one of three keys"
 
 
 def test_a_key_that_is_damaged_over_sqlite():

@@ -122,7 +122,6 @@ def test_it_survives_the_service():
         assert not [entry for entry in job.log() if entry["line"].startswith("take") and entry["answer"] == "take none"]
         twice = [entry["line"] for entry in job.log() if entry["line"].startswith("deleted")]
         assert len(twice) == len(set(twice)) == len(files)
-        return f"{len(twice)} files deleted once each, over 4 kills of the service"
 
 
 def works(port):
@@ -166,7 +165,6 @@ def test_it_never_gives_up_by_itself():
             assert outcomes == {"deleted": 8, "absent": 2}, metrics_of(port)
             assert now - 600 < metrics_of(port)['relkvanu_clean_report_timestamp_seconds{job_name="a"}'] <= now, metrics_of(port)
             assert run.poll() is None
-        return f"{outcomes}"
 
 
 def test_names_that_are_not_synced():

@@ -63,7 +63,6 @@ def test_an_end():
         job.call(cancel())
         told = end(server, at)
         assert told.returncode == 1 and "keeps its checkpoints" in told.stdout and job.state()["files"]["in_use"] > 0, told
-        return f"{RECORDS} records"
 
 
 def test_an_end_with_a_file_that_nobody_knows():

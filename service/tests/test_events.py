@@ -60,7 +60,6 @@ def test_after_a_cut():
         job.call(cancel())
         told = follower.next()
         assert [event["event"] for event in told] == ["cancelled"], told
-        return f"410 with first={state['first']}, then the pending savepoint and the cancel"
 
 
 def test_a_commit_whose_writer_has_not_heard_of_it():
@@ -159,7 +158,6 @@ def restored(server, database):
     assert [event["seq"] for event in job.follower(early, log).next(5)] == list(range(early + 1, 50))
     status, _, body = server.get("/v1/jobs/a/events?after=5&log=nobody")
     assert (status, body["field"], body["reason"]) == (410, "after", "other_log"), body
-    return "410 after a restore, before and after the log grew beyond the place; none after a start"
 
 
 def test_after_a_restored_backup():

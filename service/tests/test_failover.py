@@ -79,7 +79,6 @@ def test_answers_that_are_lost_are_answered_again():
         keys = [key for method, path, key in proxy.came if path.endswith("/calls")]
         assert None not in keys and keys[::2] == keys[1::2] and len(set(keys)) == 9, keys
         proxy.http.shutdown()
-        return f"{len(proxy.came)} requests, {len(made)} calls"
 
 
 def test_which_answers_are_asked_again():

@@ -10,7 +10,7 @@ import socket
 import stat
 import subprocess
 
-from described import description, fits
+from described import description, fits, route_of
 from harness import COMMAND, PROGRAM, Server, folder, served, until
 from postgres import postgres
 from relkvanu.job_of_service import ServiceJob
@@ -25,7 +25,6 @@ from test_runner import Lines, Run
 KIT = f"{os.path.dirname(PROGRAM)}/examples/kit"
 KILLS = int(os.environ.get("RELKVANU_KIT_KILLS", "6"))
 NUMBERS = 4000
-NAMES = {"jobs": "{job}", "records": "{id}", "files": "{file}"}  # of what the description's routes have behind these words
 
 
 def started(at, *words, numbers=NUMBERS, patience=60):
@@ -148,7 +147,6 @@ def test_a_job_whose_records_all_expire():
             job.set(timeout=1, tolerable=0)
             told = process.communicate(timeout=COMMAND)[1] or run.told()
             assert process.returncode == 1 and re.search(r"Stuck\b.*\d(\.|, )\d", told), told
-        return "in Python and in Rust"
 
 
 def carried(at, *table):
@@ -212,11 +210,11 @@ class Asked(http.client.HTTPConnection):
         self.request(method, path, None if body is None else body if isinstance(body, str) else json.dumps(body), headers)
         answer = self.getresponse()
         told = json.loads(answer.read())
-        self.check(method, path.partition("?")[0], answer.status, told)
+        self.check(method, path, answer.status, told)
         return answer.status, told
 
     def check(self, method, path, status, told):
-        route = method, re.sub("/(jobs|records|files)/[^/]+", lambda it: f"/{it[1]}/{NAMES[it[1]]}", path)
+        route = method, route_of(path)
         if route not in self.routes:
             assert status in (404, 405), (route, status)
             return

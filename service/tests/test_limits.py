@@ -57,7 +57,6 @@ def test_announced_bodies_take_no_room():
             it.close()
         server.kill()
         assert told == [200] * 40, told
-        return f"{len(slow)} bodies of {MIB} bytes are announced, and 40 requests answered"
 
 
 def test_a_token_takes_a_part_of_the_room():
@@ -140,7 +139,6 @@ def test_a_refusal_reaches_a_client_that_still_sends():
             it.close()
         until(lambda: "relkvanu_http_connections 1\n" in server.get("/metrics")[2])
         assert server.stop() == 0
-        return f"{sorted(told)} are read by clients that first send 1.5 MB more"
 
 
 def test_a_client_that_sends_on_is_left():
@@ -209,7 +207,6 @@ def test_lists_of_many_jobs_come_in_pieces():
         # the metrics wait a second for the writer, and a busy machine may take longer for all jobs
         until(lambda: len(re.findall(r"^relkvanu_mode\{", server.get("/metrics")[2], re.M)) == jobs)
         assert len(server.get("/v1/view")[2]["jobs"]) == jobs
-        return f"{jobs} jobs"
 
 
 def test_a_commit_is_measured():

@@ -39,7 +39,6 @@ def test_a_job_that_is_opened_again_keeps_its_first_counts():
             assert not [key for key in told if key.startswith("relkvanu_records_total") and '"again"' in key and told[key]], (number, told)
             service.job("again").calls([cancel()])
             service.delete("again", abandon=True)
-        return f"{tries} times"
 
 
 def test_metrics_say_what_was_done():
@@ -77,7 +76,6 @@ def test_metrics_say_what_was_done():
         needed("promtool")
         told = subprocess.run(["promtool", "check", "metrics"], input=text, text=True, stdout=subprocess.PIPE, stderr=subprocess.STDOUT, check=False)
         assert told.returncode == 0 and not told.stdout.strip(), told.stdout
-        return f"{len(values)} values"
 
 
 def tried(name, cases):
@@ -97,7 +95,6 @@ def tried(name, cases):
     looks = [one for tests in files.values() for test in tests["tests"] for one in test["alert_rule_test"]]
     fires, rests = ({one["alertname"] for one in looks if bool(one["exp_alerts"]) is has} for has in (True, False))
     assert sum(counts) == len(alerts) and set(alerts) == fires == rests, (told[0].stdout, set(alerts) ^ fires, set(alerts) ^ rests)
-    return f"{len(alerts)} alerts"
 
 
 def test_each_alert_fires_and_rests():
@@ -116,7 +113,6 @@ def test_each_alert_has_its_section():
     pages = {page: content(f"{TOP}/docs/{page}") for page in {it.partition("#")[0] for it in alerts}}
     headings = {f"{page}#{re.sub('[^a-z0-9 -]', '', title.lower()).replace(' ', '-')}" for page, text in pages.items() for title in re.findall(r"^#+ (.*)$", text, re.MULTILINE)}
     assert len(alerts) == rules.count("- alert: ") and set(alerts) <= headings, (len(alerts), set(alerts) - headings)
-    return f"{len(alerts)} alerts"
 
 
 def exposure_of(name):

@@ -77,9 +77,8 @@ def test_a_zombie_after_a_restore():
         assert told["term"] == start.term + 1 and raised(OldTerm, lambda: new.ack(3, "0.0"))
         assert raised(Fenced, lambda: job.session(told["term"]).name()).name == "Ended" and raised(Refused, job.begin).name == "NotRunning"
         log = list(job.log(terms=True))
-        answered = check_log(job.state(), [1], log)
+        check_log(job.state(), [1], log)
         assert server.stop() == 0
-        return f"{2 * len(late) + 3} calls of an ended term changed nothing; {answered} answers as the proved program's"
 
 
 TERM = re.compile(r"\bin [0-9]+ |\b(reserve|forfeit) [0-9]+( |$)")
@@ -125,7 +124,6 @@ def test_no_event_no_list_and_no_stream_has_the_term():
         assert [entry["line"].split(" ")[0] for entry in whole if terms_in(entry["line"])].count("in") == 3, whole
         assert [entry["line"] for entry in job.log()] == [re.sub(r"^(in|reserve|forfeit) \d+", r"\1 *", entry["line"]) for entry in whole]
         assert job.term() == {"term": 4, "next_name": int(job.state()["next_name"])} == {"term": 4, "next_name": 13}
-        return f"{len(paths)} reads and a stream of {len(stream.told)} messages"
 
 
 def test_tokens_for_terms():
@@ -147,7 +145,6 @@ def test_tokens_for_terms():
         assert server.request("POST", "/v1/jobs/none/garbage", {"files": []}, token=write)[0] == 404 and server.get("/v1/jobs/none/term", write)[0] == 404
         told = server.request("POST", f"{job}/fence", {"first_name": "9"}, write, [("Accept", "application/problem+json")])
         assert told[0] == 409 and told[2]["type"] == "urn:relkvanu:problem:fenced" and told[2]["fenced"] == "HasNames", told
-        return f"{len(asked)} routes, {len(bad)} bad bodies"
 
 
 def uses(log):
@@ -308,7 +305,6 @@ def test_a_job_of_a_recovery_is_turned():
         job.call(deleted(7))
         assert job.garbage([7]) == ([7], [])
         check_log(job.state(), [1], list(job.log(terms=True)))
-        return "refused at a known file, then turned once"
 
 
 def test_a_leader_that_is_over_answers_no_garbage():
@@ -378,4 +374,3 @@ def test_the_session_of_the_client():
         assert scraped(server)[1]['relkvanu_calls_total{call="reserve",job_name="orders",outcome="fenced"}'] == 1
         gauges = scraped(server)[1]
         assert gauges['relkvanu_term{job_name="orders"}'] == 3 and gauges['relkvanu_next_name{job_name="orders"}'] == int(job.state()["next_name"])
-        return f"{len(found)} names of 4 threads, refusals, and the end of a term"

@@ -61,7 +61,6 @@ def test_a_refused_change_changes_nothing():
         assert {**after, "now": 0} == {**before, "now": 0} and after["settings"]["at_once"] == 2, (before, after)
         job.call(cancel())
         assert [refused(lambda: job.set(interval=1000)), refused(job.checkpoint)] == ["NotRunning", "NotRunning"]
-        return f"{2 * len(bad) + 3} bad bodies, and refusals"
 
 
 def restarted(args):
@@ -89,7 +88,6 @@ def test_a_restart_keeps_the_settings():
     assert (made, image) == (41, None), (made, image)
     made, image = restarted(["--image-calls", "20", "--keep-calls", "20"])
     assert made == 41 and image, (made, image)
-    return f"from the log, and from an image after call {image['seq']}"
 
 
 def test_a_smaller_number_retained_drops_checkpoints():
@@ -261,4 +259,3 @@ def test_an_advance():
         assert refused(lambda: job.advance(0, 1)) == "NotRunning"
         assert server.stop() == 0
         ran("check", "--database", server.database)
-        return f"terms up to {before['term']}"

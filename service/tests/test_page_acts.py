@@ -170,13 +170,11 @@ def act_by_keyboard(page, server):
     until(lambda: "files of the job are left" in texts(page, "#ask-wrong")[0], 5)
     keys_at(page, "delete-abandon", SPACE)
     assert asked_call(page) == "DELETE /v1/jobs/orders?abandon=1", asked_call(page)
-    calls = job.state()["seq"]
     keys_at(page, "ask-yes", ENTER)
     until(lambda: not is_asking(page) and texts(page, "#done") == ["Job orders is deleted."], 5)
     until(lambda: not property_of(page, "no-jobs", "hidden"), 10)
     wrong = [entry["message"] for entry in page.get_log("browser") if entry["level"] == "SEVERE" and "status of 40" not in entry["message"]]
     assert not wrong, wrong
-    return f"{calls} calls, {first!r}"
 
 
 def test_a_stop_and_older_checkpoints():
@@ -215,7 +213,6 @@ def settings_changed(page, server, job):
     assert texts(page, "#done") == ["The settings are changed, as call 3."], texts(page, "#done")
     assert job.state()["settings"] == {**before, **wanted, "retained": 2}
     until(lambda: "30" in texts(page, "[data-fact='Interval']")[0], 10, told=lambda: texts(page, "[data-fact='Interval']"))
-    return "an interval, a number that is refused, and a choice"
 
 
 def stopped_and_back(page, server, job):
@@ -266,7 +263,6 @@ def stopped_and_back(page, server, job):
     agree(page)
     assert texts(page, "#done")[0].startswith("The job begins again from savepoint 6"), texts(page, "#done")
     assert job.state()["choice"] == {"kind": "savepoint", "id": 6}
-    return "a stop, a beginning, a stop that failed, and the way back to checkpoint 3"
 
 
 def test_a_record_and_older_ones():
@@ -380,7 +376,6 @@ def check_records_page(page, job):
     caught_up(job)
     time.sleep(3)  # the stream has told of that: each second at most
     check_a_choice_in_between(page)
-    return f"62 records in 3 pages, {times}"
 
 
 def test_the_term_is_shown_when_it_is_asked_for():

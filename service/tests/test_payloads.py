@@ -214,7 +214,6 @@ def test_the_history_says_nothing_that_nobody_told():
             server.kill()
             lose_history(server)
             server.start()
-        return f"{len(wanted)} records"
 
 
 def over_a_take_over(service, database):

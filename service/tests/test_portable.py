@@ -495,7 +495,6 @@ def test_between_the_service_and_the_durable_coordinator():
             Store(store, settings, [TASKS], storage=state)
             raise AssertionError("the old job of a claim was opened")
         assert not [it for it in state.iterdir() if it.name.isdecimal() and int(it.name) in base.state], list(state.iterdir())
-        return f"record {record} there and back"
 
 
 def test_what_the_commands_refuse():
@@ -554,7 +553,6 @@ def test_savepoints_live_on():
         assert sorted(int(it) for ack in job.record(living)["live"]["acks"] for it in ack["files"]) == sorted(kept) and living > newest, (living, newest, saved)
         start = job.begin(living)
         assert start.kind == "savepoint" and start.id == living, start
-        return f"savepoint {saved} is {living}"
 
 
 def test_checksums():
@@ -589,7 +587,6 @@ def test_checksums():
         told = did([PROGRAM, "records", "--whole", out], 1, f"record {record}: file {first} has another checksum")
         assert f"file {second}" not in told, told
         did([PROGRAM, "records", out], 0, "whole; a recovery")
-        return f"record {record}"
 
 
 def with_payloads(at, job, task):
@@ -663,7 +660,6 @@ def test_a_look_at_the_records_of_a_job():
         did([*words, "--whole"], 1, "is missing")
         did([*words[:3], "--folder", base.folder], 78, "there is no marker of the job")
         did([*words[:3]], 1, "No such file")  # it is taken for the storage of a durable job
-        return f"record {record}"
 
 
 def test_a_manifest_says_what_was_acknowledged():
@@ -706,7 +702,6 @@ def test_a_manifest_says_what_was_acknowledged():
         assert kept() == fourth
         lose(server)
         assert record_of(did([PROGRAM, "recover", "orders", *place])) == fourth
-        return f"of {fourth} records one is whole"
 
 
 def test_payloads_go_with_their_records():
@@ -748,7 +743,6 @@ def test_payloads_go_with_their_records():
         lose(server)
         did([PROGRAM, "recover", "orders", "--record", str(living[0]), *place_of(server, at)])
         assert job.state()["choice"] == {"kind": "savepoint", "id": living[0]} and whole(job, living[0]) == wanted[alone], job.state()
-        return f"records {alone}, {ordered} and {last}"
 
 
 def test_payloads_of_a_record_that_is_carried():
@@ -771,7 +765,6 @@ def test_payloads_of_a_record_that_is_carried():
                 did([PROGRAM, "import", source, name, *place_of(server, at.parent / name)])
                 other = Service(server.url).job(name)
                 assert whole(other, record) == wanted[record], (source, whole(other, record))
-        return f"records {alone}, {ordered} and {last}"
 
 
 def test_a_job_over_a_bucket():
@@ -810,4 +803,3 @@ def test_a_job_over_a_bucket():
         did([PROGRAM, "import", "--claim", f"s3://{bucket}/out", "four", *words, *place_of(server, at / "four")])
         assert "Contents" not in s3.list_objects_v2(Bucket=bucket, Prefix="out/")
         assert state_in(at / "four") == {it: f"state {it}" for it in names}
-        return f"record {record} in a bucket, in three other places, and back"

@@ -51,13 +51,11 @@ def test_a_summary_that_postgresql_has_no_room_for():
         caught_up(job)
         before = [job.record(record)["history"] for record in (1, 2, 3)]
         until(lambda: tick(server) and job.state()["first"] > 1, 30, 0.02)
-        first = job.state()["first"]
         server.stop()
         lose_history(server)
         server.start()
         caught_up(job)
         assert [job.record(record)["history"] for record in (1, 2, 3)] == before
-        return f"three times; then the log began with call {first}"
 
 
 def test_an_image_that_sqlite_has_no_room_for():

@@ -50,7 +50,6 @@ def test_large_logs():
             server = Server(at, url, ["--image-calls", "0"]).start()
             counts.append(replayed(server))
             server.stop()
-        return f"{counts[0]} calls of {len(JOBS)} jobs over SQLite, {counts[1]} over PostgreSQL"
 
 
 def not_replayed(server, jobs):
@@ -104,7 +103,6 @@ def test_jobs_that_are_not_replayed_yet():
         server.kill()
         other.wait_ready(60)
         assert seen(Service(other.url).job("large")) == before["large"] and Service(other.url).job("new").state()["seq"] == 2
-        return f"{len(REQUESTS)} kinds of requests wait; a standby that takes over has all jobs"
 
 
 def test_a_take_over_in_the_midst():

@@ -65,7 +65,6 @@ def test_tokens_for_some_jobs():
         lines, seconds = server.log().count("status=401") - before, time.monotonic() - began
         # one a second
         assert 1 <= lines <= seconds + 2 and re.search(r"status=401 by=nobody took_ms=\d+ more=\d+", server.log()), (lines, seconds)
-        return f"{len(told)} lines name who called"
 
 
 def test_tokens_are_read_again():

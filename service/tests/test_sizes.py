@@ -71,7 +71,6 @@ def test_sizes_outlive_cuts():
         lose_history(server)
         server.start()
         assert told(job) == before and job.file(11)["bytes"] == 100, told(job)
-        return f"{job.state()['first'] - 1} calls cut"
 
 
 def over_a_take_over(service, database):

@@ -84,7 +84,6 @@ def test_a_log_that_is_damaged_stops_the_start():
         with open(server.database, "r+b") as it:
             it.write(b"no database " * 100)
         refused(args, 78, "file is not a database")
-        return f"{len(DAMAGES) + 1} damages"
 
 
 def test_two_processes_of_one_database():

@@ -125,7 +125,6 @@ def test_a_job_stops_and_begins():
         waits.join(BUSY * 20)
         assert stop_of(job) == ("running", None) and tasks.start.id == savepoint
         assert tasks.complete() > savepoint
-        return f"{job.state()['seq']} calls"
 
 
 def test_a_stop_that_fails_says_why_and_the_timer_goes_on():
@@ -158,7 +157,6 @@ def test_a_stop_that_fails_says_why_and_the_timer_goes_on():
             job.call(cancel())
             assert stop_of(job)[1]["failed"] == "cancelled" and job.state()["mode"] == "cancelled"
         caught_up(job)
-        return ", ".join(ends) + " and cancelled"
 
 
 def test_a_stopped_job_is_cancelled_and_deleted():
@@ -242,7 +240,6 @@ def test_an_hour_of_a_stop():
         until(lambda: job.state()["live"])
         caught_up(job)
         assert not [one for one in job.records() if one["how"] == "expired"], job.records()
-        return f"{seq} calls before it and after it"
 
 
 def over_a_take_over(service, database):

@@ -75,7 +75,6 @@ def test_a_stream_tells_what_comes():
         started = time.monotonic()
         assert server.stop() == 0 and time.monotonic() - started < 10 * slowed()  # it waits for answers for 12 s
         until(lambda: whole.over and later.over and again.over, 5)
-        return f"{len(polled)} events and {whole.alive} signs of life"
 
 
 def test_streams_take_the_places_of_polls():

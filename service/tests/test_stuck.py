@@ -71,7 +71,6 @@ def test_long_names_are_not_repeated_whole():
             status, _, told = server.request("POST", f"/v1/jobs{path}", body)
             assert status == 400 and len(str(told)) < 500, (status, str(told)[:600])
         assert len(str(server.get(f"/v1/jobs?{long[:20000]}=1"))) < 1000
-        return f"{len(bodies) + 1} requests"
 
 
 def test_a_connection_to_postgresql_that_was_forgotten():
@@ -165,4 +164,3 @@ def test_files_are_private_and_a_link_is_no_other_database():
         assert len(modes) >= 6 and set(modes.values()) == {0o600}, {name: oct(mode) for name, mode in modes.items()}
         os.symlink(server.database, f"{at}/link.db")
         refused(["--listen", "127.0.0.1:0", "--database", f"{at}/link.db", "--history", f"{at}/h"], 75, "another process serves this database")
-        return f"{len(modes)} files of mode 600; a symbolic link ended with 75"

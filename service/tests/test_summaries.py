@@ -71,7 +71,6 @@ def test_a_new_leader_knows_what_was_cut():
             job = Service(new.url).job("orders")
             caught_up(job)
             same(before[1:], seen(job, FILES)[1:])
-        return f"{len(before[2])} records, and who wrote and released which file, after two take-overs"
 
 
 def test_a_damaged_history_is_set_aside_and_nothing_is_overwritten():
@@ -132,7 +131,6 @@ def test_a_history_that_cannot_be_written_is_kept():
         assert [record["id"] for record in job.records()][2:] == [record["id"] for record in before[2]] and not glob.glob(f"{small}/*.bad*")
         until(lambda: scraped(server)[1]["relkvanu_history_up"] == 1, 10)
         assert server.stop() == 0
-        return f"{len(before[2])} records are there again"
 
 
 def test_a_broken_history_is_seen():
