@@ -5,6 +5,7 @@ import atexit
 import faulthandler
 import importlib
 import os
+import pathlib
 import re
 import resource
 import subprocess
@@ -26,18 +27,13 @@ LONGEST = int(os.environ.get("RELKVANU_LONGEST", "3600"))
 SECOND_TRIES = 2
 # So many modules run at a time: most of their time they wait, and two of them keep less than a processor busy. The gate has other parts beside them.
 LANES = 5 if processors() >= 4 else 2
-# The longest first, as they were measured.
-MODULES = [
-    "test_unit", "test_places", "test_clean", "test_portable", "test_dask", "test_postgres", "test_lease", "test_stop_begin",
-    "test_lease_lengths", "test_put_back", "test_names", "test_limits", "test_machines", "test_long_reads", "test_stop_rows", "test_partition",
-    "test_setup_tls", "test_images", "test_power", "test_long_images", "test_damaged", "test_clocks", "test_events", "test_end",
-    "test_page_acts", "test_page_state", "test_put_off", "test_disks", "test_stuck", "test_failover", "test_tls_clients", "test_bytes", "test_connections",
-    "test_promotion", "test_replay", "test_operate", "test_history", "test_restore", "test_commands", "test_jobs_end",
-    "test_memory", "test_nights", "test_metrics", "test_discard_folder", "test_payloads", "test_sizes", "test_stop",
-    "test_backup", "test_upkeep", "test_summaries", "test_security", "test_observability", "test_moves", "test_start", "test_wal", "test_page",
-    "test_stream", "test_load", "test_api", "test_clients", "test_kills", "test_bounds", "test_tries", "test_disk_order", "test_tables",
-    "test_kit", "test_runner", "test_laws",
+# The longest first, as they were measured; then the others.
+LONGEST_MODULES = [
+    "test_unit", "test_lease", "test_stop_begin", "test_places", "test_clean", "test_portable", "test_dask", "test_postgres", "test_put_back", "test_names",
+    "test_limits", "test_long_reads", "test_machines", "test_promotion", "test_long_images", "test_setup_tls", "test_images", "test_power", "test_damaged",
+    "test_clocks", "test_events", "test_end", "test_page_acts", "test_page_state", "test_disks", "test_bounds", "test_stuck", "test_failover",
 ]
+MODULES = LONGEST_MODULES + sorted({path.stem for path in pathlib.Path(HERE).glob("test_*.py")} - set(LONGEST_MODULES))
 
 
 class Skipped(Exception):

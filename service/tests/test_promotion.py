@@ -1,11 +1,12 @@
-"""A replica of PostgreSQL that is promoted, with services and writers at work. With synchronous replication it has each call that was answered."""
+"""A replica of PostgreSQL that is promoted, with services and writers at work. With synchronous replication it has each call that was answered. Partitions between
+two services and their database, and clients that keep a history: partition.py. RELKVANU_PARTITION makes them longer."""
 import os
 import signal
 import time
 
 import kills
 from harness import COMMAND, PgArchive, Server, beside, configured, folder, kept, until
-from partition import family, send_signal
+from partition import Client, Floor, family, run, send_signal
 from postgres import Replica, postgres
 from relkvanu_service import Service
 from writers import made_by
@@ -70,3 +71,21 @@ def test_a_cancelled_wait_for_the_replica():
         finally:
             server.stop()
             replica.stop()
+
+
+def test_partitions():
+    return run(int(os.environ.get("RELKVANU_PARTITION", "30")))
+
+
+def test_an_old_read_is_seen():
+    """By what looks at the reads of the clients."""
+    floor = Floor()
+    client = Client(["http://127.0.0.1:1"], "orders", 0, floor)
+    client.read = lambda: {"seq": 4}
+    floor.raised("orders", 4)
+    floor.raised("users", 9)
+    client.state()
+    assert not client.errors, client.errors
+    floor.raised("orders", 5)
+    client.state()
+    assert client.errors == ["a read of orders has 4 calls, and call 5 was answered before it"], client.errors

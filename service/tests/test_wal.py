@@ -1,10 +1,12 @@
-"""The write-ahead log of SQLite: syncs that fail, losses of power after them, and files that another program takes away."""
+"""The write-ahead log of SQLite: syncs that fail, losses of power after them, and files that another program takes away; and a process that is killed at random moments, with
+writers at work."""
 import os
 import random
 import sqlite3
 import sys
 import time
 
+import kills
 from harness import TOP, Server, check_log, folder, over_copy, served, sqlite
 from preloaded import SHIM, built, shim
 from relkvanu_service import Service
@@ -129,3 +131,7 @@ def test_a_reader_of_another_program_keeps_a_start_waiting():
         base.close()
         server.wait_ready()
         assert os.path.getsize(f"{server.database}-wal") == 0 or tick(server)
+
+
+def test_kills():
+    return kills.run(int(os.environ.get("RELKVANU_KILLS", "6")))
