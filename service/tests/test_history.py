@@ -1,130 +1,87 @@
-"""The history against a model of its own, which replays the log with a map of each file's uses: which call released each file, when
-each record ended and how, and which subtasks were missing. It is deleted and made again, and has the same content."""
+"""The history against the second model of the coordinator: which call released each file, when each record ended and how, and which subtasks were
+missing. It is deleted and made again, and has the same content."""
 import glob
 import os
 import sqlite3
+import sys
 import threading
 import time
 
-from harness import Server, Service, folder, served, served_job, sqlite, until
+from harness import TOP, Server, Service, folder, lose_history, script, served, served_job, sqlite, until
 from relkvanu_service import ack, dispose, savepoint, take
 from writers import SETTINGS, SHAPE, Writer, end
 
 
 class Model:
-    """The history of records and files, by the log's lines and RULES.md, with a set of users for each file."""
+    """The history of records and files: each line of a log changes the second model (tests/second_model.py), and what it had before says what the line has ended."""
 
-    def __init__(self, shape, settings):
-        self.shape, self.settings = list(shape), settings
-        self.records, self.live, self.files, self.waiting = {}, {}, {}, {}
+    def __init__(self, opening):
+        sys.path.append(f"{TOP}/tests")
+        from second_script import Script
 
-    def choice(self):
-        done = [id for id, it in self.live.items() if it["done"] and it["kind"] == "checkpoint"]
-        return max(done) if done else self.base
-
-    base = None
-
-    def present(self):
-        return set().union(*[set().union(it["pins"], *it["acks"].values()) for it in self.live.values()] or [set()])
+        self.script, self.records, self.files = Script(logs=True), {}, {}
+        for line in opening:
+            self.script.line(line.encode())
+        self.now = self.script.coordinator
 
     def follow(self, entry):
-        before = self.present()
-        words = entry["line"].removeprefix("in * ").split(" ")
-        if words[0] not in ("fence", "reserve"):
-            getattr(self, "on_" + words[0])(entry, words)
-        for file in before - self.present():
-            self.files[file]["released"] = entry["seq"]
-        assert sorted(set(map(int, entry["ended"]))) == sorted(self.ended(entry)), entry
+        words = entry["line"].split(" ")
+        words = words[2:] if words[0] == "in" else words
+        records, acks = dict(self.now.records), {number: len(it.acks) for number, it in self.now.records.items()}
+        used, taken, known = self.now.used(), set(self.now.taken), self.now.known()
+        assert self.script.line(entry["line"].encode())[0] == entry["answer"], entry
+        for number in self.now.records.keys() - records.keys():
+            self.records[number] = {"kind": self.now.records[number].kind, "started": entry["at"], "how": "pending", "acks": 0, "slowest": None}
+        for number, it in records.items():
+            if len(it.acks) > acks[number]:
+                self.acknowledged(self.records[number], it, entry, words[3])
+            if number not in self.now.records:
+                self.ended(self.records[number], it, entry, words)
+        assert sorted(set(map(int, entry["ended"]))) == sorted(records.keys() - self.now.records.keys()), entry
+        self.moved(entry["seq"], used, taken, known)
 
-    def ended(self, entry):
-        return [id for id, it in self.records.items() if it.get("gone_by") == entry["seq"]]
+    def acknowledged(self, told, record, entry, subtask):
+        told.update(acks=len(record.acks), slowest=subtask, last_ack=entry["at"])
+        told.setdefault("first_ack", entry["at"])
+        if record.done:
+            told.update(how="completed", finished=entry["at"], missing=[])
 
-    def trigger(self, entry, kind):
-        id = entry["record"]
-        choice = self.choice()
-        pins = set().union(*self.live[choice]["acks"].values()) if choice else set()
-        self.live[id] = {"kind": kind, "done": False, "acks": {}, "pins": pins, "shape": list(self.shape), "started": entry["at"]}
-        self.records[id] = {"kind": kind, "started": entry["at"], "how": "pending", "acks": 0, "slowest": None}
-
-    def drop(self, id, entry, how):
-        it = self.live.pop(id)
-        self.records[id]["gone_by"] = entry["seq"]
-        if not it["done"]:
-            missing = [f"{v}.{i}" for v, n in enumerate(it["shape"]) for i in range(n) if f"{v}.{i}" not in it["acks"]]
-            self.records[id].update(how=how, finished=entry["at"], missing=missing)
-        else:
-            self.records[id]["why"] = how
-
-    def drop_pending(self, entry, how):
-        for id in [id for id, it in self.live.items() if not it["done"]]:
-            self.drop(id, entry, how)
-
-    def on_tick(self, entry, words):
-        expired = [id for id, it in self.live.items() if not it["done"] and it["started"] + self.settings["timeout"] <= entry["at"]]
-        for id in expired:
-            self.drop(id, entry, "expired")
-        if entry["answer"].endswith("failed"):
-            self.drop_pending(entry, "failed over")
-        elif "triggered" in entry["answer"]:
-            self.trigger(entry, "checkpoint")
-
-    def on_savepoint(self, entry, words):
-        self.trigger(entry, "savepoint")
-
-    def on_ack(self, entry, words):
-        id, subtask = int(words[2]), words[3]
-        fresh = [int(word[1:]) for word in words[4:] if word[0] == "+"]
-        if entry["answer"].startswith("ack late"):
-            for file in fresh:
-                if entry["answer"] != "ack late 0":
-                    self.files[file] = {"born": entry["seq"], "released": entry["seq"]}
+    def ended(self, told, record, entry, words):
+        if record.done:
+            told["why"] = "disposed" if words[0] == "dispose" else "not retained"
             return
-        it = self.live[id]
-        it["acks"][subtask] = {int(word[1:]) for word in words[4:]}
-        for file in fresh:
-            self.files[file] = {"born": entry["seq"]}
-        self.records[id].update(acks=len(it["acks"]), slowest=subtask, last_ack=entry["at"])
-        self.records[id].setdefault("first_ack", entry["at"])
-        if entry["answer"].startswith("ack completed"):
-            it.update(done=True, pins=set())
-            self.records[id].update(how="completed", finished=entry["at"], missing=[])
-            if it["kind"] == "checkpoint":
-                for other in [o for o, x in self.live.items() if not x["done"] and x["kind"] == "checkpoint" and o < id]:
-                    self.drop(other, entry, "subsumed")
-                done = sorted(o for o, x in self.live.items() if x["done"] and x["kind"] == "checkpoint")
-                if len(done) > self.settings["retained"]:
-                    self.drop(done[0], entry, "not retained")
-                self.base = None
+        missing = [f"{vertex}.{index}" for vertex, index in record.subtasks() if (vertex, index) not in record.acks]
+        told.update(how=self.how(record, entry, words), finished=entry["at"], missing=missing)
+        if told["how"] == "declined":
+            told["why"] = f"declined by {words[3]}"
 
-    def on_decline(self, entry, words):
-        if entry["answer"] == "decline late":
-            return
-        self.drop(int(words[2]), entry, "declined")
-        self.records[int(words[2])]["why"] = f"declined by {words[3]}"
-        if entry["answer"].startswith("decline failed"):
-            self.drop_pending(entry, "failed over")
+    def how(self, record, entry, words):
+        """A record ended that was pending."""
+        if words[0] in ("ack", "restore"):
+            return "subsumed" if words[0] == "ack" else "restored"
+        if words[0] == "decline" and int(words[2]) == record.number:
+            return "declined"
+        is_late = words[0] == "tick" and record.started + SETTINGS["timeout"] <= entry["at"]
+        return "expired" if is_late else "failed over"
 
-    def on_dispose(self, entry, words):
-        self.drop(int(words[1]), entry, "disposed")
-
-    def on_restore(self, entry, words):
-        self.drop_pending(entry, "restored")
-        if len(words) > 3:
-            self.shape = [int(word) for word in words[3:]]
-
-    def on_take(self, entry, words):
-        for file in map(int, entry["answer"].split(" ")[1:]):
-            self.files[file]["taken"] = entry["seq"]
-
-    def on_deleted(self, entry, words):
-        self.files[int(words[1])]["deleted"] = entry["seq"]
-
-    def on_undeleted(self, entry, words):
-        self.files[int(words[1])].pop("taken")
+    def moved(self, seq, used, taken, known):
+        """What a call has done to files, by those that were in use, taken and known before it."""
+        for file in self.now.known() - known:
+            self.files[file] = {"born": seq}
+        for file in (used | self.now.known() - known) - self.now.used():
+            self.files[file]["released"] = seq
+        for file in set(self.now.taken) - taken:
+            self.files[file]["taken"] = seq
+        for file in taken - set(self.now.taken):
+            if file in self.now.waiting:
+                self.files[file].pop("taken")
+            else:
+                self.files[file]["deleted"] = seq
 
 
 def compare(job, log):
-    model = Model(SHAPE, SETTINGS)
+    lines = script(job.state(), SHAPE, log).splitlines()
+    model = Model(lines[:len(lines) - len(log)])
     for entry in log:
         model.follow(entry)
     told, before = {}, None
@@ -148,10 +105,10 @@ def compare(job, log):
             seq = history[name]["seq"] if history[name] else None
             assert seq == wanted.get(name), (file, name, history, wanted)
         gone += "taken" in wanted
-    for file in sorted(model.present())[:20]:
+    for file in sorted(model.now.used())[:20]:
         told = job.file(file)
-        by = {(id, subtask) for id, it in model.live.items() for subtask, files in it["acks"].items() if file in files}
-        pins = sum(file in it["pins"] for it in model.live.values())
+        by = {(id, f"{vertex}.{index}") for id, it in model.now.records.items() for (vertex, index), files in it.acks.items() if file in files}
+        pins = sum(file in it.pins for it in model.now.records.values())
         assert {(use["record"], use["subtask"]) for use in told["used_by"]} == by, (file, told, by)
         assert (told["uses"], told["pins"]) == (len(by) + pins, pins), (file, told, by, pins)
     return len(model.records), gone
@@ -173,13 +130,11 @@ def test_records_and_files_against_a_model():
             assert not writer.errors, writer.errors
         # nothing moves any more: pending records expire, and the job fails over
         until(lambda: job.state()["mode"] == "failed", 30)
-        log = list(job.log(terms=False))
+        log = list(job.log(terms=True))
         until(lambda: job.files()["upto"] == len(log), 20)
         first = compare(job, log)
         server.stop()
-        for name in os.listdir(server.folder):
-            if name.startswith("history"):
-                os.remove(f"{server.folder}/{name}")
+        lose_history(server)
         server.start()
         until(lambda: job.files()["upto"] == len(log), 20)
         assert compare(job, log) == first
