@@ -1,4 +1,4 @@
-"""`relkvanu backup` copies an SQLite database while a service commits to it."""
+"""`relkvanu backup` copies an SQLite database while a service commits to it, makes images and cuts its log."""
 import os
 import signal
 import sqlite3
@@ -6,7 +6,7 @@ import subprocess
 import threading
 import time
 
-from harness import COMMAND, PROGRAM, Archive, Server, check_log, content, folder, over_copy, save, served
+from harness import COMMAND, PROGRAM, Archive, Server, check_log, content, folder, over_copy, save, served, until
 from relkvanu_service import Service
 from writers import check_kept
 
@@ -52,12 +52,12 @@ class Load(threading.Thread):
 
 
 def test_a_backup_under_load():
-    with served() as server:
+    with served(args=["--image-calls", "20", "--keep-calls", "30"]) as server:
         job, archive = filled(server), Archive(server.database)
         load = Load(job)
         load.start()
         copy = f"{server.folder}/copy.db"
-        time.sleep(0.2)
+        until(lambda: job.state()["first"] > 50)
         for _ in range(TRIES):
             first, started = job.state()["seq"], time.monotonic()
             told = backup(server.database, copy)
@@ -71,8 +71,8 @@ def test_a_backup_under_load():
         whole = archive.log("orders")
         with folder() as at:
             with over_copy(Server(at, database=copy)) as (state, log):
-                assert first <= state["seq"] <= last, (first, state["seq"], last)
-                check_log(state, [1], check_kept(whole[: state["seq"]], log, 1))
+                assert first <= state["seq"] <= last and state["first"] > 50, (first, state, last)
+                check_log(state, [1], check_kept(whole[: state["seq"]], log, state["first"]))
         return f"{MEGABYTES} MB in {took:.1f} s beside {last - first} commits, of which the slowest took {max(load.times) * 1000:.0f} ms"
 
 

@@ -34,10 +34,13 @@ class Cleaner:
         return found[0][1] if found else None
 
     def works(self, job):
-        return self.metrics().get(f'works{{job_name="{job}"}}') == 1
+        """None: it does not say."""
+        found = self.metrics().get(f'works{{job_name="{job}"}}')
+        return found if found is None else found == 1
 
-    def deleted(self, job, kind="released"):
-        return self.metrics().get(f'files_total{{job_name="{job}",kind="{kind}",outcome="deleted"}}', 0)
+    def files(self, job, outcome="deleted", kind="released"):
+        """How many of its files had this outcome."""
+        return self.metrics().get(f'files_total{{job_name="{job}",kind="{kind}",outcome="{outcome}"}}', 0)
 
     def log(self):
         return content(self.log_path)
@@ -113,7 +116,7 @@ def all_jobs(server):
         all_of = worked(*later)
         until(lambda: kept(*later, all_of), told=cleaner.log)
         # (the figures are counted once the service has answered the report)
-        until(lambda: cleaner.deleted("later") == 2 and cleaner.deleted("later", "garbage") == 1, told=cleaner.log)
+        until(lambda: cleaner.files("later") == 2 and cleaner.files("later", kind="garbage") == 1, told=cleaner.log)
         # one that is told later where its files are
         place = new_folder(server, "told")
         all_of = worked(silent, place, "s-")

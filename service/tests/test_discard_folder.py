@@ -9,11 +9,11 @@ import subprocess
 import time
 
 from proxy import Proxy
-from places import metrics_of
 from harness import COMMAND, PROGRAM, SETTINGS, Server, Service, content, counts, folder, free_port, save, served, until
 from postgres import postgres
 from relkvanu_service import ack, dispose, savepoint
 from run import Skipped
+from test_clean import cleaning
 from test_security import told_again, written
 
 
@@ -31,8 +31,13 @@ def present(folder):
     return sorted(int(name[2:]) for name in os.listdir(folder) if name.startswith("s-"))
 
 
-def discard(server, folder, *more, prefix="s-", before=(), job="a"):
-    words = [PROGRAM, "clean", "--only", "released", "--job", job, "--folder", folder, "--url", server.url, "--prefix", prefix, *more]
+def of_files(folder, prefix="s-"):
+    """What a cleaner of the job's files has beside its addresses."""
+    return "--only", "released", "--job", "a", "--folder", folder, "--prefix", prefix
+
+
+def discard(server, folder, *more, prefix="s-", before=()):
+    words = [PROGRAM, "clean", *of_files(folder, prefix), "--url", server.url, *more]
     return subprocess.Popen([*before, *words], stderr=subprocess.PIPE, text=True)
 
 
@@ -126,47 +131,32 @@ def test_it_survives_the_service():
         assert len(twice) == len(set(twice)) == len(files)
 
 
-def works(port):
-    """Whether a cleaner says that it works: 1 or 0, or None without its metrics."""
-    return metrics_of(port).get('relkvanu_clean_works{job_name="a"}')
-
-
-def of_files(port, outcome):
-    return metrics_of(port).get(f'relkvanu_clean_files_total{{job_name="a",kind="released",outcome="{outcome}"}}', 0)
-
-
 def test_it_never_gives_up_by_itself():
-    """There is no such job yet; then its token is refused, and the service is away, at the first of two addresses. Its metrics, which alerts read, say that
-    it waits, and what it did."""
-    token, other, port = "a" * 20, "b" * 20, free_port()
+    """There is no such job yet, and nobody at the first of two addresses; then its token is refused. Its metrics, which alerts read, say that it waits, and what
+    it did. (test_places.py has a service that is away.)"""
+    token, other = "a" * 20, "b" * 20
     with served(tokens=[f"write {token}"]) as server:
         at, files = server.folder, f"{server.folder}/files"
         os.mkdir(files)
         written(f"{at}/token", token)
-        more = ["--url", f"http://127.0.0.1:{free_port()}", "--token-file", f"{at}/token", "--metrics", f"127.0.0.1:{port}"]
-        with at_work(server, files, *more) as run:
+        with cleaning(server, *of_files(files), "--url", f"http://127.0.0.1:{free_port()}", "--token-file", f"{at}/token") as cleaner:
             time.sleep(1)
             job = Service(server.url, token=token).open("a", SETTINGS, [1])
-            until(lambda: works(port) == 1)
+            until(lambda: cleaner.works("a"))
             files_of(job, files, 100, 5, there=range(100, 103))
             until(lambda: counts(job) == (0, 0))
-            for words, wanted in ((f"write {other}", 0), (f"write {token}", 1)):
+            for words, wanted in ((f"write {other}", False), (f"write {token}", True)):
                 written(f"{at}/tokens", words)
                 told_again(server)
-                until(lambda wanted=wanted: works(port) == wanted)
-            server.kill()
-            until(lambda: works(port) == 0 and metrics_of(port)["relkvanu_clean_lost_requests_total"] > 3)
-            server.start()
-            until(lambda: works(port) == 1)
+                until(lambda wanted=wanted: cleaner.works("a") is wanted)
             files_of(job, files, 200, 5)
             os.mkdir(f"{files}/s-300")
             record = job.call(savepoint())["id"]
             job.calls([ack(record, "0.0", [300]), dispose(record)])
-            until(lambda: of_files(port, "failed") > 0)
-            outcomes, now = {word: of_files(port, word) for word in ("deleted", "absent")}, time.time()
-            assert outcomes == {"deleted": 8, "absent": 2}, metrics_of(port)
-            assert now - 600 < metrics_of(port)['relkvanu_clean_report_timestamp_seconds{job_name="a"}'] <= now, metrics_of(port)
-            assert run.poll() is None
+            until(lambda: cleaner.files("a", "failed") > 0)
+            assert (cleaner.files("a"), cleaner.files("a", "absent")) == (8, 2), cleaner.metrics()
+            assert time.time() - 600 < cleaner.metrics()['report_timestamp_seconds{job_name="a"}'] <= time.time(), cleaner.metrics()
+            assert cleaner.process.poll() is None
 
 
 def test_names_that_are_not_synced():
@@ -186,17 +176,14 @@ def test_names_that_are_not_synced():
 
 def test_a_second_cleaner_waits_for_the_first():
     """It waits within its process, and serves its metrics meanwhile. Then it goes on."""
-    ports = [free_port() for _ in range(2)]
-    first, second = (["--metrics", f"127.0.0.1:{port}"] for port in ports)
-    with a_job() as (server, job, folder), at_work(server, folder, *first) as one:
-        until(lambda: works(ports[0]) == 1)
-        with at_work(server, folder, *second) as other:
-            until(lambda: works(ports[1]) == 0)
+    with a_job() as (server, job, folder), cleaning(server, *of_files(folder)) as one:
+        until(lambda: one.works("a"))
+        with cleaning(server, *of_files(folder)) as other:
+            until(lambda: other.works("a") is False)
             time.sleep(2)  # longer than its first pauses
-            assert other.poll() is None and works(ports[1]) == 0
-            one.kill()
-            one.wait()
-            until(lambda: works(ports[1]) == 1)
+            assert other.process.poll() is None and other.works("a") is False
+            one.end()
+            until(lambda: other.works("a"))
             files_of(job, folder, 200, 2)
             until(lambda: present(folder) == [])
 

@@ -4,13 +4,10 @@ import hashlib
 import re
 import signal
 import sqlite3
-import subprocess
 import time
-from contextlib import closing
 
 from harness import (
-    ACK_PENDING, SETTINGS, Archive, PgArchive, Server, Service, beside, caught_up, check_log, configured, folder, lease_of, over_copy, served,
-    served_job, until
+    ACK_PENDING, SETTINGS, Archive, PgArchive, Server, Service, caught_up, check_log, configured, folder, lease_of, served, served_job, until
 )
 from postgres import postgres
 from relkvanu_service import Gone, ack, decline, deleted, dispose, savepoint
@@ -153,28 +150,6 @@ def test_databases_of_other_versions():
         database.sql("drop table storage; update schema_version set number = 1")
         server.start()
         assert Service(server.url).job("orders").state()["seq"] == 2
-
-
-def test_a_backup_while_images_are_made():
-    with served(args=KEEPING) as server:
-        archive, job = Archive(server.database), Service(server.url).open("orders", SETTINGS, [2], 1510)
-        working = beside(worked, job, 150)
-        until(lambda: job.state()["first"] > 100)
-        copy = f"{server.folder}/copy.db"
-        subprocess.run(["sqlite3", server.database, f".backup {copy}"], check=True)
-        working.join()
-        whole = archive.log("orders")
-        with closing(sqlite3.connect(copy)) as base:
-            [image] = base.execute("select max(seq) from image").fetchone()
-        with folder() as at:
-            restored = Server(at, database=copy)  # which cuts nothing while it is read
-            with over_copy(restored) as (state, log):
-                with sqlite3.connect(copy) as base:
-                    all_of_it = [seq for (seq,) in base.execute("select seq from archive union all select seq from call order by seq")]
-                assert state["first"] > 100 and all_of_it == list(range(1, state["seq"] + 1)), (state, all_of_it[:3])
-                check_log(state, [2], check_kept(whole[: state["seq"]], log, state["first"]))
-                assert image >= 100 and restored.replayed()[-1] == state["seq"] - image, (image, state["seq"], restored.replayed())
-        return f"{state['seq']} of {len(whole)} calls in the copy, {state['first'] - 1} of them cut"
 
 
 def test_a_standby_that_is_slower_than_the_cuts():

@@ -1,4 +1,5 @@
 """No token, no slow sender, no refused body and no deletion holds up others; and what metrics say of commits, jobs and files. test_bounds.py has the limits."""
+import contextlib
 import http.client
 import os
 import re
@@ -6,7 +7,7 @@ import select
 import socket
 import time
 
-from harness import COMMAND, SETTINGS, Server, beside, caught_up, configured, content, folder, lease_of, locked, served, served_job, slowed, sqlite, until
+from harness import COMMAND, SETTINGS, beside, caught_up, content, lease_of, locked, served, served_job, slowed, sqlite, until
 from relkvanu_service import Service, ack, cancel, deleted, dispose, restore, savepoint, undeleted
 from test_api import JOB
 
@@ -16,15 +17,14 @@ READER = "r" * 20
 MIB = 1 << 20
 
 
-def two_teams(at, limits):
+@contextlib.contextmanager
+def two_teams(limits):
     """A service with a token for each of two jobs."""
-    with open(f"{at}/token", "w", encoding="utf-8") as it:
-        it.writelines(f"write {token} jobs={job} name=team-{job}\n" for job, token in TOKENS.items())
-        it.write(f"read {READER}\n")
-    server = Server(at, args=[*configured(at, f"[limits]\n{limits}"), "--token-file", f"{at}/token"]).start()
-    for job, token in TOKENS.items():
-        assert server.request("POST", "/v1/jobs", {**JOB, "name": job}, token)[0] == 201
-    return server
+    tokens = [f"write {token} jobs={job} name=team-{job}" for job, token in TOKENS.items()]
+    with served(f"[limits]\n{limits}", tokens=[*tokens, f"read {READER}"]) as server:
+        for job, token in TOKENS.items():
+            assert server.request("POST", "/v1/jobs", {**JOB, "name": job}, token)[0] == 201
+        yield server
 
 
 def begun(server, job, length, sent):
@@ -48,21 +48,18 @@ def has_bodies(server, taken, token=None):
 
 def test_announced_bodies_take_no_room():
     """Connections that announce large bodies and send a byte: others make their calls."""
-    with folder() as at:
-        server = two_teams(at, f"body_bytes = {MIB}\nall_bodies_bytes = {4 * MIB}")
+    with two_teams(f"body_bytes = {MIB}\nall_bodies_bytes = {4 * MIB}") as server:
         slow = [begun(server, "a", MIB, 1) for _ in range(20)]
         until(lambda: "relkvanu_http_connections 21" in server.get("/metrics", READER)[2])
         told = [server.request("POST", f"/v1/jobs/{job}/calls", TICK, token)[0] for job, token in TOKENS.items() for _ in range(20)]
         for it in slow:
             it.close()
-        server.kill()
         assert told == [200] * 40, told
 
 
 def test_a_token_takes_a_part_of_the_room():
     """One team fills its part by bodies that never end. Another one goes on, with a body of the greatest length too."""
-    with folder() as at:
-        server = two_teams(at, f"body_bytes = {MIB}\nall_bodies_bytes = {8 * MIB}\nbody_seconds = 3600")
+    with two_teams(f"body_bytes = {MIB}\nall_bodies_bytes = {8 * MIB}\nbody_seconds = 3600") as server:
         slow = []
         # four find room, one after another, and wait for their last byte
         for bodies in range(1, 5):
@@ -77,7 +74,6 @@ def test_a_token_takes_a_part_of_the_room():
             it.close()
         # the room is free again
         until(lambda: server.request("POST", "/v1/jobs/a/calls", TICK, TOKENS["a"])[0] == 200)
-        server.kill()
         assert refused == [503] * 6, refused
         assert whole in (200, 400) and small == 200, (whole, small)
 
@@ -144,8 +140,7 @@ def test_a_refusal_reaches_a_client_that_still_sends():
 def test_a_client_that_sends_on_is_left():
     """After its last answer, once it has sent four of the greatest bodies or nothing was said for so long; and at once when the service stops."""
     idle = lease_of(2)  # in which a client sends four bodies, on a busy machine too
-    with folder() as at:
-        server = Server(at, args=configured(at, f"[limits]\nbody_bytes = {MIB}\nall_bodies_bytes = {MIB}\nidle_seconds = {idle}\n")).start()
+    with served(f"[limits]\nbody_bytes = {MIB}\nall_bodies_bytes = {MIB}\nidle_seconds = {idle}\n") as server:
         silent, loud = (begun_without_a_length(server, b" ", kind="text/plain") for _ in range(2))
         ends_after(silent)
         ends_after(loud)

@@ -162,24 +162,6 @@ def check_kept(whole, log, first):
     return whole[:last]
 
 
-def check_names(log):
-    """No name is given out twice, and each new file has a name that the term of its task reserved."""
-    next_name, term, held = 1, 1, {}
-    for entry in log:
-        words, answer = entry["line"].split(" "), entry["answer"].split(" ")
-        if words[0] == "reserve":
-            first, count = int(answer[1]), int(words[2])
-            assert int(words[1]) == term and first == next_name, (entry, term, next_name)
-            next_name = first + count
-            held.update({name: term for name in range(first, next_name)})
-        elif words[0] in ("restore", "cancel"):
-            term, held = term + 1, {}
-        elif words[0] == "in" and words[2] == "ack":
-            for name in (int(word[1:]) for word in words[6:] if word[0] == "+"):
-                assert held.pop(name, None) == int(words[1]) == term, (entry, name)
-    return next_name - 1, term
-
-
 def whole_log(job):
     """What the log has. It may be cut while it is read: on a busy machine it is long until an image is made."""
     while True:
@@ -203,6 +185,6 @@ def check(writers, service, job, shape, archive=None):
     for writer in (writer for writer in writers if writer.name_of_job == job):
         assert not writer.errors, writer.errors[:3]
         check_made(writer.made, log, seen)
-    names, term = check_names(log)
-    assert names > 0 and term > 1, f"the writers did next to nothing: {names} names, term {term}, {len(log)} calls"
+    now = service.job(job).term()
+    assert now["term"] > 1 and now["next_name"] > 1, f"the writers did next to nothing: {now}, {len(log)} calls"
     return len(seen), len(log), harness.check_log(service.job(job).state(), shape, log)
