@@ -214,6 +214,11 @@ class Server:
         found = re.search(rf"^{re.escape(name)} (\S+)$", self.get("/metrics")[2], re.M)
         return found and float(found[1])
 
+    @property
+    def service(self):
+        """A client of it."""
+        return Service(self.url, token=self.token)
+
     def ask(self, *words, status=0):
         """What a command prints that asks it."""
         return ran(*words, "--url", self.url, status=status)

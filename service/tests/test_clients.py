@@ -4,7 +4,7 @@ import shutil
 import time
 
 import described
-from harness import COMMAND, SETTINGS, Service, beside, check_log, folder, raised, served, until
+from harness import COMMAND, SETTINGS, Service, beside, check_log, folder, raised, served, served_job, until
 from relkvanu_service import Failed, Refused, ack, decline, deleted, dispose, restore, savepoint, take
 from test_api import MAKING
 
@@ -91,9 +91,7 @@ def test_answers_fit_the_description():
 
 
 def test_the_client_in_python():
-    with served() as server:
-        service = Service(server.url)
-        job = service.open("orders", SETTINGS, [1])
+    with served_job("orders", SETTINGS, [1]) as (server, job):
         assert job.call(savepoint()) == {"seq": 3, "savepoint": "triggered", "id": 1}
         assert job.call(ack(1, "0.0", [7]))["ack"] == "completed"
         job.call(ack(1, "9.9", reused=[5]))

@@ -6,7 +6,7 @@ import resource
 import socket
 import time
 
-from harness import COMMAND, Service, lease_of, memory, served, until
+from harness import COMMAND, lease_of, memory, served, served_job, until
 from relkvanu_service import ack, savepoint
 from test_api import JOB
 
@@ -118,8 +118,7 @@ def test_connections_without_a_token_keep_nobody_out():
 def test_a_slow_reader_gets_its_whole_answer():
     idle = lease_of(2)
     slowly = idle + 3
-    with served(f"[limits]\nidle_seconds = {idle}\n") as server:
-        job = Service(server.url).open("orders", JOB["settings"], [64], 0)
+    with served_job("orders", JOB["settings"], [64], 0, config=f"[limits]\nidle_seconds = {idle}\n") as (server, job):
         job.advance(1, (1 << 62) - 3000)
         files = list(job.reserve(3000))
         job.calls([savepoint(), ack(1, "0.0", files), *(ack(1, f"0.{place}") for place in range(1, 64)), savepoint()])

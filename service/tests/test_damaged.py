@@ -116,10 +116,9 @@ def fit_the_description(server):
 
 def looked_at(server, database, sound):
     """What the service shows of jobs of which some are damaged. Returns their rows."""
-    service = Service(server.url)
-    damaged = service.damaged()
+    damaged = server.service.damaged()
     assert set(damaged) == set(DAMAGES), damaged
-    assert [job["name"] for job in service.jobs()] == list(sound), service.jobs()
+    assert [job["name"] for job in server.service.jobs()] == list(sound), server.service.jobs()
     for name, (_, said) in DAMAGES.items():
         assert said in damaged[name], (name, damaged[name])
         is_kept_out(server, name, said)
@@ -136,15 +135,14 @@ def looked_at(server, database, sound):
 
 def damaged_and_mended(server, database, start, stop):
     """Damages jobs while no service runs, looks at what the others do then, and mends them."""
-    service = Service(server.url)
     names = ["good", *DAMAGES, "other"]
-    filled(service, names)
+    filled(server.service, names)
     until(lambda: all(imaged(database, name) for name in names), told=lambda: database.sql("select job, count(*) from image group by job"))
     # calls that an image does not have
     for name in names:
-        service.job(name).calls([ack(2, "0.1", [4]), savepoint()])
-    before = {name: seen(service.job(name)) for name in names}
-    known = {name: service.job(name).state() for name in DAMAGES}
+        server.service.job(name).calls([ack(2, "0.1", [4]), savepoint()])
+    before = {name: seen(server.service.job(name)) for name in names}
+    known = {name: server.service.job(name).state() for name in DAMAGES}
     stop()
     numbers = {name: number_of(database, name) for name in DAMAGES}
     keep_rows(database, numbers.values())
@@ -155,26 +153,26 @@ def damaged_and_mended(server, database, start, stop):
     rows = rows_of(database, numbers.values())
     start()
     sound = {name: before[name] for name in ("good", "other")}
-    assert {name: seen(service.job(name)) for name in sound} == sound
+    assert {name: seen(server.service.job(name)) for name in sound} == sound
     looked_at(server, database, sound)
     # the others go on, also to another start; a new job gets none of the numbers
-    service.job("good").calls([ack(3, "0.0", [5]), ack(3, "0.1", [6])])
-    filled(service, ["new"])
+    server.service.job("good").calls([ack(3, "0.0", [5]), ack(3, "0.1", [6])])
+    filled(server.service, ["new"])
     assert number_of(database, "new") not in numbers.values()
     stop()
     start()
-    assert set(service.damaged()) == set(DAMAGES) and len(service.jobs()) == 3
+    assert set(server.service.damaged()) == set(DAMAGES) and len(server.service.jobs()) == 3
     stop()
     assert rows_of(database, numbers.values()) == rows, "a row of a damaged job has changed"
     mend(database, numbers.values())
     start()
-    assert service.damaged() == {} and {name: seen(service.job(name)) for name in DAMAGES} == {name: before[name] for name in DAMAGES}
+    assert server.service.damaged() == {} and {name: seen(server.service.job(name)) for name in DAMAGES} == {name: before[name] for name in DAMAGES}
     assert not [key for key in scraped(server)[1] if key.startswith("relkvanu_job_damaged")]
     # a place that an engine knew before is one of this log
     for name, state in known.items():
         assert server.get(f"/v1/jobs/{name}/events?after={state['seq']}&log={state['log']}")[0] == 200, name
-    service.job("cut").calls([ack(3, "0.0", [7]), ack(3, "0.1", [8])])
-    until(lambda: any(record["id"] == 3 and record["how"] == "completed" for record in service.job("cut").records()))
+    server.service.job("cut").calls([ack(3, "0.0", [7]), ack(3, "0.1", [8])])
+    until(lambda: any(record["id"] == 3 and record["how"] == "completed" for record in server.service.job("cut").records()))
 
 
 def damaged_key(server, database, damage):

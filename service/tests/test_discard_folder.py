@@ -132,7 +132,7 @@ def test_it_survives_the_service():
 
 
 def test_it_never_gives_up_by_itself():
-    """There is no such job yet, and nobody at the first of two addresses; then its token is refused. Its metrics, which alerts read, say that it waits, and what
+    """There is no such job yet, and nobody at one of two addresses; then its token is refused. Its metrics, which alerts read, say that it waits, and what
     it did. (test_places.py has a service that is away.)"""
     token, other = "a" * 20, "b" * 20
     with served(tokens=[f"write {token}"]) as server:

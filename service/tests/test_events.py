@@ -7,7 +7,7 @@ import subprocess
 import threading
 import time
 
-from harness import COMMAND, ENGINE, SETTINGS, Server, Service, configured, folder, raised, served, slowed, until
+from harness import COMMAND, ENGINE, SETTINGS, Server, Service, configured, folder, raised, served, served_job, slowed, until
 from postgres import postgres
 from relkvanu_service import Gone, OtherLog, ack, cancel, deleted, dispose, restore, savepoint
 from run import Skipped
@@ -34,9 +34,7 @@ def polls(server):
 
 
 def test_after_a_cut():
-    with served(args=CUTTING) as server:
-        service = Service(server.url)
-        job = service.open("a", SETTINGS, [1])
+    with served_job("a", SETTINGS, [1], args=CUTTING) as (server, job):
         job.calls([savepoint(), ack(1, "0.0", range(1, 301)), savepoint()])
         assert [server.get(f"/v1/jobs/a/events?after={after}&limit={most}")[2]["upto"] for after, most in ((0, 1), (3, 1), (3, 0), (5, 1))] == [3, 4, 3, 5]
         missed = job.events()[0] - 1  # an engine that has not heard of savepoint 2

@@ -115,9 +115,7 @@ def compare(job, log):
 
 
 def test_records_and_files_against_a_model():
-    with served() as server:
-        service = Service(server.url)
-        job = service.open("orders", SETTINGS, SHAPE)
+    with served_job("orders", SETTINGS, SHAPE) as (server, job):
         writers = [Writer([server.url], "orders", number) for number in range(4)]
         for writer in writers:
             writer.start()

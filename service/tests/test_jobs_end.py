@@ -3,7 +3,7 @@ import math
 import shutil
 import signal
 
-from harness import Server, Service, beside, caught_up, configured, folder, lease_of, served, sqlite, until
+from harness import Server, Service, beside, caught_up, configured, folder, lease_of, served, served_job, sqlite, until
 from postgres import postgres
 from relkvanu_service import Failed, ack, cancel, deleted, dispose, savepoint
 from run import Skipped
@@ -52,20 +52,19 @@ def ended(server, service, name):
 
 def test_a_job_is_deleted_with_what_was_kept_of_it():
     with served(args=["--image-calls", "20", "--keep-calls", "60"]) as server:
-        service = Service(server.url)
-        other = service.open("users", SETTINGS, [2])
+        other = server.service.open("users", SETTINGS, [2])
         worked(other, 5)
-        job = ended(server, service, "orders")
+        job = ended(server, server.service, "orders")
         emptied(job)
         until(lambda: {"call", "request", "image", "summary", "past", "job"} <= set(rows(server.database, TABLES, 2)), told=lambda: rows(server.database, TABLES, 2))
         caught_up(job)
         until(lambda: rows(f"{server.folder}/history-{server.port}", ("sample", "record"), 2))
         after, told = job.state()["seq"], []
         waits = beside(lambda: told.append(server.get(f"/v1/jobs/orders/events?after={after}&wait=60")[0]))
-        assert service.delete("orders") and not service.delete("orders")
+        assert server.service.delete("orders") and not server.service.delete("orders")
         waits.join(50)  # the poll waits for a minute
         assert told == [404], told
-        assert server.get("/v1/jobs/orders")[0] == 404 and [it["name"] for it in service.jobs()] == ["users"]
+        assert server.get("/v1/jobs/orders")[0] == 404 and [it["name"] for it in server.service.jobs()] == ["users"]
         until(lambda: not rows(server.database, TABLES, 2), told=lambda: rows(server.database, TABLES, 2))
         until(lambda: not rows(f"{server.folder}/history-{server.port}", HISTORY, 2))
         until(lambda: 'job_name="orders"' not in server.get("/metrics")[2])
@@ -73,7 +72,7 @@ def test_a_job_is_deleted_with_what_was_kept_of_it():
         for _ in range(2):
             server.again()
             assert server.get("/v1/jobs/orders")[0] == 404
-        new = service.open("orders", SETTINGS, [2])
+        new = server.service.open("orders", SETTINGS, [2])
         assert new.state()["seq"] == len(list(new.log())) == 2 and new.file(10)["history"] is None
         worked(new, 2)
         assert sqlite(server.database, "select job, name from job order by job") == [(1, "users"), (3, "orders")]
@@ -89,8 +88,7 @@ def test_a_deletion_waits_for_one_sync():
         if not shutil.which("strace"):
             raise Skipped("strace", "it is not here")
         server = Server(at, prefix=strace).start()
-        service = Service(server.url)
-        jobs = [service.open(f"j{number}", SETTINGS, [2]) for number in range(count)]
+        jobs = [server.service.open(f"j{number}", SETTINGS, [2]) for number in range(count)]
         for job in jobs:
             job.calls([savepoint(), ack(1, "0.0", [1], sizes=[5]), ack(1, "0.1", [2]), cancel()], key="once")
             caught_up(job)
@@ -101,7 +99,7 @@ def test_a_deletion_waits_for_one_sync():
 
         before = synced()
         for number in range(count):
-            assert service.delete(f"j{number}", abandon=True)
+            assert server.service.delete(f"j{number}", abandon=True)
         until(lambda: server.log().count("nothing is left of it") == count)
         wanted = synced() - before
         assert count <= wanted <= count + 1, wanted
@@ -110,14 +108,12 @@ def test_a_deletion_waits_for_one_sync():
 
 
 def test_a_kill_leaves_nothing_behind():
-    with served(args=["--image-calls", "0"]) as server:
-        service = Service(server.url)
-        job = service.open("orders", SETTINGS, [1])
+    with served_job("orders", SETTINGS, [1], args=["--image-calls", "0"]) as (server, job):
         for _ in range(8):
             job.calls([{"call": "tick"}] * 1000)
         job.call(cancel())
         caught_up(job)
-        assert service.delete("orders")
+        assert server.service.delete("orders")
         server.kill()
         left = rows(server.database, TABLES, 1)
         server.start()
@@ -158,9 +154,7 @@ def users_calls(service):
 
 
 def test_the_command_deletes():
-    with served() as server:
-        service = Service(server.url)
-        job = service.open("orders", {**SETTINGS, "keep_on_cancel": True}, [1])
+    with served_job("orders", {**SETTINGS, "keep_on_cancel": True}, [1]) as (server, job):
         job.calls([savepoint(), ack(1, "0.0", [1])])
         assert "cancel it first" in server.ask("delete", "orders", status=1)
         job.call(cancel())
@@ -172,8 +166,7 @@ def test_the_command_deletes():
 def test_logs_are_cut_by_their_bytes():
     text = "image_calls = 50\nkeep_calls = 1000000\nkeep_bytes = 100000\n"
     with served(text) as server:
-        service = Service(server.url)
-        jobs = [service.open(name, SETTINGS, [1], 0) for name in ("large", "larger", "small")]
+        jobs = [server.service.open(name, SETTINGS, [1], 0) for name in ("large", "larger", "small")]
         jobs[2].calls([{"call": "tick"}] * 200)
         for round_number in range(20):
             jobs[0].calls([{"call": "tick"}] * 100)

@@ -104,9 +104,8 @@ def two_terms(job):
 def audited(path, database, url, args):
     """A service's log is right, while it runs too, and with each damage it is not."""
     server = Server(*args, args=KEEPING).start()
-    service = Service(server.url)
-    orders = service.open("orders", {**SETTINGS, "tolerable": 1000}, [2])
-    two_terms(service.open("users", SETTINGS, [1], 0, first=69))  # as one that is recovered
+    orders = server.service.open("orders", {**SETTINGS, "tolerable": 1000}, [2])
+    two_terms(server.service.open("users", SETTINGS, [1], 0, first=69))  # as one that is recovered
     worked(orders, 30)
     until(lambda: orders.state()["first"] > 1)
     told = checked(path, url).splitlines()

@@ -34,8 +34,7 @@ def test_other_jobs_are_called_while_an_image_is_made():
     with folder() as at:
         held = f"{at}/held"
         server = Server(at, prefix=["env", f"LD_PRELOAD={built(at, 'held')}", f"HELD={held}"], args=["--image-calls", "90"]).start()
-        service = Service(server.url)
-        large, others = opened(service), [service.open(f"j{number}", SETTINGS, [1], 0) for number in range(50)]
+        large, others = opened(server.service), [server.service.open(f"j{number}", SETTINGS, [1], 0) for number in range(50)]
         with open(held, "w", encoding="utf-8"):
             ticked_to(large, 90)
         until(lambda: os.path.exists(f"{held}.waits"))
@@ -44,7 +43,7 @@ def test_other_jobs_are_called_while_an_image_is_made():
         waiting = beside(lambda: told.append(large.within(BUSY * 60).call(TICK)["seq"]))
         for round_ in range(1, 4):
             assert [job.call(TICK)["seq"] for job in others] == [round_ + 1] * len(others)
-        states = {state["name"]: state for state in service.jobs()}
+        states = {state["name"]: state for state in server.service.jobs()}
         assert states["large"] == {**large.state(), "now": states["large"]["now"]} and states["large"]["seq"] == 90, states["large"]
         assert states["large"]["image"] is None and len(states) == 51 and states["j7"]["seq"] == 4
         assert server.get("/metrics")[0] == 200 and waiting.is_alive() and not told

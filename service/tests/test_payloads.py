@@ -93,9 +93,7 @@ def test_what_is_too_long_is_refused():
 
 
 def test_rows_go_however_a_record_ends():
-    with served() as server:
-        service = Service(server.url)
-        job = service.open("orders", {**SETTINGS, "retained": 1, "at_once": 2, "tolerable": 9}, [2])
+    with served_job("orders", {**SETTINGS, "retained": 1, "at_once": 2, "tolerable": 9}, [2]) as (server, job):
         job.calls([trigger(), *both(1, b"a")])
         assert rows(server) == [1, 1]
         # a later checkpoint completes while an earlier one is pending
@@ -114,7 +112,7 @@ def test_rows_go_however_a_record_ends():
         assert rows(server) == [7, 7], "savepoints stay"
         job.call(dispose(7))
         assert rows(server) == []
-        other = service.open("other", SETTINGS, [2])
+        other = server.service.open("other", SETTINGS, [2])
         other.calls([savepoint(), both(1, b"a")[0]])
         assert rows(server) == [1]
         other.set(timeout=1)
@@ -124,10 +122,9 @@ def test_rows_go_however_a_record_ends():
 def test_a_savepoint_of_an_older_checkpoint_has_its_payloads():
     back = {**restore({"checkpoint": 1}), "accept_published": True}
     with served() as server:
-        service = Service(server.url)
         checkpoints = [trigger(), *both(1, b"a", 10), trigger(), *both(2, b"b", 20)]
         for name, requests in ("apart", [checkpoints, [back]]), ("at-once", [[*checkpoints, back]]):
-            job = service.open(name, SETTINGS, [2])
+            job = server.service.open(name, SETTINGS, [2])
             answers = [answer for request in requests for answer in job.calls(request)]
             assert (answers[-1]["restore"], answers[-1]["id"]) == ("savepoint", 3), (name, answers)
             wanted = {"0.0": ([10], b"a0", 0, 0), "0.1": ([11], b"a1", 0, 0)}
@@ -141,12 +138,10 @@ def test_a_savepoint_of_an_older_checkpoint_has_its_payloads():
 
 
 def test_a_deleted_job_leaves_no_rows():
-    with served() as server:
-        service = Service(server.url)
-        job = service.open("orders", SETTINGS, [2])
+    with served_job("orders", SETTINGS, [2]) as (server, job):
         job.calls([savepoint(), *both(1, b"a"), savepoint(), decline(2, "0.0", reason="no disk"), ack(1, "0.0", size=5), cancel()])
         assert rows(server) == [1, 1] and rows(server, "figure") == [7], rows(server, "figure")
-        assert service.delete("orders")
+        assert server.service.delete("orders")
         until(lambda: not rows(server) and not rows(server, "figure"))
 
 

@@ -32,12 +32,11 @@ def filled(service, jobs, files):
 
 def replayed(server):
     """Fills the jobs, starts again after a kill, and compares them."""
-    service = Service(server.url)
-    before = filled(service, JOBS, 4000)
+    before = filled(server.service, JOBS, 4000)
     calls = sum(state["seq"] for state in before.values())
     server.again()
     assert server.replayed()[-1] == calls, (server.replayed(), calls)
-    assert {name: seen(service.job(name)) for name in JOBS} == before
+    assert {name: seen(server.service.job(name)) for name in JOBS} == before
     values = scraped(server)[1]
     assert values["relkvanu_replay_jobs"] == values["relkvanu_replayed_jobs"] == len(JOBS), values
     return calls

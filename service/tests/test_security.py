@@ -238,9 +238,8 @@ def test_a_refusal_over_tls_reaches_a_client_that_still_sends():
 
 def test_lists_come_in_parts():
     with served() as server:
-        service = Service(server.url)
         for number in range(7):
-            service.open(f"j{number}", SETTINGS, [1])
+            server.service.open(f"j{number}", SETTINGS, [1])
         names, after = [], 0
         while after is not None:
             told = server.get(f"/v1/jobs?after={after}&limit=3")[2]
@@ -249,7 +248,7 @@ def test_lists_come_in_parts():
         assert names == [["j0", "j1", "j2"], ["j3", "j4", "j5"], ["j6"]], names
         whole = server.get("/v1/jobs")[2]
         assert len(whole["jobs"]) == 7 and whole["next"] is None and server.get("/v1/jobs?limit=0")[2]["next"] == 0
-        job = service.job("j0")
+        job = server.service.job("j0")
         job.calls([savepoint(), ack(1, "0.0", range(1, 8)), dispose(1)])
         job.calls([deleted(file) for file in job.take(9)])
         caught_up(job)
@@ -259,5 +258,5 @@ def test_lists_come_in_parts():
             before = page[-1]["deleted"]
         assert files == [["7", "6", "5"], ["4", "3", "2"], ["1"]], files
         server.get("/v1/jobs?limit=x")
-        failed = raised(Failed, lambda: service.request("GET", "/v1/jobs?limit=x"))
+        failed = raised(Failed, lambda: server.service.request("GET", "/v1/jobs?limit=x"))
         assert (failed.status, failed.field) == (400, "limit")

@@ -223,9 +223,8 @@ def test_an_hour_of_a_stop():
     with folder() as at:
         clocks = Clocks(at)
         server = Server(at, prefix=clocks.prefix).start()
-        service = Service(server.url)
         settings = {"interval": 10, "timeout": 60_000, "tolerable": 1000}
-        job, other = service.open("orders", settings, [1]), service.open("users", settings, [1])
+        job, other = server.service.open("orders", settings, [1]), server.service.open("users", settings, [1])
         until(lambda: other.state()["live"] and job.state()["live"])
         savepoint = job.stop_job()["id"]
         job.call(ack(savepoint, "0.0", [1]))
