@@ -3,6 +3,7 @@ import atexit
 import ctypes
 import fcntl
 import glob
+import http.client
 import json
 import os
 import random
@@ -10,6 +11,7 @@ import re
 import signal
 import socket
 import sqlite3
+import ssl
 import subprocess
 import sys
 import tempfile
@@ -76,6 +78,11 @@ def save(path, text):
         it.write(text)
 
 
+def folders(at, *names):
+    for name in names:
+        os.mkdir(f"{at}/{name}")
+
+
 def process_status(pid):
     """What the system says of a process, by its names: sizes are in kB."""
     return dict(line.split(":", 1) for line in content(f"/proc/{pid}/status").splitlines())
@@ -84,6 +91,11 @@ def process_status(pid):
 def memory(server, name="VmRSS"):
     """What a service has in memory, in KiB, by a name of the system's; `Threads` is a number."""
     return int(process_status(server.process.pid)[name].split()[0])
+
+
+def processor_times(path):
+    """The seconds that a process or a thread with this folder in /proc has run, as a user and in the system."""
+    return [int(ticks) / os.sysconf("SC_CLK_TCK") for ticks in content(f"{path}/stat").rpartition(")")[2].split()[11:13]]
 
 
 def told_by(*words, before=(), **around):
@@ -129,6 +141,8 @@ _servers = []
 
 class Server:
     """A service in a folder of its own, or over the database of another one. At another address than that of this machine requests have its token."""
+
+    ca = None  # of one that speaks TLS: the path of the certificate that is trusted
 
     def __init__(self, folder, database=None, args=(), prefix=(), host="127.0.0.1", token=None, port=None):
         self.folder, self.args, self.prefix, self.host, self.token = folder, list(args), list(prefix), host, token
@@ -209,9 +223,9 @@ class Server:
         until(self.has_replayed, 600)
         return [int(count) for count in re.findall(r" all jobs are replayed jobs=\d+ calls=(\d+)", self.log())]
 
-    def metric(self, name):
+    def metric(self, name, token=None):
         """The value of a metric; None: it has none."""
-        found = re.search(rf"^{re.escape(name)} (\S+)$", self.get("/metrics")[2], re.M)
+        found = re.search(rf"^{re.escape(name)} (\S+)$", self.get("/metrics", token)[2] or "", re.M)
         return found and float(found[1])
 
     @property
@@ -231,10 +245,11 @@ class Server:
 
     def request(self, method, path, body=None, token=None, headers=()):
         """A status, the headers and the body; 0 if there is no answer."""
-        import http.client
-
-        # longer than the longest poll
-        connection = http.client.HTTPConnection(self.host, self.port, timeout=60 + BUSY * 10)
+        patience = 60 + BUSY * 10  # longer than the longest poll
+        if self.ca:
+            connection = http.client.HTTPSConnection(self.host, self.port, timeout=patience, context=ssl.create_default_context(cafile=self.ca))
+        else:
+            connection = http.client.HTTPConnection(self.host, self.port, timeout=patience)
         sent = {"Content-Type": "application/json", **dict(headers)}
         if token or self.token:
             sent["Authorization"] = f"Bearer {token or self.token}"

@@ -7,7 +7,7 @@ import subprocess
 import sys
 from contextlib import nullcontext
 
-from harness import HERE, Server, content, folder, memory, until
+from harness import HERE, Server, folder, memory, processor_times, until
 from postgres import postgres
 from relkvanu_service import Service
 
@@ -31,21 +31,16 @@ def wrk(url, connections, batch, seconds, pause=0):
     return rate, int(bad.group(1)) if bad else 0, slow.group(1) if slow else "?"
 
 
-def processor_times(server):
-    """The seconds that its threads have run, as users and in the system."""
-    return [int(ticks) / os.sysconf("SC_CLK_TCK") for ticks in content(f"/proc/{server.process.pid}/stat").rpartition(")")[2].split()[11:13]]
-
-
 def loaded(server, ways, seconds):
     """A line for each way, and how many acknowledgements were made. The processor times are those of the service and of wrk, which depend
     less on what else the machine does."""
     job = Service(server.url).open("load", {"interval": 10, "at_once": 64, "timeout": 3_600_000}, [4096])
     until(lambda: len(job.state()["live"]) >= 4)
-    told, made = [], 0
+    told, made, process = [], 0, f"/proc/{server.process.pid}"
     for connections, batch, *pause in ways:
-        before, ran, wrk_ran = job.state()["seq"], sum(processor_times(server)), children_ran()
+        before, ran, wrk_ran = job.state()["seq"], sum(processor_times(process)), children_ran()
         rate, bad, slow = wrk(server.url, connections, batch, seconds, *pause)
-        acks, ran, wrk_ran = job.state()["seq"] - before, sum(processor_times(server)) - ran, children_ran() - wrk_ran
+        acks, ran, wrk_ran = job.state()["seq"] - before, sum(processor_times(process)) - ran, children_ran() - wrk_ran
         made += acks
         assert bad == 0, f"{bad} requests were not answered with 200"
         told.append((connections, batch, rate * batch, slow, acks, 1e6 * ran / max(acks, 1), 1e6 * wrk_ran / max(acks, 1)))

@@ -9,13 +9,12 @@ import time
 from concurrent.futures import ThreadPoolExecutor
 from contextlib import closing, contextmanager
 
-from harness import PROGRAM, Server, content, counts, folder, process_status, until
+from harness import PROGRAM, Server, counts, folder, process_status, processor_times, until
 from places import Folder
 from relkvanu_service import Service
 from test_clean import SETTINGS, Cleaner, kept, of, worked
 
 NEW_JOBS, REST, WORKERS = 5, 20, 8
-TICKS = os.sysconf("SC_CLK_TCK")
 
 
 class Usage:
@@ -27,8 +26,7 @@ class Usage:
         self.thread.start()
 
     def processor(self):
-        words = content(f"/proc/{self.pid}/stat").rpartition(")")[2].split()
-        return (int(words[11]) + int(words[12])) / TICKS
+        return sum(processor_times(f"/proc/{self.pid}"))
 
     def look(self):
         while not self.over.wait(0.1):

@@ -5,13 +5,12 @@ import socket
 import time
 
 from harness import BUSY, COMMAND, check_log, lease_of, served, served_job, slowed, sqlite, until
+from relkvanu.service_moves import MAKING  # the settings of a job that a recovery has not made whole
 from relkvanu_service import Service, cancel
 
 JOB = {"name": "orders", "settings": {"interval": 1000000}, "shape": [2, 1]}
 # The settings of a job that has not said more than its interval.
 DEFAULTS = {"pause": 0, "at_once": 1, "timeout": 600_000, "tolerable": 0, "retained": 1, "keep_on_cancel": False}
-# Those of a job that a recovery has not made whole: bindings/python/relkvanu/service_moves.py.
-MAKING = {"interval": (1 << 40) - 77, "pause": (1 << 40) - 77, "at_once": 1, "timeout": (1 << 40) - 77, "tolerable": 1000, "retained": 1, "keep_on_cancel": True}
 ACK = {"call": "ack", "id": 1, "subtask": "0.0"}
 
 # method, path, body, status, field. (The units of http/wire.rs, files/job_storage.rs and model/settings.rs have more bodies.)

@@ -226,7 +226,7 @@ def test_two_cleaners_at_once():
 
 
 def test_a_cleaner_that_is_ended_at_each_write():
-    """Each of its calls that write, and the next one goes on."""
+    """Each of its calls that write, and the next one goes on, also if all that were taken are deleted, and none is reported."""
     with served() as server, folder() as at:
         place, library, die, over = new_folder(server, "files"), built(at, SHIM), 0, 0
         while over < 2:

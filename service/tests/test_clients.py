@@ -1,12 +1,11 @@
 """The clients, and the API's description against the service's real answers."""
 import os
 import shutil
-import time
 
 import described
-from harness import COMMAND, SETTINGS, Service, beside, check_log, folder, raised, served, served_job, until
-from relkvanu_service import Failed, Refused, ack, decline, deleted, dispose, restore, savepoint, take
-from test_api import MAKING
+from harness import SETTINGS, Service, check_log, folder, folders, raised, served, until
+from relkvanu.service_moves import MAKING
+from relkvanu_service import Failed, savepoint
 
 
 def test_answers_fit_the_description():
@@ -90,41 +89,12 @@ def test_answers_fit_the_description():
             assert fits("DELETE", path)[0] == status, path
 
 
-def test_the_client_in_python():
-    with served_job("orders", SETTINGS, [1]) as (server, job):
-        assert job.call(savepoint()) == {"seq": 3, "savepoint": "triggered", "id": 1}
-        assert job.call(ack(1, "0.0", [7]))["ack"] == "completed"
-        job.call(ack(1, "9.9", reused=[5]))
-        refused = raised(Refused, lambda: job.call(dispose(7)))
-        assert (refused.name, refused.file) == ("NoSuchSavepoint", None)
-        failed = raised(Failed, lambda: job.calls([{"call": "ack", "id": -1, "subtask": "0.0"}]))
-        assert (failed.status, failed.field) == (400, "calls[0].id")
-        # a take whose answer is lost: the service is killed meanwhile, and the files come all the same
-        job.call(dispose(1))
-        server.kill()
-        found = []
-        taking = beside(lambda: found.extend(job.take()))
-        time.sleep(0.3)
-        server.start()
-        taking.join(COMMAND)
-        assert found == [7], found
-        assert job.call(deleted(found[0])) and job.calls([take(5)]) == [{"files": []}]
-        assert job.call(restore())["restore"] == "fresh" and job.call(decline(1, "0.0"))["decline"] == "late"
-        seen = []
-        for event in job.follow(0):
-            seen.append(event["event"])
-            if event["event"] == "restored":
-                break
-        assert seen == ["triggered", "completed", "disposed", "restored"], seen
-
-
 def test_a_job_claims_its_folder():
     """And none that has files of somebody else, that is not mounted, or whose marker is of another opening."""
     with folder() as at, served() as server:
         job, other = (Service(server.url).open(name, SETTINGS, [1]) for name in "ab")
         files, empty, strange = (f"{at}/{name}" for name in ("files", "empty", "strange"))
-        for it in (files, empty, strange):
-            os.mkdir(it)
+        folders(at, "files", "empty", "strange")
         job.claim(files)
         task, record = job.begin().session(block=5), job.call(savepoint())["id"]
         task.ack(record, "0.0", [task.name()])

@@ -13,7 +13,7 @@ import sys
 import time
 
 from harness import (
-    COMMAND, ENVIRONMENT, HERE, PROGRAM, SETTINGS, TOP, Server, Service, beside, caught_up, content, folder, free_port, ran, save, served, served_job, sqlite,
+    COMMAND, ENVIRONMENT, HERE, PROGRAM, SETTINGS, TOP, Server, Service, beside, caught_up, content, folder, folders, free_port, ran, save, served, served_job, sqlite,
     told_by, until
 )
 from places import Bucket, around
@@ -255,8 +255,7 @@ def test_the_environment_gives_the_address_and_the_token():
 @contextlib.contextmanager
 def running_job(at, files):
     """That of examples/python/count.py, which listens. It has put out lines."""
-    for it in ("out", "state"):
-        os.mkdir(f"{at}/{it}")
+    folders(at, "out", "state")
     words = [sys.executable, f"{HERE}/runner_engine.py", f"{at}/count.db", files, f"{at}/out", f"{at}/job.sock"]
     around = {**os.environ, "PYTHONPATH": f"{ENVIRONMENT['PYTHONPATH']}:{TOP}/examples/python"}
     with subprocess.Popen(words, stdout=subprocess.PIPE, text=True, env=around) as run:

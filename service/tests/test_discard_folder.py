@@ -8,7 +8,6 @@ import shutil
 import subprocess
 import time
 
-from proxy import Proxy
 from harness import COMMAND, PROGRAM, SETTINGS, Server, Service, content, counts, folder, free_port, save, served, until
 from postgres import postgres
 from relkvanu_service import ack, dispose, savepoint
@@ -103,19 +102,6 @@ def test_a_disk_that_goes():
             await_end(discard(server, folder, "--once"), 78, ".relkvanu-a")
         finally:
             subprocess.run(["umount", "--lazy", folder], check=False, stderr=subprocess.DEVNULL)
-
-
-def test_it_is_killed_before_it_reports():
-    """A proxy keeps the report from the service. The next run finds all of the take absent, and knows why."""
-    with a_job() as (server, job, folder):
-        files_of(job, folder, 100, 20)
-        proxy = Proxy(server, lambda number, body: (503, {}) if b'"deleted"' in body else None)
-        with at_work(proxy, folder):
-            until(lambda: b'"deleted"' in proxy.last)
-            assert present(folder) == [] and counts(job) == (0, 20), job.state()
-        proxy.http.shutdown()
-        await_end(discard(server, folder, "--once"), 0, "deleted=0 absent=20 failed=0")
-        assert counts(job) == (0, 0), job.state()
 
 
 def test_it_survives_the_service():

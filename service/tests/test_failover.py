@@ -77,6 +77,8 @@ def test_answers_that_are_lost_are_answered_again():
         made = [entry["line"].split(" ")[0] for entry in Service(server.url).job("a").log()]
         assert made == ["fence", "reserve", "savepoint", "in", "savepoint", "in", "restore", "dispose", "take", "cancel"], made
         keys = [key for method, path, key in proxy.came if path.endswith("/calls")]
+        told = job.follow(0)
+        assert [next(told)["event"] for _ in range(7)] == ["triggered", "completed", "triggered", "completed", "restored", "disposed", "cancelled"]
         assert None not in keys and keys[::2] == keys[1::2] and len(set(keys)) == 9, keys
         proxy.http.shutdown()
 

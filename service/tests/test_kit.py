@@ -11,7 +11,7 @@ import stat
 import subprocess
 
 from described import description, fits, route_of
-from harness import COMMAND, PROGRAM, Server, folder, served, until
+from harness import COMMAND, PROGRAM, Server, folder, folders, served, until
 from postgres import postgres
 from relkvanu.job_of_service import ServiceJob
 from relkvanu.service_manifests import Manifests, service_folder
@@ -70,8 +70,7 @@ def jobs(run):
     kills, count = 0, 0
     while kills < KILLS:
         with folder() as at:
-            for it in ("state", "target"):
-                os.mkdir(f"{at}/{it}")
+            folders(at, "state", "target")
             kills += run(at, KILLS - kills)
             count += 1
     return f"{kills} kills in {count} jobs"
@@ -122,8 +121,7 @@ def test_a_service_over_postgresql_whose_standby_takes_over():
 def test_a_second_process_takes_the_job():
     """The first one ends, and says why."""
     with folder() as at, served() as server:
-        for it in ("state", "target"):
-            os.mkdir(f"{at}/{it}")
+        folders(at, "state", "target")
         first = started(at, server.url)
         until(lambda: lines_of(at))
         second = started(at, server.url)
@@ -137,8 +135,7 @@ def test_a_second_process_takes_the_job():
 def test_a_job_whose_records_all_expire():
     """The runner gives it up, in either language, and says which tasks did not acknowledge."""
     with folder() as at, served() as server:
-        for it in ("state", "target", "files", "out"):
-            os.mkdir(f"{at}/{it}")
+        folders(at, "state", "target", "files", "out")
         run = Run(at, server.url, f"{at}/files", f"{at}/out", RELKVANU_PATIENCE="1")
         run.start()
         for name, process in ("count", run.process), ("kit", started(at, server.url, numbers=1000000, patience=1)):
@@ -298,8 +295,7 @@ def test_a_running_job_in_python_listens():
 
 def test_a_running_job_listens():
     with folder() as at:
-        for it in ("state", "target"):
-            os.mkdir(f"{at}/{it}")
+        folders(at, "state", "target")
         path = f"{at}/commands"
         with socket.socket(socket.AF_UNIX) as left:
             left.bind(path)  # by a process that was killed

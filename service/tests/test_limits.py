@@ -1,13 +1,13 @@
 """No token, no slow sender, no refused body and no deletion holds up others; and what metrics say of commits, jobs and files. test_bounds.py has the limits."""
 import contextlib
+import glob
 import http.client
-import os
 import re
 import select
 import socket
 import time
 
-from harness import COMMAND, SETTINGS, beside, caught_up, content, lease_of, locked, served, served_job, slowed, sqlite, until
+from harness import COMMAND, SETTINGS, beside, caught_up, content, lease_of, locked, processor_times, served, served_job, slowed, sqlite, until
 from relkvanu_service import Service, ack, cancel, deleted, dispose, restore, savepoint, undeleted
 from test_api import JOB
 
@@ -164,12 +164,8 @@ def test_a_client_that_sends_on_is_left():
 
 def writer_seconds(server):
     """The processor's time of the writer's thread."""
-    for thread in os.listdir(f"/proc/{server.process.pid}/task"):
-        name, rest = content(f"/proc/{server.process.pid}/task/{thread}/stat").split("(", 1)[1].rsplit(")", 1)
-        if name == "writer":
-            words = rest.split()
-            return (int(words[11]) + int(words[12])) / os.sysconf("SC_CLK_TCK")
-    raise AssertionError("there is no writer")
+    threads = glob.glob(f"/proc/{server.process.pid}/task/*")
+    return sum(processor_times(next(it for it in threads if content(f"{it}/comm") == "writer\n")))
 
 
 def test_a_deletion_looks_at_no_other_job():

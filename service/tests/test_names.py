@@ -14,8 +14,8 @@ from harness import (
     served, served_job, until
 )
 from postgres import postgres
+from relkvanu.service_moves import MAKING
 from relkvanu_service import Failed, Fenced, OldTerm, Refused, Service, ack, cancel, decline, deleted, dispose, reserve, restore, savepoint
-from test_api import MAKING
 from test_metrics import scraped
 from test_stream import Stream
 

@@ -3,9 +3,9 @@ import json
 
 from harness import Service, caught_up, raised, ran, served, served_job, until
 from relkvanu_service import Failed, Fenced, Refused, ack, cancel
+from test_api import DEFAULTS
 
 NEVER = 1 << 40
-DEFAULTS = {"pause": 0, "at_once": 1, "timeout": 600_000, "tolerable": 0, "retained": 1, "keep_on_cancel": False}
 
 
 def refused(make):

@@ -14,7 +14,7 @@ import subprocess
 import sys
 import time
 
-from harness import BUSY, HERE, TOP, Server, content, folder, served, until
+from harness import BUSY, HERE, TOP, Server, content, folder, folders, served, until
 from places import s3_server
 from postgres import postgres
 from relkvanu_service import Service
@@ -175,8 +175,7 @@ def over_postgres(at):
 def test_a_second_process_takes_the_job():
     """The first one ends, and says why; an operator's restore ends nobody."""
     with folder() as at:
-        for it in ("files", "out", "one", "two"):
-            os.mkdir(f"{at}/{it}")
+        folders(at, "files", "out", "one", "two")
         with over_sqlite(at) as (address, _, _):
             first, second = (Run(f"{at}/{it}", address, f"{at}/files", f"{at}/out") for it in ("one", "two"))
             first.start()
@@ -192,8 +191,7 @@ def test_a_second_process_takes_the_job():
 
 def sample(at, address):
     """A run of examples/service/counts.py."""
-    for it in ("state", "out"):
-        os.mkdir(f"{at}/{it}")
+    folders(at, "state", "out")
     run = Run(at, address, "state", f"{at}/out")
     run.words = [sys.executable, f"{TOP}/examples/service/counts.py", address]
     return run
@@ -226,8 +224,7 @@ def test_the_sample_ends_if_a_backup_was_restored():
 def combination(coordinator, files, to):
     """Kills one, and compares the files at the end with those in use."""
     with folder() as at:
-        for it in ("files", "out"):
-            os.mkdir(f"{at}/{it}")
+        folders(at, "files", "out")
         place = {"bucket": lambda: bucket(f"runner-{coordinator.__name__}".replace("_", "-")), "foreign": lambda: f"foreign:{at}/files"}.get(
             files, lambda: f"{at}/files")()
         with coordinator(at) as (address, between, database):

@@ -7,7 +7,6 @@ import socket
 import ssl
 import subprocess
 import time
-import urllib.request
 from contextlib import contextmanager
 
 from harness import COMMAND, PROGRAM, Server, Service, caught_up, folder, raised, save, served, until
@@ -19,6 +18,7 @@ from test_stream import Stream
 ALL, ORDERS, READER = "a" * 20, "o" * 20, "r" * 20
 TOKEN = "0123456789abcdef0123"
 JOB = {"settings": {"interval": 1 << 40}, "shape": [1]}
+UNTIL, FAILED = "relkvanu_certificate_until_timestamp_seconds", "relkvanu_reload_failed"
 
 
 def written(path, *lines):
@@ -104,26 +104,6 @@ def ends(at):
     return ssl.cert_time_to_seconds(told.strip().partition("=")[2])
 
 
-def told_end(server):
-    """The same, as a metric says it."""
-    return [float(it) for it in re.findall(r"^relkvanu_certificate_until_timestamp_seconds (\S+)$", server.get("/metrics")[2] or "", re.M)]
-
-
-class TlsServer(Server):
-    """A service that speaks TLS, with a certificate in its folder or elsewhere."""
-
-    ca = None
-
-    def get(self, path, token=None):
-        context = ssl.create_default_context(cafile=self.ca or f"{self.folder}/certificate.pem")
-        asked = urllib.request.Request(f"https://127.0.0.1:{self.port}{path}", headers={"Authorization": f"Bearer {token}"} if token else {})
-        try:
-            with urllib.request.urlopen(asked, context=context, timeout=COMMAND) as answer:
-                return answer.status, {}, answer.read().decode()
-        except OSError as error:
-            return getattr(error, "code", 0), {}, None
-
-
 @contextmanager
 def tls_served(*more, token=TOKEN):
     with folder() as at:
@@ -131,8 +111,9 @@ def tls_served(*more, token=TOKEN):
         written(f"{at}/token", f"write {token}")
         tls = f"tls_certificate = '{at}/certificate.pem'\ntls_key = '{at}/key.pem'\n"
         written(f"{at}/service.toml", tls, *more)
-        server = TlsServer(at, args=["--config", f"{at}/service.toml", *(["--token-file", f"{at}/token"] if token else [])]).start()
-        yield server, f"https://127.0.0.1:{server.port}", f"{at}/certificate.pem"
+        server = Server(at, args=["--config", f"{at}/service.toml", *(["--token-file", f"{at}/token"] if token else [])])
+        server.ca = f"{at}/certificate.pem"
+        yield server.start(), f"https://127.0.0.1:{server.port}", f"{at}/certificate.pem"
 
 
 def test_tls_of_its_own():
@@ -145,7 +126,7 @@ def test_tls_of_its_own():
             env={**os.environ, "SSL_CERT_FILE": ca}, stdout=subprocess.PIPE, stderr=subprocess.PIPE, text=True, check=False,
         )
         assert told.returncode == 0 and '"seq":4' in told.stdout, told
-        assert Server.get(server, "/healthz")[0] == 0  # without TLS
+        assert Server(at, port=server.port).get("/healthz")[0] == 0  # without TLS
         # old versions are refused, and one that says nothing does not stay
         words = ["openssl", "s_client", "-connect", f"127.0.0.1:{server.port}", "-tls1_1"]
         old = subprocess.run(words, stdin=subprocess.DEVNULL, stdout=subprocess.PIPE, stderr=subprocess.STDOUT, text=True, check=False)
@@ -153,10 +134,10 @@ def test_tls_of_its_own():
         with socket.create_connection(("127.0.0.1", server.port), timeout=COMMAND) as silent:
             assert silent.recv(10) == b""
         first = name_of(server)
-        until(lambda: told_end(server) == [ends(at)], told=lambda: (told_end(server), ends(at)))
+        until(lambda: server.metric(UNTIL) == ends(at), told=lambda: (server.metric(UNTIL), ends(at)))
         certificate(at, "second", days=5)
         told_again(server, "the certificate is read again")
-        until(lambda: told_end(server) == [ends(at)], told=lambda: (told_end(server), ends(at)))
+        until(lambda: server.metric(UNTIL) == ends(at), told=lambda: (server.metric(UNTIL), ends(at)))
         assert "first" in first and "second" in name_of(server), (first, name_of(server))
         assert server.get("/readyz")[0] == 200
         written(f"{at}/key.pem", "no key")
@@ -177,13 +158,6 @@ def asked(connection, token):
     return answer.status
 
 
-def reload_failed(server, token):
-    context = ssl.create_default_context(cafile=f"{server.folder}/trusted.pem")
-    connection = http.client.HTTPSConnection("127.0.0.1", server.port, context=context, timeout=COMMAND)
-    connection.request("GET", "/metrics", headers={"Authorization": f"Bearer {token}"})
-    return re.findall(r"^relkvanu_reload_failed (\d)$", connection.getresponse().read().decode(), re.M)
-
-
 def test_all_files_are_read_again_or_none():
     """Connections stay open meanwhile. New copies of the files, as `systemctl reload` makes them, take the place of the old ones."""
     with folder() as at:
@@ -195,11 +169,12 @@ def test_all_files_are_read_again_or_none():
         # the connection is idle while openssl makes keys
         written(f"{at}/service.toml", f"tls_certificate = '{at}/certificate.pem'\ntls_key = '{at}/key.pem'\n", "[limits]\nidle_seconds = 600")
         words = ["--config", f"{at}/service.toml", "--token-file", f"{at}/token"]
-        server = TlsServer(at, args=words, prefix=["env", f"RELKVANU_KEYS={at}/copies"])
+        server = Server(at, args=words, prefix=["env", f"RELKVANU_KEYS={at}/copies"])
+        server.ca = f"{at}/trusted.pem"
         server.start()
         context = ssl.create_default_context(cafile=f"{at}/trusted.pem")
         connection = http.client.HTTPSConnection("127.0.0.1", server.port, context=context, timeout=COMMAND)
-        assert asked(connection, ALL) == 200 and reload_failed(server, ALL) == ["0"]
+        assert asked(connection, ALL) == 200 and server.metric(FAILED, ALL) == 0
         # a good file of tokens beside a bad key, and then a good certificate beside a bad file of tokens
         certificate(f"{at}/copies", "second")
         written(f"{at}/copies/token", f"write {ORDERS}")
@@ -210,13 +185,13 @@ def test_all_files_are_read_again_or_none():
             written(f"{at}/copies/{broken}", "write short")
             told_again(server, "stay as they were")
             assert "first" in name_of(server) and [asked(connection, token) for token in (ALL, ORDERS)] == [200, 401], broken
-            assert reload_failed(server, ALL) == ["1"], broken
+            assert server.metric(FAILED, ALL) == 1, broken
         written(f"{at}/copies/token", f"write {ORDERS}")
         told_again(server, "the certificate is read again")
         # the connection that is open has the old certificate and the new tokens
         assert "second" in name_of(server) and [asked(connection, token) for token in (ALL, ORDERS)] == [401, 200]
         subprocess.run(["cp", f"{at}/copies/certificate.pem", f"{at}/trusted.pem"], check=True)
-        assert reload_failed(server, ORDERS) == ["0"]
+        assert server.metric(FAILED, ORDERS) == 0
         assert server.stop() == 0
 
 

@@ -9,7 +9,7 @@ import subprocess
 from harness import COMMAND, PROGRAM, SERVICE, Server, content, folder, save, until
 from preloaded import SHIM, built, shim
 from stepped import EACH, FIRST
-from test_security import TlsServer, certificate
+from test_security import certificate
 
 KILLED, FAILED = -9, 1  # by faults/shim.c; since it has killed openssl
 SECRET = ("read-token", "write-token", "token", "key.pem")
@@ -58,7 +58,7 @@ class Machine:
 def tls_server(at, machine):
     """A service with the settings of a machine. Its unit would give it the files of the certificate."""
     save(f"{at}/serve.toml", content(f"{machine.settings}/service.toml").replace(CREDENTIALS, machine.settings))
-    server = TlsServer(at, args=["--config", f"{at}/serve.toml", "--token-file", f"{machine.settings}/token"])
+    server = Server(at, args=["--config", f"{at}/serve.toml", "--token-file", f"{machine.settings}/token"])
     server.ca = f"{machine.settings}/certificate.pem"
     return server.start()
 
@@ -72,7 +72,7 @@ def test_a_service_starts_with_it():
         server = tls_server(at, machine)
         tokens = [content(f"{machine.settings}/{it}-token").strip() for it in ("read", "write")]
         assert [server.get("/v1/jobs", it)[0] for it in (*tokens, "x" * 40)] == [200, 200, 401]
-        assert Server.get(server, "/readyz")[0] == 0, "without TLS"
+        assert Server(at, port=server.port).get("/readyz")[0] == 0, "without TLS"
         assert server.stop() == 0
 
 
