@@ -8,6 +8,7 @@ import json
 import os
 import random
 import re
+import shutil
 import signal
 import socket
 import sqlite3
@@ -76,6 +77,13 @@ def content(path):
 def save(path, text):
     with open(path, "w", encoding="utf-8") as it:
         it.write(text)
+
+
+def needed(*programs):
+    """Skips a test whose programs are not here. They are names, or paths of what is built."""
+    for program in programs:
+        if not shutil.which(program):
+            raise Skipped(os.path.basename(program), f"{program} is not here")
 
 
 def folders(at, *names):
@@ -209,6 +217,11 @@ class Server:
             return self.process.wait(BUSY * seconds)
         except subprocess.TimeoutExpired:
             raise AssertionError(f"the service has not ended: {self.log()[-600:]}") from None
+
+    def refuses(self, text, status=78):
+        """It starts, and ends with this status and a text."""
+        found = self.start(ready=False).ended()
+        assert found == status and text in self.log(), (found, text, self.log()[-600:])
 
     def log(self):
         return content(self.log_path)

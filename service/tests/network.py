@@ -8,19 +8,18 @@ import mmap
 import os
 import random
 import select
-import shutil
 import struct
 import subprocess
 import sys
 import time
 
+import harness
 from run import Skipped
 
 CLONE_NEWNET = 0x40000000
 TUNSETIFF, IFF_TUN, IFF_NO_PI = 0x400454CA, 0x0001, 0x1000
 # of a wire, in one direction: the part of the packets that is lost, and the least and greatest delay in seconds
 WIRE = struct.Struct("ddd")
-TOOLS = {"ip": "iproute2", "nsenter": "util-linux", "unshare": "util-linux"}
 
 
 def address(number):
@@ -29,9 +28,7 @@ def address(number):
 
 def needed():
     """Skips a test where there can be no namespaces."""
-    for program, package in TOOLS.items():
-        if not shutil.which(program):
-            raise Skipped(package, f"{program} is not here")
+    harness.needed("ip", "nsenter", "unshare")
     if os.geteuid() != 0:
         raise Skipped("iproute2", "only root makes network namespaces")
     if not os.path.exists("/dev/net/tun"):

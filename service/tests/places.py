@@ -10,9 +10,8 @@ import urllib.request
 import uuid
 from contextlib import contextmanager
 
-from harness import COMMAND, PROGRAM, SETTINGS, TOP, content, served
+from harness import COMMAND, PROGRAM, SETTINGS, TOP, content, needed, served
 from relkvanu_service import Service
-from run import Skipped
 
 S3 = f"{TOP}/bindings/s3"
 
@@ -117,8 +116,7 @@ class Bucket:
 @functools.lru_cache(None)
 def s3_server():
     """What the server says of itself, which this process has started and ends."""
-    if not shutil.which("radosgw"):
-        raise Skipped("radosgw", "it is not here")
+    needed("radosgw")
     folder = tempfile.mkdtemp(prefix="relkvanu-s3-")
     server = f"{folder}/server"
     atexit.register(lambda: (subprocess.run([f"{S3}/stop", server], check=False), shutil.rmtree(folder, ignore_errors=True)))

@@ -4,7 +4,7 @@ import time
 from harness import Server, Service, folder, leader_and_standby, lease_of, until
 from postgres import postgres
 from preloaded import Clocks, Suspended
-from relkvanu_service import Refused, ack, savepoint
+from relkvanu_service import ack, savepoint
 
 HOUR, DAY = 3600, 24 * 3600
 SETTINGS = {"interval": 1 << 40, "timeout": 600_000}
@@ -40,9 +40,8 @@ def test_a_start_with_a_clock_that_is_far_ahead():
         job.call(savepoint())
         assert server.stop() == 0
         clocks.set(day=3650 * DAY)
-        server.start(ready=False)
-        assert server.ended() == 78, server.log()[-300:]
-        assert "--accept-clock" in server.log() and "more than a day" in server.log(), server.log()[-300:]
+        server.refuses("--accept-clock")
+        assert "more than a day" in server.log(), server.log()[-300:]
         # the refused start wrote no moment down
         clocks.set()
         server.start()
@@ -54,8 +53,7 @@ def test_a_start_with_a_clock_that_is_far_ahead():
             server.start()
             assert server.stop() == 0
         clocks.set(day=61 * HOUR + 4 * DAY)
-        server.start(ready=False)
-        assert server.ended() == 78, server.log()[-300:]
+        server.refuses("--accept-clock")
         server.args = ["--accept-clock"]
         server.start()
         ahead = now_of(job) - time.time()
@@ -89,11 +87,7 @@ def test_steps_of_the_clock():
         gains.append(gain(job, seconds))
         assert abs(gains[2]) < 0.04, gains
         # the record of ten minutes is still pending
-        try:
-            told = job.call(ack(1, "0.0", [1]))
-        except Refused as refused:
-            raise AssertionError("a step expired the record") from refused
-        assert told["ack"] == "completed", told
+        assert job.call(ack(1, "0.0", [1]))["ack"] == "completed", "a step expired the record"
         return f"moments went by {', '.join(f'{gain:+.1%}' for gain in gains)} after steps of an hour, back, and of 400 days"
 
 

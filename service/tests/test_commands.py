@@ -5,7 +5,6 @@ import hashlib
 import json
 import os
 import re
-import shutil
 import signal
 import sqlite3
 import subprocess
@@ -13,13 +12,12 @@ import sys
 import time
 
 from harness import (
-    COMMAND, ENVIRONMENT, HERE, PROGRAM, SETTINGS, TOP, Server, Service, beside, caught_up, content, folder, folders, free_port, ran, save, served, served_job, sqlite,
+    COMMAND, ENVIRONMENT, HERE, PROGRAM, SETTINGS, TOP, Server, Service, beside, caught_up, content, folder, folders, free_port, needed, ran, save, served, served_job, sqlite,
     told_by, until
 )
 from places import Bucket, around
 from postgres import postgres
 from relkvanu_service import ack, deleted, dispose, savepoint
-from run import Skipped
 from test_runner import Lines
 
 KEEPING = ["--image-calls", "20", "--keep-calls", "40"]
@@ -342,8 +340,7 @@ def test_completions_and_the_manual_pages():
     assert completed("import", "--cl") == ["--claim"], completed("import", "--cl")
     for shell in ("zsh", "fish"):
         assert "savepoint" in ran("completions", shell)
-    if not shutil.which("mandoc") or not shutil.which("help2man"):
-        raise Skipped("mandoc, help2man", "one of them is not here")
+    needed("mandoc", "help2man")
     with folder() as at:
         subprocess.run([f"{TOP}/packaging/write_command_pages", PROGRAM, at], check=True)
         pages = sorted(glob.glob(f"{at}/*.1"))

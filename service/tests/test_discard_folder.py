@@ -4,11 +4,10 @@ import contextlib
 import json
 import os
 import re
-import shutil
 import subprocess
 import time
 
-from harness import COMMAND, PROGRAM, SETTINGS, Server, Service, content, counts, folder, free_port, save, served, until
+from harness import COMMAND, PROGRAM, SETTINGS, Server, Service, content, counts, folder, free_port, needed, save, served, until
 from postgres import postgres
 from relkvanu_service import ack, dispose, savepoint
 from run import Skipped
@@ -147,8 +146,7 @@ def test_it_never_gives_up_by_itself():
 
 def test_names_that_are_not_synced():
     """They are not written, and those before them stay."""
-    if not shutil.which("strace"):
-        raise Skipped("strace", "it is not here")
+    needed("strace")
     with a_job() as (server, _, folder):
         await_end(discard(server, folder, "--once", "--init"), 0, "is marked")
         said = content(f"{folder}/.relkvanu-a.names")
@@ -179,8 +177,7 @@ CALLS = "trace=unlinkat,fsync,fdatasync,write,writev,sendto"
 
 def traced(trace):
     """The words before a command whose calls are written to a file."""
-    if not shutil.which("strace"):
-        raise Skipped("strace", "it is not here")
+    needed("strace")
     return ["strace", "-f", "-y", "-o", trace, "-e", CALLS]
 
 

@@ -7,10 +7,9 @@ import subprocess
 import threading
 import time
 
-from harness import COMMAND, ENGINE, SETTINGS, Server, Service, configured, folder, raised, served, served_job, slowed, until
+from harness import COMMAND, ENGINE, SETTINGS, Server, Service, configured, folder, needed, raised, served, served_job, slowed, until
 from postgres import postgres
 from relkvanu_service import Gone, OtherLog, ack, cancel, deleted, dispose, restore, savepoint
-from run import Skipped
 from slow import Slow
 from test_images import read_and_cut
 from test_stream import Stream
@@ -169,8 +168,7 @@ def test_after_a_restored_dump_of_postgres():
 
 
 def test_an_engine_in_rust_over_a_restored_backup():
-    if not os.path.exists(ENGINE):
-        raise Skipped("the client in Rust", f"{ENGINE} is not built")
+    needed(ENGINE)
     with served() as server:
         run = subprocess.Popen([ENGINE, server.url, "rust", "100000"], stdout=subprocess.PIPE, stderr=subprocess.STDOUT, text=True)
         job, copy = Service(server.url).job("rust"), Copy(server, None)
@@ -192,8 +190,7 @@ def restores_of(job):
 
 def test_an_engine_in_rust_hears_of_others():
     """Somebody restores its job, and later cancels it."""
-    if not os.path.exists(ENGINE):
-        raise Skipped("the client in Rust", f"{ENGINE} is not built")
+    needed(ENGINE)
     with served() as server:
         run = subprocess.Popen([ENGINE, server.url, "rust", "100000"], stdout=subprocess.PIPE, stderr=subprocess.STDOUT, text=True)
         job = Service(server.url).job("rust")

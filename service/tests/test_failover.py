@@ -11,10 +11,9 @@ import time
 import requests
 
 from proxy import Proxy
-from harness import BUSY, COMMAND, ENGINE, PROGRAM, SETTINGS, Server, Service, configured, content, folder, free_port, raised, served, slowed, until
+from harness import BUSY, COMMAND, ENGINE, PROGRAM, SETTINGS, Server, Service, configured, content, folder, free_port, needed, raised, served, slowed, until
 from postgres import postgres
 from relkvanu_service import Failed, ack, cancel, dispose, restore, savepoint
-from run import Skipped
 
 PATIENCE = 25  # seconds: so a try has 10 of them
 
@@ -37,8 +36,7 @@ def gone():
 
 def test_a_machine_that_is_gone():
     """Python, the engine in Rust, and `clean`: each gets to the second address."""
-    if not os.path.exists(ENGINE):
-        raise Skipped("the client in Rust", f"{ENGINE} is not built")
+    needed(ENGINE)
     with served() as server, gone() as first:
         os.mkdir(f"{server.folder}/files")
         Service(server.url).open("files", SETTINGS, [1])

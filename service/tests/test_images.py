@@ -7,7 +7,7 @@ import sqlite3
 import time
 
 from harness import (
-    ACK_PENDING, SETTINGS, Archive, PgArchive, Server, Service, caught_up, check_log, configured, folder, lease_of, served, served_job, until
+    ACK_PENDING, SETTINGS, Archive, PgArchive, Server, Service, caught_up, check_log, configured, folder, lease_of, raised, served, served_job, until
 )
 from postgres import postgres
 from relkvanu_service import Gone, ack, decline, deleted, dispose, savepoint
@@ -85,12 +85,6 @@ def digest(row):
     return hashlib.sha256(f"{job} {seq} {at} {shape} {completed} {event} {text}".encode()).hexdigest()
 
 
-def refused(server, text):
-    server.start(ready=False)
-    status = server.ended()
-    assert status == 78 and text in server.log(), (status, text, server.log()[-600:])
-
-
 def test_an_image_that_is_damaged_stops_the_start():
     with served_job("orders", SETTINGS, [2], args=KEEPING) as (server, job):
         worked(job, 20)
@@ -103,12 +97,12 @@ def test_an_image_that_is_damaged_stops_the_start():
         seq, text = row[1], row[6]
         named = f"job orders, the image after call {seq}: "
         base.execute("update image set text = ? where seq = ?", (re.sub("[1-8]", lambda digit: str(int(digit[0]) + 1), text, count=1), seq))
-        refused(server, named + "its digest is not that of what it says")
+        server.refuses(named + "its digest is not that of what it says")
         base.execute("update image set text = ?, event = event + 1 where seq = ?", (text, seq))
-        refused(server, named + "its digest is not that of what it says")
+        server.refuses(named + "its digest is not that of what it says")
         for other in ("{}", text[:-1], text.replace('"shape":[2]', '"shape":[1]')):
             base.execute("update image set text = ?, event = ?, digest = ? where seq = ?", (other, row[5], digest((*row[:6], other)), seq))
-            refused(server, named + "the library refuses it: BadImage")
+            server.refuses(named + "the library refuses it: BadImage")
         # by the remedy that the message names
         base.execute("delete from image where seq = ?", (seq,))
         server.start()
@@ -123,10 +117,10 @@ def test_an_image_that_is_damaged_stops_the_start():
         # calls after the image are made again, and compared
         place, was = base.execute("select seq, a from call where seq > ? and what = ? order by seq limit 1", (image, ACK_PENDING)).fetchone()
         base.execute("update call set a = 7 where seq = ?", (place,))
-        refused(server, f'job orders, call {place} ')
+        server.refuses(f'job orders, call {place} ')
         base.execute("update call set a = ? where seq = ?", (was, place))
         base.execute("delete from call where seq = ?", (place - 1,))
-        refused(server, f"call {place - 1} is missing")
+        server.refuses(f"call {place - 1} is missing")
 
 
 def test_databases_of_other_versions():
@@ -137,7 +131,7 @@ def test_databases_of_other_versions():
         base = sqlite3.connect(server.database, isolation_level=None)
         for version in (3, 99):
             base.executescript(f"pragma user_version = {version};")
-            refused(server, f"the tables of the database have version {version}, and this program knows those up to 2")
+            server.refuses(f"the tables of the database have version {version}, and this program knows those up to 2")
         base.executescript("drop table storage; pragma user_version = 1;")  # of a program before that table
         server.start()
         assert Service(server.url).job("orders").state()["seq"] == 2
@@ -146,7 +140,7 @@ def test_databases_of_other_versions():
         server.stop()
         assert database.sql("select number from schema_version") == "2"
         database.sql("update schema_version set number = 3")
-        refused(server, "the tables of the database have version 3")
+        server.refuses("the tables of the database have version 3")
         database.sql("drop table storage; update schema_version set number = 1")
         server.start()
         assert Service(server.url).job("orders").state()["seq"] == 2
@@ -191,11 +185,8 @@ def test_a_log_that_is_cut_while_it_is_read():
         read = [next(reader)["seq"] for _ in range(1000)]
         late(job, 5000)
         first = until(lambda: max(job.state()["first"] - 1001, 0)) + 1001
-        try:
-            missed = next(reader)["seq"]
-        except Gone as gone:
-            missed = gone
-        assert read == list(range(1, 1001)) and isinstance(missed, Gone), (read[-1], missed, first)
+        missed = raised(Gone, lambda: next(reader))
+        assert read == list(range(1, 1001)), (read[-1], missed, first)
         assert (missed.reason, missed.first >= first) == ("cut", True), (missed.reason, missed.first, first)
         until(lambda: reads_whole(job))
         return f"the log began with call {missed.first} when call 1001 was asked for"

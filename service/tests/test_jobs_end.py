@@ -1,12 +1,10 @@
 """Jobs that are deleted, with what was kept of them; and logs that are cut by their bytes."""
 import math
-import shutil
 import signal
 
-from harness import Server, Service, beside, caught_up, configured, folder, lease_of, served, served_job, sqlite, until
+from harness import Server, Service, beside, caught_up, configured, folder, lease_of, needed, raised, served, served_job, sqlite, until
 from postgres import postgres
 from relkvanu_service import Failed, ack, cancel, deleted, dispose, savepoint
-from run import Skipped
 from test_images import SETTINGS, worked
 from test_metrics import scraped
 
@@ -15,12 +13,8 @@ HISTORY = ("record", "file", "queue", "place", "sample", "progress")
 
 
 def refused(service, name, reason, abandon=False):
-    told = [None]
-    try:
-        service.delete(name, abandon)
-    except Failed as failed:
-        told = [failed.status, reason in str(failed)]
-    assert told == [409, True], (name, told)
+    failed = raised(Failed, lambda: service.delete(name, abandon))
+    assert failed.status == 409 and reason in str(failed), failed
 
 
 def emptied(job):
@@ -85,8 +79,7 @@ def test_a_deletion_waits_for_one_sync():
     with folder() as at:
         trace, count = f"{at}/trace", 10
         strace = ["strace", "-D", "-f", "-y", "-o", trace, "-e", "trace=fsync,fdatasync"]  # signals go to the service
-        if not shutil.which("strace"):
-            raise Skipped("strace", "it is not here")
+        needed("strace")
         server = Server(at, prefix=strace).start()
         jobs = [server.service.open(f"j{number}", SETTINGS, [2]) for number in range(count)]
         for job in jobs:

@@ -11,13 +11,12 @@ import stat
 import subprocess
 
 from described import description, fits, route_of
-from harness import COMMAND, PROGRAM, Server, folder, folders, served, until
+from harness import COMMAND, PROGRAM, Server, folder, folders, needed, served, until
 from postgres import postgres
 from relkvanu.job_of_service import ServiceJob
 from relkvanu.service_manifests import Manifests, service_folder
 from relkvanu.state import StorageFiles, storage_of
 from relkvanu_service import Service
-from run import Skipped
 from test_commands import running_job
 from test_portable import did
 from test_runner import Lines, Run
@@ -28,8 +27,7 @@ NUMBERS = 4000
 
 
 def started(at, *words, numbers=NUMBERS, patience=60):
-    if not os.path.exists(KIT):
-        raise Skipped("the engine kit in Rust", f"{KIT} is not built")
+    needed(KIT)
     around = {**os.environ, "RELKVANU_PATIENCE": str(patience)}
     return subprocess.Popen([KIT, at, str(numbers), *words], stdout=subprocess.PIPE, stderr=subprocess.PIPE, text=True, env=around)
 

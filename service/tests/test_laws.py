@@ -1,16 +1,14 @@
 """`relkvanu check --against laws`: the logs of a service and of durable jobs, and such with a changed answer, a missing call and one that stands twice."""
 import json
 import os
-import shutil
 import sqlite3
 import subprocess
 
-from harness import COMMAND, PROGRAM, TOP, Server, Service, beside, folder, made_once, until
+from harness import COMMAND, PROGRAM, TOP, Server, Service, beside, folder, made_once, needed, until
 from postgres import postgres
 from relkvanu import SavepointTriggered, Settings
 from relkvanu.store import Store
 from relkvanu_service import ack, decline, deleted, dispose, forfeit, restore, savepoint, trigger, undeleted
-from run import Skipped
 from test_commands import KEEPING, SETTINGS
 from test_damaged import Sqlite
 
@@ -20,8 +18,7 @@ DURABLE = ("log", "place", "{place}, line, what, a, b, files, chain")
 
 def laws(at):
     """The folder of the program, built of the laws."""
-    if not (shutil.which("coqc") and shutil.which("ocamlopt")):
-        raise Skipped("coq", "the program of the laws can't be built")
+    needed("coqc", "ocamlopt")
     return made_once(at, "laws", lambda path: subprocess.run([f"{TOP}/laws/program/build", path], check=True, stdout=subprocess.DEVNULL))
 
 

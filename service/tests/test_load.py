@@ -1,16 +1,13 @@
 """Load by wrk, with the history read and metrics scraped meanwhile."""
-import shutil
 import threading
 
 import load
-from harness import beside, check_log, served
+from harness import beside, check_log, needed, served
 from relkvanu_service import Service
-from run import Skipped
 
 
 def test_load_by_wrk():
-    if not shutil.which("wrk"):
-        raise Skipped("wrk", "it is not here")
+    needed("wrk")
     with served() as server:
         over, errors = threading.Event(), []
 

@@ -1,13 +1,11 @@
 """Memory runs out in the library, again and again: the answers say so, and the log is still the state."""
 import os
-import shutil
 import signal
 import subprocess
 import time
 
-from harness import PROGRAM, TOP, Server, folder, process_status, until
+from harness import PROGRAM, TOP, Server, folder, needed, process_status, until
 from relkvanu_service import Service
-from run import Skipped
 from writers import SETTINGS, SHAPE, Writer, check, end
 
 
@@ -17,8 +15,7 @@ def is_taken(process, number):
 
 
 def test_no_memory_in_calls():
-    if not (shutil.which("cc") and shutil.which("nm")):
-        raise Skipped("cc", "no C compiler is here")
+    needed("cc", "nm")
     with folder() as at:
         subprocess.run(["cc", "-O2", "-Wall", "-Wextra", "-Werror", "-shared", "-fPIC", "-o", f"{at}/hungry.so", f"{TOP}/faults/hungry.c"], check=True)
         names = subprocess.run(["nm", PROGRAM], stdout=subprocess.PIPE, text=True, check=True).stdout.splitlines()

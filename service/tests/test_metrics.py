@@ -9,16 +9,11 @@ import subprocess
 import time
 
 import alert_cases
-from harness import SERVICE, SETTINGS, TOP, Service, beside, content, folder, locked, process_status, save, served, served_job, until
+from harness import SERVICE, SETTINGS, TOP, Service, beside, content, folder, locked, needed, process_status, save, served, served_job, until
 from relkvanu_service import ack, cancel, savepoint
 from run import Skipped
 
 DEPLOY = f"{SERVICE}/deploy"
-
-
-def needed(program):
-    if not shutil.which(program):
-        raise Skipped(program, "it is not here")
 
 
 def scraped(server):

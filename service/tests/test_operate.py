@@ -126,12 +126,8 @@ def test_the_commands():
         assert job.state()["storage"] == {"folder": server.folder, "prefix": "state-", "suffix": ""}, job.state()
         for words in (["--folder", "/srv", "interval=30000"], ["--bucket", "a/b"], ["--folder", "/srv", "--bucket", "a"], ["--prefix", "state-"]):
             server.ask("set", "orders", *words, status=2)
-        try:
-            job.set(interval=9)
-        except Failed as failed:
-            assert (failed.status, failed.field) == (400, "interval")
-        else:
-            raise AssertionError("an interval of 9 is within no limits")
+        failed = raised(Failed, lambda: job.set(interval=9))
+        assert (failed.status, failed.field) == (400, "interval")
 
 
 def test_a_full_checkpoint_has_no_base():

@@ -7,7 +7,7 @@ import time
 from contextlib import contextmanager
 from decimal import ROUND_HALF_UP, Decimal
 
-from harness import BUSY, COMMAND, free_port, served, until
+from harness import BUSY, COMMAND, free_port, needed, served, until
 from run import Skipped
 from relkvanu_service import Service, deleted, savepoint
 
@@ -197,8 +197,7 @@ def started(width, height):
         import selenium  # noqa: F401
     except ImportError:
         raise Skipped("python3-selenium", "it is not here") from None
-    if not (shutil.which("chromium") and shutil.which("chromedriver")):
-        raise Skipped("chromium", "it is not here")
+    needed("chromium", "chromedriver")
     page = browser(width, height)
     try:
         yield page

@@ -28,11 +28,7 @@ def both(id, payload, first=0):
 
 
 def gone(job, id):
-    try:
-        job.load(id)
-    except Failed as failed:
-        return failed.status == 404
-    return False
+    return raised(Failed, lambda: job.load(id)).status == 404
 
 
 def test_a_payload_is_there_as_long_as_its_record():

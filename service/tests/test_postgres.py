@@ -162,7 +162,4 @@ def test_a_database_that_does_not_sync_is_refused():
     with postgres() as database, folder() as at:
         database.stop("fast")
         database.start("-o", "-c fsync=off")
-        server = Server(at, database.url)
-        server.start(ready=False)
-        status = server.ended()
-        assert status == 75 and "fsync is off" in server.log(), (status, server.log())
+        Server(at, database.url).refuses("fsync is off", 75)

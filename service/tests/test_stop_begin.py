@@ -12,7 +12,7 @@ from contextlib import closing
 import requests
 
 from described import description
-from harness import BUSY, COMMAND, PROGRAM, Server, Service, beside, caught_up, folder, ran, served, served_job, sqlite, until
+from harness import BUSY, COMMAND, PROGRAM, Server, Service, beside, caught_up, folder, raised, ran, served, served_job, sqlite, until
 from postgres import postgres
 from preloaded import SHIM, Clocks, built, shim
 from relkvanu_service import Failed, OtherLog, ack, cancel, decline, restore, savepoint
@@ -49,11 +49,7 @@ def test_a_key_is_of_its_path():
         tasks.job.stop_job(key="deploy-42")
         take_part(tasks, tasks.job.state()["stop"]["savepoint"])
         for call in (tasks.job.begin_job, tasks.job.checkpoint):
-            try:
-                told = call(key="deploy-42")
-            except Failed as failed:
-                told = failed.status
-            assert told == 422, told
+            assert raised(Failed, lambda: call(key="deploy-42")).status == 422
         assert stop_of(tasks.job)[0] == "stopped"
         tasks.job.begin_job(key="deploy-43")
 
@@ -67,13 +63,7 @@ def test_who_waits_for_a_begin_hears_of_a_backup():
         copy.make()
         stops(tasks)
 
-        def wait():
-            try:
-                told.append(tasks.job.until_begun()["phase"])
-            except OtherLog as why:
-                told.append(why)
-
-        waits = threading.Thread(target=wait, daemon=True)
+        waits = threading.Thread(target=lambda: told.append(raised(OtherLog, tasks.job.until_begun)), daemon=True)
         follows, follower = threading.Event(), tasks.job.follower
         tasks.job.follower = lambda *given: follows.set() or follower(*given)
         waits.start()
@@ -83,7 +73,7 @@ def test_who_waits_for_a_begin_hears_of_a_backup():
         copy.restore()
         waits.join(BUSY * 120)
         server.stop()
-        assert len(told) == 1 and isinstance(told[0], OtherLog), told
+        assert len(told) == 1, told
 
 
 def test_a_job_stops_and_begins():

@@ -8,9 +8,8 @@ import time
 
 import requests
 
-from harness import COMMAND, ENGINE, HERE, PROGRAM, lease_of, raised
+from harness import COMMAND, ENGINE, HERE, PROGRAM, lease_of, needed, raised
 from relkvanu_service import Service
-from run import Skipped
 from test_connections import many_files
 from test_security import TOKEN, certificate, tls_served, told_again
 
@@ -96,8 +95,7 @@ def test_a_certificate_that_is_renewed_ends_no_client():
 
 def test_the_client_in_rust():
     """The same: by a command with a patience of its own, and by an engine that starts before the certificate is renewed."""
-    if not os.path.exists(ENGINE):
-        raise Skipped("the client in Rust", f"{ENGINE} is not built")
+    needed(ENGINE)
     with tls_served(token=None) as (server, url, ca):
         began, patience = time.monotonic(), 4
         told = subprocess.run([PROGRAM, "jobs", "--url", url, "--within", str(patience)], capture_output=True, text=True, timeout=COMMAND, check=False)
