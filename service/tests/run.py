@@ -31,7 +31,7 @@ LANES = 5 if processors() >= 4 else 2
 LONGEST_MODULES = [
     "test_unit", "test_lease", "test_stop_begin", "test_places", "test_clean", "test_portable", "test_dask", "test_postgres", "test_put_back", "test_names",
     "test_limits", "test_long_reads", "test_machines", "test_promotion", "test_long_images", "test_setup_tls", "test_images", "test_power", "test_damaged",
-    "test_clocks", "test_events", "test_end", "test_page_acts", "test_page_state", "test_disks", "test_bounds", "test_stuck", "test_failover",
+    "test_clocks", "test_events", "test_jobs_end", "test_page", "test_page_acts", "test_history", "test_disks", "test_bounds", "test_stuck", "test_failover",
 ]
 MODULES = LONGEST_MODULES + sorted({path.stem for path in pathlib.Path(HERE).glob("test_*.py")} - set(LONGEST_MODULES))
 

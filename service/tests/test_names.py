@@ -17,7 +17,7 @@ from postgres import postgres
 from relkvanu.service_moves import MAKING
 from relkvanu_service import Failed, Fenced, OldTerm, Refused, Service, ack, cancel, decline, deleted, dispose, reserve, restore, savepoint
 from test_metrics import scraped
-from test_stream import Stream
+from test_events import Stream
 
 JOB = {"name": "orders", "settings": SETTINGS, "shape": [1]}
 

@@ -7,7 +7,6 @@ import time
 import kills
 import test_api
 import test_payloads
-import test_sizes
 import test_stop_begin
 from harness import BUSY, PgArchive, Server, Service, check_log, configured, folder, kept, leader_and_standby, lease_of, served, slowed, until
 from postgres import postgres
@@ -130,7 +129,7 @@ def test_what_outlives_a_take_over():
     with postgres() as database, folder() as at:
         leader, standby = leader_and_standby(at, database.url, f"lease_seconds = {LEASE}\n")
         service = Service(leader.url, standby.url)
-        found = [module.over_a_take_over(service, database) for module in (test_sizes, test_payloads, test_stop_begin, test_api)]
+        found = [of(service, database) for of in (test_payloads.sizes_over_a_take_over, *(it.over_a_take_over for it in (test_payloads, test_stop_begin, test_api)))]
         for it in found:
             next(it)
         leader.kill()

@@ -13,7 +13,7 @@ from harness import COMMAND, PROGRAM, Server, Service, caught_up, folder, raised
 from relkvanu_service import Failed, ack, deleted, dispose, savepoint
 from test_images import SETTINGS
 from test_start import refused
-from test_stream import Stream
+from test_events import Stream
 
 ALL, ORDERS, READER = "a" * 20, "o" * 20, "r" * 20
 TOKEN = "0123456789abcdef0123"
