@@ -28,6 +28,7 @@ HERE = os.path.dirname(os.path.realpath(__file__))
 SERVICE = os.path.dirname(HERE)
 TOP = os.path.dirname(SERVICE)
 sys.path[:0] = [f"{SERVICE}/client/python", f"{TOP}/bindings/python"]
+sys.path += [f"{TOP}/faults", f"{TOP}/tests"]
 import relkvanu_service  # noqa: E402  (from there)
 
 # Where service/build puts the library, for the Python package.
@@ -383,9 +384,9 @@ def folder():
 
 
 @contextmanager
-def small_disk(at, size):
-    """A file system of this size, in the words of `mount`, in the folder `small`."""
-    path = f"{at}/small"
+def small_disk(at, size, name="small"):
+    """A file system of this size, in the words of `mount`, in a folder of this name."""
+    path = f"{at}/{name}"
     os.chmod(at, 0o755)  # PostgreSQL runs as a user of its own
     os.mkdir(path)
     words = ["mount", "-t", "tmpfs", "-o", f"size={size}", "tmpfs", path]
@@ -394,7 +395,7 @@ def small_disk(at, size):
     try:
         yield path
     finally:
-        subprocess.run(["umount", "--lazy", path], check=False)
+        subprocess.run(["umount", "--lazy", path], check=False, stderr=subprocess.DEVNULL)
 
 
 @contextmanager
@@ -456,34 +457,26 @@ def over_copy(server, job="orders"):
         server.stop()
 
 
+# The script's texts of answers of the API, by the member that tells what was called, and of some by its value.
+TEXTS = {
+    "reserve": "reserved {first}", "forfeit": "forfeited", "savepoint": "savepoint triggered {id}", "dispose": "disposed {released}",
+    "cancel": "cancelled {dropped} {released}", "deleted": "deleted {deleted}", "undeleted": "undeleted {undeleted}",
+    "tick": {"triggered": "tick expired {expired} triggered {id}", "held": "tick expired {expired} held {why}", "failed": "tick expired {expired} failed"},
+    "ack": {"pending": "ack pending {missing}", "completed": "ack completed {dropped} {released}", "late": "ack late {handed_out}"},
+    "decline": {"late": "decline late", "aborted": "decline aborted {released}", "failed": "decline failed {released}"},
+    "restore": {"fresh": "restored fresh {released}", "checkpoint": "restored checkpoint {id} {released}", "savepoint": "restored savepoint {id} {released}"},
+}
+
+
 def answer_text(answer):
     """The script's text of an answer of the API, or None if the call was not made."""
     if any(word in answer for word in ("refused", "fenced", "no_memory", "not_made")):
         return None
-    if "reserve" in answer:
-        return f"reserved {answer['first']}"
-    if "forfeit" in answer:
-        return "forfeited"
-    if "tick" in answer:
-        end = {"triggered": f"triggered {answer.get('id')}", "held": f"held {answer.get('why')}", "failed": "failed"}
-        return f"tick expired {answer['expired']} {end[answer['tick']]}"
-    if "savepoint" in answer:
-        return f"savepoint triggered {answer['id']}"
-    if "ack" in answer:
-        numbers = {"pending": ["missing"], "completed": ["dropped", "released"], "late": ["handed_out"]}[answer["ack"]]
-        return " ".join(["ack", answer["ack"], *(str(answer[name]) for name in numbers)])
-    if "decline" in answer:
-        return "decline late" if answer["decline"] == "late" else f"decline {answer['decline']} {answer['released']}"
-    if "dispose" in answer:
-        return f"disposed {answer['released']}"
-    if "restore" in answer:
-        start = "fresh" if answer["restore"] == "fresh" else f"{answer['restore']} {answer['id']}"
-        return f"restored {start} {answer['released']}"
-    if "cancel" in answer:
-        return f"cancelled {answer['dropped']} {answer['released']}"
     if "files" in answer:
         return "take " + (" ".join(answer["files"]) or "none")
-    return f"deleted {answer['deleted']}" if "deleted" in answer else f"undeleted {answer['undeleted']}"
+    word = next(word for word in TEXTS if word in answer)
+    text = TEXTS[word] if isinstance(TEXTS[word], str) else TEXTS[word][answer[word]]
+    return text.format(**answer)
 
 
 def script(state, shape, log):

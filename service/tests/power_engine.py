@@ -29,13 +29,9 @@ class TellingService(Service):
         return answer
 
 
-def path_of(folder, name):
-    return f"{folder}/s-{name}"
-
-
 def write(folder, name):
     """A new file, which is on the disk with its folder when this returns."""
-    with open(path_of(folder, name), "xb", buffering=0) as it:
+    with open(f"{folder}/s-{name}", "xb", buffering=0) as it:
         it.write(b"%d " % name * (SIZE // len(b"%d " % name)))
         os.fsync(it.fileno())
     at = os.open(folder, os.O_RDONLY)

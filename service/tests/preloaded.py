@@ -1,6 +1,7 @@
 """Libraries that are loaded into a process before its own: faults of a disk, and clocks that are set."""
 import mmap
 import os
+import signal
 import struct
 import subprocess
 import time
@@ -50,15 +51,12 @@ class Suspended:
     when its time is a whole number of seconds."""
 
     def __init__(self, server, clocks):
-        import signal
-
-        self.server, self.clocks, self.signal = server, clocks, signal
-        self.since = time.monotonic()
+        self.server, self.clocks, self.since = server, clocks, time.monotonic()
         server.process.send_signal(signal.SIGSTOP)
 
     def over(self):
         slept = int(time.monotonic() - self.since) + 1
         time.sleep(max(0.0, self.since + slept - time.monotonic()))
         self.clocks.set(start=-slept)
-        self.server.process.send_signal(self.signal.SIGCONT)
+        self.server.process.send_signal(signal.SIGCONT)
         return slept

@@ -7,9 +7,9 @@ import sys
 import threading
 import time
 from concurrent.futures import ThreadPoolExecutor
-from contextlib import closing, contextmanager
+from contextlib import ExitStack, closing, contextmanager
 
-from harness import PROGRAM, Server, counts, folder, process_status, processor_times, until
+from harness import PROGRAM, Server, counts, folder, folders, process_status, processor_times, small_disk, until
 from places import Folder
 from relkvanu_service import Service
 from test_clean import SETTINGS, Cleaner, kept, of, worked
@@ -51,18 +51,12 @@ class Usage:
 @contextmanager
 def storages(at, count):
     """So many file systems, or folders for one who is not root."""
-    made = []
-    try:
-        for number in range(count):
-            os.mkdir(f"{at}/{number}")
-            words = ["mount", "-t", "tmpfs", "-o", "size=64m", "tmpfs", f"{at}/{number}"]
-            is_mounted = os.geteuid() == 0 and not subprocess.run(words, stderr=subprocess.DEVNULL, check=False).returncode
-            made.append((Folder(f"{at}/{number}"), is_mounted))
-        yield [place for place, _ in made]
-    finally:
-        for number, (_, is_mounted) in enumerate(made):
-            if is_mounted:
-                subprocess.run(["umount", "--lazy", f"{at}/{number}"], check=False)
+    with ExitStack() as disks:
+        if os.geteuid() != 0:
+            folders(at, *map(str, range(count)))
+            yield [Folder(f"{at}/{number}") for number in range(count)]
+        else:
+            yield [Folder(disks.enter_context(small_disk(at, "64m", str(number)))) for number in range(count)]
 
 
 def round_of(jobs):

@@ -247,9 +247,7 @@ def test_a_dump_is_restored():
         before = job.state()
         job.call(ack(1, "0.0", [1]))
         server.stop()
-        commands = f"relkvanu put-back copy.dump --database {url}"
-        run(commands)
-        assert "is the copy already" in run(commands)
+        run(f"relkvanu put-back copy.dump --database {url}")
         server.args.append("--accept-clock")
         server.start()
         after = job.state()
@@ -257,11 +255,8 @@ def test_a_dump_is_restored():
         # the history of the calls that are gone is made anew
         job.call(ack(1, "0.0", [2]))
         until(lambda: job.record(1)["history"]["how"] == "completed" and not job.file(1)["history"])
-        aside = f"postgres://postgres@127.0.0.1:{database.port}/relkvanu_aside"
-        assert database.run("psql", "-XAtq", aside, "-c", "select count(*) from call").strip() == "4"
         server.stop()
-        assert "there is a database relkvanu_aside already" in run(commands, status=1)  # a service has run over the copy
-        run(commands.replace("copy.dump", "--back"))
+        run(f"relkvanu put-back --back --database {url}")
         server.start()
         assert job.state()["seq"] == 4
         until(lambda: job.file(1)["history"])

@@ -7,10 +7,9 @@ import re
 import subprocess
 import time
 
-from harness import COMMAND, PROGRAM, SETTINGS, Server, Service, content, counts, folder, free_port, needed, save, served, until
+from harness import COMMAND, PROGRAM, SETTINGS, Server, Service, content, counts, folder, free_port, needed, save, served, small_disk, until
 from postgres import postgres
 from relkvanu_service import ack, dispose, savepoint
-from run import Skipped
 from test_clean import cleaning
 from test_security import told_again, written
 
@@ -79,28 +78,22 @@ def test_a_history_that_lags():
 
 def test_a_disk_that_goes():
     """Its mount is taken away lazily, while somebody holds it open: the discarder deletes there, and not in the mount point."""
-    with a_job() as (server, job, folder):
-        if os.geteuid() != 0 or subprocess.run(["mount", "-t", "tmpfs", "-o", "size=1m", "tmpfs", folder], stderr=subprocess.DEVNULL, check=False).returncode:
-            raise Skipped("root", "a file system can't be mounted here")
-        try:
-            with at_work(server, folder) as run:
-                files_of(job, folder, 100, 2)
-                until(lambda: counts(job) == (0, 0))
-                for file in range(200, 220):
-                    with open(f"{folder}/s-{file}", "w", encoding="utf-8"):
-                        pass
-                held = os.open(folder, os.O_RDONLY)
-                subprocess.run(["umount", "--lazy", folder], check=True)
-                files_of(job, folder, 200, 20, there=[])
-                until(lambda: counts(job) == (0, 0))
-                left = [name for name in os.listdir(held) if name.startswith("s-")]
-                os.close(held)
-                assert left == [] and run.poll() is None, left
-                run.terminate()
-            # the mount point has no marker
-            await_end(discard(server, folder, "--once"), 78, ".relkvanu-a")
-        finally:
-            subprocess.run(["umount", "--lazy", folder], check=False, stderr=subprocess.DEVNULL)
+    with a_job() as (server, job, _), small_disk(server.folder, "1m") as disk:
+        with at_work(server, disk) as run:
+            files_of(job, disk, 100, 2)
+            until(lambda: counts(job) == (0, 0))
+            for file in range(200, 220):
+                save(f"{disk}/s-{file}", "")
+            held = os.open(disk, os.O_RDONLY)
+            subprocess.run(["umount", "--lazy", disk], check=True)
+            files_of(job, disk, 200, 20, there=[])
+            until(lambda: counts(job) == (0, 0))
+            left = [name for name in os.listdir(held) if name.startswith("s-")]
+            os.close(held)
+            assert left == [] and run.poll() is None, left
+            run.terminate()
+        # the mount point has no marker
+        await_end(discard(server, disk, "--once"), 78, ".relkvanu-a")
 
 
 def test_it_survives_the_service():

@@ -1,16 +1,12 @@
 """Events that the log does not have: after a cut, and after a backup was restored. Engines go on from the job's state. The
 stream of a job's events, the times of a record's acknowledgements, and the search for records."""
-import contextlib
 import json
-import os
-import shutil
 import socket
-import sqlite3
 import subprocess
 import threading
 import time
 
-from harness import COMMAND, ENGINE, SETTINGS, Server, Service, caught_up, configured, folder, needed, raised, served, served_job, slowed, until
+from harness import COMMAND, ENGINE, SETTINGS, Server, Service, caught_up, configured, folder, lose_history, needed, raised, served, served_job, slowed, told_by, until
 from postgres import postgres
 from relkvanu_service import Gone, OtherLog, ack, cancel, decline, deleted, dispose, restore, savepoint
 from slow import Slow
@@ -97,23 +93,18 @@ class Copy:
         if self.database:
             self.database.run("pg_dump", "--format=custom", f"--file={self.database.data}/dump", f"--dbname={self.database.url}")
         else:
-            with contextlib.closing(sqlite3.connect(self.server.database)) as base, contextlib.closing(sqlite3.connect(self.path)) as copy:
-                base.backup(copy)
+            assert told_by("backup", "--database", self.server.database, "--to", self.path)[0] == 0
 
     def restore(self):
         server = self.server
         server.stop()
-        for name in (name for name in os.listdir(server.folder) if name.startswith("history")):
-            os.remove(f"{server.folder}/{name}")
+        lose_history(server)
         if self.database:
             self.database.sql("drop schema public cascade")
             self.database.sql("create schema public")
             self.database.run("pg_restore", "--single-transaction", f"--dbname={self.database.url}", f"{self.database.data}/dump")
         else:
-            for end in ("-wal", "-shm"):
-                with contextlib.suppress(FileNotFoundError):
-                    os.remove(server.database + end)
-            shutil.copyfile(self.path, server.database)
+            assert told_by("put-back", self.path, "--database", server.database)[0] == 0
         server.start()
 
 

@@ -5,14 +5,14 @@ and is not thrown away."""
 import glob
 import os
 import sqlite3
-import sys
 import threading
 import time
 
 from harness import (
-    SETTINGS, TOP, Server, Service, caught_up, configured, folder, lease_of, lose_history, script, served, served_job, small_disk, sqlite, until
+    SETTINGS, Server, Service, caught_up, configured, folder, lease_of, lose_history, script, served, served_job, small_disk, sqlite, until
 )
 from postgres import postgres
+from second_script import Script
 from relkvanu_service import ack, deleted, dispose, savepoint, take
 from test_disks import fill
 from test_images import KEEPING, read_and_cut, seen, worked
@@ -25,9 +25,6 @@ class Model:
     """The history of records and files: each line of a log changes the second model (tests/second_model.py), and what it had before says what the line has ended."""
 
     def __init__(self, opening):
-        sys.path.append(f"{TOP}/tests")
-        from second_script import Script
-
         self.script, self.records, self.files = Script(logs=True), {}, {}
         for line in opening:
             self.script.line(line.encode())

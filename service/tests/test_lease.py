@@ -5,7 +5,7 @@ import json
 import signal
 import time
 
-from harness import BUSY, SETTINGS, Server, at_once, beside, configured, folder, kept, leader_and_standby, lease_of, served, until
+from harness import SETTINGS, Server, at_once, beside, configured, folder, leader_and_standby, lease_of, served, until
 from postgres import postgres
 from relkvanu_service import Service, savepoint
 from slow import Slow
@@ -94,23 +94,6 @@ def test_a_take_over_keeps_its_lease():
         assert epoch(database) == before + 1 and took > SECONDS, (before, epoch(database), took)
         assert not is_ready(fast)
         return f"it took {took:.1f} s with a lease of {SECONDS} s"
-
-
-def test_two_processes_on_slow_lines():
-    """One of them leads, and serves."""
-    with postgres() as database, folder() as at:
-        opened(at, database.url, 40)
-        servers = [far(at, database, DELAY)[0] for _ in range(2)]
-        for server in servers:
-            server.start(ready=False)
-        with kept(*servers) as ended:
-            leader = until(lambda: next((server for server in servers if is_ready(server)), None), 20)
-            before, made, began = epoch(database), 0, time.monotonic()
-            while (took := time.monotonic() - began) < SECONDS or made <= 20:
-                made += leader.request("POST", "/v1/jobs/j0/calls", {"calls": [{"call": "tick"}]})[0] == 200
-                assert took < BUSY * SECONDS, (made, ended)
-        assert epoch(database) == before, (made, before, epoch(database), ended)
-        return f"{made} calls in {took:.0f} s in one epoch"
 
 
 # The statement of each look of a standby for a leader, and one of each time that it reads the log.

@@ -8,9 +8,8 @@ import kills
 import test_api
 import test_payloads
 import test_stop_begin
-from harness import BUSY, PgArchive, Server, Service, check_log, configured, folder, kept, leader_and_standby, lease_of, served, slowed, until
+from harness import BUSY, PgArchive, Server, Service, configured, folder, kept, leader_and_standby, lease_of, served, slowed, until
 from postgres import postgres
-from writers import made_by
 
 # a standby is beside its leader: as long as a busy machine needs to keep it
 LEASE = lease_of(4)
@@ -43,30 +42,6 @@ def test_a_database_that_stops():
         server.stop()
         assert len(ended) >= 4 and set(ended) == {75}, ended
         return f"3 stops of the database and 1 cut connection, {told[0]}"
-
-
-def test_a_dump_of_a_service_that_runs():
-    """`pg_dump` while writers are at work; the copy is restored into a new database, and served."""
-    with postgres() as database, folder() as at:
-        server, told = Server(at, database.url).start(), []
-        with kills.writers_at([server.url], told) as writers:
-            until(lambda: made_by(writers) > 50)
-            before = {job["name"]: job["seq"] for job in Service(server.url).jobs()}
-            database.run("pg_dump", "--format=custom", f"--file={database.data}/dump", f"--dbname={database.url}")
-        logs = {name: list(Service(server.url).job(name).log(terms=True)) for name in kills.JOBS}
-        server.stop()
-        copy = database.url.rsplit("/", 1)[0] + "/copy"
-        database.run("createdb", f"--maintenance-db={database.url}", "copy")
-        database.run("pg_restore", "--single-transaction", f"--dbname={copy}", f"{database.data}/dump")
-        restored = Server(at, copy).start()
-        counts = []
-        for name, log in logs.items():
-            job = Service(restored.url).job(name)
-            found = [entry for entry in job.log(terms=True) if entry["at"] <= log[-1]["at"]]
-            assert before[name] <= len(found) <= len(log) and found == log[: len(found)], (name, before, len(found), len(log))
-            check_log(job.state(), kills.SHAPE, found)
-            counts.append(len(found))
-        return f"{sum(counts)} of {sum(map(len, logs.values()))} calls in the copy, {sum(before.values())} before it was made"
 
 
 def cut_writer(database):

@@ -10,14 +10,12 @@ import sys
 import time
 from contextlib import contextmanager
 
-from harness import COMMAND, HERE, LOG_ORACLE, PROGRAM, TOP, Archive, Server, check_log, content, folder, until
+from harness import COMMAND, HERE, LOG_ORACLE, PROGRAM, Archive, Server, check_log, content, folder, until
+from power import Journal, Loss, Trials, read_tree, write_tree
 from power_engine import SHAPE, SUBTASKS, Engine
 from preloaded import SHIM, built, shim
 from relkvanu_service import Service, cancel, dispose
 from writers import check_made
-
-sys.path.insert(0, f"{TOP}/faults")
-from power import Journal, Loss, Trials, read_tree, write_tree
 
 ROUNDS = int(os.environ.get("RELKVANU_LOSSES", "1"))
 KEEPING = ["--image-calls", "20", "--keep-calls", "30"]

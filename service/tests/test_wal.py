@@ -3,16 +3,13 @@ writers at work."""
 import os
 import random
 import sqlite3
-import sys
 import time
 
 import kills
-from harness import TOP, Server, check_log, folder, over_copy, served, sqlite
+from harness import Server, check_log, folder, over_copy, served, sqlite
+from power import Journal, Loss, write_tree
 from preloaded import SHIM, built, shim
 from relkvanu_service import Service
-
-sys.path.insert(0, f"{TOP}/faults")
-from power import Journal, Loss, write_tree
 
 JOB = {"name": "orders", "settings": {"interval": 1 << 40}, "shape": [1]}
 TICK = {"calls": [{"call": "tick"}]}
