@@ -430,9 +430,11 @@ def leader_and_standby(at, url, text, *prefixes):
 
 
 def lose_history(server):
-    """Deletes the history of a service that does not run."""
+    """Deletes the history of a service, which starts again."""
+    server.stop()
     for path in glob.glob(f"{server.folder}/history-{server.port}*"):
         os.remove(path)
+    server.start()
 
 
 def caught_up(job):

@@ -2,7 +2,6 @@
 ones depends on SEED."""
 import os
 import random
-import shutil
 import signal
 import subprocess
 
@@ -23,24 +22,25 @@ exit $status
 
 
 class Steps:
-    """A script, whose programs of these names are in a folder of its own. `programs` has what some do, as a command of the shell; others are this machine's."""
+    """A script, whose programs of these names are in a folder of its own, with what each does, as a command of the shell."""
 
-    def __init__(self, at, script, names, **programs):
+    def __init__(self, at, script, **programs):
         self.at, self.script, self.bin = at, script, f"{at}/bin"
         os.makedirs(self.bin)
-        for name in {*names, *programs}:
-            write(f"{self.bin}/{name}", STEP.format(at=at, real=programs.get(name) or shutil.which(name)), 0o755)
+        for name, real in programs.items():
+            save(f"{self.bin}/{name}", STEP.format(at=at, real=real))
+            os.chmod(f"{self.bin}/{name}", 0o755)
 
-    def run(self, *words, die="", before=(), **environment):
+    def run(self, *words, die="", **environment):
         """Returns the status, and what it said."""
-        write(f"{self.at}/steps", "0\n")
+        save(f"{self.at}/steps", "0\n")
         path = {"PATH": f"{self.bin}:{os.environ['PATH']}", "DIE": die}
-        with subprocess.Popen([*before, self.script, *map(str, words)], cwd=self.at, env={**os.environ, **path, **environment}, stdout=subprocess.PIPE,
+        with subprocess.Popen([self.script, *map(str, words)], cwd=self.at, env={**os.environ, **path, **environment}, stdout=subprocess.PIPE,
                               stderr=subprocess.STDOUT, text=True, start_new_session=True) as process:
             told, _ = process.communicate(timeout=10 * COMMAND)
         return process.returncode, told
 
-    def ends(self, words, fill, check, between=lambda: None, again=None, **environment):
+    def ends(self, words, fill, check, between=lambda: None, **environment):
         """Ends the command at moments before and after its programs, and runs it again. Returns how many moments there are at least."""
         moment = FIRST
         while True:
@@ -52,11 +52,6 @@ class Steps:
                 return moment - EACH + 1
             between()
             status, told = self.run(*words, **environment)
-            assert status == 0 or (again is not None and again(told)), (words, moment, status, told)
+            assert status == 0, (words, moment, told)
             check()
             moment += EACH
-
-
-def write(path, text, mode=0o644):
-    save(path, text)
-    os.chmod(path, mode)

@@ -5,7 +5,7 @@ import json
 import os
 import socket
 
-from harness import COMMAND, SETTINGS, Server, Service, at_once, beside, configured, folder, locked, memory, served, served_job, until
+from harness import COMMAND, SETTINGS, Server, Service, at_once, beside, configured, folder, locked, lose_history, memory, served, served_job, until
 from relkvanu_service import ack, savepoint
 from test_limits import has_bodies, takes_all_room
 
@@ -192,15 +192,12 @@ def filled(server, rounds=ROUNDS):
 
 
 def test_a_start_over_large_calls():
-    with folder() as at:
-        server = Server(at, args=["--image-calls", "0"]).start()
+    with served(args=["--image-calls", "0"]) as server:
         seq = filled(server)
         until(lambda: server.get("/v1/jobs/large/records")[2]["upto"] == seq, 60)
         live = memory(server) / 1024
         size = sum(os.path.getsize(server.database + end) for end in ("", "-wal") if os.path.exists(server.database + end)) / (1 << 20)
-        server.stop()
-        os.remove(f"{at}/history-{server.port}")
-        server.start()
+        lose_history(server)
         peak = memory(server, "VmHWM") / 1024
         until(lambda: server.get("/v1/jobs/large/records")[2]["upto"] == seq, 60)
         later = memory(server, "VmHWM") / 1024
@@ -212,6 +209,5 @@ def test_a_start_over_large_calls():
         assert [place for place, _ in got] == list(range(1, seq + 1)) and pages > 5, (len(got), pages)
         assert largest < 3 << 20, largest
         rose = kept_peak(server, lambda: at_once(server.get, ["/v1/jobs/large/log?after=69&limit=1000"] * 16))
-        server.stop()
         assert peak < 45 and later < 45 and rose < 40, (size, live, peak, later, rose)
         return f"a log of {size:.0f} MiB: the start took {peak:.0f} MiB, with the history {later:.0f}, 16 readers {rose:.0f} more; {pages} parts of {largest >> 10} KiB at most"

@@ -130,7 +130,6 @@ def test_the_clock_of_the_database_may_be_set():
             second.wait_ready(20)
             took = time.monotonic() - began
             assert took < HOUR, took  # and not a day
-            second.stop()
         return f"one leader while it was set by an hour, back and by a day; a take-over {took:.1f} s after a kill, though it was set back"
 
 

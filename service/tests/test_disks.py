@@ -126,6 +126,5 @@ def test_no_memory_in_calls():
         after = job.state()
         for name in ("seq", "files", "live", "mode", "choice"):
             assert before[name] == after[name], (name, before, after)
-        server.stop()
         opened = f"{len(there)} of {len(opened)} jobs were opened"
         return f"memory ran out in {no_memory()} calls, {not_made} after them were not made; {told[0]} acknowledged, {told[2]} answered alike by the proved program; {opened}"

@@ -6,7 +6,7 @@ import subprocess
 import threading
 import time
 
-from harness import COMMAND, ENGINE, SETTINGS, Server, Service, caught_up, configured, folder, lose_history, needed, raised, served, served_job, slowed, told_by, until
+from harness import COMMAND, ENGINE, SETTINGS, Server, Service, caught_up, configured, folder, needed, raised, served, served_job, slowed, told_by, until
 from postgres import postgres
 from relkvanu_service import Gone, OtherLog, ack, cancel, decline, deleted, dispose, restore, savepoint
 from slow import Slow
@@ -79,7 +79,6 @@ def test_a_commit_whose_writer_has_not_heard_of_it():
         late.join()
         assert [it["seq"] for it in job.events(upto)[1]] == [first + 1]
         until(lambda: again.events() == ["triggered"] and stream.events() == ["triggered", "triggered"])
-        server.kill()
 
 
 class Copy:
@@ -98,7 +97,6 @@ class Copy:
     def restore(self):
         server = self.server
         server.stop()
-        lose_history(server)
         if self.database:
             self.database.sql("drop schema public cascade")
             self.database.sql("create schema public")

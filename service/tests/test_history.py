@@ -137,9 +137,7 @@ def test_records_and_files_against_a_model():
         log = list(job.log(terms=True))
         until(lambda: job.files()["upto"] == len(log), 20)
         first = compare(job, log)
-        server.stop()
         lose_history(server)
-        server.start()
         until(lambda: job.files()["upto"] == len(log), 20)
         assert compare(job, log) == first
         assert threading.active_count() < 50
@@ -223,9 +221,7 @@ def same(before, after):
 def test_a_lost_history_is_made_again_with_what_was_cut():
     with served_job("orders", SETTINGS, [2], args=KEEPING) as (server, job):
         before = prepared(job)
-        server.stop()
         lose_history(server)
-        server.start()
         caught_up(job)
         same(before, seen(job, FILES))
         # what was released and not taken before the cut is attributed, and the pending record ends as it should

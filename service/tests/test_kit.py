@@ -110,8 +110,6 @@ def test_a_service_over_postgresql_whose_standby_takes_over():
                     lead.append(lead.pop(0).stand_by())
             done = killed(at, kills, (f"{leader.url},{other.url}", database.url), meanwhile)
             assert_exact(at, [json.loads(line) for line in database.sql("select line from lines").split("\n")])
-            for it in lead:
-                it.kill()
             return done
     return jobs(run)
 

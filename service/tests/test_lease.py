@@ -150,7 +150,6 @@ def test_a_lease_counts_from_before_it_was_asked_for():
         call = beside(slow.request, "POST", "/v1/jobs/j0/calls", {"calls": [{"call": "tick"}]})
         both, stale = looked(slow, fast, 4 * SECONDS)
         slow.kill()
-        fast.kill()
         call.join()
         assert (both, stale) == (0, 0), f"both ready in {both} looks, {stale} stale answers"
         return f"answers after {0.75 * SECONDS:.1f} s of a lease of {SECONDS} s"
@@ -160,7 +159,7 @@ def test_a_standby_waits_for_the_lease_of_the_leader():
     """It has a shorter one itself, and the leader stops for longer than that."""
     with postgres() as database, folder() as at:
         first = Server(at, database.url, configured(at, "lease_seconds = 60\n")).start()
-        second = Server(at, database.url, configured(at, "lease_seconds = 2\n")).stand_by()
+        Server(at, database.url, configured(at, "lease_seconds = 2\n")).stand_by()
         before = epoch(database)
         first.process.send_signal(signal.SIGSTOP)
         end = time.monotonic() + 8
@@ -169,8 +168,6 @@ def test_a_standby_waits_for_the_lease_of_the_leader():
         first.process.send_signal(signal.SIGCONT)
         first.wait_ready()
         told = epoch(database), first.process.poll()
-        first.kill()
-        second.kill()
         assert told == (before, None), (before, told)
 
 

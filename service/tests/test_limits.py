@@ -236,7 +236,6 @@ def test_moments_are_those_of_what_happened():
         until(lambda: server.metric('relkvanu_image_bytes{job_name="a"}') > 0)
         at_image = sqlite(server.database, "select max(at) from image")[0][0] / 1000
         told = server.metric('relkvanu_image_timestamp_seconds{job_name="a"}')
-        server.kill()
         assert told == at_image > opened, (told, at_image, opened)
 
 

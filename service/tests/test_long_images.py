@@ -63,7 +63,6 @@ def test_other_jobs_are_called_while_an_image_is_made():
         assert server.replayed()[-1] == 1 + 4 * 50 and large.state()["files"] == before["files"], server.replayed()
         large.call(ack(1, "0.75", [LARGE + 300_000]))
         state, log = large.state(), list(large.log())
-        server.stop()
         check_log(state, [76], log)
         return f"{3 * len(others)} calls of other jobs while an image of {image['bytes'] / 1e6:.1f} MB was made; {len(parts)} parts"
 
@@ -173,9 +172,7 @@ def test_a_summary_that_postgresql_has_no_room_for():
         caught_up(job)
         before = [job.record(record)["history"] for record in (1, 2, 3)]
         until(lambda: tick(server) and job.state()["first"] > 1, 30, 0.02)
-        server.stop()
         lose_history(server)
-        server.start()
         caught_up(job)
         assert [job.record(record)["history"] for record in (1, 2, 3)] == before
 
@@ -202,6 +199,5 @@ def test_an_image_that_sqlite_has_no_room_for():
         until(lambda: tick(server) and job.state()["image"], 30, 0.2)
         until(lambda: server.metric(FAILING.format("orders")) == 0)
         log, state = list(job.log()), job.state()
-        server.stop()
         check_log(state, [76], log)
         return f"{len(log)} calls; an image of {state['image']['bytes'] / 1e6:.1f} MB was made later"

@@ -80,7 +80,6 @@ def test_a_commit_writes_no_version_of_the_leader():
             job.call(TICK)
         beats = int(database.sql(beat)) - before
         calls, took = int(database.sql("select count(*) from call")), time.monotonic() - began
-        server.stop()
         # two each 20 s at most: a commit of calls, and an empty one
         assert calls >= 300 and beats <= 10 + took / 10, (calls, beats, took)
         return f"{calls} calls in as many commits, and {beats} versions of the row"
@@ -105,8 +104,6 @@ def test_a_commit_that_lasts_keeps_its_leader():
         database.sql("drop trigger slow on call")
         job.call(TICK)
         after = database.sql(epoch), leader.process.poll(), standby.process.poll()
-        leader.kill()
-        standby.kill()
         # (PostgreSQL sleeps by the time of day)
         assert told and took > lease and after == (before, None, None), (told, took, before, after)
         return f"a commit of {took:.1f} s with a lease of {lease} s"
@@ -144,7 +141,6 @@ def test_a_standby_that_starts_beside_a_vacuum():
         leader.stop()
         leader.start()
         assert vacuum.poll() is None, "the lock was not held"
-        leader.stop()
         database.stop()
         vacuum.wait()
         return f"the longest gap of the leader's answers was {gap:.2f} s"

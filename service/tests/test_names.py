@@ -336,8 +336,6 @@ def test_a_leader_that_is_over_answers_no_garbage():
             assert old.request("POST", "/v1/jobs/orders/garbage", {"files": ["0"]})[0] == 503
             old, new = new, old
         assert len(later) == 4 * rounds and not [status for status in later if status not in (0, 503)], later
-        for server in (old, new):
-            server.stop()
         return f"{len(later)} requests to leaders that were suspended: {later.count(503)} were answered 503, {later.count(0)} not at all"
 
 

@@ -174,4 +174,3 @@ def test_nights_of_postgresql():
         finally:
             os.environ["PATH"] = path
             engine.stop()
-            server.stop()

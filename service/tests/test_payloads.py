@@ -4,7 +4,7 @@ import base64
 import os
 import time
 
-from harness import CALL, Service, caught_up, folder, lose_history, raised, served, served_job, sqlite, until
+from harness import CALL, Server, Service, caught_up, folder, lose_history, raised, served, served_job, sqlite, until
 from relkvanu_service import Failed, ack, cancel, decline, deleted, dispose, restore, savepoint, trigger, undeleted
 from test_images import KEEPING, read_and_cut
 from test_metrics import scraped
@@ -175,12 +175,9 @@ def test_the_history_has_figures_and_reasons():
     with served_job("orders", SETTINGS, [4]) as (server, job):
         wanted = figured(job)
         assert figures(job) == wanted, (figures(job), wanted)
-        for lost in (False, True):
-            server.kill()
-            if lost:
-                lose_history(server)
-            server.start()
-            assert figures(job) == wanted, (lost, figures(job))
+        for begin_anew in (Server.again, lose_history):
+            begin_anew(server)
+            assert figures(job) == wanted, (begin_anew, figures(job))
         assert job.history(1) == wanted[:1] and job.history(0) == []
         refused = raised(Failed, lambda: job.history(1001))
         assert (refused.status, refused.field) == (400, "last"), refused
@@ -202,12 +199,10 @@ def test_the_history_says_nothing_that_nobody_told():
             job.calls([savepoint(), ack(record, "0.0", **first), ack(record, "0.1", **second)])
         job.calls([savepoint(), ack(6, "0.0", [61], sizes=[40]), ack(6, "0.1", millis=7)])
         wanted = [(None, 9), (14, None), (0, 0), (None, None), (2, 3), (40, 7)]
-        for lost in (False, True):
+        for _ in range(2):
             found = [(it["bytes"], it["millis"]) for it in reversed(figures(job))]
-            assert found == wanted, (lost, found)
-            server.kill()
+            assert found == wanted, found
             lose_history(server)
-            server.start()
 
 
 def over_a_take_over(service, database):
@@ -260,12 +255,9 @@ def test_sizes_outlive_starts_and_a_lost_history():
         wanted = sized(job)
         files = [100, 20, 3, None, 7, 1 << 52, 50, None]
         assert said(job) == wanted and file_bytes(job) == files, (said(job), wanted)
-        for lost in (False, True):
-            server.kill()
-            if lost:
-                lose_history(server)
-            server.start()
-            assert said(job) == wanted and file_bytes(job) == files, (lost, said(job), file_bytes(job))
+        for begin_anew in (Server.again, lose_history):
+            begin_anew(server)
+            assert said(job) == wanted and file_bytes(job) == files, (begin_anew, said(job), file_bytes(job))
         assert [row["bytes"] for row in job.files()["taken"]] == [20]
         job.call(undeleted(12))
         assert job.state()["bytes"] == {**wanted[0], "waiting": 70, "taken": 0}, job.state()["bytes"]
@@ -295,9 +287,7 @@ def test_sizes_outlive_cuts():
         assert before[0] == {"in_use": 110 + (1 << 52), "waiting": 0, "taken": 0, "files": 4}, before
         assert before[1][20] == (20, 23) and before[1][3] == (1 << 52, 1 << 52), before
         assert sqlite(server.database, "select min(seq) >= ? from ack_size", job.state()["first"]) == [(1,)]
-        server.stop()
         lose_history(server)
-        server.start()
         assert said(job) == before and job.file(11)["bytes"] == 100, said(job)
 
 

@@ -39,7 +39,6 @@ def test_a_database_that_stops():
             cut_writer(database)
             until(lambda: len(ended) > before)
             server.wait_ready(kept=True)
-        server.stop()
         assert len(ended) >= 4 and set(ended) == {75}, ended
         return f"3 stops of the database and 1 cut connection, {told[0]}"
 
@@ -93,8 +92,6 @@ def test_take_over():
                 # one that starts has just prepared its statements, and a cut would take it for the writer
                 leader.stand_by()
         assert epochs == sorted(set(epochs)), epochs
-        for server in servers:
-            server.stop()
         assert max(times[:3]) < LEASE + 3 * max(BUSY, slowed()), times
         return f"leads again after {', '.join(f'{it:.2f}' for it in times)} s with a lease of {LEASE} s; {found[0]}"
 

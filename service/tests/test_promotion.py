@@ -69,7 +69,6 @@ def test_a_cancelled_wait_for_the_replica():
             assert Service(server.url).job("orders").state()["seq"] == 2
             assert replica.sql("select count(*) from call") == "2"
         finally:
-            server.stop()
             replica.stop()
 
 

@@ -170,7 +170,7 @@ class Databases:
         self.words = ("--database", self.url)
         self.environment = {"PGHOST": "127.0.0.1", "PGPORT": str(server.port), "PGUSER": "postgres"}
         programs = {name: f"{server.bin}/{name}" for name in ("createdb", "dropdb", "pg_restore", "psql")}
-        self.steps = Steps(at, PROGRAM, (), **programs)
+        self.steps = Steps(at, PROGRAM, **programs)
         self.sql("create database relkvanu")
         service = Server(f"{at}/of", self.url).start()
         Service(service.url).open("orders", SETTINGS, [1]).call(savepoint())

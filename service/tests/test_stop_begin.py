@@ -72,7 +72,6 @@ def test_who_waits_for_a_begin_hears_of_a_backup():
         time.sleep(0.5)
         copy.restore()
         waits.join(BUSY * 120)
-        server.stop()
         assert len(told) == 1, told
 
 
@@ -446,23 +445,20 @@ def test_a_stop_and_a_begin_at_each_message_to_postgresql():
     with postgres() as database, folder() as at:
         between, told = Between(database), {"after a message": 0, "in the midst of one": 0}
         server = Server(at, between.url).start()
-        try:
-            for how in told:
-                # (a message that is none of the steps' may have come before one of theirs: then the next turn has that one)
-                wanted, turns = {(step, how == "after a message") for step in range(len(COMMITS))}, 0
-                while wanted and (turns := turns + 1) < 9:
-                    for message in range(1, 100):
-                        if (left := a_trial(database, between, server, f"{turns}-{message}", message, how)) is None:
-                            break
-                        made, answered = left
-                        # what was answered is there, and what was not asked for is not; of the step between the two all is there, or nothing
-                        assert all(made[:answered]) and not any(made[answered + 1:]), (how, message, left)
-                        wanted -= set(enumerate(made[answered:], answered))
-                        told[how] += 1
-                assert not wanted, (how, wanted)
-            ran("check", "--database", database.url)
-        finally:
-            server.stop()
+        for how in told:
+            # (a message that is none of the steps' may have come before one of theirs: then the next turn has that one)
+            wanted, turns = {(step, how == "after a message") for step in range(len(COMMITS))}, 0
+            while wanted and (turns := turns + 1) < 9:
+                for message in range(1, 100):
+                    if (left := a_trial(database, between, server, f"{turns}-{message}", message, how)) is None:
+                        break
+                    made, answered = left
+                    # what was answered is there, and what was not asked for is not; of the step between the two all is there, or nothing
+                    assert all(made[:answered]) and not any(made[answered + 1:]), (how, message, left)
+                    wanted -= set(enumerate(made[answered:], answered))
+                    told[how] += 1
+            assert not wanted, (how, wanted)
+        ran("check", "--database", database.url)
         return ", ".join(f"{count} ends {how}" for how, count in told.items())
 
 
