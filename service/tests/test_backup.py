@@ -7,9 +7,11 @@ import sqlite3
 import subprocess
 import threading
 import time
+from contextlib import contextmanager
 
 from harness import (
-    COMMAND, PROGRAM, SETTINGS, Archive, Server, Service, caught_up, check_log, content, folder, over_copy, raised, save, served, told_by, until
+    COMMAND, PROGRAM, SETTINGS, Archive, Server, Service, caught_up, check_log, content, folder, folders, over_copy, raised, save, served, served_job, told_by,
+    until
 )
 from postgres import postgres
 from relkvanu_service import ack, savepoint
@@ -132,13 +134,18 @@ def write(folder, *files):
             it.write(b"state")
 
 
+@contextmanager
+def claimed(shape, reserved=0, **settings):
+    """A service, and a job with its folder."""
+    with served_job("orders", {**SETTINGS, **settings}, shape, reserved) as (server, job):
+        folders(server.folder, "files")
+        job.claim(f"{server.folder}/files")
+        yield server, job, f"{server.folder}/files"
+
+
 def test_files_of_another_length():
     """Than their tasks have said: they are lost. One of which nobody said its bytes is not compared."""
-    with served() as server:
-        files = f"{server.folder}/files"
-        os.mkdir(files)
-        job = Service(server.url).open("orders", SETTINGS, [2])
-        job.claim(files)
+    with claimed([2], 500) as (server, job, files):
         write(files, 1, 2, 3)
         job.calls([savepoint(), ack(1, "0.0", [1, 2], sizes=[5, 5]), ack(1, "0.1", [3])])
         job.calls([savepoint(), ack(2, "0.0", [], [1, 3]), ack(2, "0.1", [], [1])])
@@ -159,11 +166,7 @@ def test_files_of_another_length():
 
 def test_a_restore_by_number_looks_first():
     """Whether the record has all its files, since all records behind it go. If it has not, or nobody says where they are, nothing changes."""
-    with served() as server:
-        files = f"{server.folder}/files"
-        os.mkdir(files)
-        job = Service(server.url).open("orders", {**SETTINGS, "retained": 3}, [1], 0)
-        job.claim(files)
+    with claimed([1], retained=3) as (server, job, files):
         session, numbers = job.begin().session(), []
         for _ in range(3):
             name, id = session.name(), job.checkpoint()["id"]
@@ -197,11 +200,7 @@ def test_a_restore_by_number_looks_first():
 
 def test_a_job_goes_on_from_a_backup():
     """Above its terms and names, from the last record that has all its files, none too short; also if the command is given again."""
-    with served() as server:
-        files = f"{server.folder}/files"
-        os.mkdir(files)
-        job = Service(server.url).open("orders", SETTINGS, [1], 0)
-        job.claim(files)
+    with claimed([1]) as (server, job, files):
         words = ["restore", "orders", "--from-backup", "--folder", files, "--prefix", "s-", "--suffix", ".bin"]
         start = job.begin()
         session = start.session()

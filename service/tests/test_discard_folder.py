@@ -151,20 +151,6 @@ def test_names_that_are_not_synced():
             assert json.load(it) == {"prefix": "t-", "suffix": ""}
 
 
-def test_a_second_cleaner_waits_for_the_first():
-    """It waits within its process, and serves its metrics meanwhile. Then it goes on."""
-    with a_job() as (server, job, folder), cleaning(server, *of_files(folder)) as one:
-        until(lambda: one.works("a"))
-        with cleaning(server, *of_files(folder)) as other:
-            until(lambda: other.works("a") is False)
-            time.sleep(2)  # longer than its first pauses
-            assert other.process.poll() is None and other.works("a") is False
-            one.end()
-            until(lambda: other.works("a"))
-            files_of(job, folder, 200, 2)
-            until(lambda: present(folder) == [])
-
-
 CALLS = "trace=unlinkat,fsync,fdatasync,write,writev,sendto"
 
 

@@ -37,8 +37,11 @@ class Machine:
         return told.returncode, told.stdout
 
     def is_as_installed(self):
-        """No part is there, or what is there is whole: a part never gets another content."""
         return content(f"{self.settings}/service.toml") == content(f"{SERVICE}/deploy/service.toml")
+
+    def check_parts(self):
+        """No part is there, or what is there is whole: a part never gets another content."""
+        assert self.is_as_installed() or os.path.exists(f"{self.settings}/token"), os.listdir(self.settings)
 
     def check(self):
         names = set(os.listdir(self.settings))
@@ -85,7 +88,7 @@ def ends_at(machine, library, nth, after, words):
         return False
     assert status in (KILLED, FAILED), (nth, after, status, told)
     whole = os.path.exists(f"{machine.settings}/token")
-    assert machine.is_as_installed() or whole, (nth, after)
+    machine.check_parts()
     before = content(f"{machine.settings}/token") if whole else None
     status, told = machine.ran(*words)
     # it had ended but for saying so, if it names a file that is there
@@ -109,11 +112,10 @@ def test_an_end_at_each_write():
         return f"{ended} ends, and {signed} while it signs"
 
 
-OTHER_CERTIFICATES = {"certificate.pem.before", "key.pem.before"}
-
-
 class Renewed(Machine):
-    """One that has a certificate, and gets another one."""
+    """One that has a certificate, and gets another one, which is `other` if that is set."""
+
+    other = None
 
     def fill(self):
         super().fill()
@@ -123,16 +125,16 @@ class Renewed(Machine):
     def pair(self, at=""):
         return tuple(content(f"{self.settings}/{at}{name}") for name in ("certificate.pem", "key.pem"))
 
-    def is_renewed(self, pair=None):
+    def check(self):
         """With another certificate and its key, and those of before beside them."""
-        assert set(os.listdir(self.settings)) == MADE | OTHER_CERTIFICATES, os.listdir(self.settings)
-        assert self.pair() == pair if pair else self.pair()[0] != self.first[0]
+        assert set(os.listdir(self.settings)) == MADE | {"certificate.pem.before", "key.pem.before"}, os.listdir(self.settings)
+        assert self.pair() == self.other
         assert tuple(content(f"{self.settings}/{name}.before") for name in ("certificate.pem", "key.pem")) == self.first
         assert [stat.S_IMODE(os.stat(f"{self.settings}/{name}").st_mode) for name in ("certificate.pem", "key.pem")] == [0o644, 0o600]
 
-    def is_of_one(self, pair):
+    def check_parts(self):
         """Each of the two files is whole: the one of before, or the other one."""
-        assert all(found in (one, other) for found, one, other in zip(self.pair(), self.first, pair)), self.pair()
+        assert all(found in (one, other) for found, one, other in zip(self.pair(), self.first, self.other)), self.pair()
 
 
 def test_a_certificate_is_renewed():
@@ -141,13 +143,13 @@ def test_a_certificate_is_renewed():
         for _ in range(2):
             status, told = machine.ran("--renew", "--self-signed")
             assert status == 0 and "renewed/certificate.pem" in told and "beside that one" in told and machine.pair() == machine.first, told
-        made = machine.pair("renewed/")
-        assert made[0] != machine.first[0] and stat.S_IMODE(os.stat(f"{machine.settings}/renewed").st_mode) == 0o700
+        machine.other = machine.pair("renewed/")
+        assert machine.other[0] != machine.first[0] and stat.S_IMODE(os.stat(f"{machine.settings}/renewed").st_mode) == 0o700
         server = tls_server(at, machine)
         assert server.get("/readyz")[0] == 200
         status, told = machine.ran("--renew")
         assert status == 0 and "systemctl reload relkvanu" in told, told
-        machine.is_renewed(made)
+        machine.check()
         server.process.send_signal(signal.SIGHUP)
         until(lambda: server.get("/readyz")[0] == 200)
         assert server.stop() == 0
@@ -163,19 +165,10 @@ def test_a_renewal_ends_at_each_write():
     with folder() as at:
         library, machine, ended = built(at, SHIM), Renewed(at), 0
         certificate(at, "first")
-        pair = (content(f"{at}/certificate.pem"), content(f"{at}/key.pem"))
+        machine.other = (content(f"{at}/certificate.pem"), content(f"{at}/key.pem"))
         words = ("--renew", "--certificate", f"{at}/certificate.pem", "--key", f"{at}/key.pem")
-        while True:
-            machine.fill()
-            status, told = machine.ran(*words, before=shim(library, machine.at, die=ended // 2 + 1, die_after=ended % 2, raw=1))
-            machine.is_of_one(pair)
-            if status == 0:
-                break
-            assert status == KILLED, told
-            assert machine.ran(*words)[0] == 0
-            machine.is_renewed(pair)
+        while ends_at(machine, library, ended // 2 + 1, ended % 2, words):
             ended += 1
-        machine.is_renewed(pair)
         # another one is prepared: it is not replaced, and neither is anything where the key is of another certificate
         machine.fill()
         assert machine.ran("--renew", "--self-signed")[0] == 0

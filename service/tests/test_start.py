@@ -63,11 +63,8 @@ DAMAGES = [
     ("update call set a = 7, b = 7 where seq = {seq}", 'job orders, call {seq} '),
     ("update call set a = 7, b = 7 where seq = {seq}", 'the log says "ack completed 7 7", and this program answers "ack completed {a} {b}"'),
     ("update call set what = 200, a = 7, b = 7 where seq = {seq}", 'the log says "unknown 200 7 7"'),
-    ("delete from call where seq = 2", "job orders, call 3: call 2 is missing"),
-    ("update call set line = 'tock 1' where seq = 2", '"tock 1" is no call'),
     ("update job set config = 'config 1 2'", 'a row of job has Text("config 1 2") in column 3'),
     ("update job set shape = '1 x'", 'a row of job has Text("1 x") in column 4'),
-    ("update call set waiting = -1 where seq = 1", "a row of call has Number(-1) in column 11"),
     ("update call set line = cast(x'ff' as text) where seq = 1", "the log can't be read: "),
 ]
 

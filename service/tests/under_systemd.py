@@ -50,6 +50,11 @@ def is_ready():
     return SERVER.get("/readyz")[0] == 200
 
 
+def restart():
+    run("systemctl", "restart", "relkvanu")
+    until(is_ready)
+
+
 def procedure(name):
     """The commands of a procedure that the pages quote, but for those that fetch packages."""
     lines = re.search(rf"^# {name}: .*\n((?:.+\n)+)", content("/procedures.sh"), re.MULTILINE)[1].splitlines()
@@ -306,19 +311,22 @@ def check_the_cleaner():
 def check_an_option_for_one_start():
     save("/run/relkvanu.options", "RELKVANU_OPTIONS=--accept-clock\n")
     for more in (["--accept-clock"], []):
-        run("systemctl", "restart", "relkvanu")
-        until(is_ready)
+        restart()
         assert words()[-len(more) - 1 :] == ["/run/credentials/relkvanu.service/token", *more]
+
+
+def check_it_ends(status):
+    """At a restart, which is the last one."""
+    run("systemctl", "restart", "relkvanu", check=False)
+    until(lambda: property_of("ActiveState") == "failed")
+    assert property_of("ExecMainStatus") == status and property_of("NRestarts") == "0", run("systemctl", "status", "relkvanu", check=False)
 
 
 def check_a_wrong_option_ends_it():
     save("/run/relkvanu.options", "RELKVANU_OPTIONS=--accept-clok\n")
-    run("systemctl", "restart", "relkvanu", check=False)
-    until(lambda: property_of("ActiveState") == "failed")
-    assert property_of("ExecMainStatus") == "2" and property_of("NRestarts") == "0", run("systemctl", "status", "relkvanu", check=False)
+    check_it_ends("2")
     os.remove("/run/relkvanu.options")
-    run("systemctl", "start", "relkvanu")
-    until(is_ready)
+    restart()
 
 
 def check_a_long_start():
@@ -378,22 +386,18 @@ def with_setting(name, text):
 def after_a_stop(seconds):
     """How long it takes after SIGSTOP, with a watchdog of so many seconds, which no other check has."""
     with_setting("watchdog", f"WatchdogSec={seconds}")
-    run("systemctl", "restart", "relkvanu")
-    until(is_ready)
+    restart()
     took = after(signal.SIGSTOP)
     os.remove("/run/systemd/system/relkvanu.service.d/watchdog.conf")
     run("systemctl", "daemon-reload")
-    run("systemctl", "restart", "relkvanu")
-    until(is_ready)
+    restart()
     return took
 
 
 def check_a_bad_setting_ends_it():
     with open("/etc/relkvanu/service.toml", "a", encoding="utf-8") as it:
         it.write("\nlistn = 'x'\n")
-    run("systemctl", "restart", "relkvanu", check=False)
-    until(lambda: property_of("ActiveState") == "failed")
-    assert property_of("ExecMainStatus") == "78" and property_of("NRestarts") == "0", run("systemctl", "status", "relkvanu", check=False)
+    check_it_ends("78")
     until(lambda: "listn" in journal())  # a line may come there after the end of its process
 
 

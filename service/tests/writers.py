@@ -26,7 +26,7 @@ class Writer(threading.Thread):
         self.name_of_job = job
         self.random = random.Random(number)
         self.session, self.turns = None, 7 * number
-        self.made, self.refused, self.fenced, self.errors = [], 0, 0, []
+        self.made, self.fenced, self.errors = [], 0, []
         self.no_memory, self.not_made = 0, 0
         self.over = threading.Event()
 
@@ -99,7 +99,6 @@ class Writer(threading.Thread):
         for call, answer in zip(calls, answers):
             if "seq" in answer:
                 self.made.append((call, answer))
-            self.refused += "refused" in answer
             self.fenced += "fenced" in answer
             self.no_memory += "no_memory" in answer
             self.not_made += "not_made" in answer
