@@ -331,45 +331,34 @@ CASES = [
         rests("CertificateEnds", "25m"),
         fires("CertificateEnds", "45m", page("The certificate of a ends within two days.", instance="a")),
     ]),
+    # what looks at no metric of another rule here
     ("1m", [
         of('instance="a",access="write"', token_until_timestamp_seconds="1212000x70"),
         of('instance="a",access="read"', token_until_timestamp_seconds="2000000000x70"),
         rests("TokenEnds", "45m"),
         fires("TokenEnds", "1h", ticket("The last write token of a ends within 13d 23h 40m 0s.", instance="a", access="write")),
-    ]),
-    # a cleaner that was given no new token, which asks once a minute; and somebody who tried a wrong one five times
-    ("1m", [
+        # a cleaner that was given no new token, which asks once a minute; and somebody who tried a wrong one five times
         of('instance="a",route="state",status="401"', http_requests_total="0x10 1+1x60"),
         of('instance="a",route="state",status="200"', http_requests_total="0+50x70"),
         of('instance="b",route="state",status="401"', http_requests_total="0x10 5x60"),
         rests("TokenRefused", "30m"),
         fires("TokenRefused", "1h", ticket("a refuses requests for their token.", instance="a")),
-    ]),
-    ("1m", [
         of('job_name="a"', savepoints="101x90"),
         of('job_name="b"', savepoints="100x90"),
         rests("ManySavepoints", "45m"),
         fires("ManySavepoints", "1h15m", ticket("Job a has 101 savepoints that nobody has disposed of.", job_name="a")),
-    ]),
-    # a job that is kept out until it is mended, by the one of two processes that has it
-    ("1m", [
+        # a job that is kept out until it is mended, by the one of two processes that has it
         of('job_name="a",instance="1"', job_damaged="_x4 1x10 _x10"),
         rests("JobDamaged", "3m 24m"),
         fires("JobDamaged", "8m", page("Job a is damaged, and is kept out.", job_name="a")),
-    ]),
-    ("1m", [
         of('instance="a"', reload_failed="0x4 1x20"),
         of('instance="b"', reload_failed="0 1x8 0x20"),
         rests("ReloadFailed", "12m"),
         fires("ReloadFailed", "20m", ticket("The tokens and the certificate of a are those from before the last reload.", instance="a")),
-    ]),
-    ("1m", [
         of('job_name="a"', image_failing="1x8 0 1x20"),
         of('job_name="b"', image_failing="0x30"),
         rests("ImageFails", "18m"),
         fires("ImageFails", "25m", ticket("The image of job a, or a cut of its log, can not be written.", job_name="a")),
-    ]),
-    ("1m", [
         of('instance="a"', clock_ahead_seconds="0x5 -3600x30"),
         of('instance="b"', clock_ahead_seconds="59x35"),
         rests("Clock", "14m"),

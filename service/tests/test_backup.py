@@ -10,8 +10,8 @@ import time
 from contextlib import contextmanager
 
 from harness import (
-    COMMAND, PROGRAM, SETTINGS, Archive, Server, Service, caught_up, check_log, content, folder, folders, over_copy, raised, save, served, served_job, told_by,
-    until
+    COMMAND, PROGRAM, SETTINGS, Archive, Server, Service, beside, caught_up, check_log, content, folder, folders, over_copy, raised, save, served,
+    served_job, told_by, until
 )
 from postgres import postgres
 from relkvanu_service import ack, savepoint
@@ -40,29 +40,19 @@ def filled(server):
     return Service(server.url).job("orders")
 
 
-class Load(threading.Thread):
-    """Commits one call after the other."""
-
-    def __init__(self, job):
-        super().__init__(daemon=True)
-        self.job, self.over, self.times = job, threading.Event(), []
-
-    def run(self):
-        while not self.over.is_set():
-            asked = time.monotonic()
-            self.job.call({"call": "savepoint"})
-            self.times.append(time.monotonic() - asked)
-
-    def end(self):
-        self.over.set()
-        self.join()
+def load(job, over, times):
+    """Commits one call after the other, until it is over."""
+    while not over.is_set():
+        asked = time.monotonic()
+        job.call({"call": "savepoint"})
+        times.append(time.monotonic() - asked)
 
 
 def test_a_backup_under_load():
     with served(args=["--image-calls", "20", "--keep-calls", "30"]) as server:
         job, archive = filled(server), Archive(server.database)
-        load = Load(job)
-        load.start()
+        over, times = threading.Event(), []
+        loading = beside(load, job, over, times)
         copy = f"{server.folder}/copy.db"
         until(lambda: job.state()["first"] > 50)
         for _ in range(TRIES):
@@ -72,7 +62,8 @@ def test_a_backup_under_load():
             if last > first:
                 break
             os.remove(copy)  # a busy machine made no commit beside it
-        load.end()
+        over.set()
+        loading.join()
         assert "bytes=" in told and last > first and os.stat(copy).st_mode & 0o777 == 0o600, (told, first, last)
         assert not os.path.exists(f"{copy}.part") and not os.path.exists(f"{copy}-wal")
         whole = archive.log("orders")
@@ -80,7 +71,7 @@ def test_a_backup_under_load():
             with over_copy(Server(at, database=copy)) as (state, log):
                 assert first <= state["seq"] <= last and state["first"] > 50, (first, state, last)
                 check_log(state, [1], check_kept(whole[: state["seq"]], log, state["first"]))
-        return f"{MEGABYTES} MB in {took:.1f} s beside {last - first} commits, of which the slowest took {max(load.times) * 1000:.0f} ms"
+        return f"{MEGABYTES} MB in {took:.1f} s beside {last - first} commits, of which the slowest took {max(times) * 1000:.0f} ms"
 
 
 def has_bytes(path):

@@ -53,8 +53,7 @@ def test_polls_keep_nobody_out_and_cost_little(polls=int(os.environ.get("RELKVAN
         server.request("POST", "/v1/jobs", JOB)
         calls = {"calls": [{"call": "tick"}]}
         before, threads = memory(server), memory(server, "Threads")
-        held = [opened(server, poll(1000)) for _ in range(polls - 1)]
-        watched = opened(server, poll(0))
+        held = [opened(server, poll(0)) for _ in range(polls)]
         until(lambda: f"relkvanu_http_connections {polls + 1}" in server.get("/metrics")[2], 30)
         each = (memory(server) - before) / polls
         assert each < 24, f"a poll takes {each:.0f} KiB"
@@ -64,32 +63,19 @@ def test_polls_keep_nobody_out_and_cost_little(polls=int(os.environ.get("RELKVAN
         assert within(SOON, lambda: server.request("POST", "/v1/jobs/orders/calls", calls)[0]) == 200
         key = [("Idempotency-Key", "a")]
         assert within(SOON, lambda: server.request("POST", "/v1/jobs/orders/calls", {"calls": [{"call": "savepoint"}]}, headers=key)[0]) == 200
-        status, told = within(SOON, lambda: answer(watched))
-        assert status == 200 and told["events"][0]["event"] == "triggered", told
+        # the event wakes all of them
+        most = 0
+        for place, it in enumerate(held):
+            status, told = within(SOON, lambda it=it: answer(it))
+            assert status == 200 and told["events"][0]["event"] == "triggered", told
+            most = max(most, memory(server, "Threads")) if place % 20 == 0 else most
+        assert most <= threads + 4, f"{most} threads"
         # a connection that polled keeps its place for the next poll
-        watched.sendall(poll(0).encode())
-        assert answer(watched)[0] == 200
-        for it in [*held, watched]:
+        held[0].sendall(poll(0).encode())
+        assert answer(held[0])[0] == 200
+        for it in held:
             it.close()
         return f"{polls} polls beside 16 places of calls: {each:.1f} KiB each, {memory(server, 'Threads')} threads"
-
-
-def test_an_event_wakes_all_polls():
-    many_files()
-    with served("") as server:
-        server.request("POST", "/v1/jobs", JOB)
-        held = [opened(server, poll(0)) for _ in range(400)]
-        until(lambda: "relkvanu_http_connections 401" in server.get("/metrics")[2], 30)
-        threads = memory(server, "Threads")
-        server.request("POST", "/v1/jobs/orders/calls", {"calls": [{"call": "savepoint"}]}, headers=[("Idempotency-Key", "a")])
-        most, started = threads, time.monotonic()
-        for place, it in enumerate(held):
-            status, told = answer(it)
-            assert status == 200 and told["upto"] == 2, told
-            most = max(most, memory(server, "Threads")) if place % 20 == 0 else most
-            it.close()
-        assert most <= threads + 4, f"{most} threads"
-        return f"{len(held)} polls in {time.monotonic() - started:.2f} s by {most} threads"
 
 
 def test_connections_without_a_token_keep_nobody_out():

@@ -228,16 +228,13 @@ class Churn:
         """A record that is pending may have ended since it was seen."""
         return {f"s-{file}" for record in self.job.state()["live"] for files in (self.job._held(record["id"]) or {}).values() for file in files}
 
-    def is_complete(self):
-        return self.job.state()["choice"]["kind"] == "checkpoint"
-
 
 def churned(server, churn, sweep):
     """Lets all of them go on, while the job begins again and the service is killed, until a checkpoint is complete."""
     sweepers = [subprocess.Popen([*sweep, "--every", "1s"], stdout=subprocess.DEVNULL, stderr=subprocess.DEVNULL) for _ in range(2)]
     threads = [*(beside(churn.task, number) for number in range(2)), *(beside(it) for it in (churn.sweeper, churn.sweeper, churn.discarder))]
     for turn in range(4 * BUSY):
-        if turn > 3 and churn.is_complete():
+        if turn > 3 and churn.job.state()["choice"]["kind"] == "checkpoint":
             break
         time.sleep(1)
         churn.current = churn.job.begin()

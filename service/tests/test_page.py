@@ -8,7 +8,7 @@ import time
 from contextlib import contextmanager
 from decimal import ROUND_HALF_UP, Decimal
 
-from harness import BUSY, COMMAND, Service, caught_up, free_port, needed, served, until
+from harness import BUSY, COMMAND, Service, beside, caught_up, free_port, needed, served, until
 from run import Skipped
 from relkvanu_service import ack, decline, deleted, savepoint
 
@@ -55,19 +55,13 @@ class Engine(threading.Thread):
         self.completed += 1
 
 
-class Discarder(threading.Thread):
-    """A discarder, so that the pictures show a job whose files go: all but the ones that it deletes right now."""
-
-    def __init__(self, engine):
-        super().__init__(daemon=True)
-        self.engine = engine
-
-    def run(self):
-        while not self.engine.over.is_set():
-            files = self.engine.job.take(16)
-            time.sleep(0.05)
-            if files:
-                self.engine.job.calls([deleted(file) for file in files])
+def discards(engine):
+    """As a discarder, so that the pictures show a job whose files go: all but the ones that it deletes right now."""
+    while not engine.over.is_set():
+        files = engine.job.take(16)
+        time.sleep(0.05)
+        if files:
+            engine.job.calls([deleted(file) for file in files])
 
 
 def browser(width, height):
@@ -302,7 +296,7 @@ def check_job_page(page, server, engine):
     wrong = [entry["message"] for entry in page.get_log("browser") if entry["level"] == "SEVERE"]
     assert not wrong, wrong
     if PICTURES:
-        Discarder(engine).start()
+        beside(discards, engine)
         time.sleep(10)
     look_up(page, files[0])
     assert show_term(page).startswith("The term is 3:")

@@ -328,22 +328,6 @@ def test_imports_at_each_end():
         return f"{told[0]} ends of imports, {told[1]} of claims"
 
 
-def test_exports_at_each_end():
-    with served() as server:
-        base, ends = Base(server), Ends(pathlib.Path(server.folder))
-
-        def words(n):
-            return ["export", "orders", base.at / f"out-{n}", *place_of(server, base.folder / "state")]
-
-        def check(given, is_killed):
-            status, said = ends.ended(0, False, given)
-            assert (is_killed and status == 0) or "not empty" in said, (is_killed, status, said)
-            told = did([PROGRAM, "records", given[2]])
-            assert told.count("whole; ") == 1 and not list(base.at.glob("*.part")), told
-
-        return f"{ends.each(words, check)} ends"
-
-
 def with_jobs(server, at):
     """Jobs with two records each, of which some have other settings than they were opened with; one without a record, and one that was cancelled. Returns
     what each has."""
@@ -400,6 +384,8 @@ def test_all_jobs_go_to_postgresql_and_back():
                 status, said = ends.ended(0, False, given)
                 assert status == 0 and expected in said and "gone: it was cancelled" in said and "fresh: no record is complete" in said, (status, said)
             assert sorted(os.listdir(given[2])) == sorted(found), (is_killed, os.listdir(given[2]))
+            for name in found:
+                assert did([PROGRAM, "records", given[2] / name]).count("whole; ") == 1 and not list(given[2].rglob("*.part")), (is_killed, name)
             shutil.rmtree(given[2])
 
         exports = ends.each(lambda n: ["export", "--all", at / n, *place_of(server, at / "files" / "{job}")], is_exported)

@@ -8,11 +8,10 @@ import subprocess
 import threading
 import time
 
-from harness import ACK_COMPLETED, COMMAND, PROGRAM, Server, folder, raised, save, served, slowed, sqlite, until
+from harness import ACK_COMPLETED, COMMAND, PROGRAM, SETTINGS, Server, folder, raised, save, served, served_job, slowed, sqlite, until
+from relkvanu_service import ack, savepoint
 from test_api import JOB
 from test_connections import answer, opened, poll
-
-TIMED = {"name": "orders", "settings": {"interval": 50}, "shape": [1]}
 
 
 def refused(args, status, text, **given):
@@ -42,22 +41,6 @@ def test_bad_configurations_are_named():
         assert told.stdout.startswith("relkvanu "), told
 
 
-def driven(server, calls=20):
-    """A job with some calls in its log."""
-    server.request("POST", "/v1/jobs", TIMED)
-    until(lambda: server.get("/v1/jobs/orders")[2]["seq"] >= 1)
-    number = acknowledged = 0
-    # at a busy machine's timer too
-    while number < calls or acknowledged < 3:
-        live = server.get("/v1/jobs/orders")[2]["live"]
-        pending = [record["id"] for record in live if not record["done"]]
-        if pending:
-            ack = {"call": "ack", "id": pending[0], "subtask": "0.0"}
-            acknowledged += server.request("POST", "/v1/jobs/orders/calls", {"term": 1, "calls": [ack]})[0] == 200
-        number += 1
-        time.sleep(0.02)
-
-
 # What is done to the rows of a log, and what a start over it says. `seq` is the first call that has completed a record, and answered `a` and `b`.
 DAMAGES = [
     ("update call set a = 7, b = 7 where seq = {seq}", 'job orders, call {seq} '),
@@ -71,8 +54,8 @@ DAMAGES = [
 
 def test_a_log_that_is_damaged_stops_the_start():
     """If the service has no other job: test_damaged.py has those with others. Each is another damage of the same file."""
-    with served() as server:
-        driven(server)
+    with served_job("orders", SETTINGS, [1], 0) as (server, job):
+        job.calls([savepoint(), ack(1, "0.0")])
         server.stop()
         args = ["--database", server.database, "--listen", "127.0.0.1:0"]
         seq, a, b = sqlite(server.database, "select seq, a, b from call where what = ? order by seq limit 1", ACK_COMPLETED)[0]

@@ -2,8 +2,6 @@
 writers at work."""
 import os
 import random
-import sqlite3
-import time
 
 import kills
 from harness import Server, check_log, folder, over_copy, served, sqlite
@@ -110,24 +108,6 @@ def test_a_journal_that_is_no_write_ahead_log():
             server.kill()
         assert modes == {True}, "a service runs without a write-ahead log"
         return f"{ends} of 6 starts ended with 75, and each next one served"
-
-
-def test_a_reader_of_another_program_keeps_a_start_waiting():
-    """A start empties the write-ahead log before it serves."""
-    with served() as server:
-        server.request("POST", "/v1/jobs", JOB)
-        assert all(tick(server) for _ in range(5))
-        base = sqlite3.connect(server.database, isolation_level=None)
-        base.execute("begin")
-        base.execute("select count(*) from call").fetchone()
-        assert tick(server)
-        server.kill()
-        server.start(ready=False)
-        time.sleep(1)
-        assert server.log().count("serves on") == 1
-        base.close()
-        server.wait_ready()
-        assert os.path.getsize(f"{server.database}-wal") == 0 or tick(server)
 
 
 def test_kills():

@@ -242,19 +242,24 @@ def check_backups_of_each_night():
     [note] = json.loads(content("/var/backups/relkvanu/savepoints.json"))
     assert (note["job"], note["copy"]) == ("orders", names[-1]) and JOB.record(note["made"][0])["missing"] == [], note
     os.makedirs(os.path.dirname(metric))
-    until(lambda: f"{time.strftime('%Y%m%dT%H%M%SZ', time.gmtime())}.db" > names[-1])
-    run("systemctl", "start", "relkvanu-backup")
+    next_night()
     engine.stop()
     name, _, at = content(metric).partition(" ")
     assert name == "relkvanu_backup_timestamp_seconds" and abs(float(at) - time.time()) < 600, (name, at)
     os.remove(metric)
     place("write-token", "x" * 20)
     before = copies()
-    until(lambda: f"{time.strftime('%Y%m%dT%H%M%SZ', time.gmtime())}.db" > before[-1])
-    run("systemctl", "start", "relkvanu-backup", check=False)
+    next_night(check=False)
     assert property_of("Result", "relkvanu-backup") == "exit-code" and copies()[-1] > before[-1] and not os.path.exists(metric), copies()
     place("write-token", f"{WRITE}\n")
     check_a_restore_is_tried()
+
+
+def next_night(**given):
+    """A copy has a name of its own."""
+    last = copies()[-1]
+    until(lambda: f"{time.strftime('%Y%m%dT%H%M%SZ', time.gmtime())}.db" > last)
+    run("systemctl", "start", "relkvanu-backup", **given)
 
 
 def copies():
