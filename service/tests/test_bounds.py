@@ -113,7 +113,7 @@ def test_connections_leave_room_for_files():
 
 def test_one_key_twice_at_once():
     """The calls of two requests with one key that come in one round are made once, and both get the answer."""
-    with served_job("a", SETTINGS, [1]) as (server, job):
+    with served_job("a", SETTINGS, [1], 0) as (server, job):
         told = []
 
         def ask(key):
