@@ -10,7 +10,7 @@ from harness import COMMAND, lease_of, memory, served, served_job, until
 from relkvanu_service import ack, savepoint
 from test_api import JOB
 
-POLLS = 1500
+POLLS, WOKEN = 1500, 400
 SOON = 40  # seconds: much less than a poll waits
 
 
@@ -53,7 +53,8 @@ def test_polls_keep_nobody_out_and_cost_little(polls=int(os.environ.get("RELKVAN
         server.request("POST", "/v1/jobs", JOB)
         calls = {"calls": [{"call": "tick"}]}
         before, threads = memory(server), memory(server, "Threads")
-        held = [opened(server, poll(0)) for _ in range(polls)]
+        held = [opened(server, poll(1000)) for _ in range(polls - WOKEN)]
+        woken = [opened(server, poll(0)) for _ in range(WOKEN)]
         until(lambda: f"relkvanu_http_connections {polls + 1}" in server.get("/metrics")[2], 30)
         each = (memory(server) - before) / polls
         assert each < 24, f"a poll takes {each:.0f} KiB"
@@ -63,17 +64,17 @@ def test_polls_keep_nobody_out_and_cost_little(polls=int(os.environ.get("RELKVAN
         assert within(SOON, lambda: server.request("POST", "/v1/jobs/orders/calls", calls)[0]) == 200
         key = [("Idempotency-Key", "a")]
         assert within(SOON, lambda: server.request("POST", "/v1/jobs/orders/calls", {"calls": [{"call": "savepoint"}]}, headers=key)[0]) == 200
-        # the event wakes all of them
+        # the event wakes those that wait for the next one
         most = 0
-        for place, it in enumerate(held):
+        for place, it in enumerate(woken):
             status, told = within(SOON, lambda it=it: answer(it))
             assert status == 200 and told["events"][0]["event"] == "triggered", told
             most = max(most, memory(server, "Threads")) if place % 20 == 0 else most
         assert most <= threads + 4, f"{most} threads"
         # a connection that polled keeps its place for the next poll
-        held[0].sendall(poll(0).encode())
-        assert answer(held[0])[0] == 200
-        for it in held:
+        woken[0].sendall(poll(0).encode())
+        assert answer(woken[0])[0] == 200
+        for it in held + woken:
             it.close()
         return f"{polls} polls beside 16 places of calls: {each:.1f} KiB each, {memory(server, 'Threads')} threads"
 
