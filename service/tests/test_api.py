@@ -59,15 +59,13 @@ BAD = [
 
 def test_bad_requests_name_the_field_and_change_nothing():
     with served() as server:
-        assert server.request("POST", "/v1/jobs", JOB)[0] == 201
-        assert server.request("POST", "/v1/jobs", JOB)[0] == 200
+        assert [server.request("POST", "/v1/jobs", JOB)[0] for _ in range(2)] == [201, 200]
         before = server.get("/v1/jobs")[2]["jobs"]
         for method, path, body, status, field in BAD:
             told = server.request(method, path, body)
             assert (told[0], told[2].get("field")) == (status, field), f"{method} {path} {body}: {told}"
             assert told[2]["error"], path
-        headers = [("Content-Type", "text/plain")]
-        assert server.request("POST", "/v1/jobs", JOB, headers=headers)[0] == 415
+        assert server.request("POST", "/v1/jobs", JOB, headers=[("Content-Type", "text/plain")])[0] == 415
         assert server.request("GET", "/v1/jobs", headers=[("Host", "evil.example")])[0] == 403
         assert server.request("POST", "/v1/jobs/orders/calls", b"x" * (8 << 20) + b"x")[0] == 413
         assert [it["line"] for it in server.get("/v1/jobs/orders/log")[2]["calls"]] == ["fence 1"]

@@ -143,13 +143,10 @@ def test_a_standby_forgets_a_job_that_it_has():
         leader.kill()
         standby.wait_ready()
         service = Service(standby.url)
-        assert [job["name"] for job in service.jobs()] == ["users"] and service.job("users").state()["seq"] == users_calls(service)
+        users = service.job("users")
+        assert [job["name"] for job in service.jobs()] == ["users"] and users.state()["seq"] == len(list(users.log())) + users.state()["first"] - 1
         worked(service.open("orders1", SETTINGS, [2]), 1)
         assert database.sql("select max(job) from job") == "5"
-
-
-def users_calls(service):
-    return len(list(service.job("users").log())) + service.job("users").state()["first"] - 1
 
 
 def test_the_command_deletes():

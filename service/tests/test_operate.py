@@ -9,11 +9,7 @@ NEVER = 1 << 40
 
 
 def refused(make):
-    try:
-        make()
-    except Refused as told:
-        return told.name
-    return None
+    return raised(Refused, make).name
 
 
 def completed(job, file):

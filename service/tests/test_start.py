@@ -73,11 +73,6 @@ def test_a_log_that_is_damaged_stops_the_start():
         refused(args, 78, "file is not a database")
 
 
-def test_two_processes_of_one_database():
-    with served() as server:
-        refused(["--database", server.database, "--listen", "127.0.0.1:0"], 75, "another process serves this database")
-
-
 def test_an_end_runs_no_finalizers():
     """Those of C libraries: another thread may be connecting to PostgreSQL, and Kerberos aborts if it is finalized meanwhile."""
     with folder() as at:
