@@ -729,29 +729,62 @@ public:
         return tick_of(relkvanu_trigger(&handle_, now));
     }
     /* bindings/generate: end */
-    /* clang-format on */
 
-    /* After a refusal the task may delete a file only if no accepted acknowledgement ever named it: after already_acknowledged it
-     * deletes none, and after name_taken none that it named before. */
-    [[nodiscard]] ack_answer ack(
-        std::uint64_t now, std::uint64_t id, std::uint16_t vertex, std::uint16_t index, files fresh, files reused = {}) noexcept {
+    /* After already_acknowledged and fenced_spent a task deletes no file, and after name_taken none that it named before. */
+
+    /* bindings/generate makes the calls of tasks */
+    /* The subtask vertex.index has taken its part of record id. fresh has the files that it wrote. reused has files of earlier records that
+     * it uses again. Both may be in any order, with at most 4096 files together. After a refusal the task must not delete a file that an
+     * accepted acknowledgement ever named. */
+    [[nodiscard]] ack_answer ack(std::uint64_t now, std::uint64_t id, std::uint16_t vertex, std::uint16_t index, files fresh, files reused = {}) noexcept {
         if (is_ahead(now)) {
             return too_large();
         }
         return ack_of(relkvanu_ack(&handle_, now, id, vertex, index, fresh.data(), fresh.size(), reused.data(), reused.size()));
     }
 
-    /* ack of the record that a task has cut. */
-    [[nodiscard]] ack_answer ack_cut(
-        std::uint64_t now, const cut &of, std::uint16_t vertex, std::uint16_t index, files fresh, files reused = {}) noexcept {
-        return ack(now, of.id(), vertex, index, fresh, reused);
-    }
-
+    /* The subtask vertex.index could not take its part of record id. */
     decline_answer decline(std::uint64_t now, std::uint64_t id, std::uint16_t vertex, std::uint16_t index) noexcept {
         if (is_ahead(now)) {
             return too_large();
         }
         return decline_of(relkvanu_decline(&handle_, now, id, vertex, index));
+    }
+
+    /* Begins a job again that goes on from an older image or log, such as one that was restored from a backup: restore of the latest, in
+     * the shape that the job has, in a term above term, the greatest that any task was told, and with names from first_name on, 1 to 2^62,
+     * above each that was given out. A smaller term and a smaller first_name lower nothing. Names that are passed over are garbage, unless
+     * the handle's records use them. Make this call before any other of such a job. docs/RULES.md, section 13, says what it is for. */
+    restore_answer advance(std::uint64_t now, std::uint64_t term, std::uint64_t first_name) noexcept {
+        if (is_ahead(now)) {
+            return too_large();
+        }
+        return restore_of(relkvanu_advance(&handle_, now, term, first_name));
+    }
+
+    /* ack of a task of this term. An accepted acknowledgement spends the names of its fresh files. So a task does not delete a file for
+     * Spent. */
+    [[nodiscard]] ack_answer ack_in(std::uint64_t term, std::uint64_t now, std::uint64_t id, std::uint16_t vertex, std::uint16_t index, files fresh, files reused = {}) noexcept {
+        if (is_ahead(now)) {
+            return too_large();
+        }
+        return ack_of(relkvanu_ack_in(&handle_, term, now, id, vertex, index, fresh.data(), fresh.size(), reused.data(), reused.size()));
+    }
+
+    /* decline of a task of this term. */
+    decline_answer decline_in(std::uint64_t term, std::uint64_t now, std::uint64_t id, std::uint16_t vertex, std::uint16_t index) noexcept {
+        if (is_ahead(now)) {
+            return too_large();
+        }
+        return decline_of(relkvanu_decline_in(&handle_, term, now, id, vertex, index));
+    }
+    /* bindings/generate: end */
+    /* clang-format on */
+
+    /* ack of the record that a task has cut. */
+    [[nodiscard]] ack_answer ack_cut(
+        std::uint64_t now, const cut &of, std::uint16_t vertex, std::uint16_t index, files fresh, files reused = {}) noexcept {
+        return ack(now, of.id(), vertex, index, fresh, reused);
     }
 
     /* Restores the latest record, in the current shape or in a given one. A bad shape is reported before any refusal. */
@@ -802,34 +835,10 @@ public:
         return is_reply(told, RELKVANU_FORFEITED) ? forfeit_answer(forfeited{}) : refusal(told);
     }
 
-    /* Restores a job that goes on from an older image, from its latest record, in a term above term, the greatest that any task was told,
-     * and with names from first_name on, above each that was given out. It is the first call of such a job. */
-    restore_answer advance(std::uint64_t now, std::uint64_t term, std::uint64_t first_name) noexcept {
-        return is_ahead(now) ? restore_answer(too_large()) : restore_of(relkvanu_advance(&handle_, now, term, first_name));
-    }
-
-    /* ack of a task of this term. If it is accepted, it spends the names of the fresh files. The same acknowledgement once more is
-     * refused as error::fenced_spent, if it has fresh files: a task deletes no file for that answer. */
-    [[nodiscard]] ack_answer ack_in(std::uint64_t term, std::uint64_t now, std::uint64_t id, std::uint16_t vertex, std::uint16_t index,
-        files fresh, files reused = {}) noexcept {
-        if (is_ahead(now)) {
-            return too_large();
-        }
-        return ack_of(relkvanu_ack_in(&handle_, term, now, id, vertex, index, fresh.data(), fresh.size(), reused.data(), reused.size()));
-    }
-
     /* ack_in of the record that a task has cut. */
     [[nodiscard]] ack_answer ack_cut_in(std::uint64_t term, std::uint64_t now, const cut &of, std::uint16_t vertex, std::uint16_t index,
         files fresh, files reused = {}) noexcept {
         return ack_in(term, now, of.id(), vertex, index, fresh, reused);
-    }
-
-    /* decline of a task of this term. */
-    decline_answer decline_in(std::uint64_t term, std::uint64_t now, std::uint64_t id, std::uint16_t vertex, std::uint16_t index) noexcept {
-        if (is_ahead(now)) {
-            return too_large();
-        }
-        return decline_of(relkvanu_decline_in(&handle_, term, now, id, vertex, index));
     }
 
     /* Of these files, in their order: those that are garbage, which may be deleted at any time, also while tasks run; and those whose
@@ -878,17 +887,83 @@ public:
 
     [[nodiscard]] std::uint64_t count(std::uint64_t file) noexcept { return read(relkvanu_count(&handle_, file)).b; }
 
-    [[nodiscard]] ckpt::mode mode() noexcept { return mode_of(read(relkvanu_mode(&handle_)).what); }
-
-    /* The greatest moment that the coordinator has seen. It takes an earlier one for this one. */
-    [[nodiscard]] std::uint64_t moment() noexcept { return read(relkvanu_moment(&handle_)).a; }
-
-    [[nodiscard]] std::uint64_t due() noexcept { return read(relkvanu_due(&handle_)).a; }
-
-    [[nodiscard]] std::optional<std::uint64_t> oldest_expiry() noexcept {
-        relkvanu_answer told = read(relkvanu_oldest_expiry(&handle_));
-        return told.what == RELKVANU_EXPIRES ? std::optional(told.a) : std::nullopt;
+    /* clang-format off */
+    /* bindings/generate makes the reads */
+    /* What the job is doing. */
+    [[nodiscard]] ckpt::mode mode() noexcept {
+        return mode_of(read(relkvanu_mode(&handle_)).what);
     }
+
+    /* The greatest moment that the coordinator has seen, at its opening or in an accepted call. It takes an earlier moment for this one. So
+     * it shows whether a clock has run ahead. */
+    [[nodiscard]] std::uint64_t moment() noexcept {
+        return read(relkvanu_moment(&handle_)).a;
+    }
+
+    /* The moment from which neither the interval nor the pause holds a checkpoint back. No tick before it triggers one. A tick at it or
+     * later triggers one, with three exceptions: as many are pending as may be, the job is not running, or so many checkpoints expire in
+     * the tick that the job fails over. A call that triggers, completes, restores or configures may move this moment, so read it again
+     * after a call. */
+    [[nodiscard]] std::uint64_t due() noexcept {
+        return read(relkvanu_due(&handle_)).a;
+    }
+
+    /* The moment from which a pending record is expired. A tick at that moment drops the record. None if no record is pending. Visits each
+     * pending record. */
+    [[nodiscard]] std::optional<std::uint64_t> oldest_expiry() noexcept {
+        return number_of(relkvanu_oldest_expiry(&handle_), RELKVANU_EXPIRES);
+    }
+
+    /* The record that a restore of the latest would begin from. */
+    [[nodiscard]] ckpt::choice choice() noexcept {
+        return choice_of(read(relkvanu_choice(&handle_)));
+    }
+
+    /* The live record at this place, from 0, in order of their numbers; none past the last. The time grows with the place. */
+    [[nodiscard]] std::optional<live_record> live(std::size_t place) noexcept {
+        return record_of(relkvanu_live(&handle_, place));
+    }
+
+    /* How many subtasks of this record have not acknowledged. None if no record with this number is pending. */
+    [[nodiscard]] std::optional<std::uint64_t> missing(std::uint64_t id) noexcept {
+        return number_of(relkvanu_missing(&handle_, id), RELKVANU_MISSING);
+    }
+
+    /* The live record with the least number that is at least id; none if there is none. To visit all live records, begin with 0, and go on
+     * with the returned number plus 1. A binary search. Takes no memory. */
+    [[nodiscard]] std::optional<live_record> live_from(std::uint64_t id) noexcept {
+        return record_of(relkvanu_live_from(&handle_, id));
+    }
+
+    /* Whether the record with this number is pending, done or ended, or no record has had the number. A binary search. Takes no memory. */
+    [[nodiscard]] ckpt::standing standing(std::uint64_t id) noexcept {
+        return standing_of(read(relkvanu_standing(&handle_, id)).what);
+    }
+
+    /* The file at this place, from 0, among those that wait for deletion. The next to be fetched is the first. None past the last. Takes
+     * constant time and no memory. */
+    [[nodiscard]] std::optional<std::uint64_t> waiting_file(std::size_t place) noexcept {
+        return number_of(relkvanu_waiting_file(&handle_, place), RELKVANU_WAITING);
+    }
+
+    /* The files that the subtask vertex.index acknowledged in the live record id, in ascending order. None if it has not acknowledged in
+     * one. */
+    [[nodiscard]] std::optional<std::vector<std::uint64_t>> files_of(std::uint64_t id, std::uint16_t vertex, std::uint16_t index) {
+        return found_if([&](std::uint64_t *places, std::size_t len) { return relkvanu_files_of(&handle_, id, vertex, index, places, len); });
+    }
+
+    /* The files that the pending record id pins, in ascending order: the files of the record that a restart would have begun from at its
+     * trigger. None if no record with this number is pending. */
+    [[nodiscard]] files_answer pins_of(std::uint64_t id) {
+        return found([&](std::uint64_t *places, std::size_t len) { return relkvanu_pins_of(&handle_, id, places, len); });
+    }
+
+    /* The files that were fetched for deletion and are not yet reported, in ascending order. */
+    [[nodiscard]] files_answer taken_files() {
+        return found([&](std::uint64_t *places, std::size_t len) { return relkvanu_taken_files(&handle_, places, len); });
+    }
+    /* bindings/generate: end */
+    /* clang-format on */
 
     /* When to tick again after a tick with this answer, unless another call comes first: when a checkpoint is due, or when a pending
      * record expires. While as many checkpoints are pending as may be, only the expiry counts. nullopt: not before another call. After
@@ -902,44 +977,6 @@ public:
             return expiry;
         }
         return expiry && *expiry < due() ? expiry : due();
-    }
-
-    [[nodiscard]] ckpt::choice choice() noexcept { return choice_of(read(relkvanu_choice(&handle_))); }
-
-    [[nodiscard]] std::optional<live_record> live(std::size_t place) noexcept { return record_of(relkvanu_live(&handle_, place)); }
-
-    [[nodiscard]] std::optional<std::uint64_t> missing(std::uint64_t id) noexcept {
-        relkvanu_answer told = read(relkvanu_missing(&handle_, id));
-        return told.what == RELKVANU_MISSING ? std::optional(told.a) : std::nullopt;
-    }
-
-    /* The live record with the least number that is at least this one. */
-    [[nodiscard]] std::optional<live_record> live_from(std::uint64_t id) noexcept { return record_of(relkvanu_live_from(&handle_, id)); }
-
-    [[nodiscard]] ckpt::standing standing(std::uint64_t id) noexcept { return standing_of(read(relkvanu_standing(&handle_, id)).what); }
-
-    /* The files that a subtask acknowledged in this record. nullopt if the record is not live or the subtask has not acknowledged. */
-    [[nodiscard]] std::optional<std::vector<std::uint64_t>> files_of(std::uint64_t id, std::uint16_t vertex, std::uint16_t index) {
-        std::vector<std::uint64_t> found;
-        relkvanu_answer told = fill(
-            found, [&](std::uint64_t *places, std::size_t len) { return relkvanu_files_of(&handle_, id, vertex, index, places, len); });
-        return read(told).what == RELKVANU_FILES ? std::optional(std::move(found)) : std::nullopt;
-    }
-
-    /* The files that a pending record pins. */
-    [[nodiscard]] files_answer pins_of(std::uint64_t id) {
-        return found([&](std::uint64_t *places, std::size_t len) { return relkvanu_pins_of(&handle_, id, places, len); });
-    }
-
-    /* The file at this place, from 0, among those that wait for deletion. The first is fetched next. */
-    [[nodiscard]] std::optional<std::uint64_t> waiting_file(std::size_t place) noexcept {
-        relkvanu_answer told = read(relkvanu_waiting_file(&handle_, place));
-        return told.what == RELKVANU_WAITING ? std::optional(told.a) : std::nullopt;
-    }
-
-    /* The files that were fetched for deletion and are not yet reported. */
-    [[nodiscard]] files_answer taken_files() {
-        return found([&](std::uint64_t *places, std::size_t len) { return relkvanu_taken_files(&handle_, places, len); });
     }
 
     [[nodiscard]] relkvanu_counts file_counts() noexcept {
@@ -1011,6 +1048,11 @@ private:
         }
     }
 
+    static std::optional<std::uint64_t> number_of(relkvanu_answer answer, std::uint32_t what) noexcept {
+        relkvanu_answer told = read(answer);
+        return told.what == what ? std::optional(told.a) : std::nullopt;
+    }
+
     /* Calls a read with a list that grows until it is long enough. */
     template <class Write> static relkvanu_answer fill(std::vector<std::uint64_t> &list, Write write) {
         list.resize(64);
@@ -1027,6 +1069,13 @@ private:
         std::vector<std::uint64_t> list;
         relkvanu_answer told = fill(list, write);
         return told.code == RELKVANU_DONE ? files_answer(std::move(list)) : files_answer(refusal(told));
+    }
+
+    /* Of a read that takes no memory: nullopt if its answer has no files. */
+    template <class Write> static std::optional<std::vector<std::uint64_t>> found_if(Write write) {
+        std::vector<std::uint64_t> list;
+        relkvanu_answer told = read(fill(list, write));
+        return told.what == RELKVANU_FILES ? std::optional(std::move(list)) : std::nullopt;
     }
 
     static report_answer report(relkvanu_answer told) noexcept {

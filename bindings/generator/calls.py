@@ -1,6 +1,6 @@
-"""The calls of the header that take one number beside the handle, or none: each language makes them all in the same way."""
+"""The calls of the header that take one number beside the handle, or none, those of tasks, and the reads: each language makes them all in the same way."""
 import re
-from typing import Dict, List, NamedTuple, Optional
+from typing import Dict, List, NamedTuple, Optional, Tuple
 
 from generator import header
 from generator.header import Number, parameters, pointed
@@ -13,12 +13,8 @@ READS = ("show", "count")
 BY_HAND = ("fence",)
 # Reports of the discarder, which a store makes by itself: a store has no method for them.
 REPORTS = ("deleted", "undeleted")
-# What the crate and the service's client in Python say of a call, shorter than the header.
-SHORT = {
-    "savepoint": "A user wants a savepoint.",
-    "deleted": "A fetched file is deleted.",
-    "undeleted": "A fetched file could not be deleted: it waits again.",
-}
+# The calls of tasks, of several numbers, a subtask or lists, and whose replies the first ones have.
+TASKS = {"ack": "ack", "decline": "decline", "reserve": "reserve", "forfeit": "forfeit", "advance": "restore", "ack_in": "ack", "decline_in": "decline"}
 
 
 class Call(NamedTuple):
@@ -115,7 +111,71 @@ def of_their_own(found: List[Call]) -> List[Call]:
     """Those with one reply, which is theirs alone."""
     return [it for it in found if it.reply() is not None]
 
+# The reads of numbers, of an enum, of a choice, of live records and of files, each with what it tells, or the reply of one that has a number. Of a "list?"
+# there may be none.
+LOOKS = {
+    "mode": "enum", "moment": "number", "due": "number", "oldest_expiry": "EXPIRES", "choice": "choice", "live": "live", "missing": "MISSING",
+    "live_from": "live", "standing": "enum", "waiting_file": "WAITING", "files_of": "list?", "pins_of": "list", "taken_files": "list",
+}
 
-def words_of(call: Call, own: Dict[str, str]) -> str:
-    """What a language says of a call: in its own words, or in those of the header."""
-    return own.get(call.name, call.comment)
+
+class Function(NamedTuple):
+    """A call of TASKS, or a read: its name, what the header says of it, and what it takes, each a moment, a term, a number, a place, a subtask or a list."""
+
+    name: str
+    comment: str
+    given: List[Tuple[str, str]]
+
+    def kind(self) -> str:
+        """The word of its line, which has a term before it if the call has one."""
+        return self.name.removesuffix("_in")
+
+    def family(self) -> str:
+        return TASKS[self.name]
+
+    def has_moment(self) -> bool:
+        return ("moment", "now") in self.given
+
+    def tells(self) -> str:
+        """What a read tells."""
+        return LOOKS[self.name]
+
+    def has_list(self) -> bool:
+        return any(kind == "list" for kind, _ in self.given)
+
+    def each(self, forms: Dict[str, str], between: str = ", ") -> str:
+        """What it takes, each in the form of its kind, in which {} is its name. One whose kind has no form is left out."""
+        return between.join(forms[kind].format(name) for kind, name in self.given if kind in forms)
+
+
+def given_to(function: object) -> List[Tuple[str, str]]:
+    """What a function takes beside the handle: the kind and the name of each."""
+    kinds = {"now": "moment", "term": "term", "place": "place", "vertex": "subtask", "index": ""}
+    given = [(name, pointed(it)) for name, it in parameters(function)[1:] if not name.endswith("_len")]
+    found = [(kinds.get(name, "list" if depth else "number"), name) for name, (_, depth, is_const) in given if is_const or not depth]
+    return [(kind, "subtask" if kind == "subtask" else name) for kind, name in found if kind]
+
+
+def of_tasks(*left_out: str) -> List[Function]:
+    """The calls of tasks but some. What they say has the names without the prefixes of C, and which files a task may delete."""
+    _, functions = header.declarations()
+    found = []
+    for name in [it for it in TASKS if it not in left_out]:
+        comment, replies = header.paragraphs()[f"relkvanu_{name}"]
+        said = [comment, *re.findall(r"(?<=\. )[^.]*\bdelete a file\b[^.]*\.", replies)]
+        told = re.sub(r"RELKVANU_(\w+)", lambda it: header.camel(it[1].lower()), " ".join(said))
+        found.append(Function(name, told.replace("relkvanu_", ""), given_to(functions[f"relkvanu_{name}"])))
+    return found
+
+
+def looks() -> List[Function]:
+    """The reads. What they say has no replies, and none for the reply of one that has no number."""
+    _, functions = header.declarations()
+    found = []
+    for name in LOOKS:
+        told = re.sub(r"^RELKVANU_\w+: |: RELKVANU_\w+(?:(?:,| or| to) RELKVANU_\w+)*|RELKVANU_WAITING; ", "", header.paragraphs()[f"relkvanu_{name}"][0])
+        told = re.sub(r"RELKVANU_\w+", "none", told).replace("Writes the files", "The files").replace("Writes none", "None")
+        told += " None if it has not acknowledged in one." if LOOKS[name] == "list?" else ""
+        told = re.sub(r"(?:^|(?<=\. ))[a-z]", lambda it: it[0].upper(), told)
+        found.append(Function(name, told, given_to(functions[f"relkvanu_{name}"])))
+    return found

@@ -3,7 +3,7 @@ import textwrap
 from typing import Dict, List, Optional, Tuple
 
 from generator import calls, header, store
-from generator.calls import Call
+from generator.calls import Call, Function
 from generator.header import Enum, Number, camel
 
 # Codes that go before the names of what they have. Any other one has its own name there.
@@ -114,6 +114,41 @@ def method(call: Call) -> str:
     return text + f"        return {call.family()}_of(relkvanu_{call.name}(&handle_{f', {call.number}' if call.number else ''}));\n    }}\n"
 
 
+# What calls of tasks take, and what the library takes of each.
+TYPES = {
+    **{kind: "std::uint64_t {}" for kind in ("moment", "term", "number")}, "place": "std::size_t {}",
+    "subtask": "std::uint16_t vertex, std::uint16_t index", "list": "files {}",
+}
+PASSED = {**{kind: "{}" for kind in ("moment", "term", "number", "place")}, "subtask": "vertex, index", "list": "{0}.data(), {0}.size()"}
+
+
+def task_method(call: Function) -> str:
+    """A method of those that are answered as others are. An acknowledgement may reuse no files, and its answer may not be dropped."""
+    given = call.each(TYPES).replace("files reused", "files reused = {}")
+    text = f"{comment(call.comment)}    {'[[nodiscard]] ' if call.has_list() else ''}{call.family()}_answer {call.name}({given}) noexcept {{\n"
+    text += "        if (is_ahead(now)) {\n            return too_large();\n        }\n"
+    return text + f"        return {call.family()}_of(relkvanu_{call.name}(&handle_, {call.each(PASSED)}));\n    }}\n"
+
+
+# What reads tell: its type, and what makes it of the call of the library.
+TOLD = {
+    "number": ("std::uint64_t", "read({asked}).a"), "enum": ("ckpt::{name}", "{name}_of(read({asked}).what)"), "choice": ("ckpt::choice", "choice_of(read({asked}))"),
+    "live": ("std::optional<live_record>", "record_of({asked})"), "list": ("files_answer", "found({asked})"),
+    "list?": ("std::optional<std::vector<std::uint64_t>>", "found_if({asked})"),
+}
+
+
+def look(call: Function) -> str:
+    """A read."""
+    told, made = TOLD.get(call.tells(), ("std::optional<std::uint64_t>", f"number_of({{asked}}, RELKVANU_{call.tells()})"))
+    passed = call.each({kind: f", {it}" for kind, it in PASSED.items()}, "")
+    asked, how = f"relkvanu_{call.name}(&handle_{passed})", " noexcept"
+    if call.tells().startswith("list"):
+        asked, how = f"[&](std::uint64_t *places, std::size_t len) {{ return {asked[:-1]}, places, len); }}", ""
+    text = f"{comment(call.comment)}    [[nodiscard]] {told.format(name=call.name)} {call.name}({call.each(TYPES)}){how} {{\n"
+    return text + f"        return {made.format(name=call.name, asked=asked)};\n    }}\n"
+
+
 def store_method(call: Call) -> str:
     default = " = RELKVANU_STORE_NOW" if call.has_moment() else ""
     given = f"std::uint64_t {call.number}{default}" if call.number else ""
@@ -136,7 +171,11 @@ def enum(kind: str, prefix: str) -> str:
 def generated() -> Dict[str, Dict[str, str]]:
     """What is made, by file and place."""
     return {
-        "relkvanu.hpp": {**kinds(), "the calls of one number": "\n".join(method(it) for it in calls.plain())},
+        "relkvanu.hpp": {
+            **kinds(), "the calls of one number": "\n".join(method(it) for it in calls.plain()),
+            "the calls of tasks": "\n".join(task_method(it) for it in calls.of_tasks("reserve", "forfeit")),
+            "the reads": "\n".join(look(it) for it in calls.looks()),
+        },
         "relkvanu_store.hpp": {"the errors of a store": store_errors(), "the calls of one number": "\n".join(store_method(it) for it in calls.stored())},
     }
 

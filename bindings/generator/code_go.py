@@ -2,10 +2,10 @@
 import re
 import subprocess
 import textwrap
-from typing import Dict, Iterable, List, Optional, Tuple
+from typing import Dict, Iterable, List, Optional, Tuple, Union
 
 from generator import calls, header
-from generator.calls import Call
+from generator.calls import Call, Function
 from generator.header import Number, camel
 
 # Names that Go writes in another way.
@@ -71,23 +71,6 @@ def cases() -> str:
     return "".join(f"\tcase C.RELKVANU_{code}:\n\t\treturn {kind}(answer.what)\n" for code, kind in found)
 
 
-# What Go says of a call in its own words.
-SAID = {
-    "tick": "Tick says that time has passed: records past their timeout expire, and a checkpoint is triggered if one is due.",
-    "savepoint": "Savepoint triggers a savepoint for a user.",
-    "dispose": "Dispose disposes of a completed savepoint for a user.",
-    "cancel": "Cancel ends the job for good.",
-}
-# What Go says of replies in its own words.
-SAID_OF_REPLIES = {
-    "DELETED": "FileDeleted is the reply to the report of a deleted file.",
-    "UNDELETED": "FileUndeleted is the reply to the report of a file that could not be deleted.",
-    "COUNTED": "Counted is the number of uses of a file.",
-    "CONFIGURED": "Configured is the reply to other settings: so many checkpoints were dropped, and so many files released.",
-    "SAVEPOINT_TRIGGERED": "SavepointTriggered is the reply to a savepoint.",
-    "DISPOSED": "Disposed is the reply to a dispose: so many files were released.",
-    "CANCELLED": "Cancelled is the reply to a cancel: so many records were dropped, and so many files released.",
-}
 ANSWER = "func(handle *C.relkvanu) C.relkvanu_answer"
 
 
@@ -127,8 +110,8 @@ def c_call(call: Call) -> str:
     return f"{ANSWER} {{ {made} }}" if call.has_moment() or call.is_quiet() else f"{ANSWER} {{\nc.owner.moved()\n{made}\n}}"
 
 
-def comment_of(call: Call, own_words: Dict[str, str]) -> str:
-    return wrapped(own_words.get(call.name, f"{camel(call.name)}: {call.comment}"))
+def comment_of(call: Union[Call, Function]) -> str:
+    return wrapped(f"{camel(call.name)}: {call.comment}")
 
 
 def signature(call: Call, of: str, number: Optional[str]) -> str:
@@ -137,7 +120,7 @@ def signature(call: Call, of: str, number: Optional[str]) -> str:
 
 
 def method(call: Call) -> str:
-    text, reply = comment_of(call, SAID) + signature(call, "Coordinator", call.number) + " {\n", call.reply()
+    text, reply = comment_of(call) + signature(call, "Coordinator", call.number) + " {\n", call.reply()
     if reply is None:
         return text + f"\treturn replied(c, now, {reply_of(call).lower()}, {c_call(call)})\n}}\n"
     how = f"onlyAt(now, C.RELKVANU_{reply.name}, " if call.has_moment() else f"only(C.RELKVANU_{reply.name}, "
@@ -153,11 +136,60 @@ def line(call: Call) -> str:
     return f"// {name}Line is the line of {article} {name}.\nfunc {name}Line({given}) ([]byte, error) {{ return {made} }}\n"
 
 
+# What calls of tasks take, what the library takes of each, and the fields of a Call.
+TYPES = {**{kind: "{} uint64" for kind in ("moment", "term", "number", "place")}, "subtask": "{} Subtask", "list": "{} []uint64"}
+PASSED = {
+    **{kind: "C.uint64_t({})" for kind in ("moment", "term", "number")}, "place": "C.size_t({})",
+    "subtask": "C.uint16_t({0}.Vertex), C.uint16_t({0}.Index)", "list": "{0}At, {0}Length",
+}
+FIELDS = {"moment": "Now: {}", "term": "Term: {}", "number": "Number: {}", "subtask": "Subtask: {}"}
+
+
+def in_go(call: Function) -> Function:
+    return call._replace(given=[(kind, go_name(name)) for kind, name in call.given])
+
+
+def task_method(call: Function) -> str:
+    """A method of those that are answered as others are."""
+    made, name = in_go(call), {"ack": "acked", "decline": "declined", "restore": "restored"}[call.family()]
+    text = f"{comment_of(call)}func (c *Coordinator) {camel(call.name)}({made.each(TYPES)}) ({name.capitalize()}, error) {{\n"
+    text += f"\treturn replied(c, now, {name}, {ANSWER} {{\n" + made.each({"list": "\t\t{0}At, {0}Length := list({0})\n"}, "")
+    return text + f"\t\treturn C.relkvanu_{call.name}(handle, {made.each(PASSED)})\n\t}})\n}}\n"
+
+
+# What reads tell, beside the error, and what is returned of their answer.
+TOLD = {
+    "number": ("uint64", "uint64(answer.a), err"), "enum": ("{}", "{}(answer.what), known({}s, answer, err)"), "choice": ("Choice", "chosen(answer, err)"),
+    "live": ("Live, bool", "live(answer, err)"), "list": ("[]uint64", "files, err"), "list?": ("[]uint64, bool", ""),
+}
+
+
+def look(call: Function) -> str:
+    """A read."""
+    made, name = in_go(call), camel(call.name)
+    told, value = TOLD.get(call.tells(), ("uint64, bool", f"uint64(answer.a), err == nil && answer.what == C.RELKVANU_{call.tells()}, err"))
+    text = f"{comment_of(call)}func (c *Coordinator) {name}({made.each(TYPES)}) ({told.format(name)}, error) {{\n"
+    passed = made.each({kind: f", {it}" for kind, it in PASSED.items()}, "")
+    if call.tells().startswith("list"):
+        made_of = f"c.files(func(o *owner, at *C.uint64_t, length C.size_t) C.relkvanu_answer {{\n\t\treturn C.relkvanu_{call.name}(o.handle{passed}, at, length)\n\t}})\n"
+        return text + (f"\tfiles, _, err := {made_of}\treturn {value}\n}}\n" if value else f"\treturn {made_of}}}\n")
+    text += f"\tanswer, err := c.called({ANSWER} {{ return C.relkvanu_{call.name}(handle{passed}) }})\n"
+    return text + f"\treturn {value.format(name, name.lower())}\n}}\n"
+
+
+def task_line(call: Function) -> str:
+    made, name = in_go(call), camel(call.name)
+    lists = zip(("First", "Second"), (it for kind, it in made.given if kind == "list"))
+    fields = [f"Kind: Call{camel(call.kind())}", made.each(FIELDS), *(f"{field}: {it}" for field, it in lists)]
+    article = "an" if name[0] in "AEIOU" else "a"
+    return f"// {name}Line is the line of {article} {name}.\nfunc {name}Line({made.each(TYPES)}) ([]byte, error) {{\n\treturn Call{{{', '.join(fields)}}}.Line()\n}}\n"
+
+
 def reply_type(it: Number) -> str:
     """The type of a reply, which prints as a script does."""
     name, fields = OF_FILES.get(it.name, camel(it.name)), [exported(field) for field, _, _ in it.fields()]
     told = "; ".join(f"{exported(field)}: {what}" for field, _, what in it.fields())
-    document = SAID_OF_REPLIES.get(it.name, " ".join([f"{name}:"] + [part for part in (it.sentence(), f"{told}." if told else "") if part]))
+    document = " ".join([f"{name}:"] + [part for part in (it.sentence(), f"{told}." if told else "") if part])
     body = f" {', '.join(fields)} uint64 " if fields else ""
     text = wrapped(document) + f"type {name} struct{{{body}}}\n\nfunc ({name}) isReply() {{}}\n\n"
     by_letter = {letter: f"r.{exported(field)}" for field, letter, _ in it.fields()}
@@ -191,8 +223,10 @@ def generated() -> Dict[str, Dict[str, str]]:
             "which reasons name a file": "".join(f"\t{it}: true,\n" for it in with_file(of("fenced", "Fenced"))),
         },
         "coordinator.go": {"the calls of one number": listed(method(it) for it in calls.stored())},
+        "names.go": {"the calls of tasks": listed(task_method(it) for it in calls.of_tasks("reserve", "forfeit"))},
         "lines.go": {
             "the lines of calls of one number": listed(line(it) for it in calls.calls()),
+            "the lines of calls of tasks": listed(task_line(it) for it in calls.of_tasks("advance")),
             "the replies to calls of one number": "".join(case(it) for it in plain_replies()),
         },
         "calls.go": {"the kinds": constants("CallKind", of("call_kind", "Call"))},
@@ -204,7 +238,7 @@ def generated() -> Dict[str, Dict[str, str]]:
         },
         "reads.go": {
             "the modes": constants("Mode", modes), "the names of modes": named(modes, [header.words(it.name.removeprefix("MODE_")) for _, it in modes]),
-            "the standings": constants("Standing", standings),
+            "the standings": constants("Standing", standings), "the reads": listed(look(it) for it in calls.looks()),
             "the names of standings": named(standings, [header.words(it.name.removeprefix("STANDS_")) for _, it in standings]),
         },
     }

@@ -3,7 +3,7 @@ import textwrap
 from typing import Any, Dict, List, Tuple
 
 from generator import calls, header
-from generator.calls import Call
+from generator.calls import Call, Function
 from generator.header import MADE, Enum, Number, macros, parameters, pointed
 
 # What Java has no native method for: the two buffers of the first have lengths of two kinds, and no class of Java writes a log of its own, for
@@ -307,36 +307,14 @@ def cases() -> str:
     return "".join(lines)
 
 
-# What Java says of a call, its number and its reply in its own words.
-SAID = {"savepoint": "Triggers a savepoint.", "dispose": "A user disposes of a completed savepoint."}
-NUMBERS = {"dispose": "the savepoint"}
-RESULTS_OF_CALLS = {
-    "tick": "what happened",
-    "savepoint": "its number",
-    "dispose": "how many files were released",
-    "cancel": "how many records were dropped, and how many files released",
-    "deleted": "the file",
-    "undeleted": "the file",
-}
-CALLS = {
-    "tick": "a tick",
-    "savepoint": "the trigger of a savepoint",
-    "dispose": "the disposal of a completed savepoint",
-    "cancel": "the end of the job for good",
-    "deleted": "the report of a deleted file",
-    "undeleted": "the report of a file that could not be deleted",
-}
-
-
 def param(call: Call) -> str:
-    return f"     * @param {java_name(call.number)} {NUMBERS.get(call.name, f'the {call.what()}')}\n" if call.number else ""
+    return f"     * @param {java_name(call.number)} the {call.what()}\n" if call.number else ""
 
 
 def result_of(call: Call) -> str:
     """What a call returns, in words."""
     it = call.reply()
-    fields = ", ".join(what for _, _, what in it.fields()) if it else ""
-    return RESULTS_OF_CALLS.get(call.family(), fields or "that it was done")
+    return ", ".join(what for _, _, what in it.fields()) if it and it.fields() else "what happened"
 
 
 def reply_type(call: Call) -> str:
@@ -351,7 +329,7 @@ def lines_of(text: str) -> str:
 def method(call: Call) -> str:
     """A method of the coordinator, of which threads that wait for a call know unless the call is quiet."""
     given, passed = (f"long {java_name(call.number)}", f", {java_name(call.number)}") if call.number else ("", "")
-    text = f"    /**\n{lines_of(calls.words_of(call, SAID))}     *\n{param(call)}     * @return {result_of(call)}\n     */\n"
+    text = f"    /**\n{lines_of(call.comment)}     *\n{param(call)}     * @return {result_of(call)}\n     */\n"
     text += f"    public {reply_type(call)} {java_name(call.name)}({given}) {{\n"
     native = f"(at, out) -> Native.{java_name(call.name)}(at{passed}, out)"
     if call.has_moment() or call.is_quiet():
@@ -359,23 +337,78 @@ def method(call: Call) -> str:
     return text + f"        return ({reply_type(call)}) fenced(() -> handle.moved({native}));\n    }}\n"
 
 
-def documented(sentence: str, call: Call, has_number: bool) -> str:
-    """The comment of a function that returns this."""
-    number = f"     *\n{param(call)}" if has_number and call.number else ""
-    return f"    /**\n     * {{@return {sentence}}}\n{number}     */\n"
+# What calls of tasks are answered, what they take, what the library takes of each, and what is checked before.
+REPLIES = {"ack": "Ack", "decline": "Decline", "restore": "Restore", "reserve": "Reserved", "forfeit": "Forfeited"}
+TYPES = {**{kind: "long {}" for kind in ("moment", "term", "number", "place")}, "subtask": "int vertex, int index", "list": "long[] {}"}
+PASSED = {**{kind: "{}" for kind in ("moment", "term", "number", "place", "list")}, "subtask": "vertex, index"}
+CHECKS = {"subtask": "        Checks.subtask(vertex, index);\n", "list": '        Objects.requireNonNull({0}, "{0}");\n'}
+
+
+def in_java(call: Function) -> Function:
+    return call._replace(given=[(kind, java_name(name)) for kind, name in call.given])
+
+
+def given_to(call: Function) -> str:
+    """The parameters, of which the last list has the other arguments of the caller."""
+    head, of_list, last = call.each(TYPES).rpartition("long[] ")
+    return f"{head}long... {last}" if of_list else last
+
+
+def documented(text: str) -> str:
+    return f"    /**\n{lines_of(text)}     */\n" if len(text) > 128 else f"    /** {text} */\n"
+
+
+def task_method(call: Function) -> str:
+    made, reply = in_java(call), REPLIES[call.family()]
+    how = "timed(now, " if call.has_moment() else "replied("
+    text = f"{documented(call.comment)}    public Reply.{reply} {java_name(call.name)}({given_to(made)}) {{\n{made.each(CHECKS, '')}"
+    return text + f"        return (Reply.{reply}) {how}(at, out) -> Native.{java_name(call.name)}(at, {made.each(PASSED)}, out));\n    }}\n"
+
+
+# What reads tell: its type, and what makes it of their answer.
+TOLD = {
+    "number": ("long", "(what, a, b) -> a"), "enum": ("{}", "(what, a, b) -> {}.of(what)"), "choice": ("Optional<Chosen>", "(what, a, b) -> Chosen.of(what, a)"),
+    "live": ("Optional<Live>", "Live::of"), "list": ("long[]", ".orElseThrow()"), "list?": ("Optional<long[]>", ""),
+}
+
+
+def look(call: Function) -> str:
+    """A read."""
+    made, name = in_java(call), java_name(call.name)
+    told, value = TOLD.get(call.tells(), ("OptionalLong", f"(what, a, b) -> what == Header.{call.tells()} ? OptionalLong.of(a) : OptionalLong.empty()"))
+    is_list, of = call.tells().startswith("list"), header.camel(call.name)
+    passed = made.each({kind: f"{it}, " for kind, it in PASSED.items()}, "")
+    native = f"(at, {'files, ' if is_list else ''}out) -> Native.{name}(at, {passed}{'files, ' if is_list else ''}out)" if passed else f"Native::{name}"
+    text = f"{documented(call.comment)}    public {told.format(of)} {name}({made.each(TYPES)}) {{\n{made.each(CHECKS, '')}"
+    return text + f"        return {f'files({native}){value}' if is_list else f'call({native}, {value.format(of)})'};\n    }}\n"
+
+
+def task_line(call: Function) -> str:
+    made = in_java(call)
+    of = {kind: [name for it, name in made.given if it == kind] for kind in TYPES}
+    first, second = [*of["list"], "NONE", "NONE"][:2]
+    number, now, term = (of["number"] or ["0"])[0], (of["moment"] or ["0"])[0], (of["term"] or ["NO_TERM"])[0]
+    subtask = "vertex, index" if of["subtask"] else "0, 0"
+    text = f"    /** {{@return the line of {'an' if call.name[0] in 'aeiou' else 'a'} {header.words(call.name)}}} */\n"
+    text += f"    public static String {java_name(call.name)}({given_to(made)}) {{\n"
+    return text + f"        return line(Header.CALL_{call.kind().upper()}, {subtask}, {now}, {number}, {term}, {first}, {second});\n    }}\n"
 
 
 def line(call: Call) -> str:
     given = f"long {java_name(call.number)}" if call.number else ""
     passed = ("now, 0" if call.has_moment() else f"0, {java_name(call.number)}") if call.number else "0, 0"
-    text = documented(f"the line of {call.named()}", call, True)
-    return text + f"    public static String {java_name(call.name)}({given}) {{\n        return line(Header.{call.kind()}, {passed});\n    }}\n"
+    number = f"     *\n{param(call)}" if call.number else ""
+    return f"    /**\n     * {{@return the line of {call.named()}}}\n{number}     */\n" + f"    public static String {java_name(call.name)}({given}) {{\n        return line(Header.{call.kind()}, {passed});\n    }}\n"
 
 
 def generated() -> Dict[str, Dict[str, str]]:
     """What is made, by file and place."""
     return {
         "Reply.java": {"the replies": replies()}, "Answers.java": {"what tells the replies": cases()},
-        "Coordinator.java": {"the calls of one number": "\n".join(method(it) for it in calls.plain())},
-        "Lines.java": {"the lines of calls of one number": "\n".join(line(it) for it in calls.calls() if it.name != "fence")},
+        "Coordinator.java": {
+            "the calls of one number": "\n".join(method(it) for it in calls.plain()),
+            "the calls of tasks": "\n".join(task_method(it) for it in calls.of_tasks()),
+        },
+        "Reads.java": {"the reads": "\n".join(look(it) for it in calls.looks())},
+        "Lines.java": {"the lines of calls": "\n".join([*(line(it) for it in calls.calls()), *(task_line(it) for it in calls.of_tasks("advance"))])},
     }

@@ -4,7 +4,7 @@ import textwrap
 from typing import Any, Dict, List, Optional, Tuple
 
 from generator import calls, header
-from generator.calls import Call
+from generator.calls import Call, Function
 from generator.header import Enum, Number, camel, parameters, pointed
 
 DERIVED = "#[derive(Clone, Copy, Debug, PartialEq, Eq, Hash)]\n"
@@ -27,14 +27,6 @@ LOGGED = {
     "RESERVED": 'a: name. From this name on as many are reserved as the call wanted. "reserved {a}"',
 }
 RESTORED = "RESTORED_"
-# What the crate says of a call in its own words.
-SAID = {
-    **calls.SHORT,
-    "tick": "Time has passed: records past their timeout expire, and a checkpoint is triggered if one is due.",
-    "dispose": "A user disposes of a completed savepoint.",
-}
-# The variants of Call that say what they are.
-SAID_OF_LINES = {"fence": "From this call on the job gives out names, from this one on."}
 SAFE = "the handle is as the library last left it, and `&mut self` keeps other calls away."
 
 
@@ -186,7 +178,7 @@ def method(call: Call) -> str:
     given = f", {call.number}: u64" if call.number else ""
     passed = f", {call.number}" if call.number else ""
     check = "        self.check_moment(now)?;\n" if call.has_moment() else ""
-    text = f"{wrapped(calls.words_of(call, SAID), '    ')}    pub fn {call.name}(&mut self{given}) -> Called {{\n{check}"
+    text = f"{wrapped(call.comment, '    ')}    pub fn {call.name}(&mut self{given}) -> Called {{\n{check}"
     text += f"        // SAFETY: {SAFE if call.name == 'tick' else 'as in `tick`.'}\n"
     return text + f"        called(unsafe {{ sys::relkvanu_{call.name}(self.handle(){passed}) }})\n    }}\n"
 
@@ -203,8 +195,7 @@ def variant(call: Call) -> str:
 
 def variants() -> str:
     """The variants of Call."""
-    told = [(document(SAID_OF_LINES.get(it.name, "")), camel(it.name), it.number) for it in calls.calls()]
-    return "".join(f"{comment}    {name}{f' {{ {number}: u64 }}' if number else ''},\n" for comment, name, number in told)
+    return "".join(f"    {camel(it.name)}{f' {{ {it.number}: u64 }}' if it.number else ''},\n" for it in calls.calls())
 
 
 def of_fields(call: Call) -> str:
@@ -215,8 +206,63 @@ def of_fields(call: Call) -> str:
 
 
 def to_fields(call: Call) -> str:
-    given = ("now, 0" if call.has_moment() else f"0, {call.number}") if call.number else "0, 0"
-    return f"            Call::{variant(call)} => of(CallKind::{camel(call.name)}, {given}),\n"
+    of = f"of(CallKind::{camel(call.name)})"
+    given = "now" if call.has_moment() else f"number: {call.number}"
+    return f"            Call::{variant(call)} => {f'sys::relkvanu_call {{ {given}, ..{of} }}' if call.number else of},\n"
+
+
+# What calls of tasks take, as parameters, in fields and in patterns, and what the library takes of each.
+TYPES = {
+    **{kind: "{}: u64" for kind in ("moment", "term", "number")}, "place": "{}: usize", "subtask": "{}: (u16, u16)", "list": "{}: &[u64]",
+}
+FIELDS = {**TYPES, "list": "{}: &'a [u64]"}
+PASSED = {**{kind: "{}" for kind in ("moment", "term", "number", "place")}, "subtask": "{0}.0, {0}.1", "list": "{0}.as_ptr(), {0}.len()"}
+WRITTEN = {"moment": "now", "term": "term", "number": "number: {}", "subtask": "vertex: subtask.0, index: subtask.1"}
+
+
+def task_method(call: Function) -> str:
+    """A method of those that are answered as others are."""
+    check = "        self.check_moment(now)?;\n" if call.has_moment() else ""
+    text = f"{wrapped(call.comment, '    ')}    pub fn {call.name}(&mut self, {call.each(TYPES)}) -> Called {{\n{check}"
+    lists = "; the slices outlive the call, which keeps none of them" if call.has_list() else ""
+    text += f"        // SAFETY: as in `tick`{lists}.\n"
+    return text + f"        called(unsafe {{ sys::relkvanu_{call.name}(self.handle(), {call.each(PASSED)}) }})\n    }}\n"
+
+
+# What reads tell: its type, and what makes it of their answer.
+TOLD = {
+    "number": ("u64", "read({asked}).a"), "enum": ("{name}", "{name}::of(read({asked}).what)"), "choice": ("Choice", "answer::choice(read({asked}))"),
+    "live": ("Option<Live>", "answer::live(read({asked}))"),
+    "list": ("Result<Vec<u64>, Fault>", "files(|to| {asked}).map(Option::unwrap_or_default)"),
+    "list?": ("Option<Vec<u64>>", 'files(|to| {asked}).expect("a read that takes no memory")'),
+}
+
+
+def look(call: Function) -> str:
+    """A read."""
+    told, made = TOLD.get(call.tells(), ("Option<u64>", f"number_of({{asked}}, sys::RELKVANU_{call.tells()})"))
+    is_list = call.tells().startswith("list")
+    given = ", ".join(it for it in ("self.read_handle()", call.each(PASSED), "to.as_mut_ptr(), to.len()" if is_list else "") if it)
+    text = f"{wrapped(call.comment, '    ')}    pub fn {call.name}(&self, {call.each(TYPES)}) -> {told.format(name=camel(call.name))} {{\n"
+    text += f"        // SAFETY: as in `count`{'; the buffer has as many places as is said' if is_list else ''}.\n"
+    return text + f"        {made.format(name=camel(call.name), asked=f'unsafe {{ sys::relkvanu_{call.name}({given}) }}')}\n    }}\n"
+
+
+def task_variant(call: Function) -> str:
+    return f"{wrapped(call.comment.partition('. ')[0].rstrip('.') + '.', '    ')}    {camel(call.name)} {{ {call.each(FIELDS)} }},\n"
+
+
+def of_task_fields(call: Function) -> str:
+    lists = iter(("first", "second"))
+    forms = {"moment": "{}", "term": "{}", "number": "{}: number", "subtask": "{}"}
+    given = [f"{name}: {next(lists)}" if kind == "list" else forms[kind].format(name) for kind, name in call.given]
+    return f"            CallKind::{camel(call.name)} => Call::{camel(call.name)} {{ {', '.join(given)} }},\n"
+
+
+def to_task_fields(call: Function) -> str:
+    pattern = call.each({kind: "{}" for kind in WRITTEN}) + (", .." if call.has_list() else "")
+    kind = f"CallKind::{camel(call.kind())}"
+    return f"            Call::{camel(call.name)} {{ {pattern} }} => sys::relkvanu_call {{ {call.each(WRITTEN)}, ..of({kind}) }},\n"
 
 
 def generated() -> Dict[str, Dict[str, str]]:
@@ -227,11 +273,15 @@ def generated() -> Dict[str, Dict[str, str]]:
         "lines.rs": {"the faults of lines": line_faults()},
         "call.rs": {
             "the kinds": enum("CallKind", kinds.comment, kinds.members, "pub(crate)"),
-            "the calls of one number": variants(),
-            "what reads the calls of one number": "".join(of_fields(it) for it in calls.calls()),
-            "what writes the calls of one number": "".join(to_fields(it) for it in calls.calls()),
+            "the calls": variants() + "".join(task_variant(it) for it in calls.of_tasks()),
+            "what reads the calls": "".join([*(of_fields(it) for it in calls.calls()), *(of_task_fields(it) for it in calls.of_tasks("ack_in", "decline_in"))]),
+            "what writes the calls": "".join([*(to_fields(it) for it in calls.calls()), *(to_task_fields(it) for it in calls.of_tasks())]),
         },
-        "coordinator.rs": {"the calls of one number": "\n".join(method(it) for it in calls.plain())},
+        "coordinator.rs": {
+            "the calls of one number": "\n".join(method(it) for it in calls.plain()),
+            "the calls of tasks": "\n".join(task_method(it) for it in calls.of_tasks("reserve", "forfeit")),
+            "the reads": "\n".join(look(it) for it in calls.looks()),
+        },
         "shared.rs": {"the calls of one number": "\n".join(shared_method(it) for it in calls.plain())},
         "answer.rs": {
             "the modes": enum("Mode", "What the job is doing.", header.members("mode_")),

@@ -10,8 +10,7 @@ from generator.header import Number, camel
 # The members of requests that have a check of their own. Any other number is at most 2^53.
 CHECKED = {"id": "members.id()?", "file": "members.file()?"}
 SCHEMAS = {"id": {"$ref": "#/components/schemas/Id"}, "file": {"$ref": "#/components/schemas/File"}}
-# What the client in Python says of a call in its own words, what it calls a number, and the call that it leaves to the service.
-SAID = {**calls.SHORT, "dispose": "A user disposes of a savepoint."}
+# What the client in Python calls a number, and the call that it leaves to the service.
 PARAMETERS = {"id": "record"}
 TICK = "tick"
 
@@ -87,7 +86,7 @@ def in_python(call: Call) -> str:
     given = PARAMETERS.get(number, number)
     value = f"str({given})" if number == "file" else given
     body = f'{{"call": "{call.name}"{f", {chr(34)}{number}{chr(34)}: {value}" if number else ""}}}'
-    told = code_python.wrapped(f'"""{calls.words_of(call, SAID)}"""', "    ")
+    told = code_python.wrapped(f'"""{call.comment}"""', "    ")
     return f'def {call.name}({given}):\n{told}    return {body}\n'
 
 

@@ -217,24 +217,24 @@ func (c *Coordinator) onlyAt(now uint64, what C.uint32_t, call func(handle *C.re
 
 // bindings/generate makes the calls of one number
 
-// Tick says that time has passed: records past their timeout expire, and a checkpoint is triggered if one is due.
+// Tick: Time has passed: records that are too old expire, and a checkpoint is triggered if one is due.
 func (c *Coordinator) Tick(now uint64) (Ticked, error) {
 	return replied(c, now, ticked, func(handle *C.relkvanu) C.relkvanu_answer { return C.relkvanu_tick(handle, C.uint64_t(now)) })
 }
 
-// Savepoint triggers a savepoint for a user.
+// Savepoint: Triggers a savepoint. At most 1000 savepoints are pending or done.
 func (c *Coordinator) Savepoint(now uint64) (SavepointTriggered, error) {
 	answer, err := c.onlyAt(now, C.RELKVANU_SAVEPOINT_TRIGGERED, func(handle *C.relkvanu) C.relkvanu_answer { return C.relkvanu_savepoint(handle, C.uint64_t(now)) })
 	return SavepointTriggered{ID: uint64(answer.a)}, err
 }
 
-// Dispose disposes of a completed savepoint for a user.
+// Dispose: A user disposes of the completed savepoint id.
 func (c *Coordinator) Dispose(id uint64) (Disposed, error) {
 	answer, err := c.only(C.RELKVANU_DISPOSED, func(handle *C.relkvanu) C.relkvanu_answer { return C.relkvanu_dispose(handle, C.uint64_t(id)) })
 	return Disposed{Released: uint64(answer.a)}, err
 }
 
-// Cancel ends the job for good.
+// Cancel: The job ends for good.
 func (c *Coordinator) Cancel(now uint64) (Cancelled, error) {
 	answer, err := c.onlyAt(now, C.RELKVANU_CANCELLED, func(handle *C.relkvanu) C.relkvanu_answer { return C.relkvanu_cancel(handle, C.uint64_t(now)) })
 	return Cancelled{Dropped: uint64(answer.a), Released: uint64(answer.b)}, err
@@ -247,28 +247,6 @@ func (c *Coordinator) Trigger(now uint64) (Ticked, error) {
 }
 
 // bindings/generate: end
-
-// Ack is the acknowledgement of a subtask, which wrote the fresh files and names the reused ones again, in any order. It synced the fresh
-// ones and their folder before.
-//
-// If it is accepted, the fresh files belong to the coordinator. Otherwise the task deletes a file only if no accepted acknowledgement
-// ever named it. So it deletes none after AlreadyAcknowledged, the answer to a repeat. After NameTaken it deletes no file that it named
-// before.
-func (c *Coordinator) Ack(now, id uint64, subtask Subtask, fresh, reused []uint64) (Acked, error) {
-	return replied(c, now, acked, func(handle *C.relkvanu) C.relkvanu_answer {
-		freshAt, freshLength := list(fresh)
-		reusedAt, reusedLength := list(reused)
-		return C.relkvanu_ack(handle, C.uint64_t(now), C.uint64_t(id), C.uint16_t(subtask.Vertex), C.uint16_t(subtask.Index),
-			freshAt, freshLength, reusedAt, reusedLength)
-	})
-}
-
-// Decline says that a subtask can't take its part of a record. The job may then fail over.
-func (c *Coordinator) Decline(now, id uint64, subtask Subtask) (Declined, error) {
-	return replied(c, now, declined, func(handle *C.relkvanu) C.relkvanu_answer {
-		return C.relkvanu_decline(handle, C.uint64_t(now), C.uint64_t(id), C.uint16_t(subtask.Vertex), C.uint16_t(subtask.Index))
-	})
-}
 
 // Restore begins the job again from the latest record. A shape gives it another parallelism; nil keeps it. A bad shape, such as one that
 // is empty, is a BadShape before any refusal.

@@ -116,15 +116,41 @@ func TriggerLine(now uint64) ([]byte, error) { return atMoment(CallTrigger, now)
 
 // bindings/generate: end
 
+// With term 0 that of a task is the line of a call without a term.
+
+// bindings/generate makes the lines of calls of tasks
+
 // AckLine is the line of an Ack.
-func AckLine(now, id uint64, subtask Subtask, fresh, reused []uint64) ([]byte, error) {
-	return AckInLine(0, now, id, subtask, fresh, reused)
+func AckLine(now uint64, id uint64, subtask Subtask, fresh []uint64, reused []uint64) ([]byte, error) {
+	return Call{Kind: CallAck, Now: now, Number: id, Subtask: subtask, First: fresh, Second: reused}.Line()
 }
 
 // DeclineLine is the line of a Decline.
-func DeclineLine(now, id uint64, subtask Subtask) ([]byte, error) {
-	return DeclineInLine(0, now, id, subtask)
+func DeclineLine(now uint64, id uint64, subtask Subtask) ([]byte, error) {
+	return Call{Kind: CallDecline, Now: now, Number: id, Subtask: subtask}.Line()
 }
+
+// ReserveLine is the line of a Reserve.
+func ReserveLine(term uint64, count uint64) ([]byte, error) {
+	return Call{Kind: CallReserve, Term: term, Number: count}.Line()
+}
+
+// ForfeitLine is the line of a Forfeit.
+func ForfeitLine(term uint64, names []uint64) ([]byte, error) {
+	return Call{Kind: CallForfeit, Term: term, First: names}.Line()
+}
+
+// AckInLine is the line of an AckIn.
+func AckInLine(term uint64, now uint64, id uint64, subtask Subtask, fresh []uint64, reused []uint64) ([]byte, error) {
+	return Call{Kind: CallAck, Term: term, Now: now, Number: id, Subtask: subtask, First: fresh, Second: reused}.Line()
+}
+
+// DeclineInLine is the line of a DeclineIn.
+func DeclineInLine(term uint64, now uint64, id uint64, subtask Subtask) ([]byte, error) {
+	return Call{Kind: CallDecline, Term: term, Now: now, Number: id, Subtask: subtask}.Line()
+}
+
+// bindings/generate: end
 
 // RestoreLine is the line of a Restore.
 func RestoreLine(now uint64, shape []uint64) ([]byte, error) { return restoreLine(now, 0, shape) }
@@ -149,26 +175,6 @@ func TakeLine(most uint64) ([]byte, error) { return ofNumber(CallTake, most) }
 
 // ShowLine is the line of a Show.
 func ShowLine(id uint64) ([]byte, error) { return ofNumber(CallShow, id) }
-
-// ReserveLine is the line of a Reserve.
-func ReserveLine(term, count uint64) ([]byte, error) {
-	return Call{Kind: CallReserve, Term: term, Number: count}.Line()
-}
-
-// ForfeitLine is the line of a Forfeit.
-func ForfeitLine(term uint64, names []uint64) ([]byte, error) {
-	return Call{Kind: CallForfeit, Term: term, First: names}.Line()
-}
-
-// AckInLine is the line of an AckIn. With term 0 it is a line without a term.
-func AckInLine(term, now, id uint64, subtask Subtask, fresh, reused []uint64) ([]byte, error) {
-	return Call{Kind: CallAck, Term: term, Now: now, Number: id, Subtask: subtask, First: fresh, Second: reused}.Line()
-}
-
-// DeclineInLine is the line of a DeclineIn. With term 0 it is a line without a term.
-func DeclineInLine(term, now, id uint64, subtask Subtask) ([]byte, error) {
-	return Call{Kind: CallDecline, Term: term, Now: now, Number: id, Subtask: subtask}.Line()
-}
 
 // Line makes the call of a script's line: the bytes before its newline. The reply is nil if the line has no words or is a comment. The
 // error is a LineFault if it can't be read or makes no call, or what the call returns. A take line fetches all files that it may.

@@ -76,31 +76,58 @@ func (c *Coordinator) Forfeit(term uint64, names []uint64) error {
 	})
 }
 
-// Advance restores a job that goes on from an older image, from its latest record, in a term above term, the greatest that any task was told, and
-// with names from firstName on, above each that was given out. It is the first call of such a job.
-func (c *Coordinator) Advance(now, term, firstName uint64) (Restored, error) {
+// After an error of an Ack or an AckIn a task deletes a file only if no accepted acknowledgement ever named it. So it deletes none after
+// AlreadyAcknowledged, the answer to a repeat, and FencedSpent. After NameTaken it deletes no file that it named before. What a task wrote it has
+// synced before, with the folder.
+
+// bindings/generate makes the calls of tasks
+
+// Ack: The subtask vertex.index has taken its part of record id. fresh has the files that it wrote. reused has files of earlier records
+// that it uses again. Both may be in any order, with at most 4096 files together. After a refusal the task must not delete a file that an
+// accepted acknowledgement ever named.
+func (c *Coordinator) Ack(now uint64, id uint64, subtask Subtask, fresh []uint64, reused []uint64) (Acked, error) {
+	return replied(c, now, acked, func(handle *C.relkvanu) C.relkvanu_answer {
+		freshAt, freshLength := list(fresh)
+		reusedAt, reusedLength := list(reused)
+		return C.relkvanu_ack(handle, C.uint64_t(now), C.uint64_t(id), C.uint16_t(subtask.Vertex), C.uint16_t(subtask.Index), freshAt, freshLength, reusedAt, reusedLength)
+	})
+}
+
+// Decline: The subtask vertex.index could not take its part of record id.
+func (c *Coordinator) Decline(now uint64, id uint64, subtask Subtask) (Declined, error) {
+	return replied(c, now, declined, func(handle *C.relkvanu) C.relkvanu_answer {
+		return C.relkvanu_decline(handle, C.uint64_t(now), C.uint64_t(id), C.uint16_t(subtask.Vertex), C.uint16_t(subtask.Index))
+	})
+}
+
+// Advance: Begins a job again that goes on from an older image or log, such as one that was restored from a backup: restore of the latest,
+// in the shape that the job has, in a term above term, the greatest that any task was told, and with names from first_name on, 1 to 2^62,
+// above each that was given out. A smaller term and a smaller first_name lower nothing. Names that are passed over are garbage, unless the
+// handle's records use them. Make this call before any other of such a job. docs/RULES.md, section 13, says what it is for.
+func (c *Coordinator) Advance(now uint64, term uint64, firstName uint64) (Restored, error) {
 	return replied(c, now, restored, func(handle *C.relkvanu) C.relkvanu_answer {
 		return C.relkvanu_advance(handle, C.uint64_t(now), C.uint64_t(term), C.uint64_t(firstName))
 	})
 }
 
-// AckIn is the Ack of a task of this term. If it is accepted, it spends the names of the fresh files. The same acknowledgement once more returns
-// FencedSpent, if it has fresh files: a task deletes no file for that answer.
-func (c *Coordinator) AckIn(term, now, id uint64, subtask Subtask, fresh, reused []uint64) (Acked, error) {
+// AckIn: ack of a task of this term. An accepted acknowledgement spends the names of its fresh files. So a task does not delete a file for
+// Spent.
+func (c *Coordinator) AckIn(term uint64, now uint64, id uint64, subtask Subtask, fresh []uint64, reused []uint64) (Acked, error) {
 	return replied(c, now, acked, func(handle *C.relkvanu) C.relkvanu_answer {
 		freshAt, freshLength := list(fresh)
 		reusedAt, reusedLength := list(reused)
-		return C.relkvanu_ack_in(handle, C.uint64_t(term), C.uint64_t(now), C.uint64_t(id), C.uint16_t(subtask.Vertex),
-			C.uint16_t(subtask.Index), freshAt, freshLength, reusedAt, reusedLength)
+		return C.relkvanu_ack_in(handle, C.uint64_t(term), C.uint64_t(now), C.uint64_t(id), C.uint16_t(subtask.Vertex), C.uint16_t(subtask.Index), freshAt, freshLength, reusedAt, reusedLength)
 	})
 }
 
-// DeclineIn is the Decline of a task of this term.
-func (c *Coordinator) DeclineIn(term, now, id uint64, subtask Subtask) (Declined, error) {
+// DeclineIn: decline of a task of this term.
+func (c *Coordinator) DeclineIn(term uint64, now uint64, id uint64, subtask Subtask) (Declined, error) {
 	return replied(c, now, declined, func(handle *C.relkvanu) C.relkvanu_answer {
 		return C.relkvanu_decline_in(handle, C.uint64_t(term), C.uint64_t(now), C.uint64_t(id), C.uint16_t(subtask.Vertex), C.uint16_t(subtask.Index))
 	})
 }
+
+// bindings/generate: end
 
 // Garbage is what Coordinator.Garbage tells of some files, in their order.
 type Garbage struct {

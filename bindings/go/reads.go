@@ -94,32 +94,102 @@ func (s Standing) String() string { return named(standings, s) }
 // FileCounts is how many files are in use by live records, each counted once, wait for deletion, and were fetched and not yet reported.
 type FileCounts struct{ InUse, Waiting, Taken uint64 }
 
-// Mode is what the job is doing.
+// bindings/generate makes the reads
+
+// Mode: What the job is doing.
 func (c *Coordinator) Mode() (Mode, error) {
 	answer, err := c.called(func(handle *C.relkvanu) C.relkvanu_answer { return C.relkvanu_mode(handle) })
-	if _, is := modes[Mode(answer.what)]; err == nil && !is {
-		err = unknown(answer)
-	}
-	return Mode(answer.what), err
+	return Mode(answer.what), known(modes, answer, err)
 }
 
-// Moment is the greatest moment that the coordinator has seen. It takes an earlier one for this one.
+// Moment: The greatest moment that the coordinator has seen, at its opening or in an accepted call. It takes an earlier moment for this
+// one. So it shows whether a clock has run ahead.
 func (c *Coordinator) Moment() (uint64, error) {
 	answer, err := c.called(func(handle *C.relkvanu) C.relkvanu_answer { return C.relkvanu_moment(handle) })
 	return uint64(answer.a), err
 }
 
-// Due is the moment before which no tick triggers a checkpoint. Calls move it.
+// Due: The moment from which neither the interval nor the pause holds a checkpoint back. No tick before it triggers one. A tick at it or
+// later triggers one, with three exceptions: as many are pending as may be, the job is not running, or so many checkpoints expire in the
+// tick that the job fails over. A call that triggers, completes, restores or configures may move this moment, so read it again after a
+// call.
 func (c *Coordinator) Due() (uint64, error) {
 	answer, err := c.called(func(handle *C.relkvanu) C.relkvanu_answer { return C.relkvanu_due(handle) })
 	return uint64(answer.a), err
 }
 
-// OldestExpiry is the moment from which a pending record is expired. The second value is false if none is pending.
+// OldestExpiry: The moment from which a pending record is expired. A tick at that moment drops the record. None if no record is pending.
+// Visits each pending record.
 func (c *Coordinator) OldestExpiry() (uint64, bool, error) {
 	answer, err := c.called(func(handle *C.relkvanu) C.relkvanu_answer { return C.relkvanu_oldest_expiry(handle) })
 	return uint64(answer.a), err == nil && answer.what == C.RELKVANU_EXPIRES, err
 }
+
+// Choice: The record that a restore of the latest would begin from.
+func (c *Coordinator) Choice() (Choice, error) {
+	answer, err := c.called(func(handle *C.relkvanu) C.relkvanu_answer { return C.relkvanu_choice(handle) })
+	return chosen(answer, err)
+}
+
+// Live: The live record at this place, from 0, in order of their numbers; none past the last. The time grows with the place.
+func (c *Coordinator) Live(place uint64) (Live, bool, error) {
+	answer, err := c.called(func(handle *C.relkvanu) C.relkvanu_answer { return C.relkvanu_live(handle, C.size_t(place)) })
+	return live(answer, err)
+}
+
+// Missing: How many subtasks of this record have not acknowledged. None if no record with this number is pending.
+func (c *Coordinator) Missing(id uint64) (uint64, bool, error) {
+	answer, err := c.called(func(handle *C.relkvanu) C.relkvanu_answer { return C.relkvanu_missing(handle, C.uint64_t(id)) })
+	return uint64(answer.a), err == nil && answer.what == C.RELKVANU_MISSING, err
+}
+
+// LiveFrom: The live record with the least number that is at least id; none if there is none. To visit all live records, begin with 0, and
+// go on with the returned number plus 1. A binary search. Takes no memory.
+func (c *Coordinator) LiveFrom(id uint64) (Live, bool, error) {
+	answer, err := c.called(func(handle *C.relkvanu) C.relkvanu_answer { return C.relkvanu_live_from(handle, C.uint64_t(id)) })
+	return live(answer, err)
+}
+
+// Standing: Whether the record with this number is pending, done or ended, or no record has had the number. A binary search. Takes no
+// memory.
+func (c *Coordinator) Standing(id uint64) (Standing, error) {
+	answer, err := c.called(func(handle *C.relkvanu) C.relkvanu_answer { return C.relkvanu_standing(handle, C.uint64_t(id)) })
+	return Standing(answer.what), known(standings, answer, err)
+}
+
+// WaitingFile: The file at this place, from 0, among those that wait for deletion. The next to be fetched is the first. None past the last.
+// Takes constant time and no memory.
+func (c *Coordinator) WaitingFile(place uint64) (uint64, bool, error) {
+	answer, err := c.called(func(handle *C.relkvanu) C.relkvanu_answer { return C.relkvanu_waiting_file(handle, C.size_t(place)) })
+	return uint64(answer.a), err == nil && answer.what == C.RELKVANU_WAITING, err
+}
+
+// FilesOf: The files that the subtask vertex.index acknowledged in the live record id, in ascending order. None if it has not acknowledged
+// in one.
+func (c *Coordinator) FilesOf(id uint64, subtask Subtask) ([]uint64, bool, error) {
+	return c.files(func(o *owner, at *C.uint64_t, length C.size_t) C.relkvanu_answer {
+		return C.relkvanu_files_of(o.handle, C.uint64_t(id), C.uint16_t(subtask.Vertex), C.uint16_t(subtask.Index), at, length)
+	})
+}
+
+// PinsOf: The files that the pending record id pins, in ascending order: the files of the record that a restart would have begun from at
+// its trigger. None if no record with this number is pending.
+func (c *Coordinator) PinsOf(id uint64) ([]uint64, error) {
+	files, _, err := c.files(func(o *owner, at *C.uint64_t, length C.size_t) C.relkvanu_answer {
+		return C.relkvanu_pins_of(o.handle, C.uint64_t(id), at, length)
+	})
+	return files, err
+}
+
+// TakenFiles: The files that were fetched for deletion and are not yet reported, in ascending order.
+func (c *Coordinator) TakenFiles() ([]uint64, error) {
+	files, _, err := c.files(func(o *owner, at *C.uint64_t, length C.size_t) C.relkvanu_answer {
+		return C.relkvanu_taken_files(o.handle, at, length)
+	})
+	return files, err
+}
+
+// bindings/generate: end
 
 // NextTick is the moment of the next tick after one with this reply (the zero one: it returned an error), unless another call comes
 // first: when a checkpoint is due or a pending record expires. While as many are pending as may be, it is the expiry, because Due has
@@ -143,9 +213,15 @@ func (c *Coordinator) NextTick(last Ticked) (next uint64, is bool, err error) {
 	return next, is, err
 }
 
-// Choice is the record that a restore of the latest would begin from.
-func (c *Coordinator) Choice() (Choice, error) {
-	answer, err := c.called(func(handle *C.relkvanu) C.relkvanu_answer { return C.relkvanu_choice(handle) })
+// known is an error also if an answer has a number without a name here.
+func known[Number ~uint32](names map[Number]string, answer C.relkvanu_answer, err error) error {
+	if _, is := names[Number(answer.what)]; err == nil && !is {
+		return unknown(answer)
+	}
+	return err
+}
+
+func chosen(answer C.relkvanu_answer, err error) (Choice, error) {
 	if err != nil {
 		return Choice{}, err
 	}
@@ -177,50 +253,6 @@ func live(answer C.relkvanu_answer, err error) (Live, bool, error) {
 	return Live{}, false, unknown(answer)
 }
 
-// Live is the live record at this place, from 0, in order of their numbers. The second value is false past the last. Its time grows with
-// the place.
-func (c *Coordinator) Live(place uint64) (Live, bool, error) {
-	return live(c.called(func(handle *C.relkvanu) C.relkvanu_answer { return C.relkvanu_live(handle, C.size_t(place)) }))
-}
-
-// LiveFrom is the live record with the least number that is at least id. The second value is false if there is none.
-func (c *Coordinator) LiveFrom(id uint64) (Live, bool, error) {
-	return live(c.called(func(handle *C.relkvanu) C.relkvanu_answer { return C.relkvanu_live_from(handle, C.uint64_t(id)) }))
-}
-
-// Standing is what a number is.
-func (c *Coordinator) Standing(id uint64) (Standing, error) {
-	answer, err := c.called(func(handle *C.relkvanu) C.relkvanu_answer { return C.relkvanu_standing(handle, C.uint64_t(id)) })
-	if _, is := standings[Standing(answer.what)]; err == nil && !is {
-		err = unknown(answer)
-	}
-	return Standing(answer.what), err
-}
-
-// FilesOf has the files that a subtask acknowledged in a live record, ascending. The second value is false if it has not acknowledged in
-// one.
-func (c *Coordinator) FilesOf(id uint64, subtask Subtask) ([]uint64, bool, error) {
-	return c.files(func(o *owner, at *C.uint64_t, length C.size_t) C.relkvanu_answer {
-		return C.relkvanu_files_of(o.handle, C.uint64_t(id), C.uint16_t(subtask.Vertex), C.uint16_t(subtask.Index), at, length)
-	})
-}
-
-// PinsOf has the files that a pending record keeps beside those of its acknowledgements, ascending.
-func (c *Coordinator) PinsOf(id uint64) ([]uint64, error) {
-	files, _, err := c.files(func(o *owner, at *C.uint64_t, length C.size_t) C.relkvanu_answer {
-		return C.relkvanu_pins_of(o.handle, C.uint64_t(id), at, length)
-	})
-	return files, err
-}
-
-// TakenFiles has the files that were fetched and are not yet reported, ascending.
-func (c *Coordinator) TakenFiles() ([]uint64, error) {
-	files, _, err := c.files(func(o *owner, at *C.uint64_t, length C.size_t) C.relkvanu_answer {
-		return C.relkvanu_taken_files(o.handle, at, length)
-	})
-	return files, err
-}
-
 func (c *Coordinator) files(fetch func(o *owner, at *C.uint64_t, length C.size_t) C.relkvanu_answer) ([]uint64, bool, error) {
 	o, err := c.enter()
 	if err != nil {
@@ -235,19 +267,6 @@ func (c *Coordinator) files(fetch func(o *owner, at *C.uint64_t, length C.size_t
 		return nil, false, err
 	}
 	return buffer[:answer.a], true, nil
-}
-
-// WaitingFile is the file at this place among those that wait for deletion, the next to be fetched first. The second value is false past
-// the last.
-func (c *Coordinator) WaitingFile(place uint64) (uint64, bool, error) {
-	answer, err := c.called(func(handle *C.relkvanu) C.relkvanu_answer { return C.relkvanu_waiting_file(handle, C.size_t(place)) })
-	return uint64(answer.a), err == nil && answer.what == C.RELKVANU_WAITING, err
-}
-
-// Missing is how many subtasks of a record have not acknowledged. The second value is false if no record with this number is pending.
-func (c *Coordinator) Missing(id uint64) (uint64, bool, error) {
-	answer, err := c.called(func(handle *C.relkvanu) C.relkvanu_answer { return C.relkvanu_missing(handle, C.uint64_t(id)) })
-	return uint64(answer.a), err == nil && answer.what == C.RELKVANU_MISSING, err
 }
 
 // FileCounts counts the files.

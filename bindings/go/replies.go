@@ -39,49 +39,49 @@ type Ticked struct {
 
 // bindings/generate makes the replies to calls of one number
 
-// SavepointTriggered is the reply to a savepoint.
+// SavepointTriggered: A savepoint was triggered. ID: number.
 type SavepointTriggered struct{ ID uint64 }
 
 func (SavepointTriggered) isReply() {}
 
 func (r SavepointTriggered) String() string { return fmt.Sprintf("savepoint triggered %d", r.ID) }
 
-// Disposed is the reply to a dispose: so many files were released.
+// Disposed: The savepoint is gone. Released: files released.
 type Disposed struct{ Released uint64 }
 
 func (Disposed) isReply() {}
 
 func (r Disposed) String() string { return fmt.Sprintf("disposed %d", r.Released) }
 
-// Cancelled is the reply to a cancel: so many records were dropped, and so many files released.
+// Cancelled: The job has ended for good. Dropped: records dropped; Released: files released.
 type Cancelled struct{ Dropped, Released uint64 }
 
 func (Cancelled) isReply() {}
 
 func (r Cancelled) String() string { return fmt.Sprintf("cancelled %d %d", r.Dropped, r.Released) }
 
-// FileDeleted is the reply to the report of a deleted file.
+// FileDeleted: The file is forgotten. File: file.
 type FileDeleted struct{ File uint64 }
 
 func (FileDeleted) isReply() {}
 
 func (r FileDeleted) String() string { return fmt.Sprintf("deleted %d", r.File) }
 
-// FileUndeleted is the reply to the report of a file that could not be deleted.
+// FileUndeleted: The file waits again. File: file.
 type FileUndeleted struct{ File uint64 }
 
 func (FileUndeleted) isReply() {}
 
 func (r FileUndeleted) String() string { return fmt.Sprintf("undeleted %d", r.File) }
 
-// Counted is the number of uses of a file.
+// Counted: The uses by live records. File: file; Uses: uses.
 type Counted struct{ File, Uses uint64 }
 
 func (Counted) isReply() {}
 
 func (r Counted) String() string { return fmt.Sprintf("count %d %d", r.File, r.Uses) }
 
-// Configured is the reply to other settings: so many checkpoints were dropped, and so many files released.
+// Configured: The job has the new settings. Checkpoints: checkpoints dropped; Released: files released.
 type Configured struct{ Checkpoints, Released uint64 }
 
 func (Configured) isReply() {}

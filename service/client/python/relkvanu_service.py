@@ -134,12 +134,12 @@ def _in(term):
 
 # bindings/generate makes the calls of one number
 def savepoint():
-    """A user wants a savepoint."""
+    """Triggers a savepoint. At most 1000 savepoints are pending or done."""
     return {"call": "savepoint"}
 
 
 def dispose(record):
-    """A user disposes of a savepoint."""
+    """A user disposes of the completed savepoint id."""
     return {"call": "dispose", "id": record}
 
 
@@ -149,12 +149,12 @@ def cancel():
 
 
 def deleted(file):
-    """A fetched file is deleted."""
+    """A fetched file is deleted: the coordinator forgets it."""
     return {"call": "deleted", "file": str(file)}
 
 
 def undeleted(file):
-    """A fetched file could not be deleted: it waits again."""
+    """A fetched file could not be deleted: it waits again, behind all others."""
     return {"call": "undeleted", "file": str(file)}
 
 

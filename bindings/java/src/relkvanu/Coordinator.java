@@ -16,6 +16,10 @@ import java.util.Optional;
  * {@link OutOfMemoryError} is another thing: it is of the heap of Java, and may come after the call was made. Then end the process, and go
  * on from the log.
  *
+ * <p><b>Files.</b> If an acknowledgement is accepted, its fresh files belong to the coordinator. Otherwise the task deletes a file only if no
+ * accepted acknowledgement ever named it. So it deletes none after {@code ALREADY_ACKNOWLEDGED}, the answer to a repeat, and {@code SPENT}. After
+ * {@code NAME_TAKEN} it deletes no file that it named before.
+ *
  * <p><b>Names.</b> A coordinator with names ({@link #openFenced}, {@link #fence}) gives out the numbers of the files that tasks will write,
  * each once, and counts the terms of the job. Each accepted restore and cancel ends the term. What a task of an ended term sends throws {@code
  * Fenced} with {@code OLD_TERM}. Whoever restarts the tasks tells them the term, which it reads by {@link #term} after the restore. A coordinator
@@ -139,20 +143,20 @@ public final class Coordinator extends Reads implements AutoCloseable {
     }
 
     /**
-     * Triggers a savepoint.
+     * Triggers a savepoint. At most 1000 savepoints are pending or done.
      *
      * @param now the moment
-     * @return its number
+     * @return number
      */
     public Reply.SavepointTriggered savepoint(long now) {
         return (Reply.SavepointTriggered) timed(now, (at, out) -> Native.savepoint(at, now, out));
     }
 
     /**
-     * A user disposes of a completed savepoint.
+     * A user disposes of the completed savepoint id.
      *
-     * @param id the savepoint
-     * @return how many files were released
+     * @param id the record
+     * @return files released
      */
     public Reply.Disposed dispose(long id) {
         return (Reply.Disposed) replied((at, out) -> Native.dispose(at, id, out));
@@ -162,7 +166,7 @@ public final class Coordinator extends Reads implements AutoCloseable {
      * The job ends for good.
      *
      * @param now the moment
-     * @return how many records were dropped, and how many files released
+     * @return records dropped, files released
      */
     public Reply.Cancelled cancel(long now) {
         return (Reply.Cancelled) timed(now, (at, out) -> Native.cancel(at, now, out));
@@ -172,7 +176,7 @@ public final class Coordinator extends Reads implements AutoCloseable {
      * A fetched file is deleted: the coordinator forgets it.
      *
      * @param file the file
-     * @return the file
+     * @return file
      */
     public Reply.Deleted deleted(long file) {
         return (Reply.Deleted) replied((at, out) -> Native.deleted(at, file, out));
@@ -182,7 +186,7 @@ public final class Coordinator extends Reads implements AutoCloseable {
      * A fetched file could not be deleted: it waits again, behind all others.
      *
      * @param file the file
-     * @return the file
+     * @return file
      */
     public Reply.Undeleted undeleted(long file) {
         return (Reply.Undeleted) replied((at, out) -> Native.undeleted(at, file, out));
@@ -200,10 +204,11 @@ public final class Coordinator extends Reads implements AutoCloseable {
     }
     // bindings/generate: end
 
+    // bindings/generate makes the calls of tasks
     /**
-     * A subtask has taken its part of a record. If the call is accepted, the fresh files belong to the coordinator. Otherwise the task deletes
-     * a file only if no accepted acknowledgement ever named it. So it deletes none after {@code ALREADY_ACKNOWLEDGED}, the answer to a
-     * repeat. After {@code NAME_TAKEN} it deletes no file that it named before.
+     * The subtask vertex.index has taken its part of record id. fresh has the files that it wrote. reused has files of earlier records that it
+     * uses again. Both may be in any order, with at most 4096 files together. After a refusal the task must not delete a file that an accepted
+     * acknowledgement ever named.
      */
     public Reply.Ack ack(long now, long id, int vertex, int index, long[] fresh, long... reused) {
         Checks.subtask(vertex, index);
@@ -212,11 +217,52 @@ public final class Coordinator extends Reads implements AutoCloseable {
         return (Reply.Ack) timed(now, (at, out) -> Native.ack(at, now, id, vertex, index, fresh, reused, out));
     }
 
-    /** A subtask could not take its part of a record. */
+    /** The subtask vertex.index could not take its part of record id. */
     public Reply.Decline decline(long now, long id, int vertex, int index) {
         Checks.subtask(vertex, index);
         return (Reply.Decline) timed(now, (at, out) -> Native.decline(at, now, id, vertex, index, out));
     }
+
+    /** A task of this term reserves names for files that it will write, 1 to 65536 of them. */
+    public Reply.Reserved reserve(long term, long count) {
+        return (Reply.Reserved) replied((at, out) -> Native.reserve(at, term, count, out));
+    }
+
+    /**
+     * A task of this term gives up names that it will not acknowledge, such as those of a failed upload: their files are garbage then. Names
+     * that the term does not hold are passed over, so the call can be repeated.
+     */
+    public Reply.Forfeited forfeit(long term, long... names) {
+        Objects.requireNonNull(names, "names");
+        return (Reply.Forfeited) replied((at, out) -> Native.forfeit(at, term, names, out));
+    }
+
+    /**
+     * Begins a job again that goes on from an older image or log, such as one that was restored from a backup: restore of the latest, in the
+     * shape that the job has, in a term above term, the greatest that any task was told, and with names from first_name on, 1 to 2^62, above
+     * each that was given out. A smaller term and a smaller first_name lower nothing. Names that are passed over are garbage, unless the
+     * handle's records use them. Make this call before any other of such a job. docs/RULES.md, section 13, says what it is for.
+     */
+    public Reply.Restore advance(long now, long term, long firstName) {
+        return (Reply.Restore) timed(now, (at, out) -> Native.advance(at, now, term, firstName, out));
+    }
+
+    /**
+     * ack of a task of this term. An accepted acknowledgement spends the names of its fresh files. So a task does not delete a file for Spent.
+     */
+    public Reply.Ack ackIn(long term, long now, long id, int vertex, int index, long[] fresh, long... reused) {
+        Checks.subtask(vertex, index);
+        Objects.requireNonNull(fresh, "fresh");
+        Objects.requireNonNull(reused, "reused");
+        return (Reply.Ack) timed(now, (at, out) -> Native.ackIn(at, term, now, id, vertex, index, fresh, reused, out));
+    }
+
+    /** decline of a task of this term. */
+    public Reply.Decline declineIn(long term, long now, long id, int vertex, int index) {
+        Checks.subtask(vertex, index);
+        return (Reply.Decline) timed(now, (at, out) -> Native.declineIn(at, term, now, id, vertex, index, out));
+    }
+    // bindings/generate: end
 
     /** The job begins again from the latest record, in its shape. */
     public Reply.Restore restoreLatest(long now) {
@@ -249,45 +295,6 @@ public final class Coordinator extends Reads implements AutoCloseable {
      */
     public Reply.Named fence(long firstName) {
         return (Reply.Named) replied((at, out) -> Native.fence(at, firstName, out));
-    }
-
-    /** A task of a term reserves names for files that it will write. The reservation is in the durable log before the task uses one of them. */
-    public Reply.Reserved reserve(long term, long count) {
-        return (Reply.Reserved) replied((at, out) -> Native.reserve(at, term, count, out));
-    }
-
-    /**
-     * A task of a term gives up names that it will not acknowledge, such as those of a failed upload: their files are garbage then. Names
-     * that the term does not hold are passed over, so the call can be repeated.
-     */
-    public Reply.Forfeited forfeit(long term, long... names) {
-        Objects.requireNonNull(names, "names");
-        return (Reply.Forfeited) replied((at, out) -> Native.forfeit(at, term, names, out));
-    }
-
-    /**
-     * Restores a job that goes on from an older image, from its latest record. It is the first call of such a job. Throws {@code Fenced}
-     * with {@code NO_NAMES} or {@code TERMS_USED_UP}, and {@code BadArgument} with {@code BAD_NAME}.
-     */
-    public Reply.Restore advance(long now, long term, long firstName) {
-        return (Reply.Restore) timed(now, (at, out) -> Native.advance(at, now, term, firstName, out));
-    }
-
-    /**
-     * {@link #ack} of a task of a term. If it is accepted, it spends the names of the fresh files. The same acknowledgement once more throws
-     * {@code Fenced} with {@code SPENT}, if it has fresh files: a task deletes no file for that answer.
-     */
-    public Reply.Ack ackIn(long term, long now, long id, int vertex, int index, long[] fresh, long... reused) {
-        Checks.subtask(vertex, index);
-        Objects.requireNonNull(fresh, "fresh");
-        Objects.requireNonNull(reused, "reused");
-        return (Reply.Ack) timed(now, (at, out) -> Native.ackIn(at, term, now, id, vertex, index, fresh, reused, out));
-    }
-
-    /** {@link #decline} of a task of a term. */
-    public Reply.Decline declineIn(long term, long now, long id, int vertex, int index) {
-        Checks.subtask(vertex, index);
-        return (Reply.Decline) timed(now, (at, out) -> Native.declineIn(at, term, now, id, vertex, index, out));
     }
 
     /**

@@ -67,7 +67,7 @@ public final class Lines {
         return line(kind, 0, 0, now, number, NO_TERM, NONE, NONE);
     }
 
-    // bindings/generate makes the lines of calls of one number
+    // bindings/generate makes the lines of calls
     /**
      * {@return the line of a tick}
      *
@@ -89,7 +89,7 @@ public final class Lines {
     /**
      * {@return the line of a dispose}
      *
-     * @param id the savepoint
+     * @param id the record
      */
     public static String dispose(long id) {
         return line(Header.CALL_DISPOSE, 0, id);
@@ -132,6 +132,15 @@ public final class Lines {
     }
 
     /**
+     * {@return the line of a fence}
+     *
+     * @param firstName the first name
+     */
+    public static String fence(long firstName) {
+        return line(Header.CALL_FENCE, 0, firstName);
+    }
+
+    /**
      * {@return the line of a trigger}
      *
      * @param now the moment
@@ -139,17 +148,37 @@ public final class Lines {
     public static String trigger(long now) {
         return line(Header.CALL_TRIGGER, now, 0);
     }
-    // bindings/generate: end
 
-    /** {@return the line of an acknowledgement} */
+    /** {@return the line of an ack} */
     public static String ack(long now, long id, int vertex, int index, long[] fresh, long... reused) {
-        return ackIn(NO_TERM, now, id, vertex, index, fresh, reused);
+        return line(Header.CALL_ACK, vertex, index, now, id, NO_TERM, fresh, reused);
     }
 
     /** {@return the line of a decline} */
     public static String decline(long now, long id, int vertex, int index) {
-        return declineIn(NO_TERM, now, id, vertex, index);
+        return line(Header.CALL_DECLINE, vertex, index, now, id, NO_TERM, NONE, NONE);
     }
+
+    /** {@return the line of a reserve} */
+    public static String reserve(long term, long count) {
+        return line(Header.CALL_RESERVE, 0, 0, 0, count, term, NONE, NONE);
+    }
+
+    /** {@return the line of a forfeit} */
+    public static String forfeit(long term, long... names) {
+        return line(Header.CALL_FORFEIT, 0, 0, 0, 0, term, names, NONE);
+    }
+
+    /** {@return the line of an ack in} */
+    public static String ackIn(long term, long now, long id, int vertex, int index, long[] fresh, long... reused) {
+        return line(Header.CALL_ACK, vertex, index, now, id, term, fresh, reused);
+    }
+
+    /** {@return the line of a decline in} */
+    public static String declineIn(long term, long now, long id, int vertex, int index) {
+        return line(Header.CALL_DECLINE, vertex, index, now, id, term, NONE, NONE);
+    }
+    // bindings/generate: end
 
     /** {@return the line of a restore from the latest record} */
     public static String restoreLatest(long now) {
@@ -179,30 +208,5 @@ public final class Lines {
     /** {@return the line of a show} */
     public static String show(long id) {
         return line(Header.CALL_SHOW, 0, id);
-    }
-
-    /** {@return the line of a fence: from here on names are given out} */
-    public static String fence(long firstName) {
-        return line(Header.CALL_FENCE, 0, firstName);
-    }
-
-    /** {@return the line of a reservation} */
-    public static String reserve(long term, long count) {
-        return line(Header.CALL_RESERVE, 0, 0, 0, count, term, NONE, NONE);
-    }
-
-    /** {@return the line that gives names up} */
-    public static String forfeit(long term, long... names) {
-        return line(Header.CALL_FORFEIT, 0, 0, 0, 0, term, Objects.requireNonNull(names, "names"), NONE);
-    }
-
-    /** {@return the line of an acknowledgement by a task of a term} */
-    public static String ackIn(long term, long now, long id, int vertex, int index, long[] fresh, long... reused) {
-        return line(Header.CALL_ACK, vertex, index, now, id, term, fresh, reused);
-    }
-
-    /** {@return the line of a decline by a task of a term} */
-    public static String declineIn(long term, long now, long id, int vertex, int index) {
-        return line(Header.CALL_DECLINE, vertex, index, now, id, term, NONE, NONE);
     }
 }

@@ -65,25 +65,96 @@ abstract sealed class Reads permits Coordinator {
 
     // Reads: none changes anything. None but pinsOf and takenFiles wants memory of the library.
 
-    /** {@return what the job is doing} */
+    // bindings/generate makes the reads
+    /** What the job is doing. */
     public Mode mode() {
         return call(Native::mode, (what, a, b) -> Mode.of(what));
     }
 
-    /** {@return the greatest moment that the coordinator has seen; it takes an earlier one for this one} */
+    /**
+     * The greatest moment that the coordinator has seen, at its opening or in an accepted call. It takes an earlier moment for this one. So it
+     * shows whether a clock has run ahead.
+     */
     public long moment() {
         return call(Native::moment, (what, a, b) -> a);
     }
 
-    /** {@return the moment before which no tick triggers a checkpoint; calls move it} */
+    /**
+     * The moment from which neither the interval nor the pause holds a checkpoint back. No tick before it triggers one. A tick at it or later
+     * triggers one, with three exceptions: as many are pending as may be, the job is not running, or so many checkpoints expire in the tick
+     * that the job fails over. A call that triggers, completes, restores or configures may move this moment, so read it again after a call.
+     */
     public long due() {
         return call(Native::due, (what, a, b) -> a);
     }
 
-    /** {@return the moment from which a pending record is expired; empty if none is pending} */
+    /**
+     * The moment from which a pending record is expired. A tick at that moment drops the record. None if no record is pending. Visits each
+     * pending record.
+     */
     public OptionalLong oldestExpiry() {
         return call(Native::oldestExpiry, (what, a, b) -> what == Header.EXPIRES ? OptionalLong.of(a) : OptionalLong.empty());
     }
+
+    /** The record that a restore of the latest would begin from. */
+    public Optional<Chosen> choice() {
+        return call(Native::choice, (what, a, b) -> Chosen.of(what, a));
+    }
+
+    /** The live record at this place, from 0, in order of their numbers; none past the last. The time grows with the place. */
+    public Optional<Live> live(long place) {
+        return call((at, out) -> Native.live(at, place, out), Live::of);
+    }
+
+    /** How many subtasks of this record have not acknowledged. None if no record with this number is pending. */
+    public OptionalLong missing(long id) {
+        return call((at, out) -> Native.missing(at, id, out), (what, a, b) -> what == Header.MISSING ? OptionalLong.of(a) : OptionalLong.empty());
+    }
+
+    /**
+     * The live record with the least number that is at least id; none if there is none. To visit all live records, begin with 0, and go on
+     * with the returned number plus 1. A binary search. Takes no memory.
+     */
+    public Optional<Live> liveFrom(long id) {
+        return call((at, out) -> Native.liveFrom(at, id, out), Live::of);
+    }
+
+    /**
+     * Whether the record with this number is pending, done or ended, or no record has had the number. A binary search. Takes no memory.
+     */
+    public Standing standing(long id) {
+        return call((at, out) -> Native.standing(at, id, out), (what, a, b) -> Standing.of(what));
+    }
+
+    /**
+     * The file at this place, from 0, among those that wait for deletion. The next to be fetched is the first. None past the last. Takes
+     * constant time and no memory.
+     */
+    public OptionalLong waitingFile(long place) {
+        return call((at, out) -> Native.waitingFile(at, place, out), (what, a, b) -> what == Header.WAITING ? OptionalLong.of(a) : OptionalLong.empty());
+    }
+
+    /**
+     * The files that the subtask vertex.index acknowledged in the live record id, in ascending order. None if it has not acknowledged in one.
+     */
+    public Optional<long[]> filesOf(long id, int vertex, int index) {
+        Checks.subtask(vertex, index);
+        return files((at, files, out) -> Native.filesOf(at, id, vertex, index, files, out));
+    }
+
+    /**
+     * The files that the pending record id pins, in ascending order: the files of the record that a restart would have begun from at its
+     * trigger. None if no record with this number is pending.
+     */
+    public long[] pinsOf(long id) {
+        return files((at, files, out) -> Native.pinsOf(at, id, files, out)).orElseThrow();
+    }
+
+    /** The files that were fetched for deletion and are not yet reported, in ascending order. */
+    public long[] takenFiles() {
+        return files(Native::takenFiles).orElseThrow();
+    }
+    // bindings/generate: end
 
     /**
      * The moment of the next tick after a tick, unless another call comes first: when a checkpoint is due or a pending record expires. While
@@ -98,52 +169,6 @@ abstract sealed class Reads permits Coordinator {
             OptionalLong expiry = oldestExpiry();
             return ticked instanceof Reply.HeldAtOnce ? expiry : OptionalLong.of(Math.min(due(), expiry.orElse(Long.MAX_VALUE)));
         });
-    }
-
-    /** {@return the record that a restore of the latest would begin from; empty if it would begin from nothing} */
-    public Optional<Chosen> choice() {
-        return call(Native::choice, (what, a, b) -> Chosen.of(what, a));
-    }
-
-    /** {@return the live record at a place, in order of their numbers; empty past the last} Its time grows with the place. */
-    public Optional<Live> live(long place) {
-        return call((at, out) -> Native.live(at, place, out), Live::of);
-    }
-
-    /** {@return the live record with the least number that is at least this one; empty if there is none} */
-    public Optional<Live> liveFrom(long id) {
-        return call((at, out) -> Native.liveFrom(at, id, out), Live::of);
-    }
-
-    /** {@return what a number is} */
-    public Standing standing(long id) {
-        return call((at, out) -> Native.standing(at, id, out), (what, a, b) -> Standing.of(what));
-    }
-
-    /** {@return the files that a subtask acknowledged in a live record, ascending; empty if it has not acknowledged in one} */
-    public Optional<long[]> filesOf(long id, int vertex, int index) {
-        Checks.subtask(vertex, index);
-        return files((at, files, out) -> Native.filesOf(at, id, vertex, index, files, out));
-    }
-
-    /** {@return the files that a pending record keeps beside those of its acknowledgements, ascending} */
-    public long[] pinsOf(long id) {
-        return files((at, files, out) -> Native.pinsOf(at, id, files, out)).orElseThrow();
-    }
-
-    /** {@return the files that were fetched and are not yet reported, ascending} */
-    public long[] takenFiles() {
-        return files(Native::takenFiles).orElseThrow();
-    }
-
-    /** {@return the file at a place among those that wait for deletion, the next to be fetched first; empty past the last} */
-    public OptionalLong waitingFile(long place) {
-        return call((at, out) -> Native.waitingFile(at, place, out), (what, a, b) -> what == Header.WAITING ? OptionalLong.of(a) : OptionalLong.empty());
-    }
-
-    /** {@return how many subtasks of a record have not acknowledged; empty if no record with this number is pending} */
-    public OptionalLong missing(long id) {
-        return call((at, out) -> Native.missing(at, id, out), (what, a, b) -> what == Header.MISSING ? OptionalLong.of(a) : OptionalLong.empty());
     }
 
     /**

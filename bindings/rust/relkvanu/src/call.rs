@@ -91,7 +91,7 @@ impl CallKind {
 /// A call for a log. Its line reads back as this call. A term is at least 1: 0 stands for none.
 #[derive(Clone, Copy, Debug, PartialEq, Eq, Hash)]
 pub enum Call<'a> {
-    // bindings/generate makes the calls of one number
+    // bindings/generate makes the calls
     Tick {
         now: u64,
     },
@@ -113,14 +113,13 @@ pub enum Call<'a> {
     Count {
         file: u64,
     },
-    /// From this call on the job gives out names, from this one on.
     Fence {
         first_name: u64,
     },
     Trigger {
         now: u64,
     },
-    // bindings/generate: end
+    /// The subtask vertex.index has taken its part of record id.
     Ack {
         now: u64,
         id: u64,
@@ -128,11 +127,48 @@ pub enum Call<'a> {
         fresh: &'a [u64],
         reused: &'a [u64],
     },
+    /// The subtask vertex.index could not take its part of record id.
     Decline {
         now: u64,
         id: u64,
         subtask: (u16, u16),
     },
+    /// A task of this term reserves names for files that it will write, 1 to 65536 of them.
+    Reserve {
+        term: u64,
+        count: u64,
+    },
+    /// A task of this term gives up names that it will not acknowledge, such as those of a failed upload: their files are garbage
+    /// then.
+    Forfeit {
+        term: u64,
+        names: &'a [u64],
+    },
+    /// Begins a job again that goes on from an older image or log, such as one that was restored from a backup: restore of the
+    /// latest, in the shape that the job has, in a term above term, the greatest that any task was told, and with names from
+    /// first_name on, 1 to 2^62, above each that was given out.
+    Advance {
+        now: u64,
+        term: u64,
+        first_name: u64,
+    },
+    /// ack of a task of this term.
+    AckIn {
+        term: u64,
+        now: u64,
+        id: u64,
+        subtask: (u16, u16),
+        fresh: &'a [u64],
+        reused: &'a [u64],
+    },
+    /// decline of a task of this term.
+    DeclineIn {
+        term: u64,
+        now: u64,
+        id: u64,
+        subtask: (u16, u16),
+    },
+    // bindings/generate: end
     Restore {
         now: u64,
         savepoint: Option<NonZeroU64>,
@@ -148,39 +184,6 @@ pub enum Call<'a> {
     },
     Show {
         id: u64,
-    },
-    /// A task of this term reserves so many names.
-    Reserve {
-        term: u64,
-        count: u64,
-    },
-    /// A task of this term gives up names.
-    Forfeit {
-        term: u64,
-        names: &'a [u64],
-    },
-    /// The job begins again in a term above this one, which is the greatest that any task was told. Names are given out
-    /// from `first_name` on.
-    Advance {
-        now: u64,
-        term: u64,
-        first_name: u64,
-    },
-    /// The acknowledgement of a task of this term.
-    AckIn {
-        term: u64,
-        now: u64,
-        id: u64,
-        subtask: (u16, u16),
-        fresh: &'a [u64],
-        reused: &'a [u64],
-    },
-    /// The decline of a task of this term.
-    DeclineIn {
-        term: u64,
-        now: u64,
-        id: u64,
-        subtask: (u16, u16),
     },
 }
 
@@ -234,7 +237,7 @@ impl<'a> Call<'a> {
         let &sys::relkvanu_call { kind, vertex, index, now, number, term } = call;
         let subtask = (vertex, index);
         Some(match CallKind::of(kind) {
-            // bindings/generate makes what reads the calls of one number
+            // bindings/generate makes what reads the calls
             CallKind::Tick => Call::Tick { now },
             CallKind::Savepoint => Call::Savepoint { now },
             CallKind::Dispose => Call::Dispose { id: number },
@@ -244,18 +247,18 @@ impl<'a> Call<'a> {
             CallKind::Count => Call::Count { file: number },
             CallKind::Fence => Call::Fence { first_name: number },
             CallKind::Trigger => Call::Trigger { now },
-            // bindings/generate: end
             CallKind::Ack => Call::Ack { now, id: number, subtask, fresh: first, reused: second },
             CallKind::Decline => Call::Decline { now, id: number, subtask },
+            CallKind::Reserve => Call::Reserve { term, count: number },
+            CallKind::Forfeit => Call::Forfeit { term, names: first },
+            CallKind::Advance => Call::Advance { now, term, first_name: number },
+            // bindings/generate: end
             CallKind::Restore => {
                 Call::Restore { now, savepoint: NonZeroU64::new(number), shape: (!first.is_empty()).then_some(first) }
             }
             CallKind::Configure => Call::Configure { now, settings: first },
             CallKind::Take => Call::Take { most: number },
             CallKind::Show => Call::Show { id: number },
-            CallKind::Reserve => Call::Reserve { term, count: number },
-            CallKind::Forfeit => Call::Forfeit { term, names: first },
-            CallKind::Advance => Call::Advance { now, term, first_name: number },
             CallKind::Unknown(_) => return None,
         })
     }
@@ -290,38 +293,51 @@ impl<'a> Call<'a> {
     }
 
     pub(crate) fn fields(&self) -> sys::relkvanu_call {
-        let of = |kind: CallKind, now, number| {
+        let of = |kind: CallKind| {
             let kind = kind.number();
-            sys::relkvanu_call { kind, vertex: 0, index: 0, now, number, term: 0 }
+            sys::relkvanu_call { kind, vertex: 0, index: 0, now: 0, number: 0, term: 0 }
         };
-        let part = |kind, now, number, (vertex, index)| {
-            let call = of(kind, now, number);
-            sys::relkvanu_call { vertex, index, ..call }
-        };
-        let in_term = |term, call| sys::relkvanu_call { term, ..call };
         match *self {
-            // bindings/generate makes what writes the calls of one number
-            Call::Tick { now } => of(CallKind::Tick, now, 0),
-            Call::Savepoint { now } => of(CallKind::Savepoint, now, 0),
-            Call::Dispose { id } => of(CallKind::Dispose, 0, id),
-            Call::Cancel { now } => of(CallKind::Cancel, now, 0),
-            Call::Deleted { file } => of(CallKind::Deleted, 0, file),
-            Call::Undeleted { file } => of(CallKind::Undeleted, 0, file),
-            Call::Count { file } => of(CallKind::Count, 0, file),
-            Call::Fence { first_name } => of(CallKind::Fence, 0, first_name),
-            Call::Trigger { now } => of(CallKind::Trigger, now, 0),
+            // bindings/generate makes what writes the calls
+            Call::Tick { now } => sys::relkvanu_call { now, ..of(CallKind::Tick) },
+            Call::Savepoint { now } => sys::relkvanu_call { now, ..of(CallKind::Savepoint) },
+            Call::Dispose { id } => sys::relkvanu_call { number: id, ..of(CallKind::Dispose) },
+            Call::Cancel { now } => sys::relkvanu_call { now, ..of(CallKind::Cancel) },
+            Call::Deleted { file } => sys::relkvanu_call { number: file, ..of(CallKind::Deleted) },
+            Call::Undeleted { file } => sys::relkvanu_call { number: file, ..of(CallKind::Undeleted) },
+            Call::Count { file } => sys::relkvanu_call { number: file, ..of(CallKind::Count) },
+            Call::Fence { first_name } => sys::relkvanu_call { number: first_name, ..of(CallKind::Fence) },
+            Call::Trigger { now } => sys::relkvanu_call { now, ..of(CallKind::Trigger) },
+            Call::Ack { now, id, subtask, .. } => {
+                sys::relkvanu_call { now, number: id, vertex: subtask.0, index: subtask.1, ..of(CallKind::Ack) }
+            }
+            Call::Decline { now, id, subtask } => {
+                sys::relkvanu_call { now, number: id, vertex: subtask.0, index: subtask.1, ..of(CallKind::Decline) }
+            }
+            Call::Reserve { term, count } => sys::relkvanu_call { term, number: count, ..of(CallKind::Reserve) },
+            Call::Forfeit { term, .. } => sys::relkvanu_call { term, ..of(CallKind::Forfeit) },
+            Call::Advance { now, term, first_name } => {
+                sys::relkvanu_call { now, term, number: first_name, ..of(CallKind::Advance) }
+            }
+            Call::AckIn { term, now, id, subtask, .. } => {
+                sys::relkvanu_call { term, now, number: id, vertex: subtask.0, index: subtask.1, ..of(CallKind::Ack) }
+            }
+            Call::DeclineIn { term, now, id, subtask } => sys::relkvanu_call {
+                term,
+                now,
+                number: id,
+                vertex: subtask.0,
+                index: subtask.1,
+                ..of(CallKind::Decline)
+            },
             // bindings/generate: end
-            Call::Ack { now, id, subtask, .. } => part(CallKind::Ack, now, id, subtask),
-            Call::Decline { now, id, subtask } => part(CallKind::Decline, now, id, subtask),
-            Call::Restore { now, savepoint, .. } => of(CallKind::Restore, now, savepoint.map_or(0, NonZeroU64::get)),
-            Call::Configure { now, .. } => of(CallKind::Configure, now, 0),
-            Call::Take { most } => of(CallKind::Take, 0, most),
-            Call::Show { id } => of(CallKind::Show, 0, id),
-            Call::Reserve { term, count } => in_term(term, of(CallKind::Reserve, 0, count)),
-            Call::Forfeit { term, .. } => in_term(term, of(CallKind::Forfeit, 0, 0)),
-            Call::Advance { now, term, first_name } => in_term(term, of(CallKind::Advance, now, first_name)),
-            Call::AckIn { term, now, id, subtask, .. } => in_term(term, part(CallKind::Ack, now, id, subtask)),
-            Call::DeclineIn { term, now, id, subtask } => in_term(term, part(CallKind::Decline, now, id, subtask)),
+            Call::Restore { now, savepoint, .. } => {
+                let number = savepoint.map_or(0, NonZeroU64::get);
+                sys::relkvanu_call { now, number, ..of(CallKind::Restore) }
+            }
+            Call::Configure { now, .. } => sys::relkvanu_call { now, ..of(CallKind::Configure) },
+            Call::Take { most } => sys::relkvanu_call { number: most, ..of(CallKind::Take) },
+            Call::Show { id } => sys::relkvanu_call { number: id, ..of(CallKind::Show) },
         }
     }
 }

@@ -218,21 +218,21 @@ impl Coordinator {
     }
 
     // bindings/generate makes the calls of one number
-    /// Time has passed: records past their timeout expire, and a checkpoint is triggered if one is due.
+    /// Time has passed: records that are too old expire, and a checkpoint is triggered if one is due.
     pub fn tick(&mut self, now: u64) -> Called {
         self.check_moment(now)?;
         // SAFETY: the handle is as the library last left it, and `&mut self` keeps other calls away.
         called(unsafe { sys::relkvanu_tick(self.handle(), now) })
     }
 
-    /// A user wants a savepoint.
+    /// Triggers a savepoint. At most 1000 savepoints are pending or done.
     pub fn savepoint(&mut self, now: u64) -> Called {
         self.check_moment(now)?;
         // SAFETY: as in `tick`.
         called(unsafe { sys::relkvanu_savepoint(self.handle(), now) })
     }
 
-    /// A user disposes of a completed savepoint.
+    /// A user disposes of the completed savepoint id.
     pub fn dispose(&mut self, id: u64) -> Called {
         // SAFETY: as in `tick`.
         called(unsafe { sys::relkvanu_dispose(self.handle(), id) })
@@ -245,13 +245,13 @@ impl Coordinator {
         called(unsafe { sys::relkvanu_cancel(self.handle(), now) })
     }
 
-    /// A fetched file is deleted.
+    /// A fetched file is deleted: the coordinator forgets it.
     pub fn deleted(&mut self, file: u64) -> Called {
         // SAFETY: as in `tick`.
         called(unsafe { sys::relkvanu_deleted(self.handle(), file) })
     }
 
-    /// A fetched file could not be deleted: it waits again.
+    /// A fetched file could not be deleted: it waits again, behind all others.
     pub fn undeleted(&mut self, file: u64) -> Called {
         // SAFETY: as in `tick`.
         called(unsafe { sys::relkvanu_undeleted(self.handle(), file) })
@@ -266,30 +266,86 @@ impl Coordinator {
     }
     // bindings/generate: end
 
-    /// The acknowledgement of a subtask, which is a vertex and an index. It wrote the fresh files, and names the reused
-    /// ones again. The files may come in any order, at most 4096 in all.
-    ///
-    /// If it is accepted, the fresh files belong to the coordinator. Otherwise the task deletes a file only if no
-    /// accepted acknowledgement ever named it. So it deletes none after
-    /// [`AlreadyAcknowledged`](crate::Refusal::AlreadyAcknowledged), the answer to a repeat. After
-    /// [`NameTaken`](crate::Refusal::NameTaken) it deletes no file that it named before.
+    // bindings/generate makes the calls of tasks
+    /// The subtask vertex.index has taken its part of record id. fresh has the files that it wrote. reused has files of earlier
+    /// records that it uses again. Both may be in any order, with at most 4096 files together. After a refusal the task must not
+    /// delete a file that an accepted acknowledgement ever named.
     pub fn ack(&mut self, now: u64, id: u64, subtask: (u16, u16), fresh: &[u64], reused: &[u64]) -> Called {
         self.check_moment(now)?;
-        let ((vertex, index), (fresh, len), (reused, count)) = (subtask, parts(fresh), parts(reused));
         // SAFETY: as in `tick`; the slices outlive the call, which keeps none of them.
-        called(unsafe { sys::relkvanu_ack(self.handle(), now, id, vertex, index, fresh, len, reused, count) })
+        called(unsafe {
+            sys::relkvanu_ack(
+                self.handle(),
+                now,
+                id,
+                subtask.0,
+                subtask.1,
+                fresh.as_ptr(),
+                fresh.len(),
+                reused.as_ptr(),
+                reused.len(),
+            )
+        })
     }
 
-    /// [`ack`](Self::ack) of the record that a task has [cut](crate::Aligner).
-    pub fn ack_cut(&mut self, now: u64, cut: &Cut, subtask: (u16, u16), fresh: &[u64], reused: &[u64]) -> Called {
-        self.ack(now, cut.id(), subtask, fresh, reused)
-    }
-
-    /// A subtask can't take its part of a record. The job may then fail over.
+    /// The subtask vertex.index could not take its part of record id.
     pub fn decline(&mut self, now: u64, id: u64, subtask: (u16, u16)) -> Called {
         self.check_moment(now)?;
         // SAFETY: as in `tick`.
         called(unsafe { sys::relkvanu_decline(self.handle(), now, id, subtask.0, subtask.1) })
+    }
+
+    /// Begins a job again that goes on from an older image or log, such as one that was restored from a backup: restore of the
+    /// latest, in the shape that the job has, in a term above term, the greatest that any task was told, and with names from
+    /// first_name on, 1 to 2^62, above each that was given out. A smaller term and a smaller first_name lower nothing. Names that
+    /// are passed over are garbage, unless the handle's records use them. Make this call before any other of such a job.
+    /// docs/RULES.md, section 13, says what it is for.
+    pub fn advance(&mut self, now: u64, term: u64, first_name: u64) -> Called {
+        self.check_moment(now)?;
+        // SAFETY: as in `tick`.
+        called(unsafe { sys::relkvanu_advance(self.handle(), now, term, first_name) })
+    }
+
+    /// ack of a task of this term. An accepted acknowledgement spends the names of its fresh files. So a task does not delete a
+    /// file for Spent.
+    pub fn ack_in(
+        &mut self,
+        term: u64,
+        now: u64,
+        id: u64,
+        subtask: (u16, u16),
+        fresh: &[u64],
+        reused: &[u64],
+    ) -> Called {
+        self.check_moment(now)?;
+        // SAFETY: as in `tick`; the slices outlive the call, which keeps none of them.
+        called(unsafe {
+            sys::relkvanu_ack_in(
+                self.handle(),
+                term,
+                now,
+                id,
+                subtask.0,
+                subtask.1,
+                fresh.as_ptr(),
+                fresh.len(),
+                reused.as_ptr(),
+                reused.len(),
+            )
+        })
+    }
+
+    /// decline of a task of this term.
+    pub fn decline_in(&mut self, term: u64, now: u64, id: u64, subtask: (u16, u16)) -> Called {
+        self.check_moment(now)?;
+        // SAFETY: as in `tick`.
+        called(unsafe { sys::relkvanu_decline_in(self.handle(), term, now, id, subtask.0, subtask.1) })
+    }
+    // bindings/generate: end
+
+    /// [`ack`](Self::ack) of the record that a task has [cut](crate::Aligner).
+    pub fn ack_cut(&mut self, now: u64, cut: &Cut, subtask: (u16, u16), fresh: &[u64], reused: &[u64]) -> Called {
+        self.ack(now, cut.id(), subtask, fresh, reused)
     }
 
     /// Restores the job from a savepoint, or from the latest record if `None` is given. `shape` may give a new shape.
@@ -362,34 +418,6 @@ impl Coordinator {
         reply(told, sys::RELKVANU_FORFEITED).map(|_| ())
     }
 
-    /// Restores a job that goes on from an older image, from its latest record, in a term above `term`, the greatest that
-    /// any task was told, and with names from `first_name` on, above each that was given out. It is the first call of such
-    /// a job.
-    pub fn advance(&mut self, now: u64, term: u64, first_name: u64) -> Called {
-        self.check_moment(now)?;
-        // SAFETY: as in `tick`.
-        called(unsafe { sys::relkvanu_advance(self.handle(), now, term, first_name) })
-    }
-
-    /// [`ack`](Self::ack) of a task of this term. If it is accepted, it spends the names of the fresh files.
-    ///
-    /// The same acknowledgement once more is refused as [`Spent`](crate::Fenced::Spent), if it has fresh files: a task deletes no
-    /// file for that answer.
-    pub fn ack_in(
-        &mut self,
-        term: u64,
-        now: u64,
-        id: u64,
-        subtask: (u16, u16),
-        fresh: &[u64],
-        reused: &[u64],
-    ) -> Called {
-        self.check_moment(now)?;
-        let ((vertex, index), (fresh, len), (reused, count)) = (subtask, parts(fresh), parts(reused));
-        // SAFETY: as in `tick`; the slices outlive the call, which keeps none of them.
-        called(unsafe { sys::relkvanu_ack_in(self.handle(), term, now, id, vertex, index, fresh, len, reused, count) })
-    }
-
     /// [`ack_in`](Self::ack_in) of the record that a task has [cut](crate::Aligner).
     pub fn ack_cut_in(
         &mut self,
@@ -401,13 +429,6 @@ impl Coordinator {
         reused: &[u64],
     ) -> Called {
         self.ack_in(term, now, cut.id(), subtask, fresh, reused)
-    }
-
-    /// [`decline`](Self::decline) of a task of this term.
-    pub fn decline_in(&mut self, term: u64, now: u64, id: u64, subtask: (u16, u16)) -> Called {
-        self.check_moment(now)?;
-        // SAFETY: as in `tick`.
-        called(unsafe { sys::relkvanu_decline_in(self.handle(), term, now, id, subtask.0, subtask.1) })
     }
 
     /// Of these files, in their order: those that are garbage, which may be deleted at any time, also while tasks run; and those
@@ -457,26 +478,100 @@ impl Coordinator {
         called(unsafe { sys::relkvanu_count(self.read_handle(), file) })
     }
 
+    // bindings/generate makes the reads
     /// What the job is doing.
     pub fn mode(&self) -> Mode {
         // SAFETY: as in `count`.
         Mode::of(read(unsafe { sys::relkvanu_mode(self.read_handle()) }).what)
     }
 
-    /// The greatest moment that the coordinator has seen, at its opening or in an accepted call. It takes an earlier
-    /// moment for this one.
+    /// The greatest moment that the coordinator has seen, at its opening or in an accepted call. It takes an earlier moment for
+    /// this one. So it shows whether a clock has run ahead.
     pub fn moment(&self) -> u64 {
         // SAFETY: as in `count`.
         read(unsafe { sys::relkvanu_moment(self.read_handle()) }).a
     }
 
-    /// The moment from which neither the interval nor the pause holds a checkpoint back. No tick before it triggers
-    /// one. From then on a tick triggers one, with three exceptions: the job is not running, as many are pending as may
-    /// be, or so many expire in the tick that the job fails over. Calls move this moment.
+    /// The moment from which neither the interval nor the pause holds a checkpoint back. No tick before it triggers one. A tick
+    /// at it or later triggers one, with three exceptions: as many are pending as may be, the job is not running, or so many
+    /// checkpoints expire in the tick that the job fails over. A call that triggers, completes, restores or configures may move
+    /// this moment, so read it again after a call.
     pub fn due(&self) -> u64 {
         // SAFETY: as in `count`.
         read(unsafe { sys::relkvanu_due(self.read_handle()) }).a
     }
+
+    /// The moment from which a pending record is expired. A tick at that moment drops the record. None if no record is pending.
+    /// Visits each pending record.
+    pub fn oldest_expiry(&self) -> Option<u64> {
+        // SAFETY: as in `count`.
+        number_of(unsafe { sys::relkvanu_oldest_expiry(self.read_handle()) }, sys::RELKVANU_EXPIRES)
+    }
+
+    /// The record that a restore of the latest would begin from.
+    pub fn choice(&self) -> Choice {
+        // SAFETY: as in `count`.
+        answer::choice(read(unsafe { sys::relkvanu_choice(self.read_handle()) }))
+    }
+
+    /// The live record at this place, from 0, in order of their numbers; none past the last. The time grows with the place.
+    pub fn live(&self, place: usize) -> Option<Live> {
+        // SAFETY: as in `count`.
+        answer::live(read(unsafe { sys::relkvanu_live(self.read_handle(), place) }))
+    }
+
+    /// How many subtasks of this record have not acknowledged. None if no record with this number is pending.
+    pub fn missing(&self, id: u64) -> Option<u64> {
+        // SAFETY: as in `count`.
+        number_of(unsafe { sys::relkvanu_missing(self.read_handle(), id) }, sys::RELKVANU_MISSING)
+    }
+
+    /// The live record with the least number that is at least id; none if there is none. To visit all live records, begin with 0,
+    /// and go on with the returned number plus 1. A binary search. Takes no memory.
+    pub fn live_from(&self, id: u64) -> Option<Live> {
+        // SAFETY: as in `count`.
+        answer::live(read(unsafe { sys::relkvanu_live_from(self.read_handle(), id) }))
+    }
+
+    /// Whether the record with this number is pending, done or ended, or no record has had the number. A binary search. Takes no
+    /// memory.
+    pub fn standing(&self, id: u64) -> Standing {
+        // SAFETY: as in `count`.
+        Standing::of(read(unsafe { sys::relkvanu_standing(self.read_handle(), id) }).what)
+    }
+
+    /// The file at this place, from 0, among those that wait for deletion. The next to be fetched is the first. None past the
+    /// last. Takes constant time and no memory.
+    pub fn waiting_file(&self, place: usize) -> Option<u64> {
+        // SAFETY: as in `count`.
+        number_of(unsafe { sys::relkvanu_waiting_file(self.read_handle(), place) }, sys::RELKVANU_WAITING)
+    }
+
+    /// The files that the subtask vertex.index acknowledged in the live record id, in ascending order. None if it has not
+    /// acknowledged in one.
+    pub fn files_of(&self, id: u64, subtask: (u16, u16)) -> Option<Vec<u64>> {
+        // SAFETY: as in `count`; the buffer has as many places as is said.
+        files(|to| unsafe {
+            sys::relkvanu_files_of(self.read_handle(), id, subtask.0, subtask.1, to.as_mut_ptr(), to.len())
+        })
+        .expect("a read that takes no memory")
+    }
+
+    /// The files that the pending record id pins, in ascending order: the files of the record that a restart would have begun
+    /// from at its trigger. None if no record with this number is pending.
+    pub fn pins_of(&self, id: u64) -> Result<Vec<u64>, Fault> {
+        // SAFETY: as in `count`; the buffer has as many places as is said.
+        files(|to| unsafe { sys::relkvanu_pins_of(self.read_handle(), id, to.as_mut_ptr(), to.len()) })
+            .map(Option::unwrap_or_default)
+    }
+
+    /// The files that were fetched for deletion and are not yet reported, in ascending order.
+    pub fn taken_files(&self) -> Result<Vec<u64>, Fault> {
+        // SAFETY: as in `count`; the buffer has as many places as is said.
+        files(|to| unsafe { sys::relkvanu_taken_files(self.read_handle(), to.as_mut_ptr(), to.len()) })
+            .map(Option::unwrap_or_default)
+    }
+    // bindings/generate: end
 
     /// The moment of the next tick after a tick with this answer, unless another call comes first: when a checkpoint is
     /// due or a pending record expires. While as many are pending as may be, it is the expiry, because `due` has
@@ -493,78 +588,6 @@ impl Coordinator {
         }
     }
 
-    /// The moment from which a pending record is expired, or `None` if none is pending.
-    pub fn oldest_expiry(&self) -> Option<u64> {
-        // SAFETY: as in `count`.
-        let told = read(unsafe { sys::relkvanu_oldest_expiry(self.read_handle()) });
-        (told.what == sys::RELKVANU_EXPIRES).then_some(told.a)
-    }
-
-    /// The record that a restore of the latest would begin from.
-    pub fn choice(&self) -> Choice {
-        // SAFETY: as in `count`.
-        answer::choice(read(unsafe { sys::relkvanu_choice(self.read_handle()) }))
-    }
-
-    /// The live record at this place, from 0, in order of their numbers, or `None` past the last. Its time grows with
-    /// the place.
-    pub fn live(&self, place: usize) -> Option<Live> {
-        // SAFETY: as in `count`.
-        answer::live(read(unsafe { sys::relkvanu_live(self.read_handle(), place) }))
-    }
-
-    /// The live record with the least number that is at least `id`, or `None`. Makes a binary search.
-    pub fn live_from(&self, id: u64) -> Option<Live> {
-        // SAFETY: as in `count`.
-        answer::live(read(unsafe { sys::relkvanu_live_from(self.read_handle(), id) }))
-    }
-
-    /// Whether the record with this number is pending, done or ended, or no record has had the number. Makes a binary
-    /// search.
-    pub fn standing(&self, id: u64) -> Standing {
-        // SAFETY: as in `count`.
-        Standing::of(read(unsafe { sys::relkvanu_standing(self.read_handle(), id) }).what)
-    }
-
-    /// The files that a subtask acknowledged in a live record, ascending, or `None` if it has not acknowledged in one.
-    pub fn files_of(&self, id: u64, subtask: (u16, u16)) -> Option<Vec<u64>> {
-        // SAFETY: as in `count`; the buffer has as many places as is said.
-        let told = files(|buffer| unsafe {
-            sys::relkvanu_files_of(self.read_handle(), id, subtask.0, subtask.1, buffer.as_mut_ptr(), buffer.len())
-        });
-        told.expect("a read that takes no memory")
-    }
-
-    /// The files that a pending record pins, ascending. Takes memory in the library.
-    pub fn pins_of(&self, id: u64) -> Result<Vec<u64>, Fault> {
-        // SAFETY: as in `files_of`.
-        let told =
-            files(|buffer| unsafe { sys::relkvanu_pins_of(self.read_handle(), id, buffer.as_mut_ptr(), buffer.len()) });
-        told.map(Option::unwrap_or_default)
-    }
-
-    /// The file at this place among those that wait for deletion, the next to be fetched first, or `None` past the last.
-    pub fn waiting_file(&self, place: usize) -> Option<u64> {
-        // SAFETY: as in `count`.
-        let told = read(unsafe { sys::relkvanu_waiting_file(self.read_handle(), place) });
-        (told.what == sys::RELKVANU_WAITING).then_some(told.a)
-    }
-
-    /// The files that were fetched and are not yet reported, ascending. Takes memory in the library.
-    pub fn taken_files(&self) -> Result<Vec<u64>, Fault> {
-        // SAFETY: as in `files_of`.
-        let told =
-            files(|buffer| unsafe { sys::relkvanu_taken_files(self.read_handle(), buffer.as_mut_ptr(), buffer.len()) });
-        told.map(Option::unwrap_or_default)
-    }
-
-    /// How many subtasks of this record have not acknowledged, or `None` if no record with this number is pending.
-    pub fn missing(&self, id: u64) -> Option<u64> {
-        // SAFETY: as in `count`.
-        let told = read(unsafe { sys::relkvanu_missing(self.read_handle(), id) });
-        (told.what == sys::RELKVANU_MISSING).then_some(told.a)
-    }
-
     /// How many files are in use by live records, wait for deletion, and were fetched for deletion.
     pub fn file_counts(&self) -> FileCounts {
         // SAFETY: as in `count`.
@@ -577,6 +600,12 @@ impl Coordinator {
 fn read(told: sys::relkvanu_answer) -> sys::relkvanu_answer {
     assert_eq!(told.code, sys::RELKVANU_DONE, "the handle is open");
     told
+}
+
+/// The number of an answer, if it is this one.
+fn number_of(told: sys::relkvanu_answer, what: u32) -> Option<u64> {
+    let told = read(told);
+    (told.what == what).then_some(told.a)
 }
 
 /// The files that are written into a buffer.
