@@ -21,6 +21,8 @@
 
 namespace ckpt {
 
+/* clang-format off */
+/* bindings/generate makes the errors of a storage */
 enum class storage_error : int {
     bad_argument = RELKVANU_STORAGE_BAD_ARGUMENT,
     no_memory = RELKVANU_STORAGE_NO_MEMORY,
@@ -33,24 +35,28 @@ enum class storage_error : int {
     failed = RELKVANU_STORAGE_FAILED,
 };
 
+inline const char *message_of(storage_error it) noexcept {
+    switch (it) {
+    case storage_error::bad_argument: return "BadArgument";
+    case storage_error::no_memory: return "NoMemory";
+    case storage_error::not_there: return "NotThere";
+    case storage_error::other_job: return "OtherJob";
+    case storage_error::present: return "Present";
+    case storage_error::absent: return "Absent";
+    case storage_error::not_empty: return "NotEmpty";
+    case storage_error::ended: return "Ended";
+    case storage_error::failed: return "Failed";
+    default: return "unknown";
+    }
+}
+/* bindings/generate: end */
+/* clang-format on */
+
 class storage_category_type final : public std::error_category {
 public:
     const char *name() const noexcept override { return "relkvanu storage"; }
 
-    std::string message(int value) const override {
-        switch (static_cast<storage_error>(value)) {
-        case storage_error::bad_argument: return "BadArgument";
-        case storage_error::no_memory: return "NoMemory";
-        case storage_error::not_there: return "NotThere";
-        case storage_error::other_job: return "OtherJob";
-        case storage_error::present: return "Present";
-        case storage_error::absent: return "Absent";
-        case storage_error::not_empty: return "NotEmpty";
-        case storage_error::ended: return "Ended";
-        case storage_error::failed: return "Failed";
-        default: return "unknown";
-        }
-    }
+    std::string message(int value) const override { return message_of(static_cast<storage_error>(value)); }
 };
 
 inline const std::error_category &storage_category() noexcept {

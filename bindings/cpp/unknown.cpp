@@ -23,35 +23,56 @@ relkvanu_answer relkvanu_open(relkvanu *handle, const relkvanu_settings *, const
     return answer();
 }
 void relkvanu_close(relkvanu *) {}
-/* bindings/generate makes the functions of one number */
-relkvanu_answer relkvanu_tick(relkvanu *, uint64_t) { return answer(); }
-relkvanu_answer relkvanu_savepoint(relkvanu *, uint64_t) { return answer(); }
-relkvanu_answer relkvanu_dispose(relkvanu *, uint64_t) { return answer(); }
-relkvanu_answer relkvanu_cancel(relkvanu *, uint64_t) { return answer(); }
-relkvanu_answer relkvanu_deleted(relkvanu *, uint64_t) { return answer(); }
-relkvanu_answer relkvanu_undeleted(relkvanu *, uint64_t) { return answer(); }
-relkvanu_answer relkvanu_trigger(relkvanu *, uint64_t) { return answer(); }
-/* bindings/generate: end */
+/* bindings/generate makes the functions */
+relkvanu_answer relkvanu_tick(relkvanu *, uint64_t ) { return answer(); }
+relkvanu_answer relkvanu_trigger(relkvanu *, uint64_t ) { return answer(); }
+relkvanu_answer relkvanu_savepoint(relkvanu *, uint64_t ) { return answer(); }
+relkvanu_answer relkvanu_ack(relkvanu *, uint64_t , uint64_t , uint16_t , uint16_t , const uint64_t *, size_t , const uint64_t *, size_t ) { return answer(); }
+relkvanu_answer relkvanu_decline(relkvanu *, uint64_t , uint64_t , uint16_t , uint16_t ) { return answer(); }
+relkvanu_answer relkvanu_dispose(relkvanu *, uint64_t ) { return answer(); }
+relkvanu_answer relkvanu_restore(relkvanu *, uint64_t , uint64_t , const uint64_t *, size_t ) { return answer(); }
+relkvanu_answer relkvanu_cancel(relkvanu *, uint64_t ) { return answer(); }
+relkvanu_answer relkvanu_configure(relkvanu *, uint64_t , const relkvanu_settings *) { return answer(); }
+relkvanu_answer relkvanu_take(relkvanu *, uint64_t *, size_t ) { return answer(); }
+relkvanu_answer relkvanu_deleted(relkvanu *, uint64_t ) { return answer(); }
+relkvanu_answer relkvanu_undeleted(relkvanu *, uint64_t ) { return answer(); }
+relkvanu_answer relkvanu_show(relkvanu *, uint64_t , uint8_t *, size_t ) { return answer(); }
+relkvanu_answer relkvanu_count(relkvanu *, uint64_t ) { return answer(); }
+relkvanu_answer relkvanu_mode(relkvanu *) { return answer(); }
 relkvanu_answer relkvanu_moment(relkvanu *) { return answer(); }
 relkvanu_answer relkvanu_due(relkvanu *) { return answer(); }
 relkvanu_answer relkvanu_oldest_expiry(relkvanu *) { return answer(); }
-relkvanu_answer relkvanu_ack(relkvanu *, uint64_t, uint64_t, uint16_t, uint16_t, const uint64_t *, size_t, const uint64_t *, size_t) { return answer(); }
-relkvanu_answer relkvanu_decline(relkvanu *, uint64_t, uint64_t, uint16_t, uint16_t) { return answer(); }
-relkvanu_answer relkvanu_restore(relkvanu *, uint64_t, uint64_t, const uint64_t *, size_t) { return answer(); }
-relkvanu_answer relkvanu_take(relkvanu *, uint64_t *, size_t) { return answer(); }
-relkvanu_answer relkvanu_mode(relkvanu *) { return answer(); }
 relkvanu_answer relkvanu_choice(relkvanu *) { return answer(); }
-relkvanu_answer relkvanu_live(relkvanu *, size_t) { return answer(); }
-relkvanu_answer relkvanu_live_from(relkvanu *, uint64_t) { return answer(); }
-relkvanu_answer relkvanu_standing(relkvanu *, uint64_t) { return answer(); }
-relkvanu_answer relkvanu_fence(relkvanu *, uint64_t) { return answer(); }
+relkvanu_answer relkvanu_live(relkvanu *, size_t ) { return answer(); }
+relkvanu_answer relkvanu_missing(relkvanu *, uint64_t ) { return answer(); }
+relkvanu_answer relkvanu_line(relkvanu *, const uint8_t *, size_t , uint64_t *, size_t ) { return answer(); }
+relkvanu_answer relkvanu_line_says(const uint8_t *, size_t , uint64_t *, size_t ) { return answer(); }
+relkvanu_answer relkvanu_line_call(const uint8_t *, size_t , relkvanu_call *, uint64_t *, size_t , uint64_t *, size_t ) { return answer(); }
+relkvanu_answer relkvanu_call_line(const relkvanu_call *, const uint64_t *, size_t , const uint64_t *, size_t , uint8_t *, size_t ) { return answer(); }
+relkvanu_answer relkvanu_make(relkvanu *, const relkvanu_call *, const uint64_t *, size_t , const uint64_t *, size_t , uint64_t *, size_t , uint8_t *, size_t , relkvanu_made *) { return answer(); }
+relkvanu_answer relkvanu_opening_lines(const relkvanu_settings *, const uint64_t *, size_t , uint64_t , uint8_t *, size_t ) { return answer(); }
+relkvanu_answer relkvanu_group_make(relkvanu *, relkvanu_group *, relkvanu_answer *, size_t , const relkvanu_call *, const uint64_t *, size_t , const uint64_t *, size_t , uint64_t *, size_t , uint8_t *, size_t , relkvanu_made *) { return answer(); }
+relkvanu_answer relkvanu_group_hold(relkvanu_group *, relkvanu_answer *, size_t , const relkvanu_answer *) { return answer(); }
+relkvanu_answer relkvanu_group_synced(relkvanu_group *) { return answer(); }
+relkvanu_answer relkvanu_group_answer(const relkvanu_group *, const relkvanu_answer *, size_t , uint64_t ) { return answer(); }
+relkvanu_answer relkvanu_save(relkvanu *, uint8_t *, size_t ) { return answer(); }
+relkvanu_answer relkvanu_open_saved(relkvanu *, const uint8_t *, size_t , uint64_t , uint64_t ) { return answer(); }
+relkvanu_answer relkvanu_live_from(relkvanu *, uint64_t ) { return answer(); }
+relkvanu_answer relkvanu_standing(relkvanu *, uint64_t ) { return answer(); }
+relkvanu_answer relkvanu_files_of(relkvanu *, uint64_t , uint16_t , uint16_t , uint64_t *, size_t ) { return answer(); }
+relkvanu_answer relkvanu_pins_of(relkvanu *, uint64_t , uint64_t *, size_t ) { return answer(); }
+relkvanu_answer relkvanu_waiting_file(relkvanu *, size_t ) { return answer(); }
+relkvanu_answer relkvanu_taken_files(relkvanu *, uint64_t *, size_t ) { return answer(); }
+relkvanu_answer relkvanu_open_fenced(relkvanu *, const relkvanu_settings *, const uint64_t *, size_t , uint64_t , uint64_t , uint64_t , uint64_t , uint64_t ) { return answer(); }
+relkvanu_answer relkvanu_fence(relkvanu *, uint64_t ) { return answer(); }
 relkvanu_answer relkvanu_term(relkvanu *) { return answer(); }
-relkvanu_answer relkvanu_reserve(relkvanu *, uint64_t, uint64_t) { return answer(); }
-relkvanu_answer relkvanu_forfeit(relkvanu *, uint64_t, const uint64_t *, size_t) { return answer(); }
-relkvanu_answer relkvanu_advance(relkvanu *, uint64_t, uint64_t, uint64_t) { return answer(); }
-relkvanu_answer relkvanu_ack_in(relkvanu *, uint64_t, uint64_t, uint64_t, uint16_t, uint16_t, const uint64_t *, size_t, const uint64_t *, size_t) { return answer(); }
-relkvanu_answer relkvanu_decline_in(relkvanu *, uint64_t, uint64_t, uint64_t, uint16_t, uint16_t) { return answer(); }
-relkvanu_answer relkvanu_garbage(relkvanu *, const uint64_t *, size_t, uint64_t *, size_t, uint64_t *, size_t) { return answer(); }
+relkvanu_answer relkvanu_reserve(relkvanu *, uint64_t , uint64_t ) { return answer(); }
+relkvanu_answer relkvanu_forfeit(relkvanu *, uint64_t , const uint64_t *, size_t ) { return answer(); }
+relkvanu_answer relkvanu_advance(relkvanu *, uint64_t , uint64_t , uint64_t ) { return answer(); }
+relkvanu_answer relkvanu_ack_in(relkvanu *, uint64_t , uint64_t , uint64_t , uint16_t , uint16_t , const uint64_t *, size_t , const uint64_t *, size_t ) { return answer(); }
+relkvanu_answer relkvanu_decline_in(relkvanu *, uint64_t , uint64_t , uint64_t , uint16_t , uint16_t ) { return answer(); }
+relkvanu_answer relkvanu_garbage(relkvanu *, const uint64_t *, size_t , uint64_t *, size_t , uint64_t *, size_t ) { return answer(); }
+/* bindings/generate: end */
 size_t relkvanu_refusal_text(uint32_t, uint8_t *, size_t) { return 0; }
 /* clang-format on */
 }

@@ -1,9 +1,11 @@
 """The kinds, replies, refusals and faults in C++, for relkvanu.hpp."""
+import pathlib
 import textwrap
 from typing import Dict, List, Optional, Tuple
 
 from generator import calls, header, store
 from generator.calls import Call, Function
+from generator.code_c import c_type
 from generator.header import Enum, Number, camel
 
 # Codes that go before the names of what they have. Any other one has its own name there.
@@ -41,12 +43,13 @@ def messages() -> str:
     return text + '    default: return "unknown";\n    }\n}\n'
 
 
-def store_errors() -> str:
-    """Those of a store: its statuses, and the code of a call that was not made."""
-    found = [it.removeprefix("RELKVANU_STORE_") for it in store.statuses(store.STORE)[1:]] + ["NOT_MADE"]
-    text = "enum class store_error : int {\n" + "".join(f"    {it.lower()} = RELKVANU_STORE_{it},\n" for it in found) + "};\n\n"
-    text += "inline const char *message_of(store_error it) noexcept {\n    switch (it) {\n"
-    return text + "".join(f'    case store_error::{it.lower()}: return "{camel(it)}";\n' for it in found) + '    default: return "unknown";\n    }\n}\n'
+def errors_of_statuses(path: pathlib.Path, *more: str) -> str:
+    """The statuses of a store or a storage but that of success, and more numbers, as errors with messages."""
+    prefix, kind = f"{path.stem.upper()}_", f"{path.stem.removeprefix('relkvanu_')}_error"
+    found = [*(it.removeprefix(prefix) for it in store.statuses(path)[1:]), *more]
+    text = f"enum class {kind} : int {{\n" + "".join(f"    {it.lower()} = {prefix}{it},\n" for it in found) + "};\n\n"
+    text += f"inline const char *message_of({kind} it) noexcept {{\n    switch (it) {{\n"
+    return text + "".join(f'    case {kind}::{it.lower()}: return "{camel(it)}";\n' for it in found) + '    default: return "unknown";\n    }\n}\n'
 
 
 def name(number: Number) -> str:
@@ -176,16 +179,18 @@ def generated() -> Dict[str, Dict[str, str]]:
             "the calls of tasks": "\n".join(task_method(it) for it in calls.of_tasks("reserve", "forfeit")),
             "the reads": "\n".join(look(it) for it in calls.looks()),
         },
-        "relkvanu_store.hpp": {"the errors of a store": store_errors(), "the calls of one number": "\n".join(store_method(it) for it in calls.stored())},
+        "relkvanu_storage.hpp": {"the errors of a storage": errors_of_statuses(store.STORAGE)},
+        "relkvanu_store.hpp": {"the errors of a store": errors_of_statuses(store.STORE, "NOT_MADE"), "the calls of one number": "\n".join(store_method(it) for it in calls.stored())},
     }
 
 
 def of_strangers() -> Dict[str, str]:
     """For bindings/cpp/unknown.cpp: functions whose answers are unknown, and calls of them."""
-    found = calls.plain()
-    functions = [f"relkvanu_answer relkvanu_{it.name}(relkvanu *{', uint64_t' if it.number else ''}) {{ return answer(); }}\n" for it in found]
-    told = [f"!is_unknown(job.{it.name}({'1' if it.number else ''}))" for it in found]
-    return {"the functions of one number": "".join(functions), "the calls of one number": f"    return {' + '.join(told)};\n"}
+    _, declared = header.declarations()
+    answering = {name: it for name, it in declared.items() if header.pointed(it.type)[0] == "relkvanu_answer" and name != "relkvanu_open"}
+    functions = [f"relkvanu_answer {name}({', '.join(c_type(kind) for _, kind in header.parameters(it))}) {{ return answer(); }}\n" for name, it in answering.items()]
+    told = [f"!is_unknown(job.{it.name}({'1' if it.number else ''}))" for it in calls.plain()]
+    return {"the functions": "".join(functions), "the calls of one number": f"    return {' + '.join(told)};\n"}
 
 
 def kinds() -> Dict[str, str]:

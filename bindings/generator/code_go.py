@@ -209,6 +209,15 @@ def listed(declarations: Iterable[str]) -> str:
     return "".join(f"\n{it}" for it in declarations) + "\n"
 
 
+def settings() -> str:
+    """The settings, and what makes them those of C. Fields are named there, because cgo adds one for the padding."""
+    fields = header.settings()
+    text = "// Settings is how a job takes checkpoints.\ntype Settings struct {\n"
+    text += "".join(f"\t{camel(name)} {'bool' if is_flag else 'uint64'} // {told}\n" for name, is_flag, told in fields)
+    text += "}\n\nfunc (s Settings) inC() C.relkvanu_settings {\n\treturn C.relkvanu_settings{\n"
+    return text + "".join(f"\t\t{name}: C.{'bool' if is_flag else 'uint64_t'}(s.{camel(name)}),\n" for name, is_flag, _ in fields) + "\t}\n}\n"
+
+
 def generated() -> Dict[str, Dict[str, str]]:
     """What is made, by file and place."""
     modes, standings, faults, arguments = replies("MODE_", "MODE_"), replies("STANDS_", "STANDS_"), of("line_fault", "Line"), of("argument")
@@ -229,6 +238,7 @@ def generated() -> Dict[str, Dict[str, str]]:
             "the lines of calls of tasks": listed(task_line(it) for it in calls.of_tasks("advance")),
             "the replies to calls of one number": "".join(case(it) for it in plain_replies()),
         },
+        "relkvanu.go": {"the settings": settings()},
         "calls.go": {"the kinds": constants("CallKind", of("call_kind", "Call"))},
         "replies.go": {
             "the ends of ticks": constants("TickEnd", ticks), "the names of ends": named(ticks, ends("TICK_")),

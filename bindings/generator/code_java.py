@@ -401,6 +401,17 @@ def line(call: Call) -> str:
     return f"    /**\n     * {{@return the line of {call.named()}}}\n{number}     */\n" + f"    public static String {java_name(call.name)}({given}) {{\n        return line(Header.{call.kind()}, {passed});\n    }}\n"
 
 
+def changed() -> str:
+    """The settings with another value of each but the first."""
+    text = ""
+    for place, (name, is_flag, told) in enumerate(header.settings()):
+        word, kind = java_name(name), "boolean" if is_flag else "long"
+        text += f"    /** {{@return these settings with another value: {told}}} */\n" if place else ""
+        value = f"{word} ? 1 : 0" if is_flag else word
+        text += f"    public Settings with{header.camel(name)}({kind} {word}) {{\n        return with({place}, {value});\n    }}\n\n" if place else ""
+    return text[:-1]
+
+
 def generated() -> Dict[str, Dict[str, str]]:
     """What is made, by file and place."""
     return {
@@ -409,6 +420,7 @@ def generated() -> Dict[str, Dict[str, str]]:
             "the calls of one number": "\n".join(method(it) for it in calls.plain()),
             "the calls of tasks": "\n".join(task_method(it) for it in calls.of_tasks()),
         },
+        "Settings.java": {"the settings with another value": changed()},
         "Reads.java": {"the reads": "\n".join(look(it) for it in calls.looks())},
         "Lines.java": {"the lines of calls": "\n".join([*(line(it) for it in calls.calls()), *(task_line(it) for it in calls.of_tasks("advance"))])},
     }

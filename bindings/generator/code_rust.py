@@ -265,6 +265,25 @@ def to_task_fields(call: Function) -> str:
     return f"            Call::{camel(call.name)} {{ {pattern} }} => sys::relkvanu_call {{ {call.each(WRITTEN)}, ..of({kind}) }},\n"
 
 
+def settings() -> str:
+    """The settings, and what they are as numbers and in C."""
+    fields = header.settings()
+    names = ", ".join(name for name, _, _ in fields)
+    flags = [name for name, is_flag, _ in fields if is_flag]
+    text = f"/// How a job takes checkpoints.\n{DERIVED}pub struct Settings {{\n"
+    text += "".join(f"    /// {told[0].upper()}{told[1:]}.\n    pub {name}: {'bool' if is_flag else 'u64'},\n" for name, is_flag, told in fields)
+    numbers = ", ".join(f"u64::from({name})" if is_flag else name for name, is_flag, _ in fields)
+    text += f"}}\n\nimpl Settings {{\n    /// The {len(fields)} values in the order of the fields; the last is 0 or 1.\n    pub fn numbers(&self) -> [u64; {len(fields)}] {{\n"
+    text += f"        let Settings {{ {names} }} = *self;\n        [{numbers}]\n    }}\n\n"
+    text += f"    /// The settings of such numbers. `None` if they are not {len(fields)}, or the last is above 1.\n"
+    text += f"    pub fn of_numbers(numbers: &[u64]) -> Option<Settings> {{\n        let &[{names}] = numbers else {{ return None }};\n"
+    made = ", ".join(f"{name}: {name} == 1" if is_flag else name for name, is_flag, _ in fields)
+    text += f"        ({' && '.join(f'{it} <= 1' for it in flags)}).then_some(Settings {{ {made} }})\n    }}\n}}\n\n"
+    for to, of in (("sys::relkvanu_settings", "Settings"), ("Settings", "sys::relkvanu_settings")):
+        text += f"impl From<&{of}> for {to} {{\n    fn from(it: &{of}) -> Self {{\n        let {of} {{ {names} }} = *it;\n        {to} {{ {names} }}\n    }}\n}}\n\n"
+    return text.rstrip() + "\n"
+
+
 def generated() -> Dict[str, Dict[str, str]]:
     """What is made, by file and place."""
     kinds = header.enums()["call_kind"]
@@ -278,6 +297,7 @@ def generated() -> Dict[str, Dict[str, str]]:
             "what writes the calls": "".join([*(to_fields(it) for it in calls.calls()), *(to_task_fields(it) for it in calls.of_tasks())]),
         },
         "coordinator.rs": {
+            "the settings": settings(),
             "the calls of one number": "\n".join(method(it) for it in calls.plain()),
             "the calls of tasks": "\n".join(task_method(it) for it in calls.of_tasks("reserve", "forfeit")),
             "the reads": "\n".join(look(it) for it in calls.looks()),

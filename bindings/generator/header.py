@@ -116,6 +116,12 @@ def enums() -> Dict[str, Enum]:
     return found
 
 
+def settings() -> List[Tuple[str, bool, str]]:
+    """Returns of each field of the settings its name, whether it is yes or no, and what its comment says."""
+    (body,) = re.findall(r"typedef struct \{([^}]*)\} relkvanu_settings;", HEADER.read_text())
+    return [(name, kind == "bool", told) for kind, name, told in re.findall(r"(\w+) (\w+); +/\* (.*?) \*/", body)]
+
+
 def section(condition: str) -> List[str]:
     """Returns the names of the numbers below the comment `what, if` this."""
     (_, below) = HEADER.read_text().split(f"/* what, if {condition}", 1)

@@ -7,7 +7,7 @@ from pycparser import c_ast
 
 from generator import header
 from generator.code_python import entry, filled, python_type, structure
-from generator.code_rust import formatted
+from generator.code_rust import DERIVED, UNKNOWN, formatted
 from generator.header import Number, camel
 
 STORE, STORAGE = (header.TOP / "include" / name for name in ("relkvanu_store.h", "relkvanu_storage.h"))
@@ -181,6 +181,23 @@ SAID = {
 def rust_kinds() -> str:
     names = [it.removeprefix("RELKVANU_STORE_") for it in statuses(STORE)[1:]]
     return "".join((f"    /// {SAID[it]}\n" if it in SAID else "") + f"    {camel(it)} = RELKVANU_STORE_{it},\n" for it in names)
+
+
+def rust_enum(name: str, comment: str, prefix: str, names: str = r"\w+", attribute: str = "") -> str:
+    """An enum of the numbers of the store with these names behind the prefix, with Unknown for each other number."""
+    found = [(it.name, it.comment) for it in of_store().numbers if re.fullmatch(prefix + names, it.name)]
+    members = [(camel(number.removeprefix(prefix)), number, f"    /// {told[0].upper()}{told[1:]}.\n" if told else "") for number, told in found]
+    text = f"/// {comment}\n{DERIVED}{attribute}pub enum {name} {{\n" + "".join(f"{told}    {member},\n" for member, _, told in members) + UNKNOWN
+    text += f"}}\n\nimpl {name} {{\n    fn of(number: u32) -> {name} {{\n        match number {{\n"
+    text += "".join(f"            store::{number} => {name}::{member},\n" for member, number, _ in members)
+    return text + f"            other => {name}::Unknown(other),\n        }}\n    }}\n}}\n"
+
+
+def in_crate() -> Dict[str, Dict[str, str]]:
+    """What is made in the crate, by file and place."""
+    phases = [rust_enum("Phase", "The phase of a job.", "RELKVANU_STORE_PHASE_"), rust_enum("StopFailed", "Why a stop has failed.", "RELKVANU_STORE_STOP_")]
+    ending = rust_enum("Ending", "What became of a record.", "RELKVANU_STORE_", "(COMPLETED|DECLINED|EXPIRED|DROPPED)", "#[non_exhaustive]\n")
+    return {"error.rs": {"the kinds of errors": rust_kinds()}, "phase.rs": {"the phases": "\n".join(phases)}, "whole.rs": {"the endings": ending}}
 
 
 def in_rust() -> Dict[str, str]:

@@ -41,29 +41,36 @@ import (
 	"unsafe"
 )
 
-// Settings is how a job takes checkpoints. Durations are milliseconds.
+// bindings/generate makes the settings
+// Settings is how a job takes checkpoints.
 type Settings struct {
-	Interval     uint64 // 10 to 2^40: between two triggers
-	Pause        uint64 // 0 to 2^40: between a completion and the next trigger
+	Interval     uint64 // 10 to 2^40 ms between two triggers
+	Pause        uint64 // 0 to 2^40 ms between a completion and the next trigger
 	AtOnce       uint64 // 1 to 64 checkpoints that may be pending
-	Timeout      uint64 // 1 to 2^40: after which a pending record expires
+	Timeout      uint64 // 1 to 2^40 ms after which a pending record expires
 	Tolerable    uint64 // 0 to 1000 failed checkpoints in a row
 	Retained     uint64 // 1 to 1000 completed checkpoints to keep
 	KeepOnCancel bool   // whether to keep them when the job is cancelled
 }
 
+func (s Settings) inC() C.relkvanu_settings {
+	return C.relkvanu_settings{
+		interval:       C.uint64_t(s.Interval),
+		pause:          C.uint64_t(s.Pause),
+		at_once:        C.uint64_t(s.AtOnce),
+		timeout:        C.uint64_t(s.Timeout),
+		tolerable:      C.uint64_t(s.Tolerable),
+		retained:       C.uint64_t(s.Retained),
+		keep_on_cancel: C.bool(s.KeepOnCancel),
+	}
+}
+
+// bindings/generate: end
+
 // Every is a checkpoint each interval, with one pending at once, a timeout of ten minutes, no tolerated failure and one retained
 // checkpoint.
 func Every(interval uint64) Settings {
 	return Settings{Interval: interval, AtOnce: 1, Timeout: 600_000, Retained: 1}
-}
-
-// Fields are named, because cgo adds one for the padding.
-func (s Settings) inC() C.relkvanu_settings {
-	return C.relkvanu_settings{
-		interval: C.uint64_t(s.Interval), pause: C.uint64_t(s.Pause), at_once: C.uint64_t(s.AtOnce), timeout: C.uint64_t(s.Timeout),
-		tolerable: C.uint64_t(s.Tolerable), retained: C.uint64_t(s.Retained), keep_on_cancel: C.bool(s.KeepOnCancel),
-	}
 }
 
 // Subtask is one of the parallel tasks of a vertex.

@@ -10,35 +10,37 @@ public record Settings(long interval, long pause, long atOnce, long timeout, lon
         return new Settings(interval, 0, 1, 600_000, 0, 1, false);
     }
 
-    /** {@return these settings with another pause} */
-    public Settings withPause(long millis) {
-        return with(1, millis);
+    // bindings/generate makes the settings with another value
+    /** {@return these settings with another value: 0 to 2^40 ms between a completion and the next trigger} */
+    public Settings withPause(long pause) {
+        return with(1, pause);
     }
 
-    /** {@return these settings with another number of checkpoints that may be pending} */
-    public Settings withAtOnce(long checkpoints) {
-        return with(2, checkpoints);
+    /** {@return these settings with another value: 1 to 64 checkpoints that may be pending} */
+    public Settings withAtOnce(long atOnce) {
+        return with(2, atOnce);
     }
 
-    /** {@return these settings with another timeout} */
-    public Settings withTimeout(long millis) {
-        return with(3, millis);
+    /** {@return these settings with another value: 1 to 2^40 ms after which a pending record expires} */
+    public Settings withTimeout(long timeout) {
+        return with(3, timeout);
     }
 
-    /** {@return these settings with another number of tolerated failures in a row} */
-    public Settings withTolerable(long failures) {
-        return with(4, failures);
+    /** {@return these settings with another value: 0 to 1000 failed checkpoints in a row} */
+    public Settings withTolerable(long tolerable) {
+        return with(4, tolerable);
     }
 
-    /** {@return these settings with another number of completed checkpoints to keep} */
-    public Settings withRetained(long checkpoints) {
-        return with(5, checkpoints);
+    /** {@return these settings with another value: 1 to 1000 completed checkpoints to keep} */
+    public Settings withRetained(long retained) {
+        return with(5, retained);
     }
 
-    /** {@return these settings, which keep the completed checkpoints when the job is cancelled, or do not} */
-    public Settings withKeepOnCancel(boolean isKept) {
-        return with(6, isKept ? 1 : 0);
+    /** {@return these settings with another value: whether to keep them when the job is cancelled} */
+    public Settings withKeepOnCancel(boolean keepOnCancel) {
+        return with(6, keepOnCancel ? 1 : 0);
     }
+    // bindings/generate: end
 
     /** These settings with another value at a place of numbers. */
     private Settings with(int place, long value) {

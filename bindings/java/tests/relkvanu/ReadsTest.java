@@ -8,7 +8,7 @@ import java.util.List;
 import java.util.stream.LongStream;
 import org.junit.jupiter.api.Test;
 
-/** Images, and reads of long lists. LogsTest has what the other reads return. */
+/** Images, and reads of long lists. RowsTest has what the other reads return. */
 class ReadsTest {
     @Test
     void aSavedCoordinatorGoesOn() {

@@ -1,184 +1,132 @@
 package relkvanu;
 
 import java.lang.reflect.InvocationTargetException;
+import java.lang.reflect.Method;
 import java.nio.charset.StandardCharsets;
+import java.util.ArrayList;
 import java.util.Arrays;
+import java.util.List;
 import java.util.Locale;
 import java.util.Optional;
 import java.util.OptionalLong;
 import java.util.stream.Collectors;
-import java.util.stream.LongStream;
+import java.util.stream.Stream;
 
 /** The words of a line that makes a call, read here: makes the call by its method, or writes it again; and those of a read. */
 final class Words {
-    private final String[] words;
+    private final String name; // of the method
+    private final List<String> given;
 
-    private Words(byte[] line) {
-        words = new String(line, StandardCharsets.ISO_8859_1).replaceFirst("\r$", "").replaceFirst("^ +", "").split(" +");
+    private Words(String name, List<String> given) {
+        this.name = name;
+        this.given = given;
     }
 
-    private Words(String[] words) {
-        this.words = words;
-    }
-
-    /** What follows the term of an in line. */
-    private Words inTerm() {
-        return new Words(Arrays.copyOfRange(words, 2, words.length));
-    }
-
-    /** The words, if it makes a call. Throws its fault. */
+    /** The words, if the line makes a call. Throws its fault. */
     private static Optional<Words> of(byte[] line) {
-        return Lines.says(line) instanceof Line.Call ? Optional.of(new Words(line)) : Optional.empty();
+        String text = new String(line, StandardCharsets.ISO_8859_1).replaceFirst("\r$", "").replaceFirst("^ +", "");
+        return Lines.says(line) instanceof Line.Call ? Optional.of(of(List.of(text.split("[ .]+")))) : Optional.empty();
+    }
+
+    /** A call of a term has a method of its own, or is made without it. */
+    private static Words of(List<String> words) {
+        List<String> given = words.subList(1, words.size());
+        return switch (words.get(0)) {
+            case "in" -> {
+                Words call = of(given.subList(1, given.size()));
+                boolean isOfTask = call.name.equals("ack") || call.name.equals("decline");
+                yield isOfTask ? new Words(call.name + "In", Stream.concat(given.stream().limit(1), call.given.stream()).toList()) : call;
+            }
+            case "restore" -> given.get(1).equals("latest")
+                ? new Words("restoreLatest", given.stream().filter(it -> !it.equals("latest")).toList()) : new Words("restoreSavepoint", given);
+            default -> new Words(words.get(0), given);
+        };
     }
 
     static Optional<Reply> byMethod(Coordinator job, byte[] line) {
-        return of(line).map(it -> it.call(job));
+        return of(line).map(it -> (Reply) it.called(Coordinator.class, job));
     }
 
+    /** A line that begins with in and has no use for that, and an advance, have no function that writes them. */
     static Optional<Reply> writtenAgain(Coordinator job, byte[] line) {
-        return of(line).flatMap(it -> job.line(Jobs.line(it.written())));
+        return of(line).flatMap(it -> {
+            boolean isWritten = !it.name.equals("advance") && (it.name.endsWith("In") || !Lines.text(line).startsWith("in "));
+            return job.line(isWritten ? Jobs.line((String) it.called(Lines.class, null)) : line);
+        });
     }
 
-    private long number(int place) {
-        return FileNumbers.parse(words[place]);
-    }
-
-    private int subtask(int half) {
-        return Integer.parseInt(words[3].split("\\.")[half]);
-    }
-
-    private long[] files(String sign) {
-        return Arrays.stream(words).skip(4).filter(it -> it.startsWith(sign)).map(it -> it.substring(1)).mapToLong(FileNumbers::parse).toArray();
-    }
-
-    private long[] shape() {
-        return numbers(3).toArray();
-    }
-
-    private LongStream numbers(int from) {
-        return Arrays.stream(words).skip(from).mapToLong(FileNumbers::parse);
-    }
-
-    /** The call of a task of a term; for another call the plain one. */
-    private Reply callIn(Coordinator job, long term) {
-        return switch (words[0]) {
-            case "ack" -> job.ackIn(term, number(1), number(2), subtask(0), subtask(1), files("+"), files("="));
-            case "decline" -> job.declineIn(term, number(1), number(2), subtask(0), subtask(1));
-            default -> call(job);
-        };
-    }
-
-    private String writtenIn(long term) {
-        return switch (words[0]) {
-            case "ack" -> Lines.ackIn(term, number(1), number(2), subtask(0), subtask(1), files("+"), files("="));
-            case "decline" -> Lines.declineIn(term, number(1), number(2), subtask(0), subtask(1));
-            default -> "in " + term + " " + written();
-        };
-    }
-
-    private Reply call(Coordinator job) {
-        return switch (words[0]) {
-            case "ack" -> job.ack(number(1), number(2), subtask(0), subtask(1), files("+"), files("="));
-            case "decline" -> job.decline(number(1), number(2), subtask(0), subtask(1));
-            case "restore" -> restored(job);
-            case "take" -> job.take(Long.compareUnsigned(number(1), Integer.MAX_VALUE) < 0 ? (int) number(1) : Integer.MAX_VALUE);
-            case "reserve" -> job.reserve(number(1), number(2));
-            case "forfeit" -> job.forfeit(number(1), numbers(2).toArray());
-            case "advance" -> (Reply) job.advance(number(1), number(2), number(3));
-            case "in" -> inTerm().callIn(job, number(1));
-            default -> (Reply) byName(Coordinator.class, job);
-        };
-    }
-
-    private Reply restored(Coordinator job) {
-        boolean isLatest = words[2].equals("latest");
-        if (words.length == 3) {
-            return isLatest ? job.restoreLatest(number(1)) : job.restoreSavepoint(number(1), number(2));
-        }
-        return isLatest ? job.restoreLatest(number(1), shape()) : job.restoreSavepoint(number(1), number(2), shape());
-    }
-
-    private String written() {
-        return switch (words[0]) {
-            case "ack" -> Lines.ack(number(1), number(2), subtask(0), subtask(1), files("+"), files("="));
-            case "decline" -> Lines.decline(number(1), number(2), subtask(0), subtask(1));
-            case "restore" -> restoreLine();
-            case "reserve" -> Lines.reserve(number(1), number(2));
-            case "forfeit" -> Lines.forfeit(number(1), numbers(2).toArray());
-            case "advance" -> String.join(" ", words);
-            case "in" -> inTerm().writtenIn(number(1));
-            default -> (String) byName(Lines.class, null);
-        };
-    }
-
-    /** Makes the call of the first word, which takes one number. */
-    private Object byName(Class<?> owner, Object job) {
+    /** Calls the method of this name: that with a list, if there are more words than the other one has numbers. */
+    private Object called(Class<?> owner, Object on) {
+        Method method = Arrays.stream(owner.getMethods()).filter(it -> it.getName().equals(name))
+            .filter(it -> !name.startsWith("restore") || it.getParameterCount() == Math.min(given.size(), name.equals("restoreLatest") ? 2 : 3)).findAny().orElseThrow();
         try {
-            return owner.getMethod(words[0], long.class).invoke(job, number(1));
+            return method.invoke(on, arguments(method.getParameterTypes()));
         } catch (InvocationTargetException fault) {
             throw (CoordinatorException) fault.getCause();
         } catch (ReflectiveOperationException fault) {
-            throw new AssertionError(words[0], fault);
+            throw new AssertionError(name, fault);
         }
     }
 
-    private String restoreLine() {
-        boolean isLatest = words[2].equals("latest");
-        if (words.length == 3) {
-            return isLatest ? Lines.restoreLatest(number(1)) : Lines.restoreSavepoint(number(1), number(2));
+    /** A word for each number; and for each list those with its sign, and those without any. */
+    private Object[] arguments(Class<?>[] types) {
+        List<Object> found = new ArrayList<>();
+        int numbers = 0;
+        int lists = 0;
+        for (Class<?> type : types) {
+            if (type == long[].class) {
+                found.add(list(numbers, lists++ == 0 ? "[+]" : "="));
+            } else {
+                long number = FileNumbers.parse(given.get(numbers++));
+                int small = Long.compareUnsigned(number, Integer.MAX_VALUE) < 0 ? (int) number : Integer.MAX_VALUE;
+                found.add(type == int.class ? (Object) small : (Object) number);
+            }
         }
-        return isLatest ? Lines.restoreLatest(number(1), shape()) : Lines.restoreSavepoint(number(1), number(2), shape());
+        return found.toArray();
+    }
+
+    private long[] list(int from, String sign) {
+        return given.stream().skip(from).filter(it -> it.matches(sign + "?[0-9]+")).mapToLong(it -> FileNumbers.parse(it.replaceFirst(sign, ""))).toArray();
     }
 
     /** What a line that begins with ? tells: a read with its numbers. */
     static String read(Coordinator job, String line) {
-        Words it = new Words(line.substring(2).split(" +"));
+        List<String> words = List.of(line.substring(2).split(" +"));
         try {
-            return it.read(job);
+            return switch (words.get(0)) {
+                case "live" -> orNone(Jobs.records(job).stream().map(Words::text).collect(Collectors.joining(" ")));
+                case "choice" -> job.choice().map(it -> text(it.kind()) + " " + it.id()).orElse("fresh");
+                case "file_counts" -> job.fileCounts().inUse() + " " + job.fileCounts().waiting() + " " + job.fileCounts().taken();
+                case "term" -> job.term().term() + " " + job.term().nextName();
+                default -> text(new Words(camel(words.get(0)), words.subList(1, words.size())).called(Reads.class, job));
+            };
         } catch (CoordinatorException.Fenced fault) {
             return "fenced " + fault.getMessage();
         }
     }
 
-    private String read(Coordinator job) {
-        return switch (words[0]) {
-            case "mode" -> lower(job.mode());
-            case "moment" -> Long.toString(job.moment());
-            case "due" -> Long.toString(job.due());
-            case "oldest_expiry" -> text(job.oldestExpiry());
-            case "choice" -> job.choice().map(it -> lower(it.kind()) + " " + it.id()).orElse("fresh");
-            case "live" -> orNone(Jobs.records(job).stream().map(Words::text).collect(Collectors.joining(" ")));
-            case "live_from" -> job.liveFrom(number(1)).map(Words::text).orElse("none");
-            case "missing" -> text(job.missing(number(1)));
-            case "standing" -> lower(job.standing(number(1)));
-            case "waiting_file" -> text(job.waitingFile(number(1)));
-            case "file_counts" -> job.fileCounts().inUse() + " " + job.fileCounts().waiting() + " " + job.fileCounts().taken();
-            case "files_of" -> job.filesOf(number(1), (int) number(2), (int) number(3)).map(Words::text).orElse("none");
-            case "pins_of" -> text(job.pinsOf(number(1)));
-            case "taken_files" -> text(job.takenFiles());
-            case "term" -> job.term().term() + " " + job.term().nextName();
-            case "garbage" -> {
-                Garbage it = job.garbage(numbers(1).toArray());
-                yield "garbage " + text(it.garbage()) + " unissued " + text(it.unissued());
-            }
-            default -> throw new AssertionError(words[0]);
-        };
+    /** live_from is liveFrom. */
+    private static String camel(String word) {
+        String[] parts = word.split("_");
+        return parts[0] + Arrays.stream(parts).skip(1).map(it -> it.substring(0, 1).toUpperCase(Locale.ROOT) + it.substring(1)).collect(Collectors.joining());
     }
 
-    private static String lower(Enum<?> it) {
-        return it.name().toLowerCase(Locale.ROOT).replace('_', ' ');
-    }
-
-    private static String text(Live it) {
-        return lower(it.kind()) + " " + it.id() + (it.isDone() ? " done" : " pending");
-    }
-
-    private static String text(OptionalLong number) {
-        return number.isPresent() ? FileNumbers.toString(number.getAsLong()) : "none";
-    }
-
-    private static String text(long[] files) {
-        return orNone(Arrays.stream(files).mapToObj(FileNumbers::toString).collect(Collectors.joining(" ")));
+    /** What a read tells. */
+    private static String text(Object told) {
+        if (told instanceof Enum<?> it) {
+            return it.name().toLowerCase(Locale.ROOT).replace('_', ' ');
+        } else if (told instanceof OptionalLong it) {
+            return it.isPresent() ? FileNumbers.toString(it.getAsLong()) : "none";
+        } else if (told instanceof Optional<?> it) {
+            return it.map(Words::text).orElse("none");
+        } else if (told instanceof Live it) {
+            return text(it.kind()) + " " + it.id() + (it.isDone() ? " done" : " pending");
+        } else if (told instanceof Garbage it) {
+            return "garbage " + text(it.garbage()) + " unissued " + text(it.unissued());
+        } else if (told instanceof long[] it) {
+            return orNone(Arrays.stream(it).mapToObj(FileNumbers::toString).collect(Collectors.joining(" ")));
+        }
+        return told.toString();
     }
 
     private static String orNone(String text) {

@@ -9,16 +9,17 @@ use std::hash::BuildHasher;
 use std::num::NonZeroU64;
 use std::ops::Range;
 
-/// How a job takes checkpoints. Durations are milliseconds.
+// bindings/generate makes the settings
+/// How a job takes checkpoints.
 #[derive(Clone, Copy, Debug, PartialEq, Eq, Hash)]
 pub struct Settings {
-    /// 10 to 2^40: between two triggers.
+    /// 10 to 2^40 ms between two triggers.
     pub interval: u64,
-    /// 0 to 2^40: between a completion and the next trigger.
+    /// 0 to 2^40 ms between a completion and the next trigger.
     pub pause: u64,
     /// 1 to 64 checkpoints that may be pending.
     pub at_once: u64,
-    /// 1 to 2^40: after which a pending record expires.
+    /// 1 to 2^40 ms after which a pending record expires.
     pub timeout: u64,
     /// 0 to 1000 failed checkpoints in a row.
     pub tolerable: u64,
@@ -29,31 +30,30 @@ pub struct Settings {
 }
 
 impl Settings {
-    /// A checkpoint each so many milliseconds, one at a time, of which the last one is kept. One that is not complete after ten minutes expires, and the first
-    /// failure fails the job.
-    pub const fn every(interval: u64) -> Settings {
-        Settings { interval, pause: 0, at_once: 1, timeout: 600_000, tolerable: 0, retained: 1, keep_on_cancel: false }
-    }
-
-    /// The seven values in the order of the fields; the last is 0 or 1.
+    /// The 7 values in the order of the fields; the last is 0 or 1.
     pub fn numbers(&self) -> [u64; 7] {
         let Settings { interval, pause, at_once, timeout, tolerable, retained, keep_on_cancel } = *self;
         [interval, pause, at_once, timeout, tolerable, retained, u64::from(keep_on_cancel)]
     }
 
-    /// The settings of such numbers. `None` if they are not seven, or the last is above 1.
+    /// The settings of such numbers. `None` if they are not 7, or the last is above 1.
     pub fn of_numbers(numbers: &[u64]) -> Option<Settings> {
-        let &[interval, pause, at_once, timeout, tolerable, retained, keep] = numbers else {
-            return None;
-        };
-        let keep_on_cancel = keep == 1;
-        (keep <= 1).then_some(Settings { interval, pause, at_once, timeout, tolerable, retained, keep_on_cancel })
+        let &[interval, pause, at_once, timeout, tolerable, retained, keep_on_cancel] = numbers else { return None };
+        (keep_on_cancel <= 1).then_some(Settings {
+            interval,
+            pause,
+            at_once,
+            timeout,
+            tolerable,
+            retained,
+            keep_on_cancel: keep_on_cancel == 1,
+        })
     }
 }
 
 impl From<&Settings> for sys::relkvanu_settings {
-    fn from(settings: &Settings) -> Self {
-        let Settings { interval, pause, at_once, timeout, tolerable, retained, keep_on_cancel } = *settings;
+    fn from(it: &Settings) -> Self {
+        let Settings { interval, pause, at_once, timeout, tolerable, retained, keep_on_cancel } = *it;
         sys::relkvanu_settings { interval, pause, at_once, timeout, tolerable, retained, keep_on_cancel }
     }
 }
@@ -62,6 +62,15 @@ impl From<&sys::relkvanu_settings> for Settings {
     fn from(it: &sys::relkvanu_settings) -> Self {
         let sys::relkvanu_settings { interval, pause, at_once, timeout, tolerable, retained, keep_on_cancel } = *it;
         Settings { interval, pause, at_once, timeout, tolerable, retained, keep_on_cancel }
+    }
+}
+// bindings/generate: end
+
+impl Settings {
+    /// A checkpoint each so many milliseconds, one at a time, of which the last one is kept. One that is not complete after ten minutes expires, and the first
+    /// failure fails the job.
+    pub const fn every(interval: u64) -> Settings {
+        Settings { interval, pause: 0, at_once: 1, timeout: 600_000, tolerable: 0, retained: 1, keep_on_cancel: false }
     }
 }
 

@@ -4,26 +4,38 @@ use super::error::{CallError, StoreError};
 use super::{Store, NOW};
 use crate::call::Call;
 use crate::coordinator::Settings;
-use relkvanu_sys as sys;
+use relkvanu_sys::{self as sys, store};
 use std::ffi::c_int;
 
+// bindings/generate makes the phases
 /// The phase of a job.
 #[derive(Clone, Copy, Debug, PartialEq, Eq, Hash)]
 pub enum Phase {
     /// The job runs, has failed or was cancelled: its mode says which.
     Running,
-    /// The savepoint of its stop is pending.
+    /// Its savepoint is pending.
     Stopping,
-    /// That savepoint is done, and the job goes on from it when it begins.
+    /// Its savepoint is done, and the job goes on from it when it begins.
     Stopped,
     /// A number that this crate does not know: the library is of another version.
     Unknown(u32),
 }
 
+impl Phase {
+    fn of(number: u32) -> Phase {
+        match number {
+            store::RELKVANU_STORE_PHASE_RUNNING => Phase::Running,
+            store::RELKVANU_STORE_PHASE_STOPPING => Phase::Stopping,
+            store::RELKVANU_STORE_PHASE_STOPPED => Phase::Stopped,
+            other => Phase::Unknown(other),
+        }
+    }
+}
+
 /// Why a stop has failed.
 #[derive(Clone, Copy, Debug, PartialEq, Eq, Hash)]
 pub enum StopFailed {
-    /// Its savepoint was not done within the timeout.
+    /// Its savepoint was not done within timeout.
     Expired,
     /// A task has declined it.
     Declined,
@@ -36,6 +48,20 @@ pub enum StopFailed {
     /// A number that this crate does not know: the library is of another version.
     Unknown(u32),
 }
+
+impl StopFailed {
+    fn of(number: u32) -> StopFailed {
+        match number {
+            store::RELKVANU_STORE_STOP_EXPIRED => StopFailed::Expired,
+            store::RELKVANU_STORE_STOP_DECLINED => StopFailed::Declined,
+            store::RELKVANU_STORE_STOP_RESTORED => StopFailed::Restored,
+            store::RELKVANU_STORE_STOP_CANCELLED => StopFailed::Cancelled,
+            store::RELKVANU_STORE_STOP_FAILED => StopFailed::Failed,
+            other => StopFailed::Unknown(other),
+        }
+    }
+}
+// bindings/generate: end
 
 /// The phase of a job, and what it is about.
 #[derive(Clone, Copy, Debug, PartialEq, Eq)]
@@ -52,23 +78,10 @@ pub struct JobPhase {
 pub(super) fn job_phase(phase: u32, savepoint: u64, term: u64, failed: u32) -> JobPhase {
     let number = |it: u64| (it != 0).then_some(it);
     JobPhase {
-        phase: match phase {
-            sys::store::RELKVANU_STORE_PHASE_RUNNING => Phase::Running,
-            sys::store::RELKVANU_STORE_PHASE_STOPPING => Phase::Stopping,
-            sys::store::RELKVANU_STORE_PHASE_STOPPED => Phase::Stopped,
-            other => Phase::Unknown(other),
-        },
+        phase: Phase::of(phase),
         savepoint: number(savepoint),
         term: number(term),
-        stop_failed: match failed {
-            0 => None,
-            sys::store::RELKVANU_STORE_STOP_EXPIRED => Some(StopFailed::Expired),
-            sys::store::RELKVANU_STORE_STOP_DECLINED => Some(StopFailed::Declined),
-            sys::store::RELKVANU_STORE_STOP_RESTORED => Some(StopFailed::Restored),
-            sys::store::RELKVANU_STORE_STOP_CANCELLED => Some(StopFailed::Cancelled),
-            sys::store::RELKVANU_STORE_STOP_FAILED => Some(StopFailed::Failed),
-            other => Some(StopFailed::Unknown(other)),
-        },
+        stop_failed: (failed != 0).then(|| StopFailed::of(failed)),
     }
 }
 

@@ -4,7 +4,7 @@ use super::phase::said_why;
 use super::{CallError, Store, StoreError, NOW};
 use crate::answer::{Answer, Choice, Kind};
 use crate::call::Call;
-use relkvanu_sys::store as sys;
+use relkvanu_sys::store::{self, self as sys};
 use std::ffi::{c_int, c_void};
 use std::num::NonZeroU64;
 
@@ -58,6 +58,7 @@ pub struct Restored {
     pub record: Option<Whole>,
 }
 
+// bindings/generate makes the endings
 /// What became of a record.
 #[derive(Clone, Copy, Debug, PartialEq, Eq, Hash)]
 #[non_exhaustive]
@@ -71,6 +72,19 @@ pub enum Ending {
     /// A number that this crate does not know: the library is of another version.
     Unknown(u32),
 }
+
+impl Ending {
+    fn of(number: u32) -> Ending {
+        match number {
+            store::RELKVANU_STORE_COMPLETED => Ending::Completed,
+            store::RELKVANU_STORE_DECLINED => Ending::Declined,
+            store::RELKVANU_STORE_EXPIRED => Ending::Expired,
+            store::RELKVANU_STORE_DROPPED => Ending::Dropped,
+            other => Ending::Unknown(other),
+        }
+    }
+}
+// bindings/generate: end
 
 /// A record of the history. The times of acknowledgements are milliseconds since its trigger, by the store's clock, of those since the opening.
 #[derive(Clone, Debug, PartialEq, Eq)]
@@ -102,16 +116,6 @@ pub(super) fn kind_of(kind: u32) -> Option<Kind> {
     }
 }
 
-fn ending_of(outcome: u32) -> Ending {
-    match outcome {
-        sys::RELKVANU_STORE_COMPLETED => Ending::Completed,
-        sys::RELKVANU_STORE_DECLINED => Ending::Declined,
-        sys::RELKVANU_STORE_EXPIRED => Ending::Expired,
-        sys::RELKVANU_STORE_DROPPED => Ending::Dropped,
-        other => Ending::Unknown(other),
-    }
-}
-
 /// The elements of a list of the library, which may have no place if it is empty.
 unsafe fn listed<T: Copy>(at: *const T, len: usize) -> Vec<T> {
     match len {
@@ -139,7 +143,7 @@ unsafe extern "C" fn note(with: *mut c_void, part: *const sys::relkvanu_store_pa
 fn past_of(it: &sys::relkvanu_store_past) -> Past {
     let sys::relkvanu_store_past { id, triggered, ended, acks, first, median, p99, slowest, bytes, millis, .. } = *it;
     let (kind, ending, reason) =
-        (kind_of(it.kind).unwrap_or(Kind::Unknown(0)), ending_of(it.outcome), text(&it.reason));
+        (kind_of(it.kind).unwrap_or(Kind::Unknown(0)), Ending::of(it.outcome), text(&it.reason));
     Past { id, kind, ending, triggered, ended, acks, first, median, p99, slowest, bytes, millis, reason }
 }
 
