@@ -2,110 +2,89 @@
 //! says of a storage or a job that fails for ever. And sinks over a target.
 #![cfg(feature = "store")]
 mod common;
+mod engine;
 
 use common::{new_job, Place, SETTINGS};
+use engine::{engine_that, job_of, runs, when, Job, Word, TASKS};
 use relkvanu::outputs::{Files, Sink, SinkFault, Target, TargetFault};
-use relkvanu::runner::{Ack, Barrier, Ended, Engine, Options, Record, RunFault, Runner, SavepointFault, Told};
+use relkvanu::runner::{Ack, Barrier, Ended, Options, RunFault, SavepointFault, Told};
 use relkvanu::storage::{Cached, Deletion, Folder, FolderOptions, Page, Storage, StorageError};
 use relkvanu::store::{CallError, More, Store, StoreErrorKind, NOW};
 use relkvanu::{Call, Choice, Fault, Fenced, Kind, Settings};
+use std::cell::Cell;
 use std::fs;
 use std::ops::ControlFlow;
 use std::path::Path;
 use std::sync::atomic::{AtomicBool, Ordering::SeqCst};
-use std::sync::mpsc::{channel, Receiver, Sender};
-use std::sync::{Arc, Mutex, OnceLock, Weak};
-use std::thread::{self, JoinHandle};
+use std::sync::{Arc, Mutex};
+use std::thread;
 use std::time::Duration;
 
-const LONGEST: Duration = Duration::from_secs(600); // that a busy machine may take for a step
-const TASKS: u16 = 2;
 /// No checkpoint is due: tests trigger them.
 const IDLE: Settings = Settings { interval: 1 << 40, tolerable: 0, ..SETTINGS };
 
-type Job = Arc<Runner<Tasks>>;
-type Does = Box<dyn Fn(&Job, &Barrier) -> Told + Send + Sync>;
-
-/// An engine whose tasks do this in the thread of the barrier, and which tells the test of barriers, completions, starts and stops.
-struct Tasks {
-    does: Does,
-    tells: Sender<Word>,
-    job: OnceLock<Weak<Runner<Tasks>>>,
-    finishes: bool, // when it is found stopped
+fn job_with(
+    place: &Place,
+    settings: Settings,
+    options: Options,
+    does: impl Fn(&Job, Barrier) -> Told + Send + Sync + 'static,
+) -> Job {
+    let mut how = new_job(&[TASKS.into()]);
+    (how.settings, how.storage) = (settings, options.files.is_none().then(|| place.state()));
+    job_of(Store::open(&place.job(), &how).unwrap(), engine_that(does), options)
 }
 
-#[derive(Debug, PartialEq)]
-enum Word {
-    Start(Option<u64>),
-    Barrier(Barrier),
-    Complete(u64),
-    Stopped(u64),
-}
-
-impl Engine for Tasks {
-    fn start(&self, _: &Job, _: u64, record: Option<&Record>) -> Told {
-        Ok(self.tells.send(Word::Start(record.map(|it| it.id)))?)
-    }
-
-    fn barrier(&self, it: Barrier) -> Told {
-        self.tells.send(Word::Barrier(it))?;
-        (self.does)(&self.job.get().unwrap().upgrade().unwrap(), &it)
-    }
-
-    fn complete(&self, id: u64) -> Told {
-        Ok(self.tells.send(Word::Complete(id))?)
-    }
-
-    fn stopped(&self, record: &Record) -> Told {
-        if self.finishes {
-            self.job.get().unwrap().upgrade().unwrap().finish();
-        }
-        Ok(self.tells.send(Word::Stopped(record.id))?)
-    }
-
-    fn end(&self) -> Told {
-        Ok(())
-    }
-}
-
-/// A run, and what its engine tells.
+/// A run, and how many of the starts, barriers, completions and stops that its engine notes were looked at.
 struct Run {
     job: Job,
-    told: Receiver<Word>,
-    run: JoinHandle<Result<Ended, RunFault>>,
+    run: engine::Run,
+    seen: Cell<usize>,
 }
 
 impl Run {
+    fn begins(job: Job) -> Run {
+        Run { run: runs(&job), job, seen: Cell::new(0) }
+    }
+
     fn of(
         place: &Place,
         settings: Settings,
         options: Options,
-        does: impl Fn(&Job, &Barrier) -> Told + Send + Sync + 'static,
+        does: impl Fn(&Job, Barrier) -> Told + Send + Sync + 'static,
     ) -> Run {
-        let mut how = new_job(&[TASKS.into()]);
-        (how.settings, how.storage) = (settings, options.files.is_none().then(|| place.state()));
-        let (tells, told) = channel();
-        let finishes = place.0.join("finishes").exists();
-        let tasks = Tasks { does: Box::new(does), tells, job: OnceLock::new(), finishes };
-        let job = Runner::with(Store::open(&place.job(), &how).unwrap(), tasks, options);
-        job.engine().job.set(Arc::downgrade(&job)).unwrap();
-        let runs = job.clone();
-        Run { job, told, run: thread::spawn(move || runs.run()) }
+        Run::begins(job_with(place, settings, options, does))
     }
 
     fn next(&self) -> Word {
-        self.told.recv_timeout(LONGEST).unwrap()
+        let is_told = |it: &Word| !matches!(it, Word::End | Word::GoOn | Word::Aborted(_));
+        let seen = self.seen.replace(self.seen.get() + 1);
+        self.job.engine().await_words(seen + 1, is_told);
+        self.job.engine().said().into_iter().filter(is_told).nth(seen).unwrap()
+    }
+
+    /// The barrier that comes next.
+    fn barrier(&self) -> Barrier {
+        let Word::Barrier(id, ..) = self.next() else { panic!("no barrier") };
+        *self.job.engine().barriers.lock().unwrap().iter().rfind(|it| it.id == id).unwrap()
+    }
+
+    fn is_started_from(&self, record: Option<u64>) -> bool {
+        matches!(self.next(), Word::Start(_, from, _) if from == record)
+    }
+
+    fn is_stopped_with(&self, record: u64) -> bool {
+        matches!(self.next(), Word::Stopped(id, _) if id == record)
     }
 
     fn started(self, record: Option<u64>) -> Run {
-        assert_eq!(self.next(), Word::Start(record));
+        assert!(self.is_started_from(record));
         self
     }
 
     /// A checkpoint, up to its completion.
     fn checkpoint(&self, is_full: bool) -> Barrier {
         let id = self.job.checkpoint(is_full).unwrap();
-        let Word::Barrier(barrier) = self.next() else { panic!("no barrier") };
+        let barrier = self.barrier();
         assert_eq!((barrier.id, barrier.kind, self.next()), (id, Kind::Checkpoint, Word::Complete(id)));
         barrier
     }
@@ -116,8 +95,8 @@ impl Run {
     }
 }
 
-fn everybody(job: &Job, it: &Barrier, state: &[u8]) -> Told {
-    (0..TASKS).try_for_each(|index| job.ack_state(it, (0, index), state).map(drop).map_err(Into::into))
+fn everybody(job: &Job, it: Barrier, state: &[u8]) -> Told {
+    (0..TASKS).try_for_each(|index| job.ack_state(&it, (0, index), state).map(drop).map_err(Into::into))
 }
 
 fn folder(path: &Path) -> Folder {
@@ -199,7 +178,7 @@ fn states_in_a_storage_of_the_engine() {
 fn storages_that_fail_for_ever() {
     let place = Place::new("kit-fails");
     let at = place.0.join("elsewhere");
-    let full = |job: &Job, it: &Barrier| everybody(job, it, &[0; 5000]);
+    let full = |job: &Job, it: Barrier| everybody(job, it, &[0; 5000]);
     let run = Run::of(&place, Settings { tolerable: 9, ..IDLE }, over(Failing(folder(&at), "put")), full).started(None);
     let id = run.job.checkpoint(false).unwrap(); // its tasks decline it
     while run.job.job().history(1).unwrap().is_empty() {
@@ -226,18 +205,19 @@ fn storages_that_fail_for_ever() {
     assert_eq!(names(&at).len(), 6);
     drop(run.job);
     let run = Run::of(&place, IDLE, over(folder(&at)), full); // the next process deletes them
-    assert_eq!((run.next(), run.run.join().unwrap().unwrap()), (Word::Stopped(id + 2), Ended::Stopped));
+    assert!(run.is_stopped_with(id + 2));
+    assert_eq!(run.run.join().unwrap().unwrap(), Ended::Stopped);
     assert_eq!(names(&at).len(), 2);
 }
 
 #[test]
 fn a_list_of_acknowledgements() {
     let place = Place::new("kit-acks");
-    let list = |job: &Job, it: &Barrier| {
-        let ack = |index| Ack { barrier: *it, subtask: (0, index), fresh: &[], reused: &[], more: More::default() };
+    let list = |job: &Job, it: Barrier| {
+        let ack = |index| Ack { barrier: it, subtask: (0, index), fresh: &[], reused: &[], more: More::default() };
         let told = job.acks(&[ack(0), ack(0), ack(1)])?;
         assert_eq!(told.iter().map(Result::is_ok).collect::<Vec<_>>(), [true, false, true]);
-        let old = Barrier { term: it.term - 1, ..*it };
+        let old = Barrier { term: it.term - 1, ..it };
         let told = job.acks(&[Ack { barrier: old, ..ack(0) }]);
         assert_eq!(told, Err(CallError::Fault(Fault::Fenced(Fenced::OldTerm))));
         Ok(())
@@ -266,9 +246,9 @@ fn a_task_that_ends_before_the_job() {
     let place = Place::new("kit-finished");
     let declines = Arc::new(AtomicBool::new(false));
     let asked = declines.clone();
-    let one = move |job: &Job, it: &Barrier| match asked.swap(false, SeqCst) {
+    let one = move |job: &Job, it: Barrier| match asked.swap(false, SeqCst) {
         true => Ok(job.decline(it.term, it.id, (0, 0), "no").map(drop)?),
-        false => Ok(job.ack_payload(it, (0, 0), b"one").map(drop)?),
+        false => Ok(job.ack_payload(&it, (0, 0), b"one").map(drop)?),
     };
     let run = Run::of(&place, Settings { tolerable: 9, ..IDLE }, Options::default(), one).started(None);
     let name = run.job.reserve(1, 1).unwrap().start;
@@ -287,12 +267,12 @@ fn a_task_that_ends_before_the_job() {
     assert!(anew != name);
     declines.store(true, SeqCst);
     run.job.checkpoint(true).unwrap();
-    assert!(matches!(run.next(), Word::Barrier(_)));
+    run.barrier();
     assert_eq!(file_after(false), anew);
     run.job.restart(); // which forgets it
     let run = run.started(Some(5));
     run.job.checkpoint(false).unwrap();
-    assert!(matches!(run.next(), Word::Barrier(_)));
+    run.barrier();
     while run.job.job().read(|job| job.missing(6)).unwrap() == Some(2) {
         thread::sleep(Duration::from_millis(1));
     }
@@ -304,13 +284,14 @@ fn a_task_that_ends_before_the_job() {
 #[test]
 fn a_job_that_is_finished() {
     let place = Place::new("kit-finish");
-    let state = |job: &Job, it: &Barrier| everybody(job, it, &[0; 5000]);
+    let state = |job: &Job, it: Barrier| everybody(job, it, &[0; 5000]);
     let run = Run::of(&place, IDLE, Options::default(), state).started(None);
     run.checkpoint(false);
     run.job.finish();
-    let Word::Barrier(last) = run.next() else { panic!("no barrier") };
+    let last = run.barrier();
     assert_eq!((last.kind, last.holds, last.drains), (Kind::Savepoint, true, true));
-    assert_eq!((run.next(), run.next()), (Word::Complete(last.id), Word::Stopped(last.id)));
+    assert_eq!(run.next(), Word::Complete(last.id));
+    assert!(run.is_stopped_with(last.id));
     assert_eq!(run.run.join().unwrap().unwrap(), Ended::Finished);
     assert_eq!(names(&place.state()).len(), 2); // of the savepoint
     drop(run.job);
@@ -322,14 +303,18 @@ fn a_job_that_is_finished() {
 #[test]
 fn a_job_whose_end_goes_on() {
     let place = Place::new("kit-goes-on");
-    let state = |job: &Job, it: &Barrier| everybody(job, it, b"x");
+    let state = |job: &Job, it: Barrier| everybody(job, it, b"x");
     let run = Run::of(&place, IDLE, Options::default(), state).started(None);
     run.job.ask_to_drain();
     assert_eq!(run.run.join().unwrap().unwrap(), Ended::Stopped);
     drop(run.job);
-    fs::write(place.0.join("finishes"), "").unwrap();
-    let run = Run::of(&place, IDLE, Options::default(), state);
-    assert_eq!(run.next(), Word::Stopped(1));
+    let job = job_with(&place, IDLE, Options::default(), state);
+    when(&job.engine().stops, |job, ()| {
+        job.finish();
+        Ok(())
+    });
+    let run = Run::begins(job);
+    assert!(run.is_stopped_with(1));
     assert_eq!(run.run.join().unwrap().unwrap(), Ended::Finished);
 }
 
@@ -337,18 +322,18 @@ fn a_job_whose_end_goes_on() {
 #[test]
 fn a_stop_of_somebody_else_at_the_end() {
     let place = Place::new("kit-suspended");
-    let holds = |job: &Job, it: &Barrier| if it.holds && !it.drains { Ok(()) } else { everybody(job, it, b"x") };
+    let holds = |job: &Job, it: Barrier| if it.holds && !it.drains { Ok(()) } else { everybody(job, it, b"x") };
     let run = Run::of(&place, IDLE, Options::default(), holds).started(None);
     run.job.job().stop_job().unwrap();
-    let Word::Barrier(barrier) = run.next() else { panic!("no barrier") };
+    let barrier = run.barrier();
     run.job.finish();
-    everybody(&run.job, &barrier, b"x").unwrap();
+    everybody(&run.job, barrier, b"x").unwrap();
     assert_eq!(run.run.join().unwrap().unwrap(), Ended::Stopped);
     run.job.job().begin_job().unwrap();
     drop(run.job);
     let run = Run::of(&place, IDLE, Options::default(), holds).started(Some(1));
     run.job.finish();
-    assert!(matches!(run.next(), Word::Barrier(it) if it.drains));
+    assert!(run.barrier().drains);
     assert_eq!(run.run.join().unwrap().unwrap(), Ended::Finished);
 }
 
@@ -357,15 +342,15 @@ fn a_stop_of_somebody_else_at_the_end() {
 fn a_drain_that_fails_restarts_the_tasks() {
     let place = Place::new("kit-drain-fails");
     let declines = AtomicBool::new(true);
-    let state = move |job: &Job, it: &Barrier| match it.drains && declines.swap(false, SeqCst) {
+    let state = move |job: &Job, it: Barrier| match it.drains && declines.swap(false, SeqCst) {
         true => Ok(job.decline(it.term, it.id, (0, 0), "no").map(drop)?),
         false => everybody(job, it, b"x"),
     };
     let run = Run::of(&place, Settings { tolerable: 9, ..IDLE }, Options::default(), state).started(None);
     run.job.ask_to_drain();
-    assert!(matches!(run.next(), Word::Barrier(it) if it.drains));
-    assert_eq!(run.next(), Word::Start(None));
-    assert!(matches!(run.next(), Word::Barrier(it) if it.drains));
+    assert!(run.barrier().drains);
+    assert!(run.is_started_from(None));
+    assert!(run.barrier().drains);
     assert_eq!(run.run.join().unwrap().unwrap(), Ended::Stopped);
 }
 
@@ -381,7 +366,7 @@ fn a_restore_by_another_thread() {
             1 => drop(store.go_back(last.id, true).unwrap()),
             _ => drop(run.job.restore(None, None).unwrap()),
         }
-        assert!(matches!(run.next(), Word::Start(Some(_))));
+        assert!(matches!(run.next(), Word::Start(_, Some(_), _)));
         let next = run.checkpoint(false); // and nothing has started twice
         assert!(next.term > last.term);
         last = next;
@@ -396,16 +381,18 @@ fn a_run_that_waits_for_the_begin_of_a_stopped_job() {
     let run = Run::of(&place, IDLE, options(), |job, it| everybody(job, it, b"x")).started(None);
     for stop in 1..3 {
         run.job.job().stop_job().unwrap();
-        assert!(matches!(run.next(), Word::Barrier(it) if it.holds && !it.drains));
-        assert_eq!((run.next(), run.next()), (Word::Complete(stop), Word::Stopped(stop)));
+        let barrier = run.barrier();
+        assert!(barrier.holds && !barrier.drains);
+        assert_eq!(run.next(), Word::Complete(stop));
+        assert!(run.is_stopped_with(stop));
         run.job.job().begin_job().unwrap();
-        assert_eq!(run.next(), Word::Start(Some(stop)));
+        assert!(run.is_started_from(Some(stop)));
     }
     run.job.ask_to_stop(); // by this process, which is to end
     assert_eq!(run.run.join().unwrap().unwrap(), Ended::Stopped);
     drop(run.job);
     let run = Run::of(&place, IDLE, options(), |_, _| Ok(()));
-    assert_eq!(run.next(), Word::Stopped(3));
+    assert!(run.is_stopped_with(3));
     assert!(matches!(run.ended(), Ok(Ended::Closed)));
 }
 
@@ -414,7 +401,7 @@ fn a_task_that_never_takes_part() {
     let place = Place::new("kit-stuck");
     let settings = Settings { interval: 20, timeout: 50, ..IDLE };
     let options = Options { patience: Duration::from_millis(300), ..Options::default() };
-    let run = Run::of(&place, settings, options, |job, it| Ok(job.ack_payload(it, (0, 0), b"").map(drop)?));
+    let run = Run::of(&place, settings, options, |job, it| Ok(job.ack_payload(&it, (0, 0), b"").map(drop)?));
     let told = run.run.join().unwrap();
     assert!(matches!(&told, Err(RunFault::Stuck { missing, .. }) if *missing == [(0, 1)]), "{told:?}");
 }

@@ -1,9 +1,16 @@
 //! The loop of an engine: what it is asked to do over checkpoints, failures, stops, commands of an operator and ends. And what records have as a whole.
 #![cfg(feature = "store")]
 mod common;
+mod engine;
 
 use common::{new_job, Place, SETTINGS};
-use relkvanu::runner::{Barrier, Ended, Engine, Inputs, Record, RunFault, Runner, SavepointFault, Taken, Told};
+use engine::{
+    acknowledge, decline, engine_that, hang, is_complete, is_start, job_of, runs, when, Job, Run, Word, Word::*,
+    LONGEST, TASKS,
+};
+use relkvanu::runner::{
+    Barrier, Ended, Engine, Inputs, Options as Kit, Record, RunFault, Runner, SavepointFault, Taken, Told,
+};
 use relkvanu::store::{CallError, Ending, More, Options, Phase, Store, StoreError, StoreErrorKind, NOW};
 use relkvanu::{AlignFault, Answer, Call, Choice, Fault, Fenced, Kind, Refusal, Settings};
 use std::fs;
@@ -13,210 +20,42 @@ use std::os::unix::process::ExitStatusExt;
 use std::path::Path;
 use std::process::{Command, Stdio};
 use std::sync::atomic::{AtomicUsize, Ordering::SeqCst};
-use std::sync::{mpsc, Arc, Condvar, Mutex};
+use std::sync::{mpsc, Arc, Mutex};
 use std::thread::{self, JoinHandle};
 use std::time::{Duration, Instant};
-
-const TASKS: u16 = 2;
-const LONGEST: Duration = Duration::from_secs(600); // that a busy machine may take for a step
-
-#[derive(Clone, Debug, PartialEq)]
-enum Word {
-    Start(u64, Option<u64>, usize), // the term, the record, and how many payloads
-    Barrier(u64, Kind, bool),
-    Complete(u64),
-    Aborted(Vec<u64>),
-    Stopped(u64, usize), // the record, and how many payloads
-    GoOn,
-    End,
-}
-use Word::*;
-
-/// With the term of the tasks.
-type After = fn(&Arc<Runner<Words>>, u64);
-
-/// An engine whose tasks acknowledge in the thread of the barrier, with a payload each. It notes what it is asked.
-#[derive(Default)]
-struct Words {
-    said: Mutex<Vec<Word>>,
-    changed: Condvar,
-    job: Mutex<Option<Arc<Runner<Words>>>>,
-    declines: Mutex<Option<Kind>>,                    // the next record of this kind
-    dies_at: Mutex<Option<u64>>,                      // at the completion of this record
-    published: Mutex<Vec<u64>>,                       // by its first task, which is a sink
-    calls_inside: Mutex<Option<Vec<StoreErrorKind>>>, // what calls inside complete and aborted got, if they are made
-    after: Mutex<Option<After>>,                      // what happens when each task has acknowledged
-    then: Mutex<Option<Call<'static>>>,               // what an operator calls while the tasks are told to end
-    takes_no_part: Mutex<bool>,                       // no task acknowledges
-    bases: Mutex<Vec<Choice>>,                        // of the barriers
-}
-
-/// The payloads that are those of the tasks.
-fn payloads(record: &Record) -> usize {
-    let has_its = |index: &u16| record.part(0, *index).unwrap().payload == format!("state {index}").as_bytes();
-    (0..TASKS).filter(has_its).count()
-}
-
-impl Words {
-    fn note(&self, word: Word) -> Told {
-        self.said.lock().unwrap().push(word);
-        self.changed.notify_all();
-        Ok(())
-    }
-
-    fn said(&self) -> Vec<Word> {
-        self.said.lock().unwrap().clone()
-    }
-
-    /// Waits until so many words are such ones.
-    fn await_words(&self, count: usize, is_such: impl Fn(&Word) -> bool) {
-        let lacks = |said: &mut Vec<Word>| said.iter().filter(|it| is_such(it)).count() < count;
-        let said = self.said.lock().unwrap();
-        let (said, waited) = self.changed.wait_timeout_while(said, LONGEST, lacks).unwrap();
-        assert!(!waited.timed_out(), "{said:?}");
-    }
-
-    fn await_word(&self, word: Word) {
-        self.await_words(1, |it| *it == word);
-    }
-
-    fn calls_inside(&self, id: u64) {
-        let mut faults = self.calls_inside.lock().unwrap();
-        let Some(faults) = faults.as_mut() else { return };
-        let job = self.job.lock().unwrap().clone().unwrap();
-        let made = [job.ack(1, id, (0, 0), &[], &[], More::default()), job.decline(1, id, (0, 0), "")];
-        for told in made {
-            let Err(CallError::Store(why)) = told else { panic!("{told:?}") };
-            faults.push(why.kind);
-        }
-    }
-
-    fn starts(&self) -> Vec<u64> {
-        let term = |it: &Word| if let Start(term, ..) = it { Some(*term) } else { None };
-        self.said().iter().filter_map(term).collect()
-    }
-
-    /// So many completions from now on.
-    fn await_more(&self, count: usize) {
-        let before = self.said().iter().filter(|it| is_complete(it)).count();
-        self.await_words(before + count, is_complete);
-    }
-
-    fn takes_part(&self, it: &Barrier, index: u16) -> Result<(), CallError> {
-        let job = self.job.lock().unwrap().clone().unwrap();
-        let declines = {
-            let mut declines = self.declines.lock().unwrap();
-            let is_meant = *declines == Some(it.kind);
-            *declines = declines.filter(|_| !is_meant);
-            is_meant
-        };
-        if declines {
-            return job.decline(it.term, it.id, (0, index), "as it was told").map(|_| ());
-        }
-        let state = format!("state {index}");
-        let more = More { payload: state.as_bytes(), bytes: 10, ..More::default() };
-        job.ack(it.term, it.id, (0, index), &[], &[], more).map(|_| ())
-    }
-}
-
-fn is_complete(word: &Word) -> bool {
-    matches!(word, Complete(_))
-}
-
-fn is_start(word: &Word) -> bool {
-    matches!(word, Start(..))
-}
-
-impl Engine for Words {
-    fn start(&self, job: &Arc<Runner<Words>>, term: u64, record: Option<&Record>) -> Told {
-        *self.job.lock().unwrap() = Some(job.clone());
-        self.note(Start(term, record.map(|it| it.id), record.map_or(0, payloads)))
-    }
-
-    fn barrier(&self, it: Barrier) -> Told {
-        self.bases.lock().unwrap().push(it.base);
-        let count = if *self.takes_no_part.lock().unwrap() { 0 } else { TASKS };
-        self.note(Barrier(it.id, it.kind, it.holds))?;
-        for index in 0..count {
-            match self.takes_part(&it, index) {
-                Err(CallError::Fault(Fault::Fenced(_) | Fault::Refused(_))) => break, // an operator was faster
-                told => told?,
-            }
-        }
-        if let Some(after) = *self.after.lock().unwrap() {
-            after(&self.job.lock().unwrap().clone().unwrap(), it.term);
-        }
-        Ok(())
-    }
-
-    fn complete(&self, id: u64) -> Told {
-        if *self.dies_at.lock().unwrap() == Some(id) {
-            return Err("as a kill".into());
-        }
-        self.calls_inside(id);
-        self.published.lock().unwrap().push(id);
-        self.note(Complete(id))
-    }
-
-    fn aborted(&self, ids: &[u64]) -> Told {
-        self.calls_inside(ids[0]);
-        self.note(Aborted(ids.to_vec()))
-    }
-
-    fn stopped(&self, record: &Record) -> Told {
-        self.published.lock().unwrap().push(record.id);
-        self.note(Stopped(record.id, payloads(record)))
-    }
-
-    fn go_on(&self) -> Told {
-        self.note(GoOn)
-    }
-
-    fn end(&self) -> Told {
-        self.note(End)?;
-        let (then, job) = (self.then.lock().unwrap().take(), self.job.lock().unwrap().clone());
-        if let (Some(call), Some(job)) = (then, job) {
-            job.store().call(call)?;
-        }
-        Ok(())
-    }
-}
-
-type Run = JoinHandle<Result<Ended, RunFault>>;
 
 fn opened(place: &Place, settings: Settings) -> Store {
     let options = Options { settings, storage: Some(place.state()), ..new_job(&[TASKS.into()]) };
     Store::open(&place.job(), &options).unwrap()
 }
 
-/// Runs an engine in a thread.
-fn begin(place: &Place, settings: Settings) -> (Arc<Runner<Words>>, Run) {
-    let job = Runner::new(opened(place, settings), Words::default());
-    let run = runs(&job);
-    (job, run)
+/// A job whose tasks acknowledge.
+fn job_at(place: &Place, settings: Settings) -> Job {
+    job_of(opened(place, settings), engine_that(acknowledge), Kit::default())
 }
 
-fn runs<E: Engine>(job: &Arc<Runner<E>>) -> Run {
-    let runs = job.clone();
-    thread::spawn(move || runs.run())
+/// Runs an engine in a thread.
+fn begin(place: &Place, settings: Settings) -> (Job, Run) {
+    let job = job_at(place, settings);
+    let run = runs(&job);
+    (job, run)
 }
 
 const QUICK: Settings = Settings { interval: 20, retained: 3, tolerable: 0, ..SETTINGS };
 
 /// Ends the run, and closes the store.
-fn close(job: Arc<Runner<Words>>, run: Run) -> Vec<Word> {
+fn close(job: Job, run: Run) -> Vec<Word> {
     job.close();
     ended_as(Ended::Closed, job, run)
 }
 
-fn ended_as(ended_by: Ended, job: Arc<Runner<Words>>, run: Run) -> Vec<Word> {
+fn ended_as(ended_by: Ended, job: Job, run: Run) -> Vec<Word> {
     assert_eq!(run.join().unwrap().unwrap(), ended_by);
     ended(job)
 }
 
-fn ended(job: Arc<Runner<Words>>) -> Vec<Word> {
+fn ended(job: Job) -> Vec<Word> {
     let said = job.engine().said();
-    *job.engine().job.lock().unwrap() = None;
     assert_eq!(Arc::strong_count(&job), 1);
     said
 }
@@ -280,66 +119,6 @@ fn faults_of_tasks_whose_term_has_ended() {
     close(job, run); // it looks at faults first
 }
 
-/// It declines each barrier, by which its job fails, and closes the inputs of its tasks, which wait for elements, and for room.
-#[derive(Default)]
-struct Restarting {
-    inputs: Mutex<Vec<Arc<Inputs<u64>>>>,
-    job: Mutex<Option<Arc<Runner<Restarting>>>>,
-    starts: AtomicUsize,
-    tasks: Arc<AtomicUsize>, // that run
-}
-
-impl Restarting {
-    fn spawn(&self, job: &Arc<Runner<Restarting>>, task: impl FnOnce() -> Told + Send + 'static) {
-        let tasks = self.tasks.clone();
-        tasks.fetch_add(1, SeqCst);
-        job.spawn(move |_| {
-            let told = task();
-            tasks.fetch_sub(1, SeqCst);
-            told
-        });
-    }
-}
-
-impl Engine for Restarting {
-    fn start(&self, job: &Arc<Runner<Restarting>>, _: u64, _: Option<&Record>) -> Told {
-        *self.job.lock().unwrap() = Some(job.clone());
-        let inputs = Arc::new(Inputs::new(2, 1)?);
-        self.inputs.lock().unwrap().push(inputs.clone());
-        let (takes, puts) = (inputs.clone(), inputs.clone());
-        self.spawn(job, move || loop {
-            takes.take()?;
-        });
-        self.spawn(job, move || {
-            while !puts.is_closed() {
-                puts.put(0, 1);
-            }
-            Ok(())
-        });
-        self.spawn(job, move || {
-            inputs.put_barrier(1, barrier(1));
-            (0..2).for_each(|it| inputs.put(1, it)); // behind the barrier, and without room
-            Ok(())
-        });
-        self.starts.fetch_add(1, SeqCst);
-        Ok(())
-    }
-
-    fn barrier(&self, it: Barrier) -> Told {
-        let job = self.job.lock().unwrap().clone().unwrap();
-        Ok(job.decline(it.term, it.id, (0, 0), "a restart").map(drop)?)
-    }
-
-    fn complete(&self, _: u64) -> Told {
-        Ok(())
-    }
-
-    fn end(&self) -> Told {
-        self.inputs.lock().unwrap().drain(..).for_each(|it| it.close());
-        Ok(())
-    }
-}
-
 fn await_count(what: &AtomicUsize, is_such: impl Fn(usize) -> bool) {
     let until = Instant::now() + LONGEST;
     while !is_such(what.load(SeqCst)) {
@@ -348,32 +127,68 @@ fn await_count(what: &AtomicUsize, is_such: impl Fn(usize) -> bool) {
     }
 }
 
-/// A thousand in one process.
+/// The task of a thread, which is counted while it runs.
+fn counted(job: &Job, tasks: &Arc<AtomicUsize>, task: impl FnOnce() -> Told + Send + 'static) {
+    let tasks = tasks.clone();
+    tasks.fetch_add(1, SeqCst);
+    job.spawn(move |_| {
+        let told = task();
+        tasks.fetch_sub(1, SeqCst);
+        told
+    });
+}
+
+/// Its tasks wait for elements, and for room.
+fn start_waiting(job: &Job, tasks: &Arc<AtomicUsize>) -> Told {
+    let inputs = Arc::new(Inputs::new(2, 1)?);
+    job.engine().inputs.lock().unwrap().push(inputs.clone());
+    let (takes, puts) = (inputs.clone(), inputs.clone());
+    counted(job, tasks, move || loop {
+        takes.take()?;
+    });
+    counted(job, tasks, move || {
+        while !puts.is_closed() {
+            puts.put(0, 1);
+        }
+        Ok(())
+    });
+    counted(job, tasks, move || {
+        inputs.put_barrier(1, barrier(1));
+        (0..2).for_each(|it| inputs.put(1, it)); // behind the barrier, and without room
+        Ok(())
+    });
+    Ok(())
+}
+
+/// A thousand in one process, each after a barrier that a task declines.
 #[test]
 fn restarts_that_leave_no_thread() {
     let place = Place::new("runner-restarts");
-    let job = Runner::new(opened(&place, IDLE), Restarting::default());
+    let tasks = Arc::new(AtomicUsize::new(0)); // that run
+    let counts = tasks.clone();
+    let engine = engine_that(|job, it| Ok(job.decline(it.term, it.id, (0, 0), "a restart").map(drop)?));
+    when(&engine.starts, move |job, ()| start_waiting(job, &counts));
+    let job = job_of(opened(&place, IDLE), engine, Kit::default());
     let run = runs(&job);
     let descriptors = || fs::read_dir("/proc/self/fd").unwrap().count();
     let before = descriptors();
     for restarts in 0..1000 {
-        await_count(&job.engine().starts, |it| it > restarts);
+        job.engine().await_words(restarts + 1, is_start);
         job.store().trigger().unwrap();
     }
-    await_count(&job.engine().starts, |it| it > 1000);
-    await_count(&job.engine().tasks, |it| it <= 3);
+    job.engine().await_words(1001, is_start);
+    await_count(&tasks, |it| it <= 3);
     let after = descriptors(); // other tests of this process open some too
     assert!(after < before + 500, "{before} descriptors, and {after}");
     job.close();
     assert_eq!(run.join().unwrap().unwrap(), Ended::Closed);
-    await_count(&job.engine().tasks, |it| it == 0);
-    *job.engine().job.lock().unwrap() = None;
+    await_count(&tasks, |it| it == 0);
 }
 
 #[test]
 fn a_job_that_fails_is_restarted() {
     let (_place, job, run) = running("runner-fails", QUICK);
-    *job.engine().declines.lock().unwrap() = Some(Kind::Checkpoint);
+    job.engine().does(decline(Kind::Checkpoint));
     job.engine().await_words(2, is_start);
     job.engine().await_more(1);
     let history = job.store().history(1000).unwrap();
@@ -385,7 +200,7 @@ fn a_job_that_fails_is_restarted() {
     assert!(!said.contains(&Complete(id)), "{said:?}");
 }
 
-fn stops(job: &Arc<Runner<Words>>) -> u64 {
+fn stops(job: &Job) -> u64 {
     let made = job.store().stop_job().unwrap();
     let Some(Answer::SavepointTriggered(id)) = made.called() else { unreachable!() };
     id
@@ -397,41 +212,34 @@ fn a_process_that_dies_between_a_stop_and_its_publication() {
     let settings = Settings { interval: 1 << 39, ..QUICK };
     let (job, run) = begin(&place, settings);
     job.engine().await_words(1, is_start);
-    *job.engine().dies_at.lock().unwrap() = Some(2);
+    when(&job.engine().inside, |_, id| if id == 2 { Err("as a kill".into()) } else { Ok(()) });
     job.store().trigger().unwrap();
     job.engine().await_word(Complete(1));
     assert_eq!(stops(&job), 2);
     assert!(matches!(run.join().unwrap(), Err(RunFault::Engine(_))));
-    assert_eq!(*job.engine().published.lock().unwrap(), [1]);
-    assert!(!ended(job).contains(&Stopped(2, TASKS.into())));
+    let said = ended(job);
+    assert!(said.iter().all(|it| !matches!(it, Complete(2) | Stopped(..))), "{said:?}");
     for _ in 0..2 {
         let (job, run) = begin(&place, settings);
         assert_eq!(run.join().unwrap().unwrap(), Ended::Stopped);
-        assert_eq!(*job.engine().published.lock().unwrap(), [2]);
         assert_eq!(ended(job), [End, Stopped(2, TASKS.into())]);
     }
 }
 
-/// An engine with the functions that every engine has. Its sink panics.
-struct Least {
-    start: fn(&Arc<Runner<Least>>, u64),
-    barrier: fn(&Runner<Least>, &Barrier) -> Told,
-    job: Mutex<Option<Arc<Runner<Least>>>>,
-}
+/// An engine with the functions that every engine has, which is told nothing.
+struct Least;
 
 impl Engine for Least {
-    fn start(&self, job: &Arc<Runner<Least>>, term: u64, _: Option<&Record>) -> Told {
-        *self.job.lock().unwrap() = Some(job.clone());
-        (self.start)(job, term);
-        Ok(())
+    fn start(&self, _: &Arc<Runner<Least>>, _: u64, _: Option<&Record>) -> Told {
+        panic!("no task runs")
     }
 
-    fn barrier(&self, it: Barrier) -> Told {
-        (self.barrier)(self.job.lock().unwrap().as_ref().unwrap(), &it)
+    fn barrier(&self, _: Barrier) -> Told {
+        panic!("nor has it a barrier")
     }
 
     fn complete(&self, _: u64) -> Told {
-        panic!("as a fault of the sink")
+        panic!("nor has it a sink")
     }
 
     fn end(&self) -> Told {
@@ -444,50 +252,48 @@ fn an_engine_that_is_not_told_of_a_stop() {
     let (place, job, run) = running("runner-untold", QUICK);
     stops(&job);
     ended_as(Ended::Stopped, job, run);
-    let untold = Least {
-        start: |_, _| panic!("no task runs"),
-        barrier: |_, _| Err("nor has it a barrier".into()),
-        job: Mutex::default(),
-    };
-    assert_eq!(Runner::new(opened(&place, QUICK), untold).run().unwrap(), Ended::Stopped);
+    assert_eq!(Runner::new(opened(&place, QUICK), Least).run().unwrap(), Ended::Stopped);
 }
 
 /// It acknowledges right after an operator has cancelled the job.
 #[test]
 fn a_barrier_of_a_term_that_has_just_ended() {
     let place = Place::new("runner-late");
-    let barrier: fn(&Runner<Least>, &Barrier) -> Told = |job, it| {
+    let late = engine_that(|job, it| {
         job.store().call(Call::Cancel { now: NOW })?;
-        let why = job.ack_payload(it, (0, 0), &[]).unwrap_err();
+        let why = job.ack_payload(&it, (0, 0), &[]).unwrap_err();
         assert_eq!(why, CallError::Fault(Fault::Fenced(Fenced::OldTerm)));
         Err(why.into())
-    };
-    let late = Least { start: |_, _| (), barrier, job: Mutex::default() };
-    assert_eq!(Runner::new(opened(&place, QUICK), late).run().unwrap(), Ended::Cancelled);
+    });
+    assert_eq!(job_of(opened(&place, QUICK), late, Kit::default()).run().unwrap(), Ended::Cancelled);
 }
 
 /// Its tasks acknowledge in threads that nobody waits for.
 #[test]
 fn a_panic_in_a_thread_of_the_engine() {
     let place = Place::new("runner-panics");
-    let start: fn(&Arc<Runner<Least>>, u64) = |job, term| {
+    let job = job_at(&place, IDLE);
+    when(&job.engine().inside, |_, _| panic!("as a fault of the sink"));
+    when(&job.engine().starts, |job, ()| {
         let job = job.clone();
         thread::spawn(move || {
             job.store().trigger().unwrap();
             for index in 0..TASKS {
-                job.ack(term, 1, (0, index), &[], &[], More::default()).unwrap();
+                job.ack(1, 1, (0, index), &[], &[], More::default()).unwrap();
             }
         });
-    };
-    let told = Runner::new(opened(&place, IDLE), Least { start, barrier: |_, _| Ok(()), job: Mutex::default() }).run();
-    assert_eq!(told.unwrap_err().to_string(), "the engine has panicked");
+        Ok(())
+    });
+    job.engine().does(hang);
+    assert_eq!(job.run().unwrap_err().to_string(), "the engine has panicked");
 }
 
 #[test]
 fn a_sweep_now_and_then() {
     for (interval, goes) in [(1, true), (600_000, false)] {
         let place = Place::new(&format!("runner-sweeps-{interval}"));
-        let job = Runner::with_sweeps(opened(&place, QUICK), Words::default(), interval);
+        let sweep_interval = Duration::from_millis(interval);
+        let job = job_of(opened(&place, QUICK), engine_that(acknowledge), Kit { sweep_interval, ..Kit::default() });
         let run = runs(&job);
         job.engine().await_words(1, is_complete);
         let name = job.store().reserve(1, 1).unwrap().start;
@@ -538,7 +344,10 @@ fn reports_of_a_term() {
 #[test]
 fn a_cancel_between_a_look_and_a_restore() {
     let (_place, job, run) = running("runner-faster", QUICK);
-    *job.engine().then.lock().unwrap() = Some(Call::Cancel { now: NOW });
+    when(&job.engine().ends, |job, ()| {
+        let _ = job.store().call(Call::Cancel { now: NOW }); // once
+        Ok(())
+    });
     job.restart();
     assert_eq!(run.join().unwrap().unwrap(), Ended::Cancelled);
     assert_eq!(job.engine().starts(), [1]);
@@ -546,9 +355,14 @@ fn a_cancel_between_a_look_and_a_restore() {
 }
 
 /// A task that dies by a command of an operator, and reports it before the loop looks.
-fn restarts_after(name: &str, after: After) -> (Ended, Vec<Word>) {
+fn restarts_after(name: &str, command: fn(&Job)) -> (Ended, Vec<Word>) {
     let (_place, job, run) = idle(name, IDLE);
-    *job.engine().after.lock().unwrap() = Some(after);
+    job.engine().does(move |job, it| {
+        acknowledge(job, it)?;
+        command(job);
+        job.restart_of(it.term);
+        Ok(())
+    });
     job.store().stop_job().unwrap();
     let by = run.join().unwrap().unwrap();
     (by, ended(job))
@@ -556,18 +370,15 @@ fn restarts_after(name: &str, after: After) -> (Ended, Vec<Word>) {
 
 #[test]
 fn a_task_that_died_of_a_cancel() {
-    let cancel: After = |job, term| {
-        job.store().call(Call::Cancel { now: NOW }).unwrap();
-        job.restart_of(term);
-    };
-    let (by, said) = restarts_after("runner-died-cancelled", cancel);
+    let (by, said) =
+        restarts_after("runner-died-cancelled", |job| drop(job.store().call(Call::Cancel { now: NOW }).unwrap()));
     let stopped = [Start(1, None, 0), Barrier(1, Kind::Savepoint, true), End];
     assert_eq!((by, said), (Ended::Cancelled, stopped.to_vec()));
 }
 
 #[test]
 fn a_task_that_died_of_a_stop() {
-    let (by, said) = restarts_after("runner-died-stopped", |job, term| job.restart_of(term));
+    let (by, said) = restarts_after("runner-died-stopped", |_| ());
     let stopped = [Start(1, None, 0), Barrier(1, Kind::Savepoint, true), End, Stopped(1, TASKS.into())];
     assert_eq!((by, said), (Ended::Stopped, stopped.to_vec()));
 }
@@ -575,17 +386,16 @@ fn a_task_that_died_of_a_stop() {
 /// No number says what to publish then: the record has the list.
 #[test]
 fn a_stopped_job_that_is_restored_elsewhere() {
-    let elsewhere: After = |job, _| {
-        let restore = Call::Restore { now: NOW, savepoint: NonZeroU64::new(1), shape: None };
-        job.store().call(restore).unwrap();
-    };
     let (_place, job, run) = idle("runner-elsewhere", IDLE);
     let made = job.store().call(Call::Savepoint { now: NOW }).unwrap(); // nobody sends its barrier
     assert_eq!(made.called(), Some(Answer::SavepointTriggered(1)));
     for index in 0..TASKS {
         job.ack(1, 1, (0, index), &[], &[], More::default()).unwrap();
     }
-    *job.engine().after.lock().unwrap() = Some(elsewhere);
+    job.engine().does(|job, it| {
+        acknowledge(job, it)?;
+        Ok(job.store().call(Call::Restore { now: NOW, savepoint: NonZeroU64::new(1), shape: None }).map(drop)?)
+    });
     assert_eq!(stops(&job), 2);
     let said = ended_as(Ended::Stopped, job, run);
     assert_eq!(said[1..], [Barrier(2, Kind::Savepoint, true), End, Stopped(1, 0)]);
@@ -596,11 +406,18 @@ fn calls_from_inside_complete_and_aborted() {
     let place = Place::new("runner-inside");
     let settings = Settings { tolerable: 10, ..QUICK };
     let (job, run) = begin(&place, settings);
-    *job.engine().calls_inside.lock().unwrap() = Some(Vec::new());
+    let (notes, faults) = mpsc::channel();
+    when(&job.engine().inside, move |job, id| {
+        for told in [job.ack(1, id, (0, 0), &[], &[], More::default()), job.decline(1, id, (0, 0), "")] {
+            let Err(CallError::Store(why)) = told else { panic!("{told:?}") };
+            notes.send(why.kind)?;
+        }
+        Ok(())
+    });
     job.engine().await_more(2); // one of them may have begun before
-    *job.engine().declines.lock().unwrap() = Some(Kind::Checkpoint);
+    job.engine().does(decline(Kind::Checkpoint));
     job.engine().await_words(1, |it| matches!(it, Aborted(_)));
-    let faults = job.engine().calls_inside.lock().unwrap().take().unwrap();
+    let faults: Vec<StoreErrorKind> = faults.try_iter().collect();
     assert!(faults.len() >= 4 && faults.iter().all(|it| *it == StoreErrorKind::NotNow), "{faults:?}");
     close(job, run);
 }
@@ -608,7 +425,7 @@ fn calls_from_inside_complete_and_aborted() {
 #[test]
 fn a_stop_that_fails() {
     let (_place, job, run) = running("runner-goes-on", Settings { tolerable: 10, ..QUICK });
-    *job.engine().declines.lock().unwrap() = Some(Kind::Savepoint);
+    job.engine().does(decline(Kind::Savepoint));
     job.store().stop_job().unwrap();
     job.engine().await_word(GoOn);
     job.engine().await_more(1);
@@ -620,12 +437,12 @@ fn a_stop_that_fails() {
 #[test]
 fn tasks_that_hold_and_are_restarted() {
     let (_place, job, run) = idle("runner-held", IDLE);
-    *job.engine().takes_no_part.lock().unwrap() = true;
+    job.engine().does(hang);
     assert_eq!(stops(&job), 1);
     job.engine().await_word(Barrier(1, Kind::Savepoint, true));
     job.restart();
     job.engine().await_word(Start(2, None, 0));
-    *job.engine().takes_no_part.lock().unwrap() = false;
+    job.engine().does(acknowledge);
     while job.store().phase().unwrap().phase != Phase::Running {
         thread::sleep(Duration::from_millis(1));
     }
@@ -639,7 +456,7 @@ fn tasks_that_hold_and_are_restarted() {
 fn a_record_that_expires() {
     let settings = Settings { tolerable: 10, ..IDLE };
     let (_place, job, run) = idle("runner-expires", settings);
-    *job.engine().takes_no_part.lock().unwrap() = true;
+    job.engine().does(hang);
     let [first, second] = [1, 2].map(|id| Barrier(id, Kind::Checkpoint, false));
     job.store().trigger().unwrap();
     job.engine().await_word(first.clone());
@@ -658,14 +475,14 @@ fn a_record_that_expires() {
 const IDLE: Settings = Settings { interval: 1 << 39, ..QUICK };
 
 /// One that has completed a checkpoint.
-fn running(name: &str, settings: Settings) -> (Place, Arc<Runner<Words>>, Run) {
+fn running(name: &str, settings: Settings) -> (Place, Job, Run) {
     let place = Place::new(name);
     let (job, run) = begin(&place, settings);
     job.engine().await_words(1, is_complete);
     (place, job, run)
 }
 
-fn idle(name: &str, settings: Settings) -> (Place, Arc<Runner<Words>>, Run) {
+fn idle(name: &str, settings: Settings) -> (Place, Job, Run) {
     let place = Place::new(name);
     let (job, run) = begin(&place, settings);
     job.engine().await_words(1, is_start);
@@ -679,7 +496,8 @@ fn a_savepoint() {
     job.store().trigger().unwrap();
     job.engine().await_word(Complete(1));
     assert_eq!(job.savepoint(), Ok(2));
-    assert_eq!(job.engine().bases.lock().unwrap()[..], [Choice::Fresh, Choice::Checkpoint(1)]);
+    let bases: Vec<Choice> = job.engine().barriers.lock().unwrap().iter().map(|it| it.base).collect();
+    assert_eq!(bases, [Choice::Fresh, Choice::Checkpoint(1)]);
     let past = &job.store().history(1).unwrap()[0];
     assert_eq!((past.id, past.kind, past.ending), (2, Kind::Savepoint, Ending::Completed));
     job.store().trigger().unwrap();
@@ -709,16 +527,18 @@ fn ended_savepoint(id: u64, ending: Ending, reason: &str) -> Result<u64, Savepoi
 #[test]
 fn savepoints_that_are_not_completed() {
     let (_place, job, run) = idle("runner-savepoint-declined", Settings { tolerable: 10, ..IDLE });
-    *job.engine().declines.lock().unwrap() = Some(Kind::Savepoint);
+    job.engine().does(decline(Kind::Savepoint));
     assert_eq!(job.savepoint(), ended_savepoint(1, Ending::Declined, "as it was told"));
     close(job, run);
     let (_place, job, run) = idle("runner-savepoint-expired", Settings { timeout: 50, ..IDLE });
-    *job.engine().takes_no_part.lock().unwrap() = true;
+    job.engine().does(hang);
     assert_eq!(job.savepoint(), ended_savepoint(1, Ending::Expired, ""));
     close(job, run);
     let (_place, job, run) = idle("runner-savepoint-dropped", IDLE);
-    *job.engine().takes_no_part.lock().unwrap() = true;
-    *job.engine().after.lock().unwrap() = Some(|job, term| job.restart_of(term));
+    job.engine().does(|job, it| {
+        job.restart_of(it.term);
+        Ok(())
+    });
     assert_eq!(job.savepoint(), ended_savepoint(1, Ending::Dropped, ""));
     assert_eq!(job.engine().starts(), [1, 2]);
     close(job, run);
@@ -727,7 +547,7 @@ fn savepoints_that_are_not_completed() {
 #[test]
 fn a_savepoint_of_a_job_that_is_being_stopped() {
     let (_place, job, run) = idle("runner-savepoint-stop", IDLE);
-    *job.engine().takes_no_part.lock().unwrap() = true;
+    job.engine().does(hang);
     assert_eq!(stops(&job), 1);
     job.engine().await_word(Barrier(1, Kind::Savepoint, true));
     let refused = CallError::Fault(Fault::Refused(Refusal::NotRunning));
@@ -738,11 +558,11 @@ fn a_savepoint_of_a_job_that_is_being_stopped() {
 #[test]
 fn a_savepoint_that_a_stop_drops() {
     let (_place, job, run) = idle("runner-savepoint-stopped", IDLE);
-    *job.engine().takes_no_part.lock().unwrap() = true;
+    job.engine().does(hang);
     let asks = job.clone();
     let pending = thread::spawn(move || asks.savepoint());
     job.engine().await_word(Barrier(1, Kind::Savepoint, false));
-    *job.engine().takes_no_part.lock().unwrap() = false;
+    job.engine().does(acknowledge);
     job.ask_to_stop();
     assert_eq!(pending.join().unwrap(), ended_savepoint(1, Ending::Dropped, ""));
     assert_stops(job, run, 2);
@@ -754,11 +574,12 @@ fn a_savepoint_right_after_a_way_back() {
     let (_place, job, run) = idle("runner-savepoint-back", IDLE);
     job.store().trigger().unwrap();
     job.engine().await_word(Complete(1));
-    *job.engine().after.lock().unwrap() = Some(|job, term| {
+    job.engine().does(|job, it| {
+        acknowledge(job, it)?;
         // the barrier of record 1 may end only now
         let is_second = job.engine().said().contains(&Barrier(2, Kind::Checkpoint, false));
-        if !is_second || term != 1 || job.store().read(|job| job.term()).unwrap().unwrap().term != 1 {
-            return;
+        if !is_second || it.term != 1 || job.store().read(|job| job.term()).unwrap().unwrap().term != 1 {
+            return Ok(());
         }
         let (asks, (tell, told)) = (job.clone(), mpsc::channel());
         thread::spawn(move || {
@@ -770,7 +591,7 @@ fn a_savepoint_right_after_a_way_back() {
         while !fs::read_to_string(&state).unwrap().contains(") S ") {
             thread::sleep(Duration::from_millis(1)); // it sleeps once the run has to take the savepoint
         }
-        job.store().go_back(1, true).unwrap();
+        Ok(job.store().go_back(1, true).map(drop)?)
     });
     job.store().trigger().unwrap();
     job.engine().await_word(Complete(400));
@@ -785,7 +606,7 @@ fn a_savepoint_right_after_a_way_back() {
 #[test]
 fn savepoints_when_the_run_ends() {
     let (_place, job, run) = idle("runner-savepoint-ends", IDLE);
-    *job.engine().takes_no_part.lock().unwrap() = true;
+    job.engine().does(hang);
     let asks = job.clone();
     let pending = thread::spawn(move || asks.savepoint());
     job.engine().await_word(Barrier(1, Kind::Savepoint, false));
@@ -799,16 +620,14 @@ fn savepoints_when_the_run_ends() {
 #[test]
 fn a_savepoint_that_is_complete_as_the_run_ends() {
     let (_place, job, run) = idle("runner-savepoint-closes", IDLE);
-    *job.engine().takes_no_part.lock().unwrap() = true;
-    *job.engine().after.lock().unwrap() = Some(|job, term| {
+    job.engine().does(|job, it| {
         job.spawn(move |job| {
             thread::sleep(Duration::from_millis(50));
-            for index in 0..TASKS {
-                job.ack(term, 1, (0, index), &[], &[], More::default())?;
-            }
+            acknowledge(job, it)?;
             job.close();
             Ok(())
         });
+        Ok(())
     });
     assert_eq!(job.savepoint(), Ok(1));
     close(job, run);
@@ -817,8 +636,7 @@ fn a_savepoint_that_is_complete_as_the_run_ends() {
 #[test]
 fn a_savepoint_when_the_run_fails() {
     let (_place, job, run) = idle("runner-savepoint-fails", IDLE);
-    *job.engine().takes_no_part.lock().unwrap() = true;
-    *job.engine().after.lock().unwrap() = Some(|_, _| panic!("as a fault of the engine"));
+    job.engine().does(|_, _| panic!("as a fault of the engine"));
     assert_eq!(job.savepoint(), Err(SavepointFault::Over { id: Some(1) }));
     assert!(run.join().is_err());
     assert_eq!(job.savepoint(), Err(SavepointFault::Over { id: None }));
@@ -832,17 +650,19 @@ fn is_not_now(told: &Result<u64, SavepointFault>) -> bool {
 #[test]
 fn a_savepoint_that_would_wait_for_itself() {
     let (_place, job, run) = idle("runner-savepoint-inside", IDLE);
-    *job.engine().after.lock().unwrap() = Some(|job, term| {
+    job.engine().does(|job, it| {
+        acknowledge(job, it)?;
         if is_not_now(&job.savepoint()) {
-            job.restart_of(term);
+            job.restart_of(it.term);
         }
+        Ok(())
     });
     job.store().trigger().unwrap();
     job.engine().await_words(2, is_start);
     close(job, run);
 }
 
-fn assert_stops(job: Arc<Runner<Words>>, run: Run, id: u64) -> Vec<Word> {
+fn assert_stops(job: Job, run: Run, id: u64) -> Vec<Word> {
     let said = ended_as(Ended::Stopped, job, run);
     let last = [Barrier(id, Kind::Savepoint, true), Complete(id), End, Stopped(id, TASKS.into())];
     assert_eq!(said[said.len() - 4..], last);
@@ -855,7 +675,7 @@ fn a_stop_that_is_asked_for() {
     job.begin_job().unwrap(); // it runs, so this has no effect
     job.ask_to_stop();
     assert_stops(job, run, 1);
-    let job = Runner::new(opened(&place, IDLE), Words::default());
+    let job = job_at(&place, IDLE);
     job.begin_job().unwrap();
     assert_eq!(job.store().phase().unwrap().phase, Phase::Running);
     let run = runs(&job);
@@ -867,7 +687,7 @@ fn a_stop_that_is_asked_for() {
 #[test]
 fn a_stop_that_is_asked_for_is_tried_again() {
     let (_place, job, run) = idle("runner-asks-again", Settings { tolerable: 10, ..IDLE });
-    *job.engine().declines.lock().unwrap() = Some(Kind::Savepoint);
+    job.engine().does(decline(Kind::Savepoint));
     job.ask_to_stop();
     let said = assert_stops(job, run, 2);
     assert_eq!(said.iter().filter(|it| **it == GoOn).count(), 1);
@@ -876,8 +696,12 @@ fn a_stop_that_is_asked_for_is_tried_again() {
 #[test]
 fn a_stop_that_is_asked_for_of_a_job_that_fails() {
     let (_place, job, run) = idle("runner-asks-failed", IDLE);
-    *job.engine().declines.lock().unwrap() = Some(Kind::Checkpoint);
-    *job.engine().after.lock().unwrap() = Some(|job, _| job.ask_to_stop());
+    let declines = decline(Kind::Checkpoint);
+    job.engine().does(move |job, it| {
+        declines(job, it)?;
+        job.ask_to_stop();
+        Ok(())
+    });
     job.store().trigger().unwrap();
     let said = assert_stops(job, run, 2);
     assert_eq!(said.iter().filter(|it| is_start(it)).count(), 2);
@@ -888,8 +712,10 @@ fn a_stop_that_is_asked_for_of_a_job_that_fails() {
 #[ignore = "it is started by another test"]
 fn an_engine_with_signals() {
     let place = Place(std::env::var_os("RELKVANU_PLACE").unwrap().into());
-    let job = Runner::new(opened(&place, IDLE), Words::default());
-    *job.engine().takes_no_part.lock().unwrap() = std::env::var_os("RELKVANU_HANGS").is_some();
+    let job = job_at(&place, IDLE);
+    if std::env::var_os("RELKVANU_HANGS").is_some() {
+        job.engine().does(hang);
+    }
     job.stop_at_signals();
     let run = runs(&job);
     for count in 1.. {
@@ -954,7 +780,7 @@ fn a_second_signal_ends_the_process() {
 #[ignore = "it is started by another test"]
 fn a_process_whose_run_has_ended() {
     let place = Place(std::env::var_os("RELKVANU_PLACE").unwrap().into());
-    let job = Runner::new(opened(&place, IDLE), Words::default());
+    let job = job_at(&place, IDLE);
     job.stop_at_signals();
     job.close();
     assert_eq!(job.run().unwrap(), Ended::Closed);
@@ -974,12 +800,12 @@ fn a_signal_after_the_run() {
 #[test]
 fn a_last_record() {
     let place = Place::new("runner-last");
-    let job = Runner::new(opened(&place, QUICK), Words::default());
+    let job = job_at(&place, QUICK);
     job.close_after(3);
     assert_eq!(job.run().unwrap(), Ended::Closed);
     let said = ended(job);
     assert!(said.contains(&Complete(3)) && !said.contains(&Complete(5)), "{said:?}");
-    let job = Runner::new(opened(&place, QUICK), Words::default());
+    let job = job_at(&place, QUICK);
     job.close_after(3);
     assert_eq!(job.run().unwrap(), Ended::Closed);
     let said = ended(job);
