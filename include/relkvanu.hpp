@@ -440,6 +440,8 @@ template <class Write> text_answer written(Write write) {
 
 /* What an engine does next, if it is no cut and no abandon; or why a step is refused, and then nothing has changed. relkvanu.h says what each
  * means. */
+/* clang-format off */
+/* bindings/generate makes the kinds of steps */
 enum class step : std::uint32_t {
     process = RELKVANU_STEP_PROCESS,
     hold = RELKVANU_STEP_HOLD,
@@ -450,8 +452,8 @@ enum class step : std::uint32_t {
     held_input = RELKVANU_STEP_HELD_INPUT,
     ended_input = RELKVANU_STEP_ENDED_INPUT,
     bad_inputs = RELKVANU_STEP_BAD_INPUTS,
-    record = RELKVANU_STEP_RECORD, /* Of a recorder. */
-    unknown = 0,                   /* The library is of another version. */
+    record = RELKVANU_STEP_RECORD,
+    unknown = 0, /* The library is of another version. */
 };
 
 inline step step_of(std::uint32_t what) noexcept {
@@ -469,6 +471,8 @@ inline step step_of(std::uint32_t what) noexcept {
     default: return step::unknown;
     }
 }
+/* bindings/generate: end */
+/* clang-format on */
 
 /* The cut of a record at a task: take the snapshot for it now, and then send its barrier on each output, before anything else. Only an aligner
  * or a recorder gives one out, and none can be copied. A task that acknowledges by ack_cut and ack_cut_in alone acknowledges no record that it
@@ -519,25 +523,33 @@ public:
     aligner(const aligner &) = delete;
     aligner &operator=(const aligner &) = delete;
 
-    /* An element is next on this input, from 0: process or hold. */
+    /* clang-format off */
+    /* bindings/generate makes the steps of an aligner */
+    /* An element is next on this input, from 0: whether the task may process it now. Changes nothing. process or hold; or unknown_input,
+     * ended_input. */
     [[nodiscard]] step element(std::uint32_t input) const noexcept {
         return step_of(relkvanu_align_element(&aligner_, inputs_.data(), inputs_.size(), input).what);
     }
 
-    /* The barrier of this record is next on this input: wait, late, a cut, or the abandon of an earlier record, whose place it takes. */
+    /* The barrier of record id is next on this input. wait, late, cut, or abandon of an earlier record, whose place this one takes; or
+     * unknown_input, held_input, ended_input. A cut and an abandon release all held inputs; after an abandon this input alone is held. */
     [[nodiscard]] step_answer barrier(std::uint32_t input, std::uint64_t id) noexcept {
         return answer(relkvanu_align_barrier(&aligner_, inputs_.data(), inputs_.size(), input, id));
     }
 
-    /* Nothing more comes on this input: nothing, wait or a cut. */
+    /* Nothing more comes on this input. It counts as one that has delivered every barrier. nothing, wait or cut; or unknown_input,
+     * held_input, ended_input. */
     [[nodiscard]] step_answer end(std::uint32_t input) noexcept {
         return answer(relkvanu_align_end(&aligner_, inputs_.data(), inputs_.size(), input));
     }
 
-    /* The coordinator or the task gives this record up: an abandon if it is being aligned, otherwise nothing. */
+    /* The coordinator or the task gives record id up. abandon if this record is being aligned, and all held inputs are released; otherwise
+     * nothing. */
     [[nodiscard]] step_answer give_up(std::uint64_t id) noexcept {
         return answer(relkvanu_align_give_up(&aligner_, inputs_.data(), inputs_.size(), id));
     }
+    /* bindings/generate: end */
+    /* clang-format on */
 
 private:
     relkvanu_aligner aligner_{};
@@ -586,31 +598,36 @@ public:
     recorder(const recorder &) = delete;
     recorder &operator=(const recorder &) = delete;
 
-    /* As aligner::element; or record: the task adds the element to the record, and processes it before what comes behind it. */
+    /* clang-format off */
+    /* bindings/generate makes the steps of a recorder */
+    /* As element; and record. */
     [[nodiscard]] step element(std::uint32_t input) const noexcept {
         return step_of(relkvanu_unaligned_element(&recorder_, inputs_.data(), inputs_.size(), input).what);
     }
 
-    /* As aligner::barrier; or complete. */
+    /* As barrier; and complete if it was the last of a record that has overtaken. */
     [[nodiscard]] recorder_answer barrier(std::uint32_t input, std::uint64_t id) noexcept {
         return answer(relkvanu_unaligned_barrier(&recorder_, inputs_.data(), inputs_.size(), input, id));
     }
 
-    /* As aligner::end; or complete. */
+    /* As end; and complete. */
     [[nodiscard]] recorder_answer end(std::uint32_t input) noexcept {
         return answer(relkvanu_unaligned_end(&recorder_, inputs_.data(), inputs_.size(), input));
     }
 
-    /* As aligner::give_up: what was recorded for an abandoned record is given up. */
+    /* As give_up: what was recorded for an abandoned record is given up. */
     [[nodiscard]] recorder_answer give_up(std::uint64_t id) noexcept {
         return answer(relkvanu_unaligned_give_up(&recorder_, inputs_.data(), inputs_.size(), id));
     }
 
-    /* This record's barrier was seen on an input, wherever it stands there, or has waited for long enough: a snap; late; or nothing, while an
-     * earlier record is open, if it has overtaken before, or if each input has ended. */
+    /* Record id overtakes: its barrier was seen on an input, wherever it stands there, or has waited for long enough. snap; late if it is
+     * whole or was given up; nothing while an earlier record is open (ask again once that has ended), if it has overtaken before, or if
+     * each input has ended. */
     [[nodiscard]] recorder_answer overtake(std::uint64_t id) noexcept {
         return answer(relkvanu_unaligned_overtake(&recorder_, inputs_.data(), inputs_.size(), id));
     }
+    /* bindings/generate: end */
+    /* clang-format on */
 
 private:
     relkvanu_recorder recorder_{};

@@ -179,3 +179,28 @@ def looks() -> List[Function]:
         told = re.sub(r"(?:^|(?<=\. ))[a-z]", lambda it: it[0].upper(), told)
         found.append(Function(name, told, given_to(functions[f"relkvanu_{name}"])))
     return found
+
+
+class Step(NamedTuple):
+    """A step of an alignment: its name, its function, what the header says of it, what it takes beside the inputs, and whether it changes anything."""
+
+    name: str
+    function: str
+    comment: str
+    given: List[Tuple[str, str]]
+    is_change: bool
+
+
+def steps(mode: str) -> List[Step]:
+    """The steps of an aligner (align) or a recorder (unaligned) that is open. What they say has the names of steps without the prefixes of C."""
+    _, functions = header.declarations()
+    found = []
+    for name, it in functions.items():
+        step = name.removeprefix(f"relkvanu_{mode}_")
+        if step not in (name, "open"):
+            told = re.sub(r"relkvanu_align_", "", " ".join(header.paragraphs()[name]))
+            told = re.sub(r"RELKVANU_STEP_(\w+)", lambda it: it[1].lower(), told)
+            (_, state), *rest = parameters(it)
+            given = [(header.SCALARS[pointed(kind)[0]][1], word) for word, kind in rest if not word.startswith("inputs")]
+            found.append(Step(step, name, told[0].upper() + told[1:], given, not pointed(state)[2]))
+    return found

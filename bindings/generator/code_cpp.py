@@ -152,6 +152,29 @@ def look(call: Function) -> str:
     return text + f"        return {made.format(name=call.name, asked=asked)};\n    }}\n"
 
 
+# The steps that have a type of their own.
+TYPED = ("cut", "abandon", "snap", "complete")
+
+
+def step_enum() -> str:
+    found = [(member, f"RELKVANU_{number.name}") for member, number in header.enums()["step_kind"].members if member not in TYPED]
+    text = "enum class step : std::uint32_t {\n" + "".join(f"    {member} = {number},\n" for member, number in found)
+    text += "    unknown = 0, /* The library is of another version. */\n};\n\ninline step step_of(std::uint32_t what) noexcept {\n    switch (what) {\n"
+    cases = "\n".join(f"    case {number}:" for _, number in found)
+    return text + f"{cases} return static_cast<step>(what);\n    default: return step::unknown;\n    }}\n}}\n"
+
+
+def steps_of(mode: str, kind: str) -> str:
+    """The steps of an aligner or a recorder, of which that of an element is told by a step alone."""
+    text = []
+    for step in calls.steps(mode):
+        given = ", ".join(f"std::{kind.replace('u', 'uint')}_t {it}" for kind, it in step.given)
+        asked = f"{step.function}(&{kind}_, inputs_.data(), inputs_.size(), {', '.join(it for _, it in step.given)})"
+        head, made = (f"{kind}_answer", f"answer({asked})") if step.is_change else ("step", f"step_of({asked}.what)")
+        text.append(f"{comment(step.comment)}    [[nodiscard]] {head} {step.name}({given}){'' if step.is_change else ' const'} noexcept {{\n        return {made};\n    }}\n")
+    return "\n".join(text).replace("aligner_answer", "step_answer")
+
+
 def store_method(call: Call) -> str:
     default = " = RELKVANU_STORE_NOW" if call.has_moment() else ""
     given = f"std::uint64_t {call.number}{default}" if call.number else ""
@@ -177,7 +200,8 @@ def generated() -> Dict[str, Dict[str, str]]:
         "relkvanu.hpp": {
             **kinds(), "the calls of one number": "\n".join(method(it) for it in calls.plain()),
             "the calls of tasks": "\n".join(task_method(it) for it in calls.of_tasks("reserve", "forfeit")),
-            "the reads": "\n".join(look(it) for it in calls.looks()),
+            "the reads": "\n".join(look(it) for it in calls.looks()), "the kinds of steps": step_enum(),
+            "the steps of an aligner": steps_of("align", "aligner"), "the steps of a recorder": steps_of("unaligned", "recorder"),
         },
         "relkvanu_storage.hpp": {"the errors of a storage": errors_of_statuses(store.STORAGE)},
         "relkvanu_store.hpp": {"the errors of a store": errors_of_statuses(store.STORE, "NOT_MADE"), "the calls of one number": "\n".join(store_method(it) for it in calls.stored())},

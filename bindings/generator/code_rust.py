@@ -248,6 +248,30 @@ def look(call: Function) -> str:
     return text + f"        {made.format(name=camel(call.name), asked=f'unsafe {{ sys::relkvanu_{call.name}({given}) }}')}\n    }}\n"
 
 
+def step_method(step: calls.Step, state: str) -> str:
+    """A step, of which that of an element alone changes nothing."""
+    text = f"{wrapped(step.comment, '    ')}    pub fn {step.name}(&{'mut ' if step.is_change else ''}self, {', '.join(f'{it}: {kind}' for kind, it in step.given)}) -> Stepped {{\n"
+    words = ", ".join(it for _, it in step.given)
+    return text + f"        stepped!({'change ' if step.is_change else ''}self.{state}, {step.function}, {words})\n    }}\n"
+
+
+def steps_of(mode: str, state: str) -> str:
+    return "\n".join(step_method(it, state) for it in calls.steps(mode))
+
+
+# The steps that hand out a cut, and those that name a record.
+CUTS, NAMING = ("cut", "complete"), ("abandon", "snap")
+
+
+def step_of() -> str:
+    text = "fn step_of(told: sys::relkvanu_step) -> Stepped {\n    match told.what {\n"
+    for member, number in header.enums()["step_kind"].members:
+        is_fault = member.endswith("_input") or member.endswith("_inputs")
+        given = "(Cut { id: told.id })" if member in CUTS else "(told.id)" if member in NAMING else ""
+        text += f"        sys::RELKVANU_{number.name} => {'Err(AlignFault' if is_fault else 'Ok(Step'}::{camel(member)}{given}),\n"
+    return text + "        other => Err(AlignFault::Unknown(other)),\n    }\n}\n"
+
+
 def task_variant(call: Function) -> str:
     return f"{wrapped(call.comment.partition('. ')[0].rstrip('.') + '.', '    ')}    {camel(call.name)} {{ {call.each(FIELDS)} }},\n"
 
@@ -290,6 +314,9 @@ def generated() -> Dict[str, Dict[str, str]]:
     return {
         "fault.rs": {"the refusals": refusals(), "the faults": faults()},
         "lines.rs": {"the faults of lines": line_faults()},
+        "aligner.rs": {
+            "the steps": step_of(), "the steps of an aligner": steps_of("align", "aligner"), "the steps of a recorder": steps_of("unaligned", "recorder"),
+        },
         "call.rs": {
             "the kinds": enum("CallKind", kinds.comment, kinds.members, "pub(crate)"),
             "the calls": variants() + "".join(task_variant(it) for it in calls.of_tasks()),

@@ -92,6 +92,7 @@ impl std::error::Error for AlignFault {}
 
 type Stepped = Result<Step, AlignFault>;
 
+// bindings/generate makes the steps
 fn step_of(told: sys::relkvanu_step) -> Stepped {
     match told.what {
         sys::RELKVANU_STEP_PROCESS => Ok(Step::Process),
@@ -101,23 +102,28 @@ fn step_of(told: sys::relkvanu_step) -> Stepped {
         sys::RELKVANU_STEP_LATE => Ok(Step::Late),
         sys::RELKVANU_STEP_CUT => Ok(Step::Cut(Cut { id: told.id })),
         sys::RELKVANU_STEP_ABANDON => Ok(Step::Abandon(told.id)),
-        sys::RELKVANU_STEP_RECORD => Ok(Step::Record),
-        sys::RELKVANU_STEP_SNAP => Ok(Step::Snap(told.id)),
-        sys::RELKVANU_STEP_COMPLETE => Ok(Step::Complete(Cut { id: told.id })),
         sys::RELKVANU_STEP_UNKNOWN_INPUT => Err(AlignFault::UnknownInput),
         sys::RELKVANU_STEP_HELD_INPUT => Err(AlignFault::HeldInput),
         sys::RELKVANU_STEP_ENDED_INPUT => Err(AlignFault::EndedInput),
         sys::RELKVANU_STEP_BAD_INPUTS => Err(AlignFault::BadInputs),
+        sys::RELKVANU_STEP_RECORD => Ok(Step::Record),
+        sys::RELKVANU_STEP_SNAP => Ok(Step::Snap(told.id)),
+        sys::RELKVANU_STEP_COMPLETE => Ok(Step::Complete(Cut { id: told.id })),
         other => Err(AlignFault::Unknown(other)),
     }
 }
+// bindings/generate: end
 
-/// A step that changes the state and the inputs of this value.
+/// A step of the state and the inputs of this value, which changes them or does not.
 macro_rules! stepped {
-    ($self:ident.$state:ident, $step:ident $(, $word:ident)*) => {{
+    (change $self:ident.$state:ident, $step:ident $(, $word:ident)*) => {{
         let (inputs, len) = ($self.inputs.as_mut_ptr(), $self.inputs.len());
         // SAFETY: both are memory of this value, and the slice has as many places as is said.
         step_of(unsafe { sys::$step(&mut $self.$state, inputs, len $(, $word)*) })
+    }};
+    ($self:ident.$state:ident, $step:ident $(, $word:ident)*) => {{
+        // SAFETY: as above; the call changes nothing.
+        step_of(unsafe { sys::$step(&$self.$state, $self.inputs.as_ptr(), $self.inputs.len() $(, $word)*) })
     }};
 }
 
@@ -158,7 +164,7 @@ impl Aligner {
         }
         let mut made =
             Aligner { aligner: sys::relkvanu_aligner { latest: 0 }, inputs: vec![0; inputs].into_boxed_slice() };
-        let _ = stepped!(made.aligner, relkvanu_align_open)?;
+        let _ = stepped!(change made.aligner, relkvanu_align_open)?;
         Ok(made)
     }
 
@@ -167,27 +173,32 @@ impl Aligner {
         self.inputs.len()
     }
 
-    /// An element is next on this input, from 0: [`Step::Process`] or [`Step::Hold`].
+    // bindings/generate makes the steps of an aligner
+    /// An element is next on this input, from 0: whether the task may process it now. Changes nothing. process or hold; or
+    /// unknown_input, ended_input.
     pub fn element(&self, input: u32) -> Stepped {
-        // SAFETY: both are memory of this value, and the slice has as many places as is said; the call changes nothing.
-        step_of(unsafe { sys::relkvanu_align_element(&self.aligner, self.inputs.as_ptr(), self.inputs.len(), input) })
+        stepped!(self.aligner, relkvanu_align_element, input)
     }
 
-    /// The barrier of this record is next on this input: [`Step::Wait`], [`Step::Late`], [`Step::Cut`], or [`Step::Abandon`] of an earlier
-    /// record, whose place this one takes.
+    /// The barrier of record id is next on this input. wait, late, cut, or abandon of an earlier record, whose place this one
+    /// takes; or unknown_input, held_input, ended_input. A cut and an abandon release all held inputs; after an abandon this
+    /// input alone is held.
     pub fn barrier(&mut self, input: u32, id: u64) -> Stepped {
-        stepped!(self.aligner, relkvanu_align_barrier, input, id)
+        stepped!(change self.aligner, relkvanu_align_barrier, input, id)
     }
 
-    /// Nothing more comes on this input: [`Step::Nothing`], [`Step::Wait`] or [`Step::Cut`].
+    /// Nothing more comes on this input. It counts as one that has delivered every barrier. nothing, wait or cut; or
+    /// unknown_input, held_input, ended_input.
     pub fn end(&mut self, input: u32) -> Stepped {
-        stepped!(self.aligner, relkvanu_align_end, input)
+        stepped!(change self.aligner, relkvanu_align_end, input)
     }
 
-    /// The coordinator or the task gives this record up: [`Step::Abandon`] if it is being aligned, otherwise [`Step::Nothing`].
+    /// The coordinator or the task gives record id up. abandon if this record is being aligned, and all held inputs are released;
+    /// otherwise nothing.
     pub fn give_up(&mut self, id: u64) -> Stepped {
-        stepped!(self.aligner, relkvanu_align_give_up, id)
+        stepped!(change self.aligner, relkvanu_align_give_up, id)
     }
+    // bindings/generate: end
 }
 
 /// An aligner whose records may overtake. While one is recorded [`element`](Self::element) is [`Step::Record`] on an input that has not delivered its
@@ -206,32 +217,32 @@ impl Recorder {
         Ok(Recorder { recorder: sys::relkvanu_recorder { latest: 0, phase: 0 }, inputs })
     }
 
-    /// An element is next on this input: [`Step::Process`], [`Step::Hold`] or [`Step::Record`].
+    // bindings/generate makes the steps of a recorder
+    /// As element; and record.
     pub fn element(&self, input: u32) -> Stepped {
-        // SAFETY: as in that of an aligner.
-        step_of(unsafe {
-            sys::relkvanu_unaligned_element(&self.recorder, self.inputs.as_ptr(), self.inputs.len(), input)
-        })
+        stepped!(self.recorder, relkvanu_unaligned_element, input)
     }
 
-    /// The barrier of this record is next on this input.
+    /// As barrier; and complete if it was the last of a record that has overtaken.
     pub fn barrier(&mut self, input: u32, id: u64) -> Stepped {
-        stepped!(self.recorder, relkvanu_unaligned_barrier, input, id)
+        stepped!(change self.recorder, relkvanu_unaligned_barrier, input, id)
     }
 
-    /// Nothing more comes on this input.
+    /// As end; and complete.
     pub fn end(&mut self, input: u32) -> Stepped {
-        stepped!(self.recorder, relkvanu_unaligned_end, input)
+        stepped!(change self.recorder, relkvanu_unaligned_end, input)
     }
 
-    /// The coordinator or the task gives this record up.
+    /// As give_up: what was recorded for an abandoned record is given up.
     pub fn give_up(&mut self, id: u64) -> Stepped {
-        stepped!(self.recorder, relkvanu_unaligned_give_up, id)
+        stepped!(change self.recorder, relkvanu_unaligned_give_up, id)
     }
 
-    /// The barrier of this record was seen on an input, or has waited there for long enough: [`Step::Snap`]; [`Step::Late`]; or [`Step::Nothing`]
-    /// while an earlier record is open, if it has overtaken before, or if each input has ended.
+    /// Record id overtakes: its barrier was seen on an input, wherever it stands there, or has waited for long enough. snap; late
+    /// if it is whole or was given up; nothing while an earlier record is open (ask again once that has ended), if it has
+    /// overtaken before, or if each input has ended.
     pub fn overtake(&mut self, id: u64) -> Stepped {
-        stepped!(self.recorder, relkvanu_unaligned_overtake, id)
+        stepped!(change self.recorder, relkvanu_unaligned_overtake, id)
     }
+    // bindings/generate: end
 }
