@@ -220,45 +220,65 @@ template <class Made> std::variant<Made, not_made> told(int status, const Made &
 }
 } // namespace detail
 
-/* Makes the job at the path again, whose file was lost, from the manifests in its storage folder: relkvanu_store_recover. record: 0 for the last one. */
-[[nodiscard]] inline std::variant<relkvanu_store_recovered, not_made> recover(
-    const std::string &path, const std::string &folder, std::uint64_t record = 0) {
+/* clang-format off */
+/* bindings/generate makes what is made of manifests */
+/* Makes the job at path again, whose file was lost, from the manifests in its storage folder: from the last record that was the choice and
+ * has all its files, or from the record with this number; 0: any. The files stay where they are. Each task and process of the old job has
+ * been told to end. Records, terms and names that the new job gives out are above all that the old one told anybody, and an old file that
+ * comes back to path is refused. Savepoints that have all their files live on under new numbers. What the other records have is garbage to
+ * the next sweep: so is the state of a record that was complete and has no manifest. */
+[[nodiscard]] inline std::variant<relkvanu_store_recovered, not_made> recover(const std::string &path, const std::string &folder, std::uint64_t record = 0) {
     relkvanu_store_recovered made;
     int status = relkvanu_store_recover(path.c_str(), folder.c_str(), record, &made);
     return detail::told(status, made);
 }
 
-/* Makes the folder `to` of a record that has a manifest in a storage folder, whose job may run: relkvanu_store_export. */
-[[nodiscard]] inline std::variant<relkvanu_store_carried, not_made> export_record(
-    const std::string &folder, const std::string &to, std::uint64_t record = 0) {
+/* Makes the folder `to` of a record that has a manifest in a storage folder, with its manifest and its files: of the one that recover would
+ * begin from, or of the record with this number. It needs no job, and may run beside one, whose tasks take no part: it links the files, so
+ * that they stay whatever the job deletes, or copies them to another file system. If the record ends meanwhile, it takes the next one. The
+ * folder is made beside `to`, as to.part, and gets its name once all is on the disk. So killed at any moment it has done nothing, or all.
+ * */
+[[nodiscard]] inline std::variant<relkvanu_store_carried, not_made> export_record(const std::string &folder, const std::string &to, std::uint64_t record = 0) {
     relkvanu_store_carried made;
     int status = relkvanu_store_export(folder.c_str(), record, to.c_str(), &made);
     return detail::told(status, made);
 }
 
-/* Makes another job, at the path over the folder that it makes, of a record in `from`: relkvanu_store_import. */
-[[nodiscard]] inline std::variant<relkvanu_store_recovered, not_made> import_record(
-    const std::string &from, const std::string &path, const std::string &folder, std::uint64_t record = 0) {
+/* Makes another job, at path over a folder that is made, of a record in `from`: an exported folder, or the storage folder of a job, which
+ * may run. It exports the record to the folder, and then does what recover does. The job has an identity of its own, and each goes its own
+ * way. Killed at any moment it has done nothing, a part that the same call finishes, or all. Statuses as those of the two. */
+[[nodiscard]] inline std::variant<relkvanu_store_recovered, not_made> import_record(const std::string &from, const std::string &path, const std::string &folder, std::uint64_t record = 0) {
     relkvanu_store_recovered made;
     int status = relkvanu_store_import(from.c_str(), record, path.c_str(), folder.c_str(), &made);
     return detail::told(status, made);
 }
 
-/* The same; the files leave `from`, or stay in place, and a job that has the folder is refused from then on: relkvanu_store_claim. */
-[[nodiscard]] inline std::variant<relkvanu_store_recovered, not_made> claim_record(
-    const std::string &from, const std::string &path, const std::string &folder, std::uint64_t record = 0) {
+/* Takes a record over, with its files. A storage folder's old job is fenced first, before the record is chosen: its file is refused from
+ * then on, and a process that still has it puts and deletes nothing more. If `folder` is `from`, its files stay in place: a job that has a
+ * marker there keeps its identity, as by recover; a job over an exported folder gets one of its own. Otherwise it is import, after which
+ * the files leave `from`, but for those that another record there has, and last of all the manifest. An exported folder that is empty then
+ * is removed. Other records of `from` stay there, without a job. If import has made the job already, the same record leaves `from` in the
+ * same way, and its old job is fenced first too. */
+[[nodiscard]] inline std::variant<relkvanu_store_recovered, not_made> claim_record(const std::string &from, const std::string &path, const std::string &folder, std::uint64_t record = 0) {
     relkvanu_store_recovered made;
     int status = relkvanu_store_claim(from.c_str(), record, path.c_str(), folder.c_str(), &made);
     return detail::told(status, made);
 }
 
-/* Puts a backup back in the place of a job's file: relkvanu_store_put_back. `message` has what was set aside. */
-[[nodiscard]] inline std::variant<relkvanu_store_recovered, not_made> put_back(
-    const std::string &backup, const std::string &path, const std::string &folder) {
+/* Puts a backup of backup back in the place of a job's file, which may be damaged, lost, or a later one. Each process and task of the job
+ * has ended, also on other hosts. The new file begins from the choice of the backup if its files are all in the storage folder, or else
+ * from the last savepoint of which they are; above all terms of the backup, and above the name of each file in the folder. What was there
+ * is set aside beside it, in a folder aside-XXXXXX with a copy of the marker, whose path message gets. No engine starts while there is no
+ * file at path. Killed at any moment it has done nothing, or all, or there is no file at path: make the same call again before an engine
+ * starts. What was set aside may then be in two folders. Until an engine opens the job, the files that were set aside go back in its place,
+ * and last of all the marker. READ docs/DURABLE-OPERATION.md, Back up, first: sinks are told of numbers of records once more. */
+[[nodiscard]] inline std::variant<relkvanu_store_recovered, not_made> put_back(const std::string &backup, const std::string &path, const std::string &folder) {
     relkvanu_store_recovered made;
     int status = relkvanu_store_put_back(backup.c_str(), path.c_str(), folder.c_str(), &made);
     return detail::told(status, made);
 }
+/* bindings/generate: end */
+/* clang-format on */
 
 namespace detail {
 /* The alternatives of an answer with others before them. */

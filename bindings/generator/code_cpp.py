@@ -96,9 +96,9 @@ def converter(call: Call, it: Number) -> str:
     return text + f"    return is_reply(told, RELKVANU_{it.name}) ? {call.name}_answer({value}) : refusal(told);\n}}\n"
 
 
-def comment(text: str) -> str:
-    """A comment of a method, in lines of at most 140 characters."""
-    lines = textwrap.wrap(f"/* {text} */", 140, initial_indent="    ", subsequent_indent="     * ")
+def comment(text: str, indent: str = "    ") -> str:
+    """A comment, in lines of at most 140 characters."""
+    lines = textwrap.wrap(f"/* {text} */", 140, initial_indent=indent, subsequent_indent=f"{indent} * ")
     return "".join(f"{it}\n" for it in lines)
 
 
@@ -183,6 +183,15 @@ def store_method(call: Call) -> str:
     return text + f"        return one<{call.family()}_answer>(call(RELKVANU_{call.kind()}{number}), {call.family()}_of);\n    }}\n"
 
 
+def making(it: store.Making) -> str:
+    """A function that makes something of manifests. The number of a record comes last, and is 0 for the last one."""
+    name = it.name + ("_record" if it.name in ("export", "import", "claim") else "")
+    given = [f"const std::string &{word}" for word, is_text in it.given if is_text] + [f"std::uint64_t {word} = 0" for word, is_text in it.given if not is_text]
+    passed = ", ".join(f"{word}.c_str()" if is_text else word for word, is_text in it.given)
+    head = f"[[nodiscard]] inline std::variant<relkvanu_store_{it.told}, not_made> {name}({', '.join(given)}) {{\n    relkvanu_store_{it.told} made;\n"
+    return comment(it.comment, "") + head + f"    int status = relkvanu_store_{it.name}({passed}, &made);\n    return detail::told(status, made);\n}}\n"
+
+
 def case(it: Number) -> str:
     return f"    case RELKVANU_{it.name}: return {name(it)}{{{', '.join(f'told.{letter}' for _, letter, _ in it.fields())}}};\n"
 
@@ -204,7 +213,10 @@ def generated() -> Dict[str, Dict[str, str]]:
             "the steps of an aligner": steps_of("align", "aligner"), "the steps of a recorder": steps_of("unaligned", "recorder"),
         },
         "relkvanu_storage.hpp": {"the errors of a storage": errors_of_statuses(store.STORAGE)},
-        "relkvanu_store.hpp": {"the errors of a store": errors_of_statuses(store.STORE, "NOT_MADE"), "the calls of one number": "\n".join(store_method(it) for it in calls.stored())},
+        "relkvanu_store.hpp": {
+            "the errors of a store": errors_of_statuses(store.STORE, "NOT_MADE"), "what is made of manifests": "\n".join(making(it) for it in store.makings()),
+            "the calls of one number": "\n".join(store_method(it) for it in calls.stored()),
+        },
     }
 
 

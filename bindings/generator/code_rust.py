@@ -69,16 +69,16 @@ def document(sentence: str, indent: str = "    ") -> str:
     return f"{indent}/// {sentence}\n" if sentence else ""
 
 
-def enum(name: str, comment: str, members: List[Tuple[str, Number]], visible: str = "pub") -> str:
+def enum(name: str, comment: str, members: List[Tuple[str, Number]]) -> str:
     """An enum with Unknown for each other number. Those with a number of their own have it in the answer's a."""
     has_more = any(number.a for _, number in members)
     given, what = ("told: sys::relkvanu_answer", "told.what") if has_more else ("what: u32", "what")
-    text = f"{document(comment, '')}{DERIVED}#[non_exhaustive]\n{visible} enum {name} {{\n"
+    text = f"{document(comment, '')}{DERIVED}#[non_exhaustive]\npub enum {name} {{\n"
     text += "".join(document(it.sentence()) + f"    {camel(member)}{'(u64)' if it.a else ''},\n" for member, it in members) + UNKNOWN
     text += f"}}\n\nimpl {name} {{\n    pub(crate) fn of({given}) -> {name} {{\n        match {what} {{\n"
     text += "".join(f"            sys::{header.OWN}{it.name} => {name}::{camel(member)}{'(told.a)' if it.a else ''},\n" for member, it in members)
     text += f"            other => {name}::Unknown(other),\n        }}\n    }}\n\n"
-    text += f"    /// The number in the header.\n    {visible} fn number(&self) -> u32 {{\n        match self {{\n"
+    text += f"    /// The number in the header.\n    pub fn number(&self) -> u32 {{\n        match self {{\n"
     text += "".join(f"            {name}::{camel(member)}{'(_)' if it.a else ''} => sys::{header.OWN}{it.name},\n" for member, it in members)
     text += f"            {name}::Unknown(what) => *what,\n        }}\n    }}\n"
     return text + (of_a(name, members) if has_more else "") + "}\n"
@@ -153,9 +153,7 @@ def answers() -> str:
     text += "/// The numbers of an answer: what it is, and a and b.\npub(crate) fn numbers_of(answer: &Answer) -> (u32, u64, u64) {\n    match *answer {\n"
     text += "".join(f"        Answer::{it.of('{name}: {letter}')} => {it.numbers()},\n" for it in found)
     text += "        Answer::Restored { from: Choice::Unknown(what), released } => (what, released, 0),\n    }\n}\n\n"
-    text += "/// The text of each answer in scripts (`docs/SCRIPT.md`) and logs (`docs/LOGS.md`), in which {a} and {b} stand for its numbers.\n"
-    text += f"pub(crate) const TEXTS: [(u32, &str); {len(found)}] = [\n"
-    return text + "".join(f'    ({it.what}, "{header.form_of(it.number, None, it.number.name, it.number)}"),\n' for it in found) + "];\n"
+    return text
 
 
 def line_faults() -> str:
@@ -202,11 +200,11 @@ def of_fields(call: Call) -> str:
     """What makes the variant of the fields of a call in C."""
     found = camel(call.name)
     value = "" if call.number is None else " { now }" if call.has_moment() else f" {{ {call.number}: number }}"
-    return f"            CallKind::{found} => Call::{found}{value},\n"
+    return f"            sys::RELKVANU_{call.kind()} => Call::{found}{value},\n"
 
 
 def to_fields(call: Call) -> str:
-    of = f"of(CallKind::{camel(call.name)})"
+    of = f"of(sys::RELKVANU_{call.kind()})"
     given = "now" if call.has_moment() else f"number: {call.number}"
     return f"            Call::{variant(call)} => {f'sys::relkvanu_call {{ {given}, ..{of} }}' if call.number else of},\n"
 
@@ -280,13 +278,13 @@ def of_task_fields(call: Function) -> str:
     lists = iter(("first", "second"))
     forms = {"moment": "{}", "term": "{}", "number": "{}: number", "subtask": "{}"}
     given = [f"{name}: {next(lists)}" if kind == "list" else forms[kind].format(name) for kind, name in call.given]
-    return f"            CallKind::{camel(call.name)} => Call::{camel(call.name)} {{ {', '.join(given)} }},\n"
+    return f"            sys::RELKVANU_CALL_{call.name.upper()} => Call::{camel(call.name)} {{ {', '.join(given)} }},\n"
 
 
 def to_task_fields(call: Function) -> str:
     pattern = call.each({kind: "{}" for kind in WRITTEN}) + (", .." if call.has_list() else "")
-    kind = f"CallKind::{camel(call.kind())}"
-    return f"            Call::{camel(call.name)} {{ {pattern} }} => sys::relkvanu_call {{ {call.each(WRITTEN)}, ..of({kind}) }},\n"
+    of = f"of(sys::RELKVANU_CALL_{call.kind().upper()})"
+    return f"            Call::{camel(call.name)} {{ {pattern} }} => sys::relkvanu_call {{ {call.each(WRITTEN)}, ..{of} }},\n"
 
 
 def settings() -> str:
@@ -310,7 +308,6 @@ def settings() -> str:
 
 def generated() -> Dict[str, Dict[str, str]]:
     """What is made, by file and place."""
-    kinds = header.enums()["call_kind"]
     return {
         "fault.rs": {"the refusals": refusals(), "the faults": faults()},
         "lines.rs": {"the faults of lines": line_faults()},
@@ -318,7 +315,6 @@ def generated() -> Dict[str, Dict[str, str]]:
             "the steps": step_of(), "the steps of an aligner": steps_of("align", "aligner"), "the steps of a recorder": steps_of("unaligned", "recorder"),
         },
         "call.rs": {
-            "the kinds": enum("CallKind", kinds.comment, kinds.members, "pub(crate)"),
             "the calls": variants() + "".join(task_variant(it) for it in calls.of_tasks()),
             "what reads the calls": "".join([*(of_fields(it) for it in calls.calls()), *(of_task_fields(it) for it in calls.of_tasks("ack_in", "decline_in"))]),
             "what writes the calls": "".join([*(to_fields(it) for it in calls.calls()), *(to_task_fields(it) for it in calls.of_tasks())]),

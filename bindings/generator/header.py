@@ -186,9 +186,9 @@ def comments() -> Dict[str, str]:
     return {name: " ".join(it) for name, it in paragraphs().items()}
 
 
-def paragraphs() -> Dict[str, List[str]]:
-    """Returns the paragraphs of the comment before each function, each as one line of text."""
-    found = re.findall(r"/\*((?:(?!\*/).)*)\*/\n[^;/{}]*?\b(relkvanu_\w+)\([^;{]*\);", HEADER.read_text(), re.S)
+def paragraphs(path: pathlib.Path = HEADER) -> Dict[str, List[str]]:
+    """Returns the paragraphs of the comment before each function of a header, each as one line of text."""
+    found = re.findall(r"/\*((?:(?!\*/).)*)\*/\n[^;/{}]*?\b(relkvanu_\w+)\([^;{]*\);", path.read_text(), re.S)
     return {name: [plain(it) for it in re.split(r"\n \*\n", text)] for text, name in found}
 
 

@@ -1,13 +1,13 @@
 """The functions, structs and numbers of include/relkvanu_store.h and include/relkvanu_storage.h in Python and Rust, and the store's numbers in
 Java. C++, Go and the C of Java read the headers themselves."""
 import re
-from typing import Any, Dict, Iterable, List, NamedTuple
+from typing import Any, Dict, Iterable, List, NamedTuple, Tuple
 
 from pycparser import c_ast
 
 from generator import header
 from generator.code_python import entry, filled, python_type, structure
-from generator.code_rust import DERIVED, UNKNOWN, formatted
+from generator.code_rust import DERIVED, UNKNOWN, formatted, wrapped
 from generator.header import Number, camel
 
 STORE, STORAGE = (header.TOP / "include" / name for name in ("relkvanu_store.h", "relkvanu_storage.h"))
@@ -193,11 +193,41 @@ def rust_enum(name: str, comment: str, prefix: str, names: str = r"\w+", attribu
     return text + f"            other => {name}::Unknown(other),\n        }}\n    }}\n}}\n"
 
 
+class Making(NamedTuple):
+    """A function that makes a job or a folder of manifests: its name, what the header says of it, its texts and numbers, and the struct in which it tells what."""
+
+    name: str
+    comment: str
+    given: List[Tuple[str, bool]]
+    told: str
+
+
+def makings() -> List[Making]:
+    found, comments = [], header.paragraphs(STORE)
+    for name, it in of_store().functions.items():
+        *given, (_, last) = header.parameters(it)
+        told = header.pointed(last)[0].removeprefix("relkvanu_store_")
+        if told in ("recovered", "carried") and name != "relkvanu_store_recover_listed":
+            comment = " ".join(part for part in comments[name] if part is comments[name][0] or part.startswith("READ")).replace("relkvanu_store_", "")
+            found.append(Making(name.removeprefix("relkvanu_store_"), comment, [(word, header.pointed(kind)[0] == "char") for word, kind in given], told))
+    return found
+
+
+def rust_making(it: Making) -> str:
+    texts = [word for word, is_text in it.given if is_text]
+    given = ", ".join(f"{word}: {'&Path' if is_text else 'u64'}" for word, is_text in it.given)
+    passed = ", ".join(f"{word}.as_ptr()" if is_text else word for word, is_text in it.given)
+    text = f"{wrapped(it.comment, '')}pub fn {it.name}({given}) -> Result<{camel(it.told)}, StoreError> {{\n"
+    text += f"    let ({', '.join(texts)}) = ({', '.join(f'c_path({word})?' for word in texts)});\n    {it.told}(|told| {{\n"
+    return text + f"        // SAFETY: all that is passed outlives the call.\n        unsafe {{ sys::relkvanu_store_{it.name}({passed}, told) }}\n    }})\n}}\n"
+
+
 def in_crate() -> Dict[str, Dict[str, str]]:
     """What is made in the crate, by file and place."""
     phases = [rust_enum("Phase", "The phase of a job.", "RELKVANU_STORE_PHASE_"), rust_enum("StopFailed", "Why a stop has failed.", "RELKVANU_STORE_STOP_")]
     ending = rust_enum("Ending", "What became of a record.", "RELKVANU_STORE_", "(COMPLETED|DECLINED|EXPIRED|DROPPED)", "#[non_exhaustive]\n")
-    return {"error.rs": {"the kinds of errors": rust_kinds()}, "phase.rs": {"the phases": "\n".join(phases)}, "whole.rs": {"the endings": ending}}
+    made = "\n".join(rust_making(it) for it in makings())
+    return {"records.rs": {"what is made of manifests": made}, "error.rs": {"the kinds of errors": rust_kinds()}, "phase.rs": {"the phases": "\n".join(phases)}, "whole.rs": {"the endings": ending}}
 
 
 def in_rust() -> Dict[str, str]:

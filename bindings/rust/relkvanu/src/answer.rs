@@ -274,33 +274,6 @@ pub(crate) fn numbers_of(answer: &Answer) -> (u32, u64, u64) {
     }
 }
 
-/// The text of each answer in scripts (`docs/SCRIPT.md`) and logs (`docs/LOGS.md`), in which {a} and {b} stand for its numbers.
-pub(crate) const TEXTS: [(u32, &str); 24] = [
-    (sys::RELKVANU_TICK_TRIGGERED, "tick expired {a} triggered {b}"),
-    (sys::RELKVANU_TICK_HELD_INTERVAL, "tick expired {a} held interval"),
-    (sys::RELKVANU_TICK_HELD_AT_ONCE, "tick expired {a} held at-once"),
-    (sys::RELKVANU_TICK_HELD_PAUSE, "tick expired {a} held pause"),
-    (sys::RELKVANU_TICK_FAILED, "tick expired {a} failed"),
-    (sys::RELKVANU_SAVEPOINT_TRIGGERED, "savepoint triggered {a}"),
-    (sys::RELKVANU_ACK_PENDING, "ack pending {a}"),
-    (sys::RELKVANU_ACK_COMPLETED, "ack completed {a} {b}"),
-    (sys::RELKVANU_ACK_LATE, "ack late {a}"),
-    (sys::RELKVANU_DECLINE_ABORTED, "decline aborted {a}"),
-    (sys::RELKVANU_DECLINE_FAILED, "decline failed {a}"),
-    (sys::RELKVANU_DECLINE_LATE, "decline late"),
-    (sys::RELKVANU_DISPOSED, "disposed {a}"),
-    (sys::RELKVANU_RESTORED_CHECKPOINT, "restored checkpoint {b} {a}"),
-    (sys::RELKVANU_RESTORED_SAVEPOINT, "restored savepoint {b} {a}"),
-    (sys::RELKVANU_RESTORED_FRESH, "restored fresh {a}"),
-    (sys::RELKVANU_CANCELLED, "cancelled {a} {b}"),
-    (sys::RELKVANU_DELETED, "deleted {a}"),
-    (sys::RELKVANU_UNDELETED, "undeleted {a}"),
-    (sys::RELKVANU_COUNTED, "count {a} {b}"),
-    (sys::RELKVANU_CONFIGURED, "configured {a} {b}"),
-    (sys::RELKVANU_FORFEITED, "forfeited"),
-    (sys::RELKVANU_NAMED, "term 1"),
-    (sys::RELKVANU_RESERVED, "reserved {a}"),
-];
 // bindings/generate: end
 
 impl Answer {
@@ -326,11 +299,21 @@ impl Answer {
 impl fmt::Display for Answer {
     fn fmt(&self, f: &mut fmt::Formatter<'_>) -> fmt::Result {
         let (what, a, b) = numbers_of(self);
-        match TEXTS.iter().find(|(number, _)| *number == what) {
-            Some((_, form)) => f.write_str(&form.replace("{a}", &a.to_string()).replace("{b}", &b.to_string())),
-            None => write!(f, "unknown {what}"),
+        match self {
+            Answer::Named => f.write_str("term 1"),
+            Answer::Reserved(first) => write!(f, "reserved {first}"), // the call says how many
+            Answer::Restored { from: Choice::Unknown(_), .. } => write!(f, "unknown {what}"),
+            _ => f.write_str(&text_of(&sys::relkvanu_answer { code: sys::RELKVANU_DONE, what, a, b })),
         }
     }
+}
+
+/// What the library says of an answer.
+fn text_of(told: &sys::relkvanu_answer) -> String {
+    let mut text = vec![0; sys::RELKVANU_ANSWER_TEXT as usize];
+    // SAFETY: the answer and the text, which has so many bytes, outlive the call.
+    let len = unsafe { sys::relkvanu_answer_text(told, text.as_mut_ptr(), text.len()) };
+    crate::fault::text_of(text, len)
 }
 
 pub(crate) fn choice(told: sys::relkvanu_answer) -> Choice {
@@ -356,28 +339,17 @@ pub(crate) fn live(told: sys::relkvanu_answer) -> Option<Live> {
 mod tests {
     use super::*;
 
-    /// Each number of an answer is one. Its text is the library's, which bindings/c/tests/texts.c tests, but for two that a script says with other words.
+    /// Each number of an answer is one, and back.
     #[test]
-    fn numbers_and_texts_of_answers() {
-        for what in (0..200).chain([u32::MAX]) {
-            let has_text = TEXTS.iter().any(|(known, _)| *known == what);
-            let found = Answer::of_numbers(what, 7, u64::MAX);
-            assert_eq!(found.is_some(), has_text, "{what}");
-            let Some(answer) = found else { continue };
+    fn numbers_of_answers() {
+        let known = (0..200).chain([u32::MAX]).filter_map(|what| Answer::of_numbers(what, 7, u64::MAX));
+        let mut count = 0;
+        for answer in known {
             let (what, a, b) = answer.numbers();
             assert_eq!(Answer::of_numbers(what, a, b), Some(answer));
-            let told = sys::relkvanu_answer { code: sys::RELKVANU_DONE, what, a: 7, b: u64::MAX };
-            let mut text = [0; 128];
-            // SAFETY: the text has so many bytes
-            let len = unsafe { sys::relkvanu_answer_text(&told, text.as_mut_ptr(), text.len()) };
-            let text = match what {
-                sys::RELKVANU_RESERVED => "reserved 7",
-                sys::RELKVANU_NAMED => "term 1",
-                _ => std::str::from_utf8(&text[..len]).unwrap(),
-            };
-            assert_eq!(answer.to_string(), text);
+            count += 1;
         }
-        assert_eq!((Answer::TAKEN, Answer::of_numbers(Answer::TAKEN, 1, 0)), (18, None));
+        assert_eq!((count, Answer::TAKEN, Answer::of_numbers(Answer::TAKEN, 1, 0)), (24, 18, None));
     }
 
     /// Those with two numbers say which is which.

@@ -5,89 +5,6 @@ use crate::lines::LineFault;
 use relkvanu_sys as sys;
 use std::num::NonZeroU64;
 
-// bindings/generate makes the kinds
-/// Which call it is.
-#[derive(Clone, Copy, Debug, PartialEq, Eq, Hash)]
-#[non_exhaustive]
-pub(crate) enum CallKind {
-    Tick,
-    Savepoint,
-    Ack,
-    Decline,
-    Dispose,
-    Restore,
-    Cancel,
-    Take,
-    Deleted,
-    Undeleted,
-    Show,
-    Count,
-    /// The job gives out names from here on.
-    Fence,
-    /// A task reserves names.
-    Reserve,
-    /// A task gives up names.
-    Forfeit,
-    Trigger,
-    Configure,
-    /// The job goes on above the terms and names that were told.
-    Advance,
-    /// A number that this crate does not know: the library is of another version.
-    Unknown(u32),
-}
-
-impl CallKind {
-    pub(crate) fn of(what: u32) -> CallKind {
-        match what {
-            sys::RELKVANU_CALL_TICK => CallKind::Tick,
-            sys::RELKVANU_CALL_SAVEPOINT => CallKind::Savepoint,
-            sys::RELKVANU_CALL_ACK => CallKind::Ack,
-            sys::RELKVANU_CALL_DECLINE => CallKind::Decline,
-            sys::RELKVANU_CALL_DISPOSE => CallKind::Dispose,
-            sys::RELKVANU_CALL_RESTORE => CallKind::Restore,
-            sys::RELKVANU_CALL_CANCEL => CallKind::Cancel,
-            sys::RELKVANU_CALL_TAKE => CallKind::Take,
-            sys::RELKVANU_CALL_DELETED => CallKind::Deleted,
-            sys::RELKVANU_CALL_UNDELETED => CallKind::Undeleted,
-            sys::RELKVANU_CALL_SHOW => CallKind::Show,
-            sys::RELKVANU_CALL_COUNT => CallKind::Count,
-            sys::RELKVANU_CALL_FENCE => CallKind::Fence,
-            sys::RELKVANU_CALL_RESERVE => CallKind::Reserve,
-            sys::RELKVANU_CALL_FORFEIT => CallKind::Forfeit,
-            sys::RELKVANU_CALL_TRIGGER => CallKind::Trigger,
-            sys::RELKVANU_CALL_CONFIGURE => CallKind::Configure,
-            sys::RELKVANU_CALL_ADVANCE => CallKind::Advance,
-            other => CallKind::Unknown(other),
-        }
-    }
-
-    /// The number in the header.
-    pub(crate) fn number(&self) -> u32 {
-        match self {
-            CallKind::Tick => sys::RELKVANU_CALL_TICK,
-            CallKind::Savepoint => sys::RELKVANU_CALL_SAVEPOINT,
-            CallKind::Ack => sys::RELKVANU_CALL_ACK,
-            CallKind::Decline => sys::RELKVANU_CALL_DECLINE,
-            CallKind::Dispose => sys::RELKVANU_CALL_DISPOSE,
-            CallKind::Restore => sys::RELKVANU_CALL_RESTORE,
-            CallKind::Cancel => sys::RELKVANU_CALL_CANCEL,
-            CallKind::Take => sys::RELKVANU_CALL_TAKE,
-            CallKind::Deleted => sys::RELKVANU_CALL_DELETED,
-            CallKind::Undeleted => sys::RELKVANU_CALL_UNDELETED,
-            CallKind::Show => sys::RELKVANU_CALL_SHOW,
-            CallKind::Count => sys::RELKVANU_CALL_COUNT,
-            CallKind::Fence => sys::RELKVANU_CALL_FENCE,
-            CallKind::Reserve => sys::RELKVANU_CALL_RESERVE,
-            CallKind::Forfeit => sys::RELKVANU_CALL_FORFEIT,
-            CallKind::Trigger => sys::RELKVANU_CALL_TRIGGER,
-            CallKind::Configure => sys::RELKVANU_CALL_CONFIGURE,
-            CallKind::Advance => sys::RELKVANU_CALL_ADVANCE,
-            CallKind::Unknown(what) => *what,
-        }
-    }
-}
-// bindings/generate: end
-
 /// A call for a log. Its line reads back as this call. A term is at least 1: 0 stands for none.
 #[derive(Clone, Copy, Debug, PartialEq, Eq, Hash)]
 pub enum Call<'a> {
@@ -236,30 +153,30 @@ impl<'a> Call<'a> {
     fn with(call: &sys::relkvanu_call, first: &'a [u64], second: &'a [u64]) -> Option<Call<'a>> {
         let &sys::relkvanu_call { kind, vertex, index, now, number, term } = call;
         let subtask = (vertex, index);
-        Some(match CallKind::of(kind) {
+        Some(match kind {
             // bindings/generate makes what reads the calls
-            CallKind::Tick => Call::Tick { now },
-            CallKind::Savepoint => Call::Savepoint { now },
-            CallKind::Dispose => Call::Dispose { id: number },
-            CallKind::Cancel => Call::Cancel { now },
-            CallKind::Deleted => Call::Deleted { file: number },
-            CallKind::Undeleted => Call::Undeleted { file: number },
-            CallKind::Count => Call::Count { file: number },
-            CallKind::Fence => Call::Fence { first_name: number },
-            CallKind::Trigger => Call::Trigger { now },
-            CallKind::Ack => Call::Ack { now, id: number, subtask, fresh: first, reused: second },
-            CallKind::Decline => Call::Decline { now, id: number, subtask },
-            CallKind::Reserve => Call::Reserve { term, count: number },
-            CallKind::Forfeit => Call::Forfeit { term, names: first },
-            CallKind::Advance => Call::Advance { now, term, first_name: number },
+            sys::RELKVANU_CALL_TICK => Call::Tick { now },
+            sys::RELKVANU_CALL_SAVEPOINT => Call::Savepoint { now },
+            sys::RELKVANU_CALL_DISPOSE => Call::Dispose { id: number },
+            sys::RELKVANU_CALL_CANCEL => Call::Cancel { now },
+            sys::RELKVANU_CALL_DELETED => Call::Deleted { file: number },
+            sys::RELKVANU_CALL_UNDELETED => Call::Undeleted { file: number },
+            sys::RELKVANU_CALL_COUNT => Call::Count { file: number },
+            sys::RELKVANU_CALL_FENCE => Call::Fence { first_name: number },
+            sys::RELKVANU_CALL_TRIGGER => Call::Trigger { now },
+            sys::RELKVANU_CALL_ACK => Call::Ack { now, id: number, subtask, fresh: first, reused: second },
+            sys::RELKVANU_CALL_DECLINE => Call::Decline { now, id: number, subtask },
+            sys::RELKVANU_CALL_RESERVE => Call::Reserve { term, count: number },
+            sys::RELKVANU_CALL_FORFEIT => Call::Forfeit { term, names: first },
+            sys::RELKVANU_CALL_ADVANCE => Call::Advance { now, term, first_name: number },
             // bindings/generate: end
-            CallKind::Restore => {
+            sys::RELKVANU_CALL_RESTORE => {
                 Call::Restore { now, savepoint: NonZeroU64::new(number), shape: (!first.is_empty()).then_some(first) }
             }
-            CallKind::Configure => Call::Configure { now, settings: first },
-            CallKind::Take => Call::Take { most: number },
-            CallKind::Show => Call::Show { id: number },
-            CallKind::Unknown(_) => return None,
+            sys::RELKVANU_CALL_CONFIGURE => Call::Configure { now, settings: first },
+            sys::RELKVANU_CALL_TAKE => Call::Take { most: number },
+            sys::RELKVANU_CALL_SHOW => Call::Show { id: number },
+            _ => return None,
         })
     }
 
@@ -293,51 +210,63 @@ impl<'a> Call<'a> {
     }
 
     pub(crate) fn fields(&self) -> sys::relkvanu_call {
-        let of = |kind: CallKind| {
-            let kind = kind.number();
-            sys::relkvanu_call { kind, vertex: 0, index: 0, now: 0, number: 0, term: 0 }
-        };
+        let of = |kind| sys::relkvanu_call { kind, vertex: 0, index: 0, now: 0, number: 0, term: 0 };
         match *self {
             // bindings/generate makes what writes the calls
-            Call::Tick { now } => sys::relkvanu_call { now, ..of(CallKind::Tick) },
-            Call::Savepoint { now } => sys::relkvanu_call { now, ..of(CallKind::Savepoint) },
-            Call::Dispose { id } => sys::relkvanu_call { number: id, ..of(CallKind::Dispose) },
-            Call::Cancel { now } => sys::relkvanu_call { now, ..of(CallKind::Cancel) },
-            Call::Deleted { file } => sys::relkvanu_call { number: file, ..of(CallKind::Deleted) },
-            Call::Undeleted { file } => sys::relkvanu_call { number: file, ..of(CallKind::Undeleted) },
-            Call::Count { file } => sys::relkvanu_call { number: file, ..of(CallKind::Count) },
-            Call::Fence { first_name } => sys::relkvanu_call { number: first_name, ..of(CallKind::Fence) },
-            Call::Trigger { now } => sys::relkvanu_call { now, ..of(CallKind::Trigger) },
-            Call::Ack { now, id, subtask, .. } => {
-                sys::relkvanu_call { now, number: id, vertex: subtask.0, index: subtask.1, ..of(CallKind::Ack) }
+            Call::Tick { now } => sys::relkvanu_call { now, ..of(sys::RELKVANU_CALL_TICK) },
+            Call::Savepoint { now } => sys::relkvanu_call { now, ..of(sys::RELKVANU_CALL_SAVEPOINT) },
+            Call::Dispose { id } => sys::relkvanu_call { number: id, ..of(sys::RELKVANU_CALL_DISPOSE) },
+            Call::Cancel { now } => sys::relkvanu_call { now, ..of(sys::RELKVANU_CALL_CANCEL) },
+            Call::Deleted { file } => sys::relkvanu_call { number: file, ..of(sys::RELKVANU_CALL_DELETED) },
+            Call::Undeleted { file } => sys::relkvanu_call { number: file, ..of(sys::RELKVANU_CALL_UNDELETED) },
+            Call::Count { file } => sys::relkvanu_call { number: file, ..of(sys::RELKVANU_CALL_COUNT) },
+            Call::Fence { first_name } => sys::relkvanu_call { number: first_name, ..of(sys::RELKVANU_CALL_FENCE) },
+            Call::Trigger { now } => sys::relkvanu_call { now, ..of(sys::RELKVANU_CALL_TRIGGER) },
+            Call::Ack { now, id, subtask, .. } => sys::relkvanu_call {
+                now,
+                number: id,
+                vertex: subtask.0,
+                index: subtask.1,
+                ..of(sys::RELKVANU_CALL_ACK)
+            },
+            Call::Decline { now, id, subtask } => sys::relkvanu_call {
+                now,
+                number: id,
+                vertex: subtask.0,
+                index: subtask.1,
+                ..of(sys::RELKVANU_CALL_DECLINE)
+            },
+            Call::Reserve { term, count } => {
+                sys::relkvanu_call { term, number: count, ..of(sys::RELKVANU_CALL_RESERVE) }
             }
-            Call::Decline { now, id, subtask } => {
-                sys::relkvanu_call { now, number: id, vertex: subtask.0, index: subtask.1, ..of(CallKind::Decline) }
-            }
-            Call::Reserve { term, count } => sys::relkvanu_call { term, number: count, ..of(CallKind::Reserve) },
-            Call::Forfeit { term, .. } => sys::relkvanu_call { term, ..of(CallKind::Forfeit) },
+            Call::Forfeit { term, .. } => sys::relkvanu_call { term, ..of(sys::RELKVANU_CALL_FORFEIT) },
             Call::Advance { now, term, first_name } => {
-                sys::relkvanu_call { now, term, number: first_name, ..of(CallKind::Advance) }
+                sys::relkvanu_call { now, term, number: first_name, ..of(sys::RELKVANU_CALL_ADVANCE) }
             }
-            Call::AckIn { term, now, id, subtask, .. } => {
-                sys::relkvanu_call { term, now, number: id, vertex: subtask.0, index: subtask.1, ..of(CallKind::Ack) }
-            }
+            Call::AckIn { term, now, id, subtask, .. } => sys::relkvanu_call {
+                term,
+                now,
+                number: id,
+                vertex: subtask.0,
+                index: subtask.1,
+                ..of(sys::RELKVANU_CALL_ACK)
+            },
             Call::DeclineIn { term, now, id, subtask } => sys::relkvanu_call {
                 term,
                 now,
                 number: id,
                 vertex: subtask.0,
                 index: subtask.1,
-                ..of(CallKind::Decline)
+                ..of(sys::RELKVANU_CALL_DECLINE)
             },
             // bindings/generate: end
             Call::Restore { now, savepoint, .. } => {
                 let number = savepoint.map_or(0, NonZeroU64::get);
-                sys::relkvanu_call { now, number, ..of(CallKind::Restore) }
+                sys::relkvanu_call { now, number, ..of(sys::RELKVANU_CALL_RESTORE) }
             }
-            Call::Configure { now, .. } => sys::relkvanu_call { now, ..of(CallKind::Configure) },
-            Call::Take { most } => sys::relkvanu_call { number: most, ..of(CallKind::Take) },
-            Call::Show { id } => sys::relkvanu_call { number: id, ..of(CallKind::Show) },
+            Call::Configure { now, .. } => sys::relkvanu_call { now, ..of(sys::RELKVANU_CALL_CONFIGURE) },
+            Call::Take { most } => sys::relkvanu_call { number: most, ..of(sys::RELKVANU_CALL_TAKE) },
+            Call::Show { id } => sys::relkvanu_call { number: id, ..of(sys::RELKVANU_CALL_SHOW) },
         }
     }
 }

@@ -3,7 +3,7 @@
 use super::error::{check, text};
 use super::{c_path, StoreError, StoreErrorKind};
 use relkvanu_sys::store as sys;
-use std::ffi::{c_char, c_int, c_void};
+use std::ffi::{c_int, c_void};
 use std::path::Path;
 
 /// A record of a storage folder, as its manifest says it.
@@ -154,68 +154,90 @@ pub fn check_records(folder: &Path) -> Result<Vec<Checked>, StoreError> {
 }
 
 /// What a function has made of a job.
-fn recovered(
-    path: &Path,
-    folder: &Path,
-    make: impl FnOnce(*const c_char, *const c_char, *mut sys::relkvanu_store_recovered) -> c_int,
-) -> Result<Recovered, StoreError> {
-    let (path, folder) = (c_path(path)?, c_path(folder)?);
+fn recovered(make: impl FnOnce(*mut sys::relkvanu_store_recovered) -> c_int) -> Result<Recovered, StoreError> {
     // SAFETY: all zero is such a struct.
     let mut it: sys::relkvanu_store_recovered = unsafe { std::mem::zeroed() };
-    check(make(path.as_ptr(), folder.as_ptr(), &mut it), &it.message)?;
+    check(make(&mut it), &it.message)?;
     let set_aside = text(&it.message);
     let sys::relkvanu_store_recovered { record, is_savepoint, files, bytes, passed, savepoints, .. } = it;
     let sys::relkvanu_store_recovered { term, next_name, next_number, .. } = it;
     Ok(Recovered { record, is_savepoint, files, bytes, passed, savepoints, term, next_name, next_number, set_aside })
 }
 
-/// Makes the job at the path again, whose file was lost, from the manifests in its storage folder: from the last record that was the choice and has all its
-/// files, or from the one with this number; 0: any. Each task and process of the old job has been told to end. Killed at any moment it has done nothing, or
-/// all. `Present`: there is a job; `Absent`: no record has all its files. Then nothing has changed.
-pub fn recover(path: &Path, folder: &Path, record: u64) -> Result<Recovered, StoreError> {
-    recovered(path, folder, |path, folder, told| {
-        // SAFETY: all that is passed outlives the call.
-        unsafe { sys::relkvanu_store_recover(path, folder, record, told) }
-    })
-}
-
-/// Makes the folder `to` of the record from which [`recover`] would begin, or of the one with this number: its files, linked or copied, and its manifest. The
-/// job of the storage folder may run meanwhile. Killed at any moment it has done nothing, or all. `Present`: there is something at `to`.
-pub fn export(folder: &Path, record: u64, to: &Path) -> Result<Carried, StoreError> {
-    let (folder, to) = (c_path(folder)?, c_path(to)?);
+fn carried(make: impl FnOnce(*mut sys::relkvanu_store_carried) -> c_int) -> Result<Carried, StoreError> {
     // SAFETY: all zero is such a struct.
     let mut it: sys::relkvanu_store_carried = unsafe { std::mem::zeroed() };
-    // SAFETY: all that is passed outlives the call.
-    let status = unsafe { sys::relkvanu_store_export(folder.as_ptr(), record, to.as_ptr(), &mut it) };
-    check(status, &it.message)?;
+    check(make(&mut it), &it.message)?;
     Ok(Carried { record: it.record, is_savepoint: it.is_savepoint, files: it.files, bytes: it.bytes })
 }
 
-/// Makes another job, at the path over the folder that it makes, of a record in `from`: an exported folder, or the storage folder of a job, which may run.
-/// Killed at any moment it has done nothing, a part that the same call finishes, or all.
+// bindings/generate makes what is made of manifests
+/// Makes the job at path again, whose file was lost, from the manifests in its storage folder: from the last record that was the
+/// choice and has all its files, or from the record with this number; 0: any. The files stay where they are. Each task and
+/// process of the old job has been told to end. Records, terms and names that the new job gives out are above all that the old
+/// one told anybody, and an old file that comes back to path is refused. Savepoints that have all their files live on under new
+/// numbers. What the other records have is garbage to the next sweep: so is the state of a record that was complete and has no
+/// manifest.
+pub fn recover(path: &Path, folder: &Path, record: u64) -> Result<Recovered, StoreError> {
+    let (path, folder) = (c_path(path)?, c_path(folder)?);
+    recovered(|told| {
+        // SAFETY: all that is passed outlives the call.
+        unsafe { sys::relkvanu_store_recover(path.as_ptr(), folder.as_ptr(), record, told) }
+    })
+}
+
+/// Makes the folder `to` of a record that has a manifest in a storage folder, with its manifest and its files: of the one that
+/// recover would begin from, or of the record with this number. It needs no job, and may run beside one, whose tasks take no
+/// part: it links the files, so that they stay whatever the job deletes, or copies them to another file system. If the record
+/// ends meanwhile, it takes the next one. The folder is made beside `to`, as to.part, and gets its name once all is on the disk.
+/// So killed at any moment it has done nothing, or all.
+pub fn export(folder: &Path, record: u64, to: &Path) -> Result<Carried, StoreError> {
+    let (folder, to) = (c_path(folder)?, c_path(to)?);
+    carried(|told| {
+        // SAFETY: all that is passed outlives the call.
+        unsafe { sys::relkvanu_store_export(folder.as_ptr(), record, to.as_ptr(), told) }
+    })
+}
+
+/// Makes another job, at path over a folder that is made, of a record in `from`: an exported folder, or the storage folder of a
+/// job, which may run. It exports the record to the folder, and then does what recover does. The job has an identity of its own,
+/// and each goes its own way. Killed at any moment it has done nothing, a part that the same call finishes, or all. Statuses as
+/// those of the two.
 pub fn import(from: &Path, record: u64, path: &Path, folder: &Path) -> Result<Recovered, StoreError> {
-    let from = c_path(from)?;
-    recovered(path, folder, |path, folder, told| {
+    let (from, path, folder) = (c_path(from)?, c_path(path)?, c_path(folder)?);
+    recovered(|told| {
         // SAFETY: all that is passed outlives the call.
-        unsafe { sys::relkvanu_store_import(from.as_ptr(), record, path, folder, told) }
+        unsafe { sys::relkvanu_store_import(from.as_ptr(), record, path.as_ptr(), folder.as_ptr(), told) }
     })
 }
 
-/// [`import`] by which the files leave `from`, or stay in place if the folder is the same. A job that has the folder is refused from then on. A mark stays there:
-/// without a number nothing else takes an earlier record for the latest.
+/// Takes a record over, with its files. A storage folder's old job is fenced first, before the record is chosen: its file is
+/// refused from then on, and a process that still has it puts and deletes nothing more. If `folder` is `from`, its files stay in
+/// place: a job that has a marker there keeps its identity, as by recover; a job over an exported folder gets one of its own.
+/// Otherwise it is import, after which the files leave `from`, but for those that another record there has, and last of all the
+/// manifest. An exported folder that is empty then is removed. Other records of `from` stay there, without a job. If import has
+/// made the job already, the same record leaves `from` in the same way, and its old job is fenced first too.
 pub fn claim(from: &Path, record: u64, path: &Path, folder: &Path) -> Result<Recovered, StoreError> {
-    let from = c_path(from)?;
-    recovered(path, folder, |path, folder, told| {
+    let (from, path, folder) = (c_path(from)?, c_path(path)?, c_path(folder)?);
+    recovered(|told| {
         // SAFETY: all that is passed outlives the call.
-        unsafe { sys::relkvanu_store_claim(from.as_ptr(), record, path, folder, told) }
+        unsafe { sys::relkvanu_store_claim(from.as_ptr(), record, path.as_ptr(), folder.as_ptr(), told) }
     })
 }
 
-/// Puts a backup of [`Store::backup`](super::Store::backup) back in the place of the job's file. Read docs/DURABLE-OPERATION.md, Back up, first.
+/// Puts a backup of backup back in the place of a job's file, which may be damaged, lost, or a later one. Each process and task
+/// of the job has ended, also on other hosts. The new file begins from the choice of the backup if its files are all in the
+/// storage folder, or else from the last savepoint of which they are; above all terms of the backup, and above the name of each
+/// file in the folder. What was there is set aside beside it, in a folder aside-XXXXXX with a copy of the marker, whose path
+/// message gets. No engine starts while there is no file at path. Killed at any moment it has done nothing, or all, or there is
+/// no file at path: make the same call again before an engine starts. What was set aside may then be in two folders. Until an
+/// engine opens the job, the files that were set aside go back in its place, and last of all the marker. READ docs/DURABLE-
+/// OPERATION.md, Back up, first: sinks are told of numbers of records once more.
 pub fn put_back(backup: &Path, path: &Path, folder: &Path) -> Result<Recovered, StoreError> {
-    let backup = c_path(backup)?;
-    recovered(path, folder, |path, folder, told| {
+    let (backup, path, folder) = (c_path(backup)?, c_path(path)?, c_path(folder)?);
+    recovered(|told| {
         // SAFETY: all that is passed outlives the call.
-        unsafe { sys::relkvanu_store_put_back(backup.as_ptr(), path, folder, told) }
+        unsafe { sys::relkvanu_store_put_back(backup.as_ptr(), path.as_ptr(), folder.as_ptr(), told) }
     })
 }
+// bindings/generate: end
