@@ -6,12 +6,14 @@ from typing import Dict, Iterable, List, Optional, Tuple, Union
 
 from generator import calls, header
 from generator.calls import Call, Function
-from generator.header import Number, camel
+from generator.header import Enum, Number, camel
 
 # Names that Go writes in another way.
 NAMES = {"ids_used_up": "IDsUsedUp"}
-# Codes whose enums have a place and a type of their own.
-PLACED = {"REFUSED": "Refusal", "BAD_ARGUMENT": "BadArgument", "BAD_LINE": "LineFault"}
+# Codes whose enums have another name in Go, with what an error of it says. A refusal has a type of its own.
+PLACED = {"REFUSED": ("Refusal", ""), "BAD_ARGUMENT": ("BadArgument", "an argument is outside its limits"), "BAD_LINE": ("LineFault", "the line can't be read")}
+# What is before the names of their members.
+BEFORE = {"BadArgument": "", "LineFault": "Line"}
 Names = List[Tuple[str, Number]]
 
 
@@ -47,18 +49,14 @@ def ends(prefix: str) -> List[str]:
     return [(it.form or "").split("} ")[-1].partition(" {")[0] for _, it in replies(prefix, "")]
 
 
-def new_codes() -> List[Tuple[Number, str]]:
-    """The codes whose enums have no place yet, with the name of that."""
-    return [(code, enum.name) for code, enum in header.codes() if enum and code.name not in PLACED]
-
-
-def new_enum(code: Number, enum: str) -> str:
-    kind, it = camel(enum), header.enums()[enum]
-    members = [(kind + camel(member), number) for member, number in it.members]
+def error_enum(code: Number, it: Enum) -> str:
+    """The enum of a code, which is an error."""
+    kind, told = PLACED.get(code.name, (camel(it.name), header.words(code.name)))
+    members = [(BEFORE.get(kind, kind) + camel(member), number) for member, number in it.members]
     text = f"// {kind}: {it.comment}\ntype {kind} uint32\n\n// The numbers of {kind}.\nconst (\n{constants(kind, members)})\n\n"
-    text += f"var names{kind} = map[{kind}]string{{\n{named(members, camels(enum))}}}\n\n// String is the name, such as \"{camels(enum)[0]}\".\n"
+    text += f"var names{kind} = map[{kind}]string{{\n{named(members, camels(it.name))}}}\n\n// String is the name, such as \"{camels(it.name)[0]}\".\n"
     text += f"func (it {kind}) String() string {{ return named(names{kind}, it) }}\n\n"
-    return text + f'func (it {kind}) Error() string {{ return "relkvanu: {header.words(code.name)}: " + it.String() }}\n'
+    return text + f'func (it {kind}) Error() string {{ return "relkvanu: {told}: " + it.String() }}\n'
 
 
 def with_file(members: Names) -> List[str]:
@@ -67,7 +65,7 @@ def with_file(members: Names) -> List[str]:
 
 def cases() -> str:
     """The faults of codes whose answers have a number alone, and name no file."""
-    found = [(code.name, PLACED.get(code.name, camel(enum.name))) for code, enum in header.codes() if enum and not with_file(enum.members)]
+    found = [(code.name, PLACED.get(code.name, (camel(enum.name), ""))[0]) for code, enum in header.codes() if enum and not with_file(enum.members)]
     return "".join(f"\tcase C.RELKVANU_{code}:\n\t\treturn {kind}(answer.what)\n" for code, kind in found)
 
 
@@ -220,14 +218,12 @@ def settings() -> str:
 
 def generated() -> Dict[str, Dict[str, str]]:
     """What is made, by file and place."""
-    modes, standings, faults, arguments = replies("MODE_", "MODE_"), replies("STANDS_", "STANDS_"), of("line_fault", "Line"), of("argument")
+    modes, standings = replies("MODE_", "MODE_"), replies("STANDS_", "STANDS_")
     ticks = replies("TICK_", "TICK_")
     return {
         "errors.go": {
             "the refusals": constants("Refusal", of("refusal")),
-            "the arguments": constants("BadArgument", arguments), "the names of arguments": named(arguments, camels("argument")),
-            "the faults of lines": constants("LineFault", faults), "the names of faults": named(faults, camels("line_fault")),
-            "the other enums": "\n".join(new_enum(*it) for it in new_codes()), "the codes": cases(),
+            "the other errors": "\n".join(error_enum(code, enum) for code, enum in header.codes() if enum and code.name != "REFUSED"), "the codes": cases(),
             "which refusals name a file": "".join(f"\t{it}: true,\n" for it in with_file(of("refusal"))),
             "which reasons name a file": "".join(f"\t{it}: true,\n" for it in with_file(of("fenced", "Fenced"))),
         },

@@ -412,10 +412,56 @@ def changed() -> str:
     return text[:-1]
 
 
+# The exceptions of codes that have a reason: name, what it is, and what the reason is called there.
+EXCEPTIONS = {
+    "REFUSED": ("Refused", "The coordinator refused the call.", "refusal"),
+    "FENCED": ("Fenced", "The term of the task or the names refuse the call, or the coordinator has no names. After {@code SPENT} a task deletes no file.", "reason"),
+    "BAD_ARGUMENT": ("BadArgument", "A value is outside its limits.", "argument"),
+    "BAD_LINE": ("BadLine", "A line of a script can't be read or makes no call, or the line of a call would be too long.", "fault"),
+}
+
+
+def exception(code: Number, members: List[Tuple[str, Number]], kind: str) -> str:
+    """An exception with its reason, and with a file if a reason may name one. Those with a file come every day."""
+    name, told, word = EXCEPTIONS[code.name]
+    naming = [f"{{@code {member.upper()}}}" for member, it in members if "file" in [field for field, _, _ in it.fields()]]
+    given, text = f"{kind} {word}{', long file' if naming else ''}", f"{word}.text()"
+    made = f"withFile({text}, {word}.namesFile(), file), HAS_TRACES" if naming else f"{text}, true"
+    body = f"    /** {told} */\n    public static final class {name} extends CoordinatorException {{\n        private final {kind} {word};\n"
+    body += "        private final long file;\n" if naming else ""
+    body += f"\n        {name}({given}) {{\n            super({made});\n            this.{word} = {word};\n" + ("            this.file = file;\n" if naming else "") + "        }\n"
+    body += f"\n        /** {{@return why}} */\n        public {kind} {word}() {{\n            return {word};\n        }}\n"
+    if naming:
+        body += f"\n        /** {{@return the file that is to blame, unsigned; 0 unless it is {' or '.join(naming)}}} */\n"
+        body += "        public long file() {\n            return file;\n        }\n"
+    return body + "    }\n"
+
+
+def exceptions() -> str:
+    found = {code.name: (code, of) for code, of in header.codes() if of and code.name in EXCEPTIONS}
+    return "\n".join(exception(*(found[name][0], found[name][1].members, f"relkvanu.{header.camel(found[name][1].name)}")) for name in EXCEPTIONS)
+
+
+def lists_of(name: str, fields: List[str], indent: str) -> str:
+    """What a record with lists has in it."""
+    def overriding(head: str, told: str) -> str:
+        return f"@Override\npublic {head} {{\n    return {told};\n}}\n\n"
+    text = f"/** Copies the lists. */\npublic {name} {{\n" + "".join(f"    {it} = {it}.clone();\n" for it in fields) + "}\n\n"
+    text += "".join(f"/** {{@return a copy}} */\n{overriding(f'long[] {it}()', f'{it}.clone()')}" for it in fields)
+    text += overriding("boolean equals(Object other)", f"other instanceof {name} it && " + " && ".join(f"Arrays.equals({it}, it.{it})" for it in fields))
+    text += overriding("int hashCode()", " + ".join([*(f"31 * Arrays.hashCode({it})" for it in fields[:-1]), f"Arrays.hashCode({fields[-1]})"]))
+    told = ' + ", '.join(f'{it}=" + FileNumbers.toString({it})' for it in fields)
+    text += overriding("String toString()", f'"{name}[{told} + "]"')
+    return textwrap.indent(text.rstrip("\n") + "\n", indent)
+
+
 def generated() -> Dict[str, Dict[str, str]]:
     """What is made, by file and place."""
     return {
-        "Reply.java": {"the replies": replies()}, "Answers.java": {"what tells the replies": cases()},
+        "Reply.java": {"the replies": replies(), "the list of files": lists_of("Taken", ["files"], " " * 8)},
+        "Line.java": {"the list of the shape": lists_of("Job", ["shape"], " " * 8)},
+        "Garbage.java": {"the lists of files": lists_of("Garbage", ["garbage", "unissued"], " " * 4)},
+        "CoordinatorException.java": {"the exceptions with reasons": exceptions()}, "Answers.java": {"what tells the replies": cases()},
         "Coordinator.java": {
             "the calls of one number": "\n".join(method(it) for it in calls.plain()),
             "the calls of tasks": "\n".join(task_method(it) for it in calls.of_tasks()),

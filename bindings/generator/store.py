@@ -222,12 +222,39 @@ def rust_making(it: Making) -> str:
     return text + f"        // SAFETY: all that is passed outlives the call.\n        unsafe {{ sys::relkvanu_store_{it.name}({passed}, told) }}\n    }})\n}}\n"
 
 
+# Structs of the store that the crate has too: what each is there, and its fields that have another name or type, or none.
+MIRRORED = {
+    "record": ("A record of a storage folder, as its manifest says it.", {"status": "damage: Option<StoreErrorKind> = damage_of(it)", "unknown": "", "changed": ""}),
+    "carried": ("The record of which [`export`] has made a folder.", {"message": ""}),
+    "recovered": ("What a job was made of.", {"message": "set_aside: String = text(&it.message)"}),
+    "past": ("A record of the history. The times of acknowledgements are milliseconds since its trigger, by the store's clock, of those since the opening.", {
+        "kind": "kind: Kind = kind_of(it.kind).unwrap_or(Kind::Unknown(0))", "outcome": "ending: Ending = Ending::of(it.outcome)",
+        "reason": "reason: String = text(&it.reason)"}),
+}
+
+
+def rust_mirror(name: str) -> str:
+    """A struct of the crate, and what makes it of that of the store."""
+    struct, (said, own) = f"relkvanu_store_{name}", MIRRORED[name]
+    (body,) = re.findall(rf"typedef struct {{([^{{}}]*)}} {struct};", STORE.read_text())
+    words = re.sub(r"RELKVANU_STORE_(\w+)", lambda it: camel(it[1].lower()), body).replace("relkvanu_store_", "")
+    comments = dict(re.findall(r"(\w+)[^;\w]*(?:, [\w, ]+)?; +/\* (.*?) \*/", words))
+    fields = [(it.name, own.get(it.name, f"{it.name}: {rust_type(it.type)} = it.{it.name}")) for it in of_store().structs[struct] if it.name != "reserved"]
+    told = [(comments.get(field, ""), *re.split(r" = ", how, maxsplit=1)) for field, how in fields if how]
+    derived = "Clone, Debug, PartialEq, Eq" if any("String" in declared for _, declared, _ in told) else "Clone, Copy, Debug, PartialEq, Eq"
+    text = f"/// {said}\n#[derive({derived})]\npub struct {camel(name)} {{\n"
+    text += "".join((f"    /// {it[0].upper()}{it[1:]}.\n" if it else "") + f"    pub {declared},\n" for it, declared, _ in told)
+    text += f"}}\n\nimpl {camel(name)} {{\n    fn of(it: &sys::{struct}) -> {camel(name)} {{\n        {camel(name)} {{\n"
+    return text + "".join(f"            {declared.partition(':')[0]}: {made},\n" for _, declared, made in told) + "        }\n    }\n}\n"
+
+
 def in_crate() -> Dict[str, Dict[str, str]]:
     """What is made in the crate, by file and place."""
     phases = [rust_enum("Phase", "The phase of a job.", "RELKVANU_STORE_PHASE_"), rust_enum("StopFailed", "Why a stop has failed.", "RELKVANU_STORE_STOP_")]
     ending = rust_enum("Ending", "What became of a record.", "RELKVANU_STORE_", "(COMPLETED|DECLINED|EXPIRED|DROPPED)", "#[non_exhaustive]\n")
     made = "\n".join(rust_making(it) for it in makings())
-    return {"records.rs": {"what is made of manifests": made}, "error.rs": {"the kinds of errors": rust_kinds()}, "phase.rs": {"the phases": "\n".join(phases)}, "whole.rs": {"the endings": ending}}
+    mirrors = "\n".join(rust_mirror(it) for it in ("record", "carried", "recovered"))
+    return {"records.rs": {"the records": mirrors, "what is made of manifests": made}, "error.rs": {"the kinds of errors": rust_kinds()}, "phase.rs": {"the phases": "\n".join(phases)}, "whole.rs": {"the endings": ending, "the past": rust_mirror("past")}}
 
 
 def in_rust() -> Dict[str, str]:

@@ -106,12 +106,19 @@ func withFile(why fmt.Stringer, has bool, file uint64) string {
 	return why.String()
 }
 
-// BadArgument is an argument that is outside its limits.
+// BadSavepoint says that no savepoint has the number 0. Only this package checks it, before any refusal, as the library checks a shape.
+const BadSavepoint BadArgument = 1 << 31
+
+func init() {
+	namesBadArgument[BadSavepoint] = "BadSavepoint"
+}
+
+// bindings/generate makes the other errors
+// BadArgument: The argument that is outside its limits.
 type BadArgument uint32
 
-// The arguments that are checked. A shape is checked before any refusal.
+// The numbers of BadArgument.
 const (
-	// bindings/generate makes the arguments
 	AlreadyOpen BadArgument = C.RELKVANU_ALREADY_OPEN // The handle has a coordinator already.
 	BadConfig   BadArgument = C.RELKVANU_BAD_CONFIG   // A value of the settings is outside its limits.
 	BadShape    BadArgument = C.RELKVANU_BAD_SHAPE    // 1 to 256 vertices, at least 1 subtask each, at most 4096 in sum.
@@ -122,14 +129,9 @@ const (
 	BadName     BadArgument = C.RELKVANU_BAD_NAME     // The first name is 0 or above 2^62.
 	BadGroup    BadArgument = C.RELKVANU_BAD_GROUP    // The group has failed: open the handle again, from the log.
 	BadReceipt  BadArgument = C.RELKVANU_BAD_RECEIPT  // No answer may be told by the receipt, or there is no place or receipt for another answer.
-	// bindings/generate: end
-
-	BadSavepoint BadArgument = 1 << 31 // no savepoint has the number 0: only this package checks it
 )
 
-var arguments = map[BadArgument]string{
-	BadSavepoint: "BadSavepoint",
-	// bindings/generate makes the names of arguments
+var namesBadArgument = map[BadArgument]string{
 	AlreadyOpen: "AlreadyOpen",
 	BadConfig:   "BadConfig",
 	BadShape:    "BadShape",
@@ -140,48 +142,42 @@ var arguments = map[BadArgument]string{
 	BadName:     "BadName",
 	BadGroup:    "BadGroup",
 	BadReceipt:  "BadReceipt",
-	// bindings/generate: end
 }
 
-// String is the name of the argument, such as "BadShape".
-func (a BadArgument) String() string { return named(arguments, a) }
+// String is the name, such as "AlreadyOpen".
+func (it BadArgument) String() string { return named(namesBadArgument, it) }
 
-func (a BadArgument) Error() string {
-	return "relkvanu: an argument is outside its limits: " + a.String()
+func (it BadArgument) Error() string {
+	return "relkvanu: an argument is outside its limits: " + it.String()
 }
 
-// LineFault is what is wrong with a line: the first fault from the left.
+// LineFault: What is wrong with a line: the first fault from the left.
 type LineFault uint32
 
-// The faults of lines.
+// The numbers of LineFault.
 const (
-	// bindings/generate makes the faults of lines
 	LineTooLong LineFault = C.RELKVANU_FAULT_TOO_LONG // A line has at most 131072 bytes.
 	LineWord    LineFault = C.RELKVANU_FAULT_WORD     // A word that does not belong there.
 	LineMissing LineFault = C.RELKVANU_FAULT_MISSING  // The line ends before a word that it needs.
 	LineNumber  LineFault = C.RELKVANU_FAULT_NUMBER   // Not a number, or not a subtask.
 	LineExtra   LineFault = C.RELKVANU_FAULT_EXTRA    // A word follows the last one.
 	LineNoCall  LineFault = C.RELKVANU_FAULT_NO_CALL  // A config, job, start or all line, or in and a term before what is no call: it was read, and makes no call.
-	// bindings/generate: end
 )
 
-var faults = map[LineFault]string{
-	// bindings/generate makes the names of faults
+var namesLineFault = map[LineFault]string{
 	LineTooLong: "TooLong",
 	LineWord:    "Word",
 	LineMissing: "Missing",
 	LineNumber:  "Number",
 	LineExtra:   "Extra",
 	LineNoCall:  "NoCall",
-	// bindings/generate: end
 }
 
-// String is the name of the fault, such as "Missing".
-func (f LineFault) String() string { return named(faults, f) }
+// String is the name, such as "TooLong".
+func (it LineFault) String() string { return named(namesLineFault, it) }
 
-func (f LineFault) Error() string { return "relkvanu: the line can't be read: " + f.String() }
+func (it LineFault) Error() string { return "relkvanu: the line can't be read: " + it.String() }
 
-// bindings/generate makes the other enums
 // Fenced: Why a term or the names refuse a call.
 type Fenced uint32
 

@@ -18,32 +18,30 @@ public abstract sealed class CoordinatorException extends RuntimeException {
         return hasFile ? text + " " + FileNumbers.toString(file) : text;
     }
 
+    // bindings/generate makes the exceptions with reasons
     /** The coordinator refused the call. */
     public static final class Refused extends CoordinatorException {
-        private final Refusal refusal;
+        private final relkvanu.Refusal refusal;
         private final long file;
 
-        Refused(Refusal refusal, long file) {
+        Refused(relkvanu.Refusal refusal, long file) {
             super(withFile(refusal.text(), refusal.namesFile(), file), HAS_TRACES);
             this.refusal = refusal;
             this.file = file;
         }
 
         /** {@return why} */
-        public Refusal refusal() {
+        public relkvanu.Refusal refusal() {
             return refusal;
         }
 
-        /** {@return the file that is to blame, unsigned; 0 unless the refusal is {@code NAME_TAKEN} or {@code FILE_GONE}} */
+        /** {@return the file that is to blame, unsigned; 0 unless it is {@code NAME_TAKEN} or {@code FILE_GONE}} */
         public long file() {
             return file;
         }
     }
 
-    /**
-     * The term of the task or the names refuse the call, or the coordinator has no names. After {@code SPENT} a task deletes no file: an accepted
-     * acknowledgement may have named it, such as this one if it was sent before.
-     */
+    /** The term of the task or the names refuse the call, or the coordinator has no names. After {@code SPENT} a task deletes no file. */
     public static final class Fenced extends CoordinatorException {
         private final relkvanu.Fenced reason;
         private final long file;
@@ -59,11 +57,42 @@ public abstract sealed class CoordinatorException extends RuntimeException {
             return reason;
         }
 
-        /** {@return the file that is to blame, unsigned; 0 unless the reason is {@code SPENT} or {@code NEVER_RESERVED}} */
+        /** {@return the file that is to blame, unsigned; 0 unless it is {@code SPENT} or {@code NEVER_RESERVED}} */
         public long file() {
             return file;
         }
     }
+
+    /** A value is outside its limits. */
+    public static final class BadArgument extends CoordinatorException {
+        private final relkvanu.Argument argument;
+
+        BadArgument(relkvanu.Argument argument) {
+            super(argument.text(), true);
+            this.argument = argument;
+        }
+
+        /** {@return why} */
+        public relkvanu.Argument argument() {
+            return argument;
+        }
+    }
+
+    /** A line of a script can't be read or makes no call, or the line of a call would be too long. */
+    public static final class BadLine extends CoordinatorException {
+        private final relkvanu.LineFault fault;
+
+        BadLine(relkvanu.LineFault fault) {
+            super(fault.text(), true);
+            this.fault = fault;
+        }
+
+        /** {@return why} */
+        public relkvanu.LineFault fault() {
+            return fault;
+        }
+    }
+    // bindings/generate: end
 
     /** Memory of the library ran out: make the same call again. */
     public static final class NoMemory extends CoordinatorException {
@@ -76,36 +105,6 @@ public abstract sealed class CoordinatorException extends RuntimeException {
     public static final class Closed extends CoordinatorException {
         Closed() {
             super("the coordinator was closed", true);
-        }
-    }
-
-    /** A value is outside its limits. */
-    public static final class BadArgument extends CoordinatorException {
-        private final Argument argument;
-
-        BadArgument(Argument argument) {
-            super(argument.text(), true);
-            this.argument = argument;
-        }
-
-        /** {@return which one} */
-        public Argument argument() {
-            return argument;
-        }
-    }
-
-    /** A line of a script can't be read or makes no call, or the line of a call would be too long. */
-    public static final class BadLine extends CoordinatorException {
-        private final LineFault fault;
-
-        BadLine(LineFault fault) {
-            super(fault.text(), true);
-            this.fault = fault;
-        }
-
-        /** {@return why} */
-        public LineFault fault() {
-            return fault;
         }
     }
 

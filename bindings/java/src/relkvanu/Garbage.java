@@ -4,25 +4,26 @@ import java.util.Arrays;
 
 /** Of some files, in their order: those that may be deleted, and those that are not of this job. Two with the same files are equal. */
 public record Garbage(long[] garbage, long[] unissued) {
-    /** Copies the arrays. */
-    public Garbage {
-        garbage = garbage.clone();
-        unissued = unissued.clone();
-    }
-
     /** So many files at the start of each buffer. */
     static Garbage of(int what, long[] garbage, long first, long[] unissued, long second) {
         Answers.is(what, Header.GARBAGE);
         return new Garbage(Arrays.copyOf(garbage, (int) first), Arrays.copyOf(unissued, (int) second));
     }
 
-    /** {@return a copy of the garbage} */
+    // bindings/generate makes the lists of files
+    /** Copies the lists. */
+    public Garbage {
+        garbage = garbage.clone();
+        unissued = unissued.clone();
+    }
+
+    /** {@return a copy} */
     @Override
     public long[] garbage() {
         return garbage.clone();
     }
 
-    /** {@return a copy of the others} */
+    /** {@return a copy} */
     @Override
     public long[] unissued() {
         return unissued.clone();
@@ -42,4 +43,5 @@ public record Garbage(long[] garbage, long[] unissued) {
     public String toString() {
         return "Garbage[garbage=" + FileNumbers.toString(garbage) + ", unissued=" + FileNumbers.toString(unissued) + "]";
     }
+    // bindings/generate: end
 }

@@ -12,12 +12,13 @@ public sealed interface Line {
 
     /** The shape of the job. Two with the same numbers are equal. */
     record Job(long[] shape) implements Line {
-        /** Copies the array. */
+        // bindings/generate makes the list of the shape
+        /** Copies the lists. */
         public Job {
             shape = shape.clone();
         }
 
-        /** {@return a copy of the shape} */
+        /** {@return a copy} */
         @Override
         public long[] shape() {
             return shape.clone();
@@ -37,6 +38,7 @@ public sealed interface Line {
         public String toString() {
             return "Job[shape=" + FileNumbers.toString(shape) + "]";
         }
+        // bindings/generate: end
     }
 
     /** The opening. */

@@ -29,12 +29,13 @@ public sealed interface Reply {
 
     /** Files were fetched for deletion. Two replies with the same files in the same order are equal. */
     record Taken(long[] files) implements Reply {
-        /** Copies the array. */
+        // bindings/generate makes the list of files
+        /** Copies the lists. */
         public Taken {
             files = files.clone();
         }
 
-        /** {@return a copy of the files} */
+        /** {@return a copy} */
         @Override
         public long[] files() {
             return files.clone();
@@ -54,6 +55,7 @@ public sealed interface Reply {
         public String toString() {
             return "Taken[files=" + FileNumbers.toString(files) + "]";
         }
+        // bindings/generate: end
     }
 
     /** The metadata of a record. */

@@ -6,19 +6,20 @@ use relkvanu_sys::store as sys;
 use std::ffi::{c_int, c_void};
 use std::path::Path;
 
+// bindings/generate makes the records
 /// A record of a storage folder, as its manifest says it.
 #[derive(Clone, Copy, Debug, PartialEq, Eq)]
 pub struct Record {
     pub id: u64,
-    /// `Damaged`, or `NotAStore`: a later version wrote it. Then all below is 0.
+    /// Ok; Damaged: the manifest is damaged; NotAStore: another version wrote it. Then all below is 0.
     pub damage: Option<StoreErrorKind>,
     /// Otherwise it is a checkpoint.
     pub is_savepoint: bool,
     /// Its job is the one that the marker of the folder names, or there is no marker.
     pub is_of_job: bool,
-    /// [`recover`], or [`import`], begins from it.
+    /// Recover, or import, begins from it.
     pub is_next: bool,
-    /// When the manifest was written, in milliseconds of the wall clock since 1970.
+    /// When the manifest was, in ms of the wall clock since 1970.
     pub written: u64,
     pub files: u64,
     pub bytes: u64,
@@ -28,12 +29,78 @@ pub struct Record {
 
 impl Record {
     fn of(it: &sys::relkvanu_store_record) -> Record {
-        let sys::relkvanu_store_record { id, is_savepoint, is_of_job, is_next, written, files, bytes, missing, .. } =
-            *it;
-        let is_whole = it.status == sys::RELKVANU_STORE_OK as u32;
-        let damage = (!is_whole).then(|| StoreErrorKind::of(it.status as c_int));
-        Record { id, damage, is_savepoint, is_of_job, is_next, written, files, bytes, missing }
+        Record {
+            id: it.id,
+            damage: damage_of(it),
+            is_savepoint: it.is_savepoint,
+            is_of_job: it.is_of_job,
+            is_next: it.is_next,
+            written: it.written,
+            files: it.files,
+            bytes: it.bytes,
+            missing: it.missing,
+        }
     }
+}
+
+/// The record of which [`export`] has made a folder.
+#[derive(Clone, Copy, Debug, PartialEq, Eq)]
+pub struct Carried {
+    pub record: u64,
+    /// Otherwise it is a checkpoint.
+    pub is_savepoint: bool,
+    pub files: u64,
+    pub bytes: u64,
+}
+
+impl Carried {
+    fn of(it: &sys::relkvanu_store_carried) -> Carried {
+        Carried { record: it.record, is_savepoint: it.is_savepoint, files: it.files, bytes: it.bytes }
+    }
+}
+
+/// What a job was made of.
+#[derive(Clone, Debug, PartialEq, Eq)]
+pub struct Recovered {
+    /// The choice, which has the number that it had.
+    pub record: u64,
+    /// Otherwise it is a checkpoint.
+    pub is_savepoint: bool,
+    pub files: u64,
+    pub bytes: u64,
+    /// Manifests of the job that are damaged or lack files.
+    pub passed: u64,
+    /// That live on beside it, under new numbers. A list of records after the first opening has them.
+    pub savepoints: u64,
+    /// Of the job.
+    pub term: u64,
+    pub next_name: u64,
+    /// The least one that a later record gets.
+    pub next_number: u64,
+    pub set_aside: String,
+}
+
+impl Recovered {
+    fn of(it: &sys::relkvanu_store_recovered) -> Recovered {
+        Recovered {
+            record: it.record,
+            is_savepoint: it.is_savepoint,
+            files: it.files,
+            bytes: it.bytes,
+            passed: it.passed,
+            savepoints: it.savepoints,
+            term: it.term,
+            next_name: it.next_name,
+            next_number: it.next_number,
+            set_aside: text(&it.message),
+        }
+    }
+}
+// bindings/generate: end
+
+/// `Damaged`, or `NotAStore`: a later version wrote it.
+fn damage_of(it: &sys::relkvanu_store_record) -> Option<StoreErrorKind> {
+    (it.status != sys::RELKVANU_STORE_OK as u32).then(|| StoreErrorKind::of(it.status as c_int))
 }
 
 /// What is wrong with a file of a record.
@@ -66,36 +133,6 @@ pub struct Checked {
     /// Files of which the manifest has no checksum.
     pub unknown: u64,
     pub faults: Vec<(u64, FileFault)>,
-}
-
-/// The record of which [`export`] has made a folder.
-#[derive(Clone, Copy, Debug, PartialEq, Eq)]
-pub struct Carried {
-    pub record: u64,
-    pub is_savepoint: bool,
-    pub files: u64,
-    pub bytes: u64,
-}
-
-/// What a job was made of.
-#[derive(Clone, Debug, PartialEq, Eq)]
-pub struct Recovered {
-    /// The choice, which has the number that it had.
-    pub record: u64,
-    pub is_savepoint: bool,
-    pub files: u64,
-    pub bytes: u64,
-    /// Manifests of the job that are damaged or lack files.
-    pub passed: u64,
-    /// That live on beside it, under new numbers.
-    pub savepoints: u64,
-    /// Of the job.
-    pub term: u64,
-    pub next_name: u64,
-    /// The least one that a later record gets.
-    pub next_number: u64,
-    /// Of [`put_back`]: the folder that has what was there before.
-    pub set_aside: String,
 }
 
 /// The records of a storage folder that have a manifest, in the order of their numbers. It needs no job, and may be called at any time.
@@ -158,17 +195,14 @@ fn recovered(make: impl FnOnce(*mut sys::relkvanu_store_recovered) -> c_int) -> 
     // SAFETY: all zero is such a struct.
     let mut it: sys::relkvanu_store_recovered = unsafe { std::mem::zeroed() };
     check(make(&mut it), &it.message)?;
-    let set_aside = text(&it.message);
-    let sys::relkvanu_store_recovered { record, is_savepoint, files, bytes, passed, savepoints, .. } = it;
-    let sys::relkvanu_store_recovered { term, next_name, next_number, .. } = it;
-    Ok(Recovered { record, is_savepoint, files, bytes, passed, savepoints, term, next_name, next_number, set_aside })
+    Ok(Recovered::of(&it))
 }
 
 fn carried(make: impl FnOnce(*mut sys::relkvanu_store_carried) -> c_int) -> Result<Carried, StoreError> {
     // SAFETY: all zero is such a struct.
     let mut it: sys::relkvanu_store_carried = unsafe { std::mem::zeroed() };
     check(make(&mut it), &it.message)?;
-    Ok(Carried { record: it.record, is_savepoint: it.is_savepoint, files: it.files, bytes: it.bytes })
+    Ok(Carried::of(&it))
 }
 
 // bindings/generate makes what is made of manifests

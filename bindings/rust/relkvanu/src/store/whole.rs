@@ -86,26 +86,49 @@ impl Ending {
 }
 // bindings/generate: end
 
+// bindings/generate makes the past
 /// A record of the history. The times of acknowledgements are milliseconds since its trigger, by the store's clock, of those since the opening.
 #[derive(Clone, Debug, PartialEq, Eq)]
 pub struct Past {
     pub id: u64,
     pub kind: Kind,
     pub ending: Ending,
-    /// Moments.
+    /// Moments; when it was complete, or failed.
     pub triggered: u64,
     pub ended: u64,
+    /// Subtasks that have acknowledged since the opening.
     pub acks: u64,
+    /// Acknowledgements: the lower median, and the 99th percentile by rank.
     pub first: u64,
     pub median: u64,
     pub p99: u64,
     pub slowest: u64,
-    /// The sum of what the tasks told of their snapshots, and the greatest that one told.
+    /// The sum of those that the tasks told, and the greatest one.
     pub bytes: u64,
     pub millis: u64,
-    /// Of the decline.
     pub reason: String,
 }
+
+impl Past {
+    fn of(it: &sys::relkvanu_store_past) -> Past {
+        Past {
+            id: it.id,
+            kind: kind_of(it.kind).unwrap_or(Kind::Unknown(0)),
+            ending: Ending::of(it.outcome),
+            triggered: it.triggered,
+            ended: it.ended,
+            acks: it.acks,
+            first: it.first,
+            median: it.median,
+            p99: it.p99,
+            slowest: it.slowest,
+            bytes: it.bytes,
+            millis: it.millis,
+            reason: text(&it.reason),
+        }
+    }
+}
+// bindings/generate: end
 
 pub(super) fn kind_of(kind: u32) -> Option<Kind> {
     match kind {
@@ -138,13 +161,6 @@ unsafe extern "C" fn note(with: *mut c_void, part: *const sys::relkvanu_store_pa
         });
     }
     true
-}
-
-fn past_of(it: &sys::relkvanu_store_past) -> Past {
-    let sys::relkvanu_store_past { id, triggered, ended, acks, first, median, p99, slowest, bytes, millis, .. } = *it;
-    let (kind, ending, reason) =
-        (kind_of(it.kind).unwrap_or(Kind::Unknown(0)), Ending::of(it.outcome), text(&it.reason));
-    Past { id, kind, ending, triggered, ended, acks, first, median, p99, slowest, bytes, millis, reason }
 }
 
 impl Store {
@@ -197,7 +213,7 @@ impl Store {
         let mut found = vec![unsafe { std::mem::zeroed::<sys::relkvanu_store_past>() }; len];
         // SAFETY: the list has as many places as is said.
         self.check_why(unsafe { sys::relkvanu_store_history(self.at(), found.as_mut_ptr(), &mut len) })?;
-        Ok(found[..len].iter().map(past_of).collect())
+        Ok(found[..len].iter().map(Past::of).collect())
     }
 
     /// As `check`, with what the library has said of it in this thread.
