@@ -2,7 +2,7 @@
 import re
 import subprocess
 import textwrap
-from typing import Dict, Iterable, List, Optional, Tuple, Union
+from typing import Dict, Iterable, List, Optional, Sequence, Tuple, Union
 
 from generator import calls, header
 from generator.calls import Call, Function
@@ -22,7 +22,16 @@ def constants(kind: str, members: Names) -> str:
     return "".join(lines)
 
 
-def named(members: Names, texts: List[str]) -> str:
+def numbers(kind: str, told: str, members: Names, texts: Sequence[str] = ()) -> str:
+    """A type of numbers of the header, with what each prints, if it prints a text."""
+    text = f"// {kind} is {told}.\ntype {kind} uint32\n\n// The numbers of {kind}.\nconst (\n{constants(kind, members)})\n"
+    if texts:
+        text += f"\nvar names{kind} = map[{kind}]string{{\n{named(members, texts)}}}\n\n// String is as a script prints it, such as \"{texts[-1]}\".\n"
+        text += f"func (it {kind}) String() string {{ return named(names{kind}, it) }}\n"
+    return text
+
+
+def named(members: Names, texts: Sequence[str]) -> str:
     return "".join(f'\t{name}: "{text}",\n' for (name, _), text in zip(members, texts))
 
 
@@ -157,7 +166,7 @@ def task_method(call: Function) -> str:
 
 # What reads tell, beside the error, and what is returned of their answer.
 TOLD = {
-    "number": ("uint64", "uint64(answer.a), err"), "enum": ("{}", "{}(answer.what), known({}s, answer, err)"), "choice": ("Choice", "chosen(answer, err)"),
+    "number": ("uint64", "uint64(answer.a), err"), "enum": ("{}", "{0}(answer.what), known(names{0}, answer, err)"), "choice": ("Choice", "chosen(answer, err)"),
     "live": ("Live, bool", "live(answer, err)"), "list": ("[]uint64", "files, err"), "list?": ("[]uint64, bool", ""),
 }
 
@@ -172,7 +181,7 @@ def look(call: Function) -> str:
         made_of = f"c.files(func(o *owner, at *C.uint64_t, length C.size_t) C.relkvanu_answer {{\n\t\treturn C.relkvanu_{call.name}(o.handle{passed}, at, length)\n\t}})\n"
         return text + (f"\tfiles, _, err := {made_of}\treturn {value}\n}}\n" if value else f"\treturn {made_of}}}\n")
     text += f"\tanswer, err := c.called({ANSWER} {{ return C.relkvanu_{call.name}(handle{passed}) }})\n"
-    return text + f"\treturn {value.format(name, name.lower())}\n}}\n"
+    return text + f"\treturn {value.format(name)}\n}}\n"
 
 
 def task_line(call: Function) -> str:
@@ -223,7 +232,7 @@ def generated() -> Dict[str, Dict[str, str]]:
     return {
         "errors.go": {
             "the refusals": constants("Refusal", of("refusal")),
-            "the other errors": "\n".join(error_enum(code, enum) for code, enum in header.codes() if enum and code.name != "REFUSED"), "the codes": cases(),
+            "the other errors": listed(error_enum(code, enum) for code, enum in header.codes() if enum and code.name != "REFUSED"), "the codes": cases(),
             "which refusals name a file": "".join(f"\t{it}: true,\n" for it in with_file(of("refusal"))),
             "which reasons name a file": "".join(f"\t{it}: true,\n" for it in with_file(of("fenced", "Fenced"))),
         },
@@ -234,18 +243,18 @@ def generated() -> Dict[str, Dict[str, str]]:
             "the lines of calls of tasks": listed(task_line(it) for it in calls.of_tasks("advance")),
             "the replies to calls of one number": "".join(case(it) for it in plain_replies()),
         },
-        "relkvanu.go": {"the settings": settings()},
-        "calls.go": {"the kinds": constants("CallKind", of("call_kind", "Call"))},
+        "relkvanu.go": {"the settings": listed([settings()])},
+        "calls.go": {"the kinds": listed([numbers("CallKind", "which call it is", of("call_kind", "Call"))])},
         "replies.go": {
-            "the ends of ticks": constants("TickEnd", ticks), "the names of ends": named(ticks, ends("TICK_")),
-            "the ends of acknowledgements": constants("AckEnd", replies("ACK_", "")),
-            "the ends of declines": constants("DeclineEnd", replies("DECLINE_", "")),
+            "the ends of ticks": listed([numbers("TickEnd", "what a tick did after records had expired. The zero value is that of no tick", ticks, ends("TICK_"))]),
+            "the ends of acknowledgements": listed([numbers("AckEnd", "what an accepted acknowledgement did", replies("ACK_", ""))]),
+            "the ends of declines": listed([numbers("DeclineEnd", "what a decline did", replies("DECLINE_", ""))]),
             "the replies to calls of one number": listed(reply_type(it) for it in plain_replies()),
         },
         "reads.go": {
-            "the modes": constants("Mode", modes), "the names of modes": named(modes, [header.words(it.name.removeprefix("MODE_")) for _, it in modes]),
-            "the standings": constants("Standing", standings), "the reads": listed(look(it) for it in calls.looks()),
-            "the names of standings": named(standings, [header.words(it.name.removeprefix("STANDS_")) for _, it in standings]),
+            "the modes": listed([numbers("Mode", "what a job is doing", modes, [header.words(it.name.removeprefix("MODE_")) for _, it in modes])]),
+            "the standings": listed([numbers("Standing", "what a number is", standings, [header.words(it.name.removeprefix("STANDS_")) for _, it in standings])]),
+            "the reads": listed(look(it) for it in calls.looks()),
         },
     }
 

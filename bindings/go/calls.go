@@ -3,12 +3,13 @@ package relkvanu
 // #include <relkvanu.h>
 import "C"
 
+// bindings/generate makes the kinds
+
 // CallKind is which call it is.
 type CallKind uint32
 
-// The kinds of calls.
+// The numbers of CallKind.
 const (
-	// bindings/generate makes the kinds
 	CallTick      CallKind = C.RELKVANU_CALL_TICK
 	CallSavepoint CallKind = C.RELKVANU_CALL_SAVEPOINT
 	CallAck       CallKind = C.RELKVANU_CALL_ACK
@@ -27,8 +28,9 @@ const (
 	CallTrigger   CallKind = C.RELKVANU_CALL_TRIGGER
 	CallConfigure CallKind = C.RELKVANU_CALL_CONFIGURE
 	CallAdvance   CallKind = C.RELKVANU_CALL_ADVANCE // The job goes on above the terms and names that were told.
-	// bindings/generate: end
 )
+
+// bindings/generate: end
 
 // Call is a call as a line of a log says it. Fields that its kind does not use are zero.
 type Call struct {

@@ -114,6 +114,7 @@ func init() {
 }
 
 // bindings/generate makes the other errors
+
 // BadArgument: The argument that is outside its limits.
 type BadArgument uint32
 

@@ -30,20 +30,6 @@ func opened(subtasks uint64) *relkvanu.Coordinator {
 	return must(relkvanu.Open(relkvanu.Every(1000), []uint64{subtasks}, 0, 1))
 }
 
-// withCheckpoint3 is a job: checkpoint 1 is completed, savepoint 2 is pending, and checkpoint 3 replaces checkpoint 1.
-func withCheckpoint3() *relkvanu.Coordinator {
-	job := must(relkvanu.Open(settings, []uint64{2}, 0, 1))
-	first, second := relkvanu.Subtask{}, relkvanu.Subtask{Index: 1}
-	must(job.Tick(1000))
-	must(job.Ack(1100, 1, first, []uint64{1, 2}, nil))
-	must(job.Savepoint(1200))
-	must(job.Ack(1300, 1, second, []uint64{3}, nil))
-	must(job.Tick(2000))
-	must(job.Ack(2100, 3, first, []uint64{4}, []uint64{1}))
-	must(job.Ack(2100, 3, second, []uint64{5}, nil))
-	return job
-}
-
 // cancelled is a job whose files 1 to 20 wait for deletion.
 func cancelled() *relkvanu.Coordinator {
 	job := opened(1)

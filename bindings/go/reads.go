@@ -8,27 +8,28 @@ import "fmt"
 // Reads change nothing. Each returns ErrClosed after Close. PinsOf and TakenFiles may return ErrNoMemory too, and no other read has
 // another error.
 
-// Mode is what the job is doing.
+// bindings/generate makes the modes
+
+// Mode is what a job is doing.
 type Mode uint32
 
-// The modes.
+// The numbers of Mode.
 const (
-	// bindings/generate makes the modes
 	Running      Mode = C.RELKVANU_MODE_RUNNING   // The job takes checkpoints.
 	Failed       Mode = C.RELKVANU_MODE_FAILED    // Too many checkpoints failed in a row: restore the job.
 	WasCancelled Mode = C.RELKVANU_MODE_CANCELLED // The job has ended for good.
-	// bindings/generate: end
 )
 
-var modes = map[Mode]string{
-	// bindings/generate makes the names of modes
+var namesMode = map[Mode]string{
 	Running:      "running",
 	Failed:       "failed",
 	WasCancelled: "cancelled",
-	// bindings/generate: end
 }
 
-func (m Mode) String() string { return named(modes, m) }
+// String is as a script prints it, such as "cancelled".
+func (it Mode) String() string { return named(namesMode, it) }
+
+// bindings/generate: end
 
 // Kind is what a record is.
 type Kind uint32
@@ -65,31 +66,32 @@ type Live struct {
 	Done bool // or it is pending
 }
 
+// bindings/generate makes the standings
+
 // Standing is what a number is.
 type Standing uint32
 
-// The standings.
+// The numbers of Standing.
 const (
-	// bindings/generate makes the standings
 	Pending Standing = C.RELKVANU_STANDS_PENDING // A live record has the number, and lacks an acknowledgement.
 	Done    Standing = C.RELKVANU_STANDS_DONE    // A live record has the number, and is complete.
 	Ended   Standing = C.RELKVANU_STANDS_ENDED   // A record had the number, and is no longer live.
 	NotYet  Standing = C.RELKVANU_STANDS_NOT_YET // No record has had the number so far.
 	Never   Standing = C.RELKVANU_STANDS_NEVER   // The number is below the first one of the opening.
-	// bindings/generate: end
 )
 
-var standings = map[Standing]string{
-	// bindings/generate makes the names of standings
+var namesStanding = map[Standing]string{
 	Pending: "pending",
 	Done:    "done",
 	Ended:   "ended",
 	NotYet:  "not yet",
 	Never:   "never",
-	// bindings/generate: end
 }
 
-func (s Standing) String() string { return named(standings, s) }
+// String is as a script prints it, such as "never".
+func (it Standing) String() string { return named(namesStanding, it) }
+
+// bindings/generate: end
 
 // FileCounts is how many files are in use by live records, each counted once, wait for deletion, and were fetched and not yet reported.
 type FileCounts struct{ InUse, Waiting, Taken uint64 }
@@ -99,7 +101,7 @@ type FileCounts struct{ InUse, Waiting, Taken uint64 }
 // Mode: What the job is doing.
 func (c *Coordinator) Mode() (Mode, error) {
 	answer, err := c.called(func(handle *C.relkvanu) C.relkvanu_answer { return C.relkvanu_mode(handle) })
-	return Mode(answer.what), known(modes, answer, err)
+	return Mode(answer.what), known(namesMode, answer, err)
 }
 
 // Moment: The greatest moment that the coordinator has seen, at its opening or in an accepted call. It takes an earlier moment for this
@@ -154,7 +156,7 @@ func (c *Coordinator) LiveFrom(id uint64) (Live, bool, error) {
 // memory.
 func (c *Coordinator) Standing(id uint64) (Standing, error) {
 	answer, err := c.called(func(handle *C.relkvanu) C.relkvanu_answer { return C.relkvanu_standing(handle, C.uint64_t(id)) })
-	return Standing(answer.what), known(standings, answer, err)
+	return Standing(answer.what), known(namesStanding, answer, err)
 }
 
 // WaitingFile: The file at this place, from 0, among those that wait for deletion. The next to be fetched is the first. None past the last.

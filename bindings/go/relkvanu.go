@@ -42,6 +42,7 @@ import (
 )
 
 // bindings/generate makes the settings
+
 // Settings is how a job takes checkpoints.
 type Settings struct {
 	Interval     uint64 // 10 to 2^40 ms between two triggers

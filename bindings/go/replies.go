@@ -16,19 +16,32 @@ type Reply interface {
 	isReply()
 }
 
-// TickEnd is what a tick did after records had expired.
+// bindings/generate makes the ends of ticks
+
+// TickEnd is what a tick did after records had expired. The zero value is that of no tick.
 type TickEnd uint32
 
-// The ends of ticks. The zero value is that of no tick.
+// The numbers of TickEnd.
 const (
-	// bindings/generate makes the ends of ticks
 	Triggered    TickEnd = C.RELKVANU_TICK_TRIGGERED     // A checkpoint was triggered.
 	HeldInterval TickEnd = C.RELKVANU_TICK_HELD_INTERVAL // No checkpoint is due yet.
 	HeldAtOnce   TickEnd = C.RELKVANU_TICK_HELD_AT_ONCE  // As many checkpoints are pending as may be.
 	HeldPause    TickEnd = C.RELKVANU_TICK_HELD_PAUSE    // The pause after the last completion has not passed.
 	TickFailed   TickEnd = C.RELKVANU_TICK_FAILED        // Too many checkpoints failed in a row: restore the job.
-	// bindings/generate: end
 )
+
+var namesTickEnd = map[TickEnd]string{
+	Triggered:    "triggered",
+	HeldInterval: "held interval",
+	HeldAtOnce:   "held at-once",
+	HeldPause:    "held pause",
+	TickFailed:   "failed",
+}
+
+// String is as a script prints it, such as "failed".
+func (it TickEnd) String() string { return named(namesTickEnd, it) }
+
+// bindings/generate: end
 
 // Ticked is the reply to a tick.
 type Ticked struct {
@@ -92,17 +105,19 @@ func (r Configured) String() string {
 
 // bindings/generate: end
 
+// bindings/generate makes the ends of acknowledgements
+
 // AckEnd is what an accepted acknowledgement did.
 type AckEnd uint32
 
-// The ends of acknowledgements.
+// The numbers of AckEnd.
 const (
-	// bindings/generate makes the ends of acknowledgements
 	AckPending   AckEnd = C.RELKVANU_ACK_PENDING   // The record is not complete yet.
 	AckCompleted AckEnd = C.RELKVANU_ACK_COMPLETED // The record is complete.
 	AckLate      AckEnd = C.RELKVANU_ACK_LATE      // The record was done or had ended.
-	// bindings/generate: end
 )
+
+// bindings/generate: end
 
 // Acked is the reply to an accepted acknowledgement: its fresh files belong to the coordinator.
 type Acked struct {
@@ -113,17 +128,19 @@ type Acked struct {
 	HandedOut uint64 // AckLate: fresh files that this call handed out for deletion
 }
 
+// bindings/generate makes the ends of declines
+
 // DeclineEnd is what a decline did.
 type DeclineEnd uint32
 
-// The ends of declines.
+// The numbers of DeclineEnd.
 const (
-	// bindings/generate makes the ends of declines
 	DeclineAborted DeclineEnd = C.RELKVANU_DECLINE_ABORTED // The record is dropped.
 	DeclineFailed  DeclineEnd = C.RELKVANU_DECLINE_FAILED  // The record is dropped, and the job has failed: restore it.
 	DeclineLate    DeclineEnd = C.RELKVANU_DECLINE_LATE    // The record was done or had ended.
-	// bindings/generate: end
 )
+
+// bindings/generate: end
 
 // Declined is the reply to a decline.
 type Declined struct {
@@ -205,19 +222,6 @@ func (Shown) isReply()     {}
 func (Reserved) isReply()  {}
 func (Forfeited) isReply() {}
 func (Named) isReply()     {}
-
-var ticks = map[TickEnd]string{
-	// bindings/generate makes the names of ends
-	Triggered:    "triggered",
-	HeldInterval: "held interval",
-	HeldAtOnce:   "held at-once",
-	HeldPause:    "held pause",
-	TickFailed:   "failed",
-	// bindings/generate: end
-}
-
-// String is the end as a script prints it, such as "held pause".
-func (e TickEnd) String() string { return named(ticks, e) }
 
 func (r Ticked) String() string {
 	if r.End == Triggered {

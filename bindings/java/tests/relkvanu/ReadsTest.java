@@ -8,18 +8,8 @@ import java.util.List;
 import java.util.stream.LongStream;
 import org.junit.jupiter.api.Test;
 
-/** Images, and reads of long lists. RowsTest has what the other reads return. */
+/** Bytes that are no image, and reads of long lists. RowsTest has what the other reads return, and MemoryTest saved coordinators that go on. */
 class ReadsTest {
-    @Test
-    void aSavedCoordinatorGoesOn() {
-        try (Coordinator job = Jobs.withCheckpoint3(); Coordinator again = Coordinator.openSaved(job.save())) {
-            assertArrayEquals(job.save(), again.save());
-            assertEquals(job.tick(3000), again.tick(3000));
-            assertEquals(Jobs.records(job), Jobs.records(again));
-            assertArrayEquals(job.save(), again.save());
-        }
-    }
-
     @Test
     void bytesThatAreNoImageOpenNothing() {
         String image;

