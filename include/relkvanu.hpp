@@ -414,6 +414,32 @@ inline restore_answer restore_of(relkvanu_answer told) noexcept {
     }
 }
 
+inline fence_answer fence_of(relkvanu_answer told) noexcept {
+    return is_reply(told, RELKVANU_NAMED) ? fence_answer(fenced{}) : refusal(told);
+}
+
+inline term_answer term_of(relkvanu_answer told) noexcept {
+    return is_reply(told, RELKVANU_TERM) ? term_answer(running_term{told.a, told.b}) : refusal(told);
+}
+
+inline reserve_answer reserve_of(relkvanu_answer told) noexcept {
+    return is_reply(told, RELKVANU_RESERVED) ? reserve_answer(reserved{told.a, told.b}) : refusal(told);
+}
+
+inline forfeit_answer forfeit_of(relkvanu_answer told) noexcept {
+    return is_reply(told, RELKVANU_FORFEITED) ? forfeit_answer(forfeited{}) : refusal(told);
+}
+
+/* The files are at the start of these lists. */
+inline garbage_answer garbage_of(relkvanu_answer told, sorted_files &&it) {
+    if (!is_reply(told, RELKVANU_GARBAGE)) {
+        return refusal(told);
+    }
+    it.garbage.resize(static_cast<std::size_t>(told.a));
+    it.unissued.resize(static_cast<std::size_t>(told.b));
+    return std::move(it);
+}
+
 inline choice choice_of(relkvanu_answer told) noexcept {
     switch (told.what) {
     case RELKVANU_CHOICE_CHECKPOINT: return checkpoint{told.a};
@@ -501,61 +527,72 @@ struct abandon {
 
 using step_answer = std::variant<step, cut, abandon>;
 
-/* The alignment of a task with several inputs. A task begins a new one when it starts, also after a restore. docs/ALIGNMENT.md says what an
- * engine does after each step. Make one call at a time. */
-class aligner {
+namespace detail {
+/* What an aligner and a recorder have: memory of C, and the inputs. Nobody copies it. */
+template <class Task, class State> class alignment {
 public:
     /* The alignment of a task with this many inputs, all open; step::bad_inputs unless there are 1 to RELKVANU_MOST_INPUTS. */
-    [[nodiscard]] static std::variant<aligner, step> open(std::size_t inputs) {
+    [[nodiscard]] static std::variant<Task, step> open(std::size_t inputs) {
         if (inputs > RELKVANU_MOST_INPUTS) {
             return step::bad_inputs;
         }
-        aligner made(inputs);
-        relkvanu_step told = relkvanu_align_open(&made.aligner_, made.inputs_.data(), inputs);
+        Task made;
+        made.inputs_.resize(inputs);
+        relkvanu_step told = Task::opened(&made.state_, made.inputs_.data(), inputs);
         if (told.what != RELKVANU_STEP_NOTHING) {
             return step_of(told.what);
         }
-        return std::variant<aligner, step>(std::move(made));
+        return std::variant<Task, step>(std::move(made));
     }
 
-    aligner(aligner &&) noexcept = default;
-    aligner &operator=(aligner &&) noexcept = default;
-    aligner(const aligner &) = delete;
-    aligner &operator=(const aligner &) = delete;
+    alignment(alignment &&) noexcept = default;
+    alignment &operator=(alignment &&) noexcept = default;
+    alignment(const alignment &) = delete;
+    alignment &operator=(const alignment &) = delete;
 
+protected:
+    State state_{};
+    std::vector<std::uint8_t> inputs_;
+
+    alignment() = default;
+};
+} // namespace detail
+
+/* The alignment of a task with several inputs. A task begins a new one when it starts, also after a restore. docs/ALIGNMENT.md says what an
+ * engine does after each step. Make one call at a time. */
+class aligner : public detail::alignment<aligner, relkvanu_aligner> {
+public:
     /* clang-format off */
     /* bindings/generate makes the steps of an aligner */
     /* An element is next on this input, from 0: whether the task may process it now. Changes nothing. process or hold; or unknown_input,
      * ended_input. */
     [[nodiscard]] step element(std::uint32_t input) const noexcept {
-        return step_of(relkvanu_align_element(&aligner_, inputs_.data(), inputs_.size(), input).what);
+        return step_of(relkvanu_align_element(&state_, inputs_.data(), inputs_.size(), input).what);
     }
 
     /* The barrier of record id is next on this input. wait, late, cut, or abandon of an earlier record, whose place this one takes; or
      * unknown_input, held_input, ended_input. A cut and an abandon release all held inputs; after an abandon this input alone is held. */
     [[nodiscard]] step_answer barrier(std::uint32_t input, std::uint64_t id) noexcept {
-        return answer(relkvanu_align_barrier(&aligner_, inputs_.data(), inputs_.size(), input, id));
+        return answer(relkvanu_align_barrier(&state_, inputs_.data(), inputs_.size(), input, id));
     }
 
     /* Nothing more comes on this input. It counts as one that has delivered every barrier. nothing, wait or cut; or unknown_input,
      * held_input, ended_input. */
     [[nodiscard]] step_answer end(std::uint32_t input) noexcept {
-        return answer(relkvanu_align_end(&aligner_, inputs_.data(), inputs_.size(), input));
+        return answer(relkvanu_align_end(&state_, inputs_.data(), inputs_.size(), input));
     }
 
     /* The coordinator or the task gives record id up. abandon if this record is being aligned, and all held inputs are released; otherwise
      * nothing. */
     [[nodiscard]] step_answer give_up(std::uint64_t id) noexcept {
-        return answer(relkvanu_align_give_up(&aligner_, inputs_.data(), inputs_.size(), id));
+        return answer(relkvanu_align_give_up(&state_, inputs_.data(), inputs_.size(), id));
     }
     /* bindings/generate: end */
     /* clang-format on */
 
 private:
-    relkvanu_aligner aligner_{};
-    std::vector<std::uint8_t> inputs_;
-
-    explicit aligner(std::size_t inputs) : inputs_(inputs) {}
+    friend class detail::alignment<aligner, relkvanu_aligner>;
+    static constexpr auto opened = relkvanu_align_open;
 
     static step_answer answer(relkvanu_step told) noexcept {
         if (told.what == RELKVANU_STEP_CUT) {
@@ -578,62 +615,42 @@ struct complete {
 using recorder_answer = std::variant<step, cut, abandon, snap, complete>;
 
 /* An aligner whose records may overtake. After an abandon the barrier is left on its input: ask again. */
-class recorder {
+class recorder : public detail::alignment<recorder, relkvanu_recorder> {
 public:
-    /* As aligner::open. */
-    [[nodiscard]] static std::variant<recorder, step> open(std::size_t inputs) {
-        if (inputs > RELKVANU_MOST_INPUTS) {
-            return step::bad_inputs;
-        }
-        recorder made(inputs);
-        relkvanu_step told = relkvanu_unaligned_open(&made.recorder_, made.inputs_.data(), inputs);
-        if (told.what != RELKVANU_STEP_NOTHING) {
-            return step_of(told.what);
-        }
-        return std::variant<recorder, step>(std::move(made));
-    }
-
-    recorder(recorder &&) noexcept = default;
-    recorder &operator=(recorder &&) noexcept = default;
-    recorder(const recorder &) = delete;
-    recorder &operator=(const recorder &) = delete;
-
     /* clang-format off */
     /* bindings/generate makes the steps of a recorder */
     /* As element; and record. */
     [[nodiscard]] step element(std::uint32_t input) const noexcept {
-        return step_of(relkvanu_unaligned_element(&recorder_, inputs_.data(), inputs_.size(), input).what);
+        return step_of(relkvanu_unaligned_element(&state_, inputs_.data(), inputs_.size(), input).what);
     }
 
     /* As barrier; and complete if it was the last of a record that has overtaken. */
     [[nodiscard]] recorder_answer barrier(std::uint32_t input, std::uint64_t id) noexcept {
-        return answer(relkvanu_unaligned_barrier(&recorder_, inputs_.data(), inputs_.size(), input, id));
+        return answer(relkvanu_unaligned_barrier(&state_, inputs_.data(), inputs_.size(), input, id));
     }
 
     /* As end; and complete. */
     [[nodiscard]] recorder_answer end(std::uint32_t input) noexcept {
-        return answer(relkvanu_unaligned_end(&recorder_, inputs_.data(), inputs_.size(), input));
+        return answer(relkvanu_unaligned_end(&state_, inputs_.data(), inputs_.size(), input));
     }
 
     /* As give_up: what was recorded for an abandoned record is given up. */
     [[nodiscard]] recorder_answer give_up(std::uint64_t id) noexcept {
-        return answer(relkvanu_unaligned_give_up(&recorder_, inputs_.data(), inputs_.size(), id));
+        return answer(relkvanu_unaligned_give_up(&state_, inputs_.data(), inputs_.size(), id));
     }
 
     /* Record id overtakes: its barrier was seen on an input, wherever it stands there, or has waited for long enough. snap; late if it is
      * whole or was given up; nothing while an earlier record is open (ask again once that has ended), if it has overtaken before, or if
      * each input has ended. */
     [[nodiscard]] recorder_answer overtake(std::uint64_t id) noexcept {
-        return answer(relkvanu_unaligned_overtake(&recorder_, inputs_.data(), inputs_.size(), id));
+        return answer(relkvanu_unaligned_overtake(&state_, inputs_.data(), inputs_.size(), id));
     }
     /* bindings/generate: end */
     /* clang-format on */
 
 private:
-    relkvanu_recorder recorder_{};
-    std::vector<std::uint8_t> inputs_;
-
-    explicit recorder(std::size_t inputs) : inputs_(inputs) {}
+    friend class detail::alignment<recorder, relkvanu_recorder>;
+    static constexpr auto opened = relkvanu_unaligned_open;
 
     static recorder_answer answer(relkvanu_step told) noexcept {
         switch (told.what) {
@@ -826,30 +843,22 @@ public:
 
     /* Gives the coordinator names, from first_name on, in term 1. All numbers of files that were used before are below it, those of files
      * that nobody acknowledged too. Make the call between the end of all tasks and their restart. */
-    fence_answer fence(std::uint64_t first_name) noexcept {
-        relkvanu_answer told = relkvanu_fence(&handle_, first_name);
-        return is_reply(told, RELKVANU_NAMED) ? fence_answer(fenced{}) : refusal(told);
-    }
+    fence_answer fence(std::uint64_t first_name) noexcept { return fence_of(relkvanu_fence(&handle_, first_name)); }
 
     /* The term that runs, and the next name that is given out. Whoever restarts the tasks reads it after the restore, and tells each of
      * them once the restore is in the durable log. A task never asks for it: one that should be dead would learn the new term. */
-    [[nodiscard]] term_answer term() noexcept {
-        relkvanu_answer told = relkvanu_term(&handle_);
-        return is_reply(told, RELKVANU_TERM) ? term_answer(running_term{told.a, told.b}) : refusal(told);
-    }
+    [[nodiscard]] term_answer term() noexcept { return term_of(relkvanu_term(&handle_)); }
 
     /* A task of this term reserves 1 to 65536 names for files that it will write. The reservation is in the durable log before the task
      * uses one of them. */
     [[nodiscard]] reserve_answer reserve(std::uint64_t term, std::uint64_t count) noexcept {
-        relkvanu_answer told = relkvanu_reserve(&handle_, term, count);
-        return is_reply(told, RELKVANU_RESERVED) ? reserve_answer(reserved{told.a, told.b}) : refusal(told);
+        return reserve_of(relkvanu_reserve(&handle_, term, count));
     }
 
     /* A task of this term gives up names that it will not acknowledge, such as those of a failed upload. Names that the term does not
      * hold are passed over, so the call can be repeated. */
     forfeit_answer forfeit(std::uint64_t term, files names) noexcept {
-        relkvanu_answer told = relkvanu_forfeit(&handle_, term, names.data(), names.size());
-        return is_reply(told, RELKVANU_FORFEITED) ? forfeit_answer(forfeited{}) : refusal(told);
+        return forfeit_of(relkvanu_forfeit(&handle_, term, names.data(), names.size()));
     }
 
     /* ack_in of the record that a task has cut. */
@@ -865,12 +874,7 @@ public:
         sorted_files it = {places, std::move(places)};
         relkvanu_answer told =
             relkvanu_garbage(&handle_, of.data(), of.size(), it.garbage.data(), of.size(), it.unissued.data(), of.size());
-        if (!is_reply(told, RELKVANU_GARBAGE)) {
-            return refusal(told);
-        }
-        it.garbage.resize(static_cast<std::size_t>(told.a));
-        it.unissued.resize(static_cast<std::size_t>(told.b));
-        return it;
+        return garbage_of(told, std::move(it));
     }
 
     /* The metadata of a live record, as JSON. */

@@ -290,6 +290,10 @@ template <class... Of, class... Others> struct before<std::variant<Of...>, Other
 using order = detail::before<tick_answer, savepoint_triggered, restored>::type;
 using configure_answer = std::variant<configured, refused>;
 
+inline configure_answer configure_of(relkvanu_answer told) noexcept {
+    return is_reply(told, RELKVANU_CONFIGURED) ? configure_answer(configured{told.a, told.b}) : refusal(told);
+}
+
 /* A durable coordinator. After a move the old one is empty: only its destructor and an assignment to it may be called. */
 class Store {
 public:
@@ -435,46 +439,28 @@ public:
 
     /* Names for files that the task of this term will write, 1 to 65536. */
     [[nodiscard]] reserve_answer reserve(std::uint64_t term, std::uint64_t count) noexcept {
-        return one<reserve_answer>(call(RELKVANU_CALL_RESERVE, 0, count, 0, 0, term), [](relkvanu_answer told) noexcept {
-            return is_reply(told, RELKVANU_RESERVED) ? reserve_answer(reserved{told.a, told.b}) : refusal(told);
-        });
+        return one<reserve_answer>(call(RELKVANU_CALL_RESERVE, 0, count, 0, 0, term), reserve_of);
     }
 
     /* The task of this term gives up names that it will not acknowledge, at most 65536. */
     forfeit_answer forfeit(std::uint64_t term, files names) noexcept {
-        relkvanu_answer told;
-        int status = relkvanu_store_forfeit(store_, term, names.data(), names.size(), &told);
-        if (status != RELKVANU_STORE_OK) {
-            return refused{store_code(status)};
-        }
-        return is_reply(told, RELKVANU_FORFEITED) ? forfeit_answer(forfeited{}) : refusal(told);
+        relkvanu_answer answer;
+        return told<forfeit_answer>(relkvanu_store_forfeit(store_, term, names.data(), names.size(), &answer), answer, forfeit_of);
     }
 
     /* The term that runs, and the next name. Whoever starts tasks takes the term from the answer to its restore; a task never asks. */
     [[nodiscard]] term_answer term() noexcept {
-        relkvanu_answer told;
-        int status = relkvanu_store_term(store_, &told);
-        if (status != RELKVANU_STORE_OK) {
-            return refused{store_code(status)};
-        }
-        return is_reply(told, RELKVANU_TERM) ? term_answer(running_term{told.a, told.b}) : refusal(told);
+        relkvanu_answer answer;
+        return told<term_answer>(relkvanu_store_term(store_, &answer), answer, term_of);
     }
 
     /* Of these files those that are garbage, which may be deleted at any time, and those whose names were not given out, which nobody deletes. */
     [[nodiscard]] garbage_answer garbage(files of) {
         std::vector<std::uint64_t> places(of.size());
         sorted_files it = {places, std::move(places)};
-        relkvanu_answer told;
-        int status = relkvanu_store_garbage(store_, of.data(), of.size(), it.garbage.data(), it.unissued.data(), &told);
-        if (status != RELKVANU_STORE_OK) {
-            return refused{store_code(status)};
-        }
-        if (!is_reply(told, RELKVANU_GARBAGE)) {
-            return refusal(told);
-        }
-        it.garbage.resize(static_cast<std::size_t>(told.a));
-        it.unissued.resize(static_cast<std::size_t>(told.b));
-        return it;
+        relkvanu_answer answer;
+        int status = relkvanu_store_garbage(store_, of.data(), of.size(), it.garbage.data(), it.unissued.data(), &answer);
+        return told<garbage_answer>(status, answer, [&it](relkvanu_answer sorted) { return garbage_of(sorted, std::move(it)); });
     }
 
     /* From a savepoint, or from the latest record if it is 0. restored.term is what the tasks are started with. */
@@ -542,8 +528,7 @@ public:
      * error::unknown, and lost. */
     [[nodiscard]] tick_answer await_tick(std::uint64_t longest) noexcept {
         relkvanu_store_call tick = {};
-        int status = awaited(longest, tick);
-        return status == RELKVANU_STORE_OK ? tick_of(tick.answer) : tick_answer(refused{store_code(status)});
+        return told<tick_answer>(awaited(longest, tick), tick.answer, tick_of);
     }
 
     /* tick, savepoint and await_tick that also tell the choice of a trigger, in base: the record that the barrier names beside the new one, and whose
@@ -577,17 +562,11 @@ public:
     /* Refused as store_error::bad_argument if a value is outside its limits. */
     configure_answer configure(const relkvanu_settings &settings) noexcept {
         relkvanu_store_call made = {};
-        int status = relkvanu_store_configure(store_, &settings, &made);
-        if (status != RELKVANU_STORE_OK) {
-            return refused{store_code(status)};
-        }
-        return is_reply(made.answer, RELKVANU_CONFIGURED) ? configure_answer(configured{made.answer.a, made.answer.b})
-                                                          : refusal(made.answer);
+        return told<configure_answer>(relkvanu_store_configure(store_, &settings, &made), made.answer, configure_of);
     }
     savepoint_answer stop_job() noexcept {
         relkvanu_store_call made = {};
-        int status = relkvanu_store_stop_job(store_, &made);
-        return status == RELKVANU_STORE_OK ? savepoint_of(made.answer) : savepoint_answer(refused{store_code(status)});
+        return told<savepoint_answer>(relkvanu_store_stop_job(store_, &made), made.answer, savepoint_of);
     }
     restore_answer begin_job() noexcept {
         return restored_by([this](relkvanu_store_call &made) noexcept { return relkvanu_store_begin_job(store_, &made); });
@@ -724,20 +703,24 @@ private:
         return it;
     }
 
+    /* What an answer means, if its call was committed. */
+    template <class Answer, class Of> static Answer told(int status, const relkvanu_answer &answer, Of of) noexcept {
+        return status == RELKVANU_STORE_OK ? of(answer) : Answer(refused{store_code(status)});
+    }
+
     template <class Answer, class Of> Answer one(relkvanu_store_call it, Of of) noexcept {
-        int status = relkvanu_store_calls(store_, &it, 1);
-        return status == RELKVANU_STORE_OK ? of(it.answer) : Answer(refused{store_code(status)});
+        return told<Answer>(relkvanu_store_calls(store_, &it, 1), it.answer, of);
     }
 
     /* The answer of a restore, with the term that it begins. */
     template <class Make> restore_answer restored_by(Make make) noexcept {
         relkvanu_store_call made = {};
         int status = make(made);
-        restore_answer told = status == RELKVANU_STORE_OK ? restore_of(made.answer) : restore_answer(refused{store_code(status)});
-        if (restored *begins = std::get_if<restored>(&told)) {
+        restore_answer from = told<restore_answer>(status, made.answer, restore_of);
+        if (restored *begins = std::get_if<restored>(&from)) {
             begins->term = made.term;
         }
-        return told;
+        return from;
     }
 
     static order order_of(relkvanu_answer told, std::uint64_t term) noexcept {

@@ -169,7 +169,7 @@ def steps_of(mode: str, kind: str) -> str:
     text = []
     for step in calls.steps(mode):
         given = ", ".join(f"std::{kind.replace('u', 'uint')}_t {it}" for kind, it in step.given)
-        asked = f"{step.function}(&{kind}_, inputs_.data(), inputs_.size(), {', '.join(it for _, it in step.given)})"
+        asked = f"{step.function}(&state_, inputs_.data(), inputs_.size(), {', '.join(it for _, it in step.given)})"
         head, made = (f"{kind}_answer", f"answer({asked})") if step.is_change else ("step", f"step_of({asked}.what)")
         text.append(f"{comment(step.comment)}    [[nodiscard]] {head} {step.name}({given}){'' if step.is_change else ' const'} noexcept {{\n        return {made};\n    }}\n")
     return "\n".join(text).replace("aligner_answer", "step_answer")
