@@ -20,7 +20,7 @@ use std::os::unix::process::ExitStatusExt;
 use std::path::Path;
 use std::process::{Command, Stdio};
 use std::sync::atomic::{AtomicUsize, Ordering::SeqCst};
-use std::sync::{mpsc, Arc, Mutex};
+use std::sync::{mpsc, Arc};
 use std::thread::{self, JoinHandle};
 use std::time::{Duration, Instant};
 
@@ -837,36 +837,28 @@ fn barrier(id: u64) -> Barrier {
 #[test]
 fn an_input_that_is_full_and_a_task_that_waits() {
     let inputs = Arc::new(Inputs::new(2, 2).unwrap());
-    let said = Arc::new(Mutex::new(Vec::new()));
-    let (puts, says) = (inputs.clone(), said.clone());
-    let putter = thread::spawn(move || {
-        for it in 0..4 {
-            puts.put(0, it);
-            says.lock().unwrap().push(it);
-        }
-        puts.put_barrier(0, barrier(1));
+    (0..2).for_each(|it| inputs.put(0, it));
+    let putter = waits(&inputs, |it| {
+        (2..4).for_each(|element| it.put(0, element));
+        it.put_barrier(0, barrier(1));
     });
-    while said.lock().unwrap().len() < 2 {
-        thread::sleep(Duration::from_millis(1));
-    }
-    thread::sleep(Duration::from_millis(50));
-    assert_eq!(*said.lock().unwrap(), [0, 1]);
     let taken: Vec<Taken<u64>> = (0..4).map(|_| inputs.take().unwrap()).collect();
     assert_eq!(taken, [0, 1, 2, 3].map(|it| Taken::Element(0, it)));
     putter.join().unwrap();
-    let takes = inputs.clone();
-    let taker = thread::spawn(move || takes.take().unwrap());
-    thread::sleep(Duration::from_millis(50));
-    assert!(!taker.is_finished());
+    let taker = waits(&inputs, |it| it.take().unwrap());
     inputs.put_barrier(1, barrier(1));
     assert_eq!(taker.join().unwrap(), Taken::Cut(barrier(1)));
 }
 
-/// A thread that waits for room.
-fn putter(inputs: &Arc<Inputs<u64>>, input: usize, element: u64) -> JoinHandle<()> {
-    let puts = inputs.clone();
-    let thread = thread::spawn(move || puts.put(input, element));
+/// A thread that waits for room, or for elements.
+fn waits<E: Send + 'static, T: Send + 'static>(
+    inputs: &Arc<Inputs<E>>,
+    does: impl FnOnce(&Inputs<E>) -> T + Send + 'static,
+) -> JoinHandle<T> {
+    let inputs = inputs.clone();
+    let thread = thread::spawn(move || does(&inputs));
     thread::sleep(Duration::from_millis(50));
+    assert!(!thread.is_finished());
     thread
 }
 
@@ -887,7 +879,7 @@ fn two_threads_that_wait_for_room() {
     assert_eq!(inputs.take(), Ok(Taken::Element(1, 10)));
     inputs.put(0, 1);
     inputs.put(1, 11);
-    let threads = [putter(&inputs, 0, 2), putter(&inputs, 1, 12)];
+    let threads = [(0, 2), (1, 12)].map(|(input, element)| waits(&inputs, move |it| it.put(input, element)));
     assert_eq!(inputs.take(), Ok(Taken::Element(1, 11)));
     assert_finishes(&threads[1]);
     assert_eq!(inputs.take(), Ok(Taken::Element(1, 12)));
@@ -900,7 +892,8 @@ fn two_threads_that_wait_for_room() {
 #[test]
 fn room_for_nothing() {
     let inputs = Arc::new(Inputs::new(1, 0).unwrap());
-    assert_finishes(&putter(&inputs, 0, 1));
+    let puts = inputs.clone();
+    assert_finishes(&thread::spawn(move || puts.put(0, 1)));
     assert_eq!(inputs.take(), Ok(Taken::Element(0, 1)));
 }
 
@@ -909,15 +902,13 @@ fn room_for_nothing() {
 fn inputs_that_are_closed() {
     let inputs = Arc::new(Inputs::new(2, 1).unwrap());
     inputs.put(0, 7);
-    let waits = putter(&inputs, 0, 8);
+    let putter = waits(&inputs, |it| it.put(0, 8));
     let empty = Arc::new(Inputs::<u64>::new(1, 1).unwrap());
-    let takes = empty.clone();
-    let taker = thread::spawn(move || takes.take());
-    thread::sleep(Duration::from_millis(50));
-    assert!(!waits.is_finished() && !taker.is_finished() && !inputs.is_closed());
+    let taker = waits(&empty, |it| it.take());
+    assert!(!inputs.is_closed());
     inputs.close();
     empty.close();
-    assert_finishes(&waits);
+    assert_finishes(&putter);
     assert_finishes(&taker);
     assert_eq!(taker.join().unwrap(), Err(AlignFault::Closed));
     (0..3).for_each(|it| inputs.put(0, it)); // nobody takes them, and they wait for no room
@@ -931,9 +922,7 @@ fn inputs_that_are_closed() {
 fn an_end_while_the_task_waits() {
     let inputs = Arc::new(Inputs::<()>::new(2, 1).unwrap());
     inputs.put_barrier(0, barrier(1));
-    let takes = inputs.clone();
-    let taker = thread::spawn(move || (takes.take(), takes.take()));
-    thread::sleep(Duration::from_millis(50));
+    let taker = waits(&inputs, |it| (it.take(), it.take()));
     inputs.end(1);
     thread::sleep(Duration::from_millis(50));
     assert!(!taker.is_finished());
@@ -946,10 +935,7 @@ fn an_end_while_the_task_waits() {
 fn what_comes_behind_an_end() {
     let inputs = Arc::new(Inputs::new(2, 1).unwrap());
     inputs.put(0, "a");
-    let ends = inputs.clone();
-    let ender = thread::spawn(move || ends.end(0));
-    thread::sleep(Duration::from_millis(50));
-    assert!(!ender.is_finished());
+    let ender = waits(&inputs, |it| it.end(0));
     assert_eq!(inputs.take(), Ok(Taken::Element(0, "a")));
     ender.join().unwrap();
     for element in ["p", "q"] {
@@ -973,10 +959,7 @@ fn a_record_that_is_given_up() {
     [0, 2].into_iter().for_each(|it| inputs.put_barrier(it, barrier(1)));
     [(0, "a"), (0, "b"), (1, "p"), (2, "x")].into_iter().for_each(|(input, it)| inputs.put(input, it));
     assert_eq!(inputs.take(), Ok(Taken::Element(1, "p")));
-    let takes = inputs.clone();
-    let taker = thread::spawn(move || [(); 3].map(|()| takes.take()));
-    thread::sleep(Duration::from_millis(50));
-    assert!(!taker.is_finished());
+    let taker = waits(&inputs, |it| [(); 3].map(|()| it.take()));
     assert_eq!(inputs.give_up(1), Ok(true));
     assert_finishes(&taker);
     assert_eq!(taker.join().unwrap(), [(0, "a"), (2, "x"), (0, "b")].map(|(input, it)| Ok(Taken::Element(input, it))));
