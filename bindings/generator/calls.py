@@ -111,6 +111,7 @@ def of_their_own(found: List[Call]) -> List[Call]:
     """Those with one reply, which is theirs alone."""
     return [it for it in found if it.reply() is not None]
 
+
 # The reads of numbers, of an enum, of a choice, of live records and of files, each with what it tells, or the reply of one that has a number. Of a "list?"
 # there may be none.
 LOOKS = {

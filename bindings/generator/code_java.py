@@ -375,7 +375,8 @@ TOLD = {
 def look(call: Function) -> str:
     """A read."""
     made, name = in_java(call), java_name(call.name)
-    told, value = TOLD.get(call.tells(), ("OptionalLong", f"(what, a, b) -> what == Header.{call.tells()} ? OptionalLong.of(a) : OptionalLong.empty()"))
+    number = f"(what, a, b) -> what == Header.{call.tells()} ? OptionalLong.of(a) : OptionalLong.empty()"
+    told, value = TOLD.get(call.tells(), ("OptionalLong", number))
     is_list, of = call.tells().startswith("list"), header.camel(call.name)
     passed = made.each({kind: f"{it}, " for kind, it in PASSED.items()}, "")
     native = f"(at, {'files, ' if is_list else ''}out) -> Native.{name}(at, {passed}{'files, ' if is_list else ''}out)" if passed else f"Native::{name}"
@@ -398,7 +399,8 @@ def line(call: Call) -> str:
     given = f"long {java_name(call.number)}" if call.number else ""
     passed = ("now, 0" if call.has_moment() else f"0, {java_name(call.number)}") if call.number else "0, 0"
     number = f"     *\n{param(call)}" if call.number else ""
-    return f"    /**\n     * {{@return the line of {call.named()}}}\n{number}     */\n" + f"    public static String {java_name(call.name)}({given}) {{\n        return line(Header.{call.kind()}, {passed});\n    }}\n"
+    text = f"    /**\n     * {{@return the line of {call.named()}}}\n{number}     */\n"
+    return text + f"    public static String {java_name(call.name)}({given}) {{\n        return line(Header.{call.kind()}, {passed});\n    }}\n"
 
 
 def changed() -> str:

@@ -78,7 +78,7 @@ def enum(name: str, comment: str, members: List[Tuple[str, Number]]) -> str:
     text += f"}}\n\nimpl {name} {{\n    pub(crate) fn of({given}) -> {name} {{\n        match {what} {{\n"
     text += "".join(f"            sys::{header.OWN}{it.name} => {name}::{camel(member)}{'(told.a)' if it.a else ''},\n" for member, it in members)
     text += f"            other => {name}::Unknown(other),\n        }}\n    }}\n\n"
-    text += f"    /// The number in the header.\n    pub fn number(&self) -> u32 {{\n        match self {{\n"
+    text += "    /// The number in the header.\n    pub fn number(&self) -> u32 {\n        match self {\n"
     text += "".join(f"            {name}::{camel(member)}{'(_)' if it.a else ''} => sys::{header.OWN}{it.name},\n" for member, it in members)
     text += f"            {name}::Unknown(what) => *what,\n        }}\n    }}\n"
     return text + (of_a(name, members) if has_more else "") + "}\n"

@@ -254,7 +254,10 @@ def in_crate() -> Dict[str, Dict[str, str]]:
     ending = rust_enum("Ending", "What became of a record.", "RELKVANU_STORE_", "(COMPLETED|DECLINED|EXPIRED|DROPPED)", "#[non_exhaustive]\n")
     made = "\n".join(rust_making(it) for it in makings())
     mirrors = "\n".join(rust_mirror(it) for it in ("record", "carried", "recovered"))
-    return {"records.rs": {"the records": mirrors, "what is made of manifests": made}, "error.rs": {"the kinds of errors": rust_kinds()}, "phase.rs": {"the phases": "\n".join(phases)}, "whole.rs": {"the endings": ending, "the past": rust_mirror("past")}}
+    return {
+        "records.rs": {"the records": mirrors, "what is made of manifests": made}, "error.rs": {"the kinds of errors": rust_kinds()},
+        "phase.rs": {"the phases": "\n".join(phases)}, "whole.rs": {"the endings": ending, "the past": rust_mirror("past")},
+    }
 
 
 def in_rust() -> Dict[str, str]:
