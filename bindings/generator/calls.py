@@ -58,10 +58,6 @@ class Call(NamedTuple):
         """Its name with an article, as in "an undeleted"."""
         return f"{'an' if self.name[0] in 'aeiou' else 'a'} {header.words(self.name)}"
 
-    def what(self) -> str:
-        """What its number is, in a word."""
-        return {"now": "moment", "id": "record"}.get(self.number or "", header.words(self.number or ""))
-
 
 def answered(told: str) -> List[Number]:
     """The replies that the comment of a function names, of those to calls without a buffer. `A to B` are all of the header between them."""

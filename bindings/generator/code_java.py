@@ -232,9 +232,7 @@ public enum {name} {{
         throw new CoordinatorException.Unknown("{kind}", what);
     }}
 
-    /**
-     * {{@return the name in scripts, such as "{header.camel(members[0][0])}"}}
-     */
+    /** {{@return the name in scripts, such as "{header.camel(members[0][0])}"}} */
     public String text() {{
         return ScriptNames.of(this);
     }}
@@ -286,12 +284,8 @@ def shown(name: str, fields: List[str]) -> str:
 def record(number: Number) -> str:
     name, kind = header.reply_name(number), [it for prefix, it in INTERFACES.items() if number.name.startswith(prefix)]
     fields = [(java_name(field), what) for field, _, what in number.fields()]
-    told = sentence(number)
-    if fields:
-        lines = "".join(f"     * @param {field} {what}\n" for field, what in fields)
-        text = f"    /**\n     * {told}\n     *\n{lines}     */\n"
-    else:
-        text = f"    /** {told} */\n"
+    told = " ".join([sentence(number), *([f"{'; '.join(f'{field}: {what}' for field, what in fields)}."] if fields else [])])
+    text = f"    /** {told} */\n"
     only = [field for field, _ in fields]
     body = "\n" + shown(name, only) if "file" in only else ""
     return text + f"    record {name}({', '.join(f'long {field}' for field in only)}) implements {(kind or ['Reply'])[0]} {{{body}}}\n"
@@ -307,16 +301,6 @@ def cases() -> str:
     return "".join(lines)
 
 
-def param(call: Call) -> str:
-    return f"     * @param {java_name(call.number)} the {call.what()}\n" if call.number else ""
-
-
-def result_of(call: Call) -> str:
-    """What a call returns, in words."""
-    it = call.reply()
-    return ", ".join(what for _, _, what in it.fields()) if it and it.fields() else "what happened"
-
-
 def reply_type(call: Call) -> str:
     it = call.reply()
     return f"Reply.{header.reply_name(it) if it else INTERFACES[call.family().upper() + '_']}"
@@ -329,8 +313,7 @@ def lines_of(text: str) -> str:
 def method(call: Call) -> str:
     """A method of the coordinator, of which threads that wait for a call know unless the call is quiet."""
     given, passed = (f"long {java_name(call.number)}", f", {java_name(call.number)}") if call.number else ("", "")
-    text = f"    /**\n{lines_of(call.comment)}     *\n{param(call)}     * @return {result_of(call)}\n     */\n"
-    text += f"    public {reply_type(call)} {java_name(call.name)}({given}) {{\n"
+    text = f"{documented(call.comment)}    public {reply_type(call)} {java_name(call.name)}({given}) {{\n"
     native = f"(at, out) -> Native.{java_name(call.name)}(at{passed}, out)"
     if call.has_moment() or call.is_quiet():
         return text + f"        return ({reply_type(call)}) {'timed(now, ' if call.has_moment() else 'replied('}{native});\n    }}\n"
@@ -398,8 +381,7 @@ def task_line(call: Function) -> str:
 def line(call: Call) -> str:
     given = f"long {java_name(call.number)}" if call.number else ""
     passed = ("now, 0" if call.has_moment() else f"0, {java_name(call.number)}") if call.number else "0, 0"
-    number = f"     *\n{param(call)}" if call.number else ""
-    text = f"    /**\n     * {{@return the line of {call.named()}}}\n{number}     */\n"
+    text = f"    /** {{@return the line of {call.named()}}} */\n"
     return text + f"    public static String {java_name(call.name)}({given}) {{\n        return line(Header.{call.kind()}, {passed});\n    }}\n"
 
 

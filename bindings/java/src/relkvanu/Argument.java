@@ -39,9 +39,7 @@ public enum Argument {
         throw new CoordinatorException.Unknown("argument", what);
     }
 
-    /**
-     * {@return the name in scripts, such as "AlreadyOpen"}
-     */
+    /** {@return the name in scripts, such as "AlreadyOpen"} */
     public String text() {
         return ScriptNames.of(this);
     }

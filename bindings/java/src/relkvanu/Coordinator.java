@@ -132,62 +132,32 @@ public final class Coordinator extends Reads implements AutoCloseable {
     }
 
     // bindings/generate makes the calls of one number
-    /**
-     * Time has passed: records that are too old expire, and a checkpoint is triggered if one is due.
-     *
-     * @param now the moment
-     * @return what happened
-     */
+    /** Time has passed: records that are too old expire, and a checkpoint is triggered if one is due. */
     public Reply.Tick tick(long now) {
         return (Reply.Tick) timed(now, (at, out) -> Native.tick(at, now, out));
     }
 
-    /**
-     * Triggers a savepoint. At most 1000 savepoints are pending or done.
-     *
-     * @param now the moment
-     * @return number
-     */
+    /** Triggers a savepoint. At most 1000 savepoints are pending or done. */
     public Reply.SavepointTriggered savepoint(long now) {
         return (Reply.SavepointTriggered) timed(now, (at, out) -> Native.savepoint(at, now, out));
     }
 
-    /**
-     * A user disposes of the completed savepoint id.
-     *
-     * @param id the record
-     * @return files released
-     */
+    /** A user disposes of the completed savepoint id. */
     public Reply.Disposed dispose(long id) {
         return (Reply.Disposed) replied((at, out) -> Native.dispose(at, id, out));
     }
 
-    /**
-     * The job ends for good.
-     *
-     * @param now the moment
-     * @return records dropped, files released
-     */
+    /** The job ends for good. */
     public Reply.Cancelled cancel(long now) {
         return (Reply.Cancelled) timed(now, (at, out) -> Native.cancel(at, now, out));
     }
 
-    /**
-     * A fetched file is deleted: the coordinator forgets it.
-     *
-     * @param file the file
-     * @return file
-     */
+    /** A fetched file is deleted: the coordinator forgets it. */
     public Reply.Deleted deleted(long file) {
         return (Reply.Deleted) replied((at, out) -> Native.deleted(at, file, out));
     }
 
-    /**
-     * A fetched file could not be deleted: it waits again, behind all others.
-     *
-     * @param file the file
-     * @return file
-     */
+    /** A fetched file could not be deleted: it waits again, behind all others. */
     public Reply.Undeleted undeleted(long file) {
         return (Reply.Undeleted) replied((at, out) -> Native.undeleted(at, file, out));
     }
@@ -195,9 +165,6 @@ public final class Coordinator extends Reads implements AutoCloseable {
     /**
      * Triggers a checkpoint now, whatever the interval and the pause. Nothing expires: make a tick first if records may be too old. The
      * interval counts from it, as after a tick that triggers.
-     *
-     * @param now the moment
-     * @return what happened
      */
     public Reply.Tick trigger(long now) {
         return (Reply.Tick) timed(now, (at, out) -> Native.trigger(at, now, out));

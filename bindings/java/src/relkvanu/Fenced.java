@@ -39,9 +39,7 @@ public enum Fenced {
         throw new CoordinatorException.Unknown("fenced", what);
     }
 
-    /**
-     * {@return the name in scripts, such as "OldTerm"}
-     */
+    /** {@return the name in scripts, such as "OldTerm"} */
     public String text() {
         return ScriptNames.of(this);
     }

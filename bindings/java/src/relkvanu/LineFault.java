@@ -31,9 +31,7 @@ public enum LineFault {
         throw new CoordinatorException.Unknown("fault", what);
     }
 
-    /**
-     * {@return the name in scripts, such as "TooLong"}
-     */
+    /** {@return the name in scripts, such as "TooLong"} */
     public String text() {
         return ScriptNames.of(this);
     }

@@ -68,83 +68,47 @@ public final class Lines {
     }
 
     // bindings/generate makes the lines of calls
-    /**
-     * {@return the line of a tick}
-     *
-     * @param now the moment
-     */
+    /** {@return the line of a tick} */
     public static String tick(long now) {
         return line(Header.CALL_TICK, now, 0);
     }
 
-    /**
-     * {@return the line of a savepoint}
-     *
-     * @param now the moment
-     */
+    /** {@return the line of a savepoint} */
     public static String savepoint(long now) {
         return line(Header.CALL_SAVEPOINT, now, 0);
     }
 
-    /**
-     * {@return the line of a dispose}
-     *
-     * @param id the record
-     */
+    /** {@return the line of a dispose} */
     public static String dispose(long id) {
         return line(Header.CALL_DISPOSE, 0, id);
     }
 
-    /**
-     * {@return the line of a cancel}
-     *
-     * @param now the moment
-     */
+    /** {@return the line of a cancel} */
     public static String cancel(long now) {
         return line(Header.CALL_CANCEL, now, 0);
     }
 
-    /**
-     * {@return the line of a deleted}
-     *
-     * @param file the file
-     */
+    /** {@return the line of a deleted} */
     public static String deleted(long file) {
         return line(Header.CALL_DELETED, 0, file);
     }
 
-    /**
-     * {@return the line of an undeleted}
-     *
-     * @param file the file
-     */
+    /** {@return the line of an undeleted} */
     public static String undeleted(long file) {
         return line(Header.CALL_UNDELETED, 0, file);
     }
 
-    /**
-     * {@return the line of a count}
-     *
-     * @param file the file
-     */
+    /** {@return the line of a count} */
     public static String count(long file) {
         return line(Header.CALL_COUNT, 0, file);
     }
 
-    /**
-     * {@return the line of a fence}
-     *
-     * @param firstName the first name
-     */
+    /** {@return the line of a fence} */
     public static String fence(long firstName) {
         return line(Header.CALL_FENCE, 0, firstName);
     }
 
-    /**
-     * {@return the line of a trigger}
-     *
-     * @param now the moment
-     */
+    /** {@return the line of a trigger} */
     public static String trigger(long now) {
         return line(Header.CALL_TRIGGER, now, 0);
     }

@@ -51,9 +51,7 @@ public enum Refusal {
         throw new CoordinatorException.Unknown("refusal", what);
     }
 
-    /**
-     * {@return the name in scripts, such as "MomentTooLarge"}
-     */
+    /** {@return the name in scripts, such as "MomentTooLarge"} */
     public String text() {
         return ScriptNames.of(this);
     }

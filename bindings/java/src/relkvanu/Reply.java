@@ -89,131 +89,58 @@ public sealed interface Reply {
     record Named() implements Reply {}
 
     // bindings/generate makes the replies
-    /**
-     * A checkpoint was triggered.
-     *
-     * @param expired expired records
-     * @param id number
-     */
+    /** A checkpoint was triggered. expired: expired records; id: number. */
     record Triggered(long expired, long id) implements Tick {}
 
-    /**
-     * No checkpoint is due yet.
-     *
-     * @param expired expired records
-     */
+    /** No checkpoint is due yet. expired: expired records. */
     record HeldInterval(long expired) implements Tick {}
 
-    /**
-     * As many checkpoints are pending as may be.
-     *
-     * @param expired expired records
-     */
+    /** As many checkpoints are pending as may be. expired: expired records. */
     record HeldAtOnce(long expired) implements Tick {}
 
-    /**
-     * The pause after the last completion has not passed.
-     *
-     * @param expired expired records
-     */
+    /** The pause after the last completion has not passed. expired: expired records. */
     record HeldPause(long expired) implements Tick {}
 
-    /**
-     * Too many checkpoints failed in a row: restore the job.
-     *
-     * @param expired expired records
-     */
+    /** Too many checkpoints failed in a row: restore the job. expired: expired records. */
     record Failed(long expired) implements Tick {}
 
-    /**
-     * A savepoint was triggered.
-     *
-     * @param id number
-     */
+    /** A savepoint was triggered. id: number. */
     record SavepointTriggered(long id) implements Reply {}
 
-    /**
-     * The record is not complete yet.
-     *
-     * @param missing subtasks missing
-     */
+    /** The record is not complete yet. missing: subtasks missing. */
     record AckPending(long missing) implements Ack {}
 
-    /**
-     * The record is complete.
-     *
-     * @param dropped records dropped
-     * @param released files released
-     */
+    /** The record is complete. dropped: records dropped; released: files released. */
     record AckCompleted(long dropped, long released) implements Ack {}
 
-    /**
-     * The record was done or had ended.
-     *
-     * @param handedOut fresh files that this call handed out for deletion
-     */
+    /** The record was done or had ended. handedOut: fresh files that this call handed out for deletion. */
     record AckLate(long handedOut) implements Ack {}
 
-    /**
-     * The record is dropped.
-     *
-     * @param released files released
-     */
+    /** The record is dropped. released: files released. */
     record DeclineAborted(long released) implements Decline {}
 
-    /**
-     * The record is dropped, and the job has failed: restore it.
-     *
-     * @param released files released
-     */
+    /** The record is dropped, and the job has failed: restore it. released: files released. */
     record DeclineFailed(long released) implements Decline {}
 
     /** The record was done or had ended. */
     record DeclineLate() implements Decline {}
 
-    /**
-     * The savepoint is gone.
-     *
-     * @param released files released
-     */
+    /** The savepoint is gone. released: files released. */
     record Disposed(long released) implements Reply {}
 
-    /**
-     * The job begins again from a checkpoint.
-     *
-     * @param id number
-     * @param released files released
-     */
+    /** The job begins again from a checkpoint. id: number; released: files released. */
     record RestoredCheckpoint(long id, long released) implements Restore {}
 
-    /**
-     * The job begins again from a savepoint.
-     *
-     * @param id number
-     * @param released files released
-     */
+    /** The job begins again from a savepoint. id: number; released: files released. */
     record RestoredSavepoint(long id, long released) implements Restore {}
 
-    /**
-     * The job begins again from nothing.
-     *
-     * @param released files released
-     */
+    /** The job begins again from nothing. released: files released. */
     record RestoredFresh(long released) implements Restore {}
 
-    /**
-     * The job has ended for good.
-     *
-     * @param dropped records dropped
-     * @param released files released
-     */
+    /** The job has ended for good. dropped: records dropped; released: files released. */
     record Cancelled(long dropped, long released) implements Reply {}
 
-    /**
-     * The file is forgotten.
-     *
-     * @param file file
-     */
+    /** The file is forgotten. file: file. */
     record Deleted(long file) implements Reply {
         @Override
         public String toString() {
@@ -221,11 +148,7 @@ public sealed interface Reply {
         }
     }
 
-    /**
-     * The file waits again.
-     *
-     * @param file file
-     */
+    /** The file waits again. file: file. */
     record Undeleted(long file) implements Reply {
         @Override
         public String toString() {
@@ -233,12 +156,7 @@ public sealed interface Reply {
         }
     }
 
-    /**
-     * The uses by live records.
-     *
-     * @param file file
-     * @param uses uses
-     */
+    /** The uses by live records. file: file; uses: uses. */
     record Counted(long file, long uses) implements Reply {
         @Override
         public String toString() {
@@ -246,12 +164,7 @@ public sealed interface Reply {
         }
     }
 
-    /**
-     * The job has the new settings.
-     *
-     * @param checkpoints checkpoints dropped
-     * @param released files released
-     */
+    /** The job has the new settings. checkpoints: checkpoints dropped; released: files released. */
     record Configured(long checkpoints, long released) implements Reply {}
     // bindings/generate: end
 }
