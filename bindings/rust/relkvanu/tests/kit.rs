@@ -168,7 +168,9 @@ fn states_in_a_storage_of_the_engine() {
     assert!(matches!(run.ended(), Ok(Ended::Closed)));
     assert_eq!(names(&at), [&["1000000".to_owned()], &files[..]].concat());
     fs::remove_file(at.join(&files[0])).unwrap();
-    let lost = Run::of(&place, IDLE, over(folder(&at)), |_, _| Ok(())).run.join().unwrap();
+    let job = job_with(&place, IDLE, over(folder(&at)), |_, _| Ok(()));
+    when(&job.engine().starts, |_, ()| Err("its tasks start".into()));
+    let lost = job.run();
     let Err(RunFault::Call(CallError::Store(why))) = lost else { panic!("{lost:?}") };
     assert_eq!(why.kind, StoreErrorKind::FileLost);
     assert_eq!(names(&at).len(), 2); // and nothing was swept
