@@ -9,7 +9,7 @@ use std::thread::{self, JoinHandle};
 use std::time::Duration;
 
 pub const TASKS: u16 = 2;
-pub const LONGEST: Duration = Duration::from_secs(600); // that a busy machine may take for a step
+pub const LONGEST: Duration = Duration::from_secs(50); // that a busy machine may take for a step, and less than tests/try_mutants gives a test that hangs
 
 #[derive(Clone, Debug, PartialEq)]
 pub enum Word {
