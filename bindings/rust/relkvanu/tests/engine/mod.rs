@@ -158,9 +158,10 @@ impl Engine for Words {
     }
 
     fn barrier(&self, it: Barrier) -> Told {
+        let does = Mutex::new(self.does.lock().unwrap().clone()); // a test that hears of the barrier may say another thing
         self.barriers.lock().unwrap().push(it);
         self.note(Barrier(it.id, it.kind, it.holds))?;
-        self.make(&self.does, it)
+        self.make(&does, it)
     }
 
     fn complete(&self, id: u64) -> Told {
