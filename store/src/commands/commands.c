@@ -1,12 +1,6 @@
 /* What an operator wants of a job that runs: a checkpoint now, other settings, a stop with a savepoint and a new begin. */
-#include "../job/job.h"
-#include "../log/log.h"
-#include "../manifests/manifests.h"
 #include "../store.h"
 #include "commands.h"
-
-#include <stdio.h>
-#include <string.h>
 
 /* Makes one call, whose list the caller keeps no longer than this. */
 static int make_one(

@@ -2,24 +2,8 @@
  *
  * The folder is made beside its name, and gets it once all is on the disk. A file that both folders can have is linked, so it stays although the
  * first job deletes it. */
-#include "../files/files.h"
-#include "../job/job.h"
-#include "../log/log.h"
-#include "../manifests/manifest.h"
-#include "../manifests/manifests.h"
 #include "../store.h"
 #include "commands.h"
-
-#include <errno.h>
-#include <fcntl.h>
-#include <inttypes.h>
-#include <stdio.h>
-#include <stdlib.h>
-#include <string.h>
-#include <sys/file.h>
-#include <sys/random.h>
-#include <unistd.h>
-#include <zlib.h>
 
 enum { PIECE = 1 << 20, TRIES = 100 }; /* bytes; times that a record may end while it is carried */
 

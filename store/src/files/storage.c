@@ -1,14 +1,6 @@
 /* The store's own folder as a storage, and a sweep of any storage: what it may delete, the store knows. */
-#include "../job/job.h"
-#include "../manifests/manifests.h"
 #include "../store.h"
-#include "files.h"
 #include "folder.h"
-
-#include <errno.h>
-#include <fcntl.h>
-#include <string.h>
-#include <unistd.h>
 
 static int check_owner(const void *store) {
     return rks_owner(store);

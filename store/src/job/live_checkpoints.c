@@ -1,11 +1,5 @@
 /* The live records beside the coordinator: which of them a call has ended, and what was acknowledged for a pending one. */
-#include "../log/log.h"
-#include "../manifests/manifests.h"
 #include "../store.h"
-#include "job.h"
-
-#include <stdlib.h>
-#include <string.h>
 
 /* The place of the first live record with this number or a greater one. */
 static size_t place_of(const struct rks_extras *b, uint64_t id) {

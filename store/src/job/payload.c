@@ -1,9 +1,5 @@
 /* What a call has beside its numbers: whether it is well-formed, and the calls that have it. */
 #include "../store.h"
-#include "job.h"
-
-#include <stdio.h>
-#include <string.h>
 
 static bool refuse(const char *words) {
     rks_why_words(words);

@@ -1,11 +1,5 @@
 /* Reads: they wait in the queue too, so they see what is committed and nothing else. */
-#include "../log/log.h"
 #include "../store.h"
-#include "job.h"
-
-#include <stdio.h>
-#include <stdlib.h>
-#include <string.h>
 
 enum { PAGE = 256 };
 

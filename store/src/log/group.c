@@ -1,10 +1,6 @@
 /* The answers of a group. They wait in the coordinator's library until it is told that the group is committed: what was proved of relkvanu_group_answer
  * decides whether they are told, and no code here. */
-#include "../job/job.h"
 #include "../store.h"
-#include "log.h"
-
-#include <stdlib.h>
 
 /* Makes room for *at to have so many items of this size. */
 static bool grow(void **at, size_t len, size_t size) {

@@ -1,11 +1,5 @@
 /* A recovery: the last image, and the calls after it, whose answers are compared. */
 #include "../store.h"
-#include "log.h"
-
-#include <inttypes.h>
-#include <stdio.h>
-#include <stdlib.h>
-#include <string.h>
 
 static int damaged(relkvanu_store *s, const char *what, uint64_t place, const char *how) {
     snprintf(s->fault, sizeof s->fault, "%.300s: %s %" PRIu64 " %s", s->file.path, what, place, how);

@@ -4,8 +4,6 @@
 #include "../common.h"
 #include "known_files.h"
 
-#include <dirent.h>
-
 enum { RKS_VERTICES = 256, RKS_MANIFEST_NAME = 48, RKS_MOST_FILES = 4096 }; /* of a shape; of a name; of a subtask */
 enum { RKS_UNMARKED = 1024 };                                               /* openings that a full folder has no mark of */
 
