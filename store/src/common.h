@@ -50,6 +50,14 @@ struct rks_text {
 /* Makes room for more bytes. Returns false if there is no memory; the bytes stay. */
 bool rks_room(struct rks_text *text, size_t more);
 
+/* Makes room in a list, whose pointer `list` points to, for so many items of this size. The same. */
+bool rks_grow(void *list, size_t *room, size_t len, size_t size);
+
+/* A set of numbers: a tree of search.h, with the numbers in place of pointers. rks_add: false without memory. */
+bool rks_has(void *const *set, uint64_t number);
+bool rks_add(void **set, uint64_t number);
+void rks_free_set(void *set);
+
 /* The first file of a record that is not as it should be; error: errno of a folder that can't be read. */
 struct rks_lost {
     uint64_t record, file, bytes, wanted; /* bytes: that a file which is there has; wanted: that its manifest says */

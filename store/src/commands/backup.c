@@ -63,9 +63,7 @@ static void remove_part(const struct backup *b) {
 
 /* Whether this backup has the lock of the part, and the part is still there by its name: another one may have finished it meanwhile. */
 static bool has_part(const struct backup *b) {
-    struct stat held, named;
-    return flock(b->file, LOCK_EX | LOCK_NB) == 0 && fstat(b->file, &held) == 0 && lstat(b->part, &named) == 0 &&
-           held.st_ino == named.st_ino && held.st_dev == named.st_dev;
+    return flock(b->file, LOCK_EX | LOCK_NB) == 0 && rks_is_named(b->file, b->part);
 }
 
 static bool is_removed(const char *name) {
@@ -210,9 +208,7 @@ static int finish(struct backup *b) {
     int folder = name == NULL ? -1 : open(name, O_RDONLY | O_DIRECTORY | O_CLOEXEC);
     int error = name == NULL ? ENOMEM : folder < 0 ? errno : finish_part(b, folder);
     free(name);
-    if (folder >= 0) {
-        close(folder);
-    }
+    rks_close(folder);
     return error == 0 ? RELKVANU_STORE_OK : failed(b, b->path, error);
 }
 
@@ -233,9 +229,7 @@ int relkvanu_store_backup(relkvanu_store *s, const char *path, char *message, si
     if (status == RELKVANU_STORE_CLOSED || status == RELKVANU_STORE_FORKED) {
         relkvanu_store_message(s, words, sizeof words);
     }
-    if (b.file >= 0) {
-        close(b.file);
-    }
+    rks_close(b.file);
     free(b.part);
     free(b.part_lock);
     free(b.part_wal);

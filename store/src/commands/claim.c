@@ -5,8 +5,6 @@
 #include "../store.h"
 #include "commands.h"
 
-#include <search.h>
-
 enum { TRIES = 100 }; /* times that records may end while they are listed */
 
 struct claim {
@@ -15,23 +13,13 @@ struct claim {
     bool has_marker;
     uint64_t epoch;
     struct rks_manifests all;
-    void *others; /* the files that other records have: a tree of search.h, with numbers in place of pointers */
+    void *others; /* the files that other records have */
     char *target; /* the whole path of the folder of the claim: a mark names it */
     relkvanu_store_recovered *told;
 };
 
 static int set_fault(struct claim *c, int status, const char *name, const char *words) {
-    snprintf(c->from->fault, sizeof c->from->fault, "%.300s: %.200s", name, words);
-    return status;
-}
-
-static int by_value(const void *one, const void *other) {
-    uintptr_t a = (uintptr_t)one, b = (uintptr_t)other;
-    return (a > b) - (a < b);
-}
-
-static void keep_key(void *key) {
-    (void)key;
+    return rks_refuse(c->from, status, "%.300s: %.200s", name, words);
 }
 
 /* Reads the manifests anew. */
@@ -104,26 +92,20 @@ static bool is_file(const char *path) {
 
 static bool is_same_folder(const struct claim *c, const char *folder) {
     struct stat one, other;
-    return fstat(c->from->storage.folder, &one) == 0 && stat(folder, &other) == 0 && one.st_ino == other.st_ino &&
-           one.st_dev == other.st_dev;
+    return fstat(c->from->storage.folder, &one) == 0 && stat(folder, &other) == 0 && rks_is_same(&one, &other);
+}
+
+static int end_at(void *with, const struct dirent *entry) {
+    (void)with, (void)entry;
+    return 1;
 }
 
 /* Whether there is nothing at the name that an import would not replace. */
 static bool is_free(const char *folder) {
     int it = open(folder, O_RDONLY | O_DIRECTORY | O_CLOEXEC);
-    DIR *entries = it < 0 ? NULL : rks_entries(it);
-    size_t len = 0;
-    if (it < 0) {
-        return errno == ENOENT;
-    }
-    while (entries != NULL && readdir(entries) != NULL) {
-        len++;
-    }
-    if (entries != NULL) {
-        closedir(entries);
-    }
-    close(it);
-    return len <= 2; /* itself, and the one above */
+    bool is_free = it < 0 ? errno == ENOENT : rks_each_entry(it, end_at, NULL) <= 0;
+    rks_close(it);
+    return is_free;
 }
 
 /* The opening that the old job can't have come to: as relkvanu_store_recover counts it. Its file is refused from then on. */
@@ -135,34 +117,24 @@ static int fence(struct claim *c) {
 
 /* Whether the folder is that of an import of this record, by its manifest, which its first opening writes anew. */
 static const struct rks_manifest *imported(struct claim *c, struct rks_manifests *there, const char *folder) {
-    relkvanu_store s = {.storage = {.folder = -1}};
-    uint64_t marked = 0;
-    const struct rks_manifest *found = NULL;
-    bool is_owned = rks_open_folder(&s, folder) == RELKVANU_STORE_OK && rks_read_owner(&s, folder, &marked) == RELKVANU_STORE_OK;
-    if (is_owned && rks_list_manifests(s.storage.folder, there) == RELKVANU_STORE_OK) {
-        const struct rks_manifest *one = rks_choose_manifest(there, s.job.identity, 0);
-        for (size_t i = 0; i < c->all.len && one != NULL; i++) {
-            const struct rks_manifest *it = &c->all.at[i];
-            found = it->status == RELKVANU_STORE_OK && it->id == one->id && strcmp(it->job, one->origin) == 0 ? one : found;
-        }
-    }
-    if (s.storage.folder >= 0) {
-        close(s.storage.folder);
+    const struct rks_manifest *one = rks_list_owned(folder, 0, there), *found = NULL;
+    for (size_t i = 0; i < c->all.len && one != NULL; i++) {
+        const struct rks_manifest *it = &c->all.at[i];
+        found = it->status == RELKVANU_STORE_OK && it->id == one->id && strcmp(it->job, one->origin) == 0 ? one : found;
     }
     return found;
 }
 
 static int note_other(void *with, const struct rks_part *part) {
     struct claim *c = with;
-    return !part->is_file || tsearch((void *)(uintptr_t)(part->file + 1), &c->others, by_value) != NULL ? RELKVANU_STORE_OK
-                                                                                                        : RELKVANU_STORE_NO_MEMORY;
+    return !part->is_file || rks_add(&c->others, part->file) ? RELKVANU_STORE_OK : RELKVANU_STORE_NO_MEMORY;
 }
 
 /* A file leaves, unless another record has it. */
 static int leave(void *with, const struct rks_part *part) {
     struct claim *c = with;
     char name[32];
-    if (!part->is_file || tfind((void *)(uintptr_t)(part->file + 1), &c->others, by_value) != NULL) {
+    if (!part->is_file || rks_has(&c->others, part->file)) {
         return RELKVANU_STORE_OK;
     }
     snprintf(name, sizeof name, "%" PRIu64, part->file);
@@ -212,13 +184,11 @@ static int leave_all(struct claim *c, uint64_t record) {
 /* Gives the job of an exported folder an identity, and the folder its marker. */
 static int own(struct claim *c, uint64_t record) {
     struct rks_text text = {0};
-    uint64_t words[2];
     char job[RKS_IDENTITY + 1];
     const struct rks_manifest *it = chosen(c, record);
-    if (getentropy(words, sizeof words) != 0) {
+    if (!rks_new_identity(job)) {
         return rks_file_fault(c->from, "random numbers", errno);
     }
-    snprintf(job, sizeof job, "%016" PRIx64 "%016" PRIx64, words[0], words[1]);
     int status = rks_manifest_text(&c->all, c->from->storage.folder, it->id, job, &text);
     int error = status == RELKVANU_STORE_OK ? rks_put_manifest(c->from->storage.folder, it->id, "", &text) : 0;
     status = error != 0 ? rks_file_fault(c->from, c->from_name, error) : status;
@@ -301,13 +271,8 @@ static int claim_elsewhere(struct claim *c, uint64_t record, const char *path, c
 /* Whether there is a record to take, and none may be later, before anything is fenced. */
 static int check_chosen(struct claim *c, uint64_t record) {
     const struct rks_manifest *it = chosen(c, record);
-    char words[200];
-    if (it == NULL) {
-        rks_say_none(&c->all, owner(c), record, words, sizeof words);
-        return set_fault(c, RELKVANU_STORE_ABSENT, c->from_name, words);
-    }
-    bool is_unread = record == 0 && rks_is_later_unread(&c->all, it, words, sizeof words);
-    return is_unread ? set_fault(c, RELKVANU_STORE_DAMAGED, c->from_name, words) : check_mark(c, it->id);
+    int status = rks_check_choice(c->from, c->from_name, &c->all, owner(c), record, it);
+    return status == RELKVANU_STORE_OK ? check_mark(c, it->id) : status;
 }
 
 static int claim(struct claim *c, uint64_t record, const char *path, const char *folder) {
@@ -332,27 +297,22 @@ static int claim(struct claim *c, uint64_t record, const char *path, const char 
 }
 
 int relkvanu_store_claim(const char *from, uint64_t record, const char *path, const char *folder, relkvanu_store_recovered *recovered) {
+    struct claim c = {.from_name = from, .told = recovered};
     *recovered = (relkvanu_store_recovered){0};
-    relkvanu_store *store = calloc(1, sizeof *store);
-    int status = store == NULL ? RELKVANU_STORE_NO_MEMORY : rks_begin_store(store);
+    int status = rks_new_store(&c.from, recovered->message);
     if (status != RELKVANU_STORE_OK) {
-        free(store);
         return status;
     }
-    rks_list(store);
-    struct claim c = {.from = store, .from_name = from, .told = recovered};
     status = claim(&c, record, path, folder);
-    int error = errno;
     if (status != RELKVANU_STORE_OK) {
         char message[RELKVANU_STORE_MESSAGE];
-        memcpy(message, store->fault[0] != 0 ? store->fault : recovered->message, sizeof message);
+        memcpy(message, c.from->fault[0] != 0 ? c.from->fault : recovered->message, sizeof message);
         *recovered = (relkvanu_store_recovered){0};
         memcpy(recovered->message, message, sizeof message);
     }
     rks_free_manifests(&c.all);
-    tdestroy(c.others, keep_key);
+    rks_free_set(c.others);
     free(c.target);
-    rks_release_store(store);
-    errno = error;
+    rks_release_store(c.from);
     return status;
 }

@@ -14,8 +14,7 @@ struct putting {
 };
 
 static int set_fault(struct putting *p, int status, const char *words) {
-    snprintf(p->old->fault, sizeof p->old->fault, "%.300s: %.200s", p->old->file.path, words);
-    return status;
+    return rks_refuse(p->old, status, "%.300s: %.200s", p->old->file.path, words);
 }
 
 /* One text behind the other, to be freed. NULL: no memory. */
@@ -26,92 +25,53 @@ static char *joined(const char *one, const char *other) {
 
 /* Copies a file, which is on the disk then. */
 static int copy(struct putting *p, const char *from, int follows, const char *to) {
-    char piece[PIECE];
-    off_t at = 0;
-    ssize_t len = 1;
+    uint32_t sum;
     int source = open(from, O_RDONLY | O_CLOEXEC | follows);
     if (source < 0) {
         return rks_file_fault(p->old, from, errno);
     }
     int target = open(to, O_WRONLY | O_CREAT | O_EXCL | O_NOFOLLOW | O_CLOEXEC, 0600);
     int error = target < 0 ? errno : rks_give_beside(target, to);
-    while (error == 0 && len != 0) {
-        len = pread(source, piece, sizeof piece, at);
-        error = len < 0 && errno != EINTR ? errno : 0;
-        error = len > 0 && !rks_write_whole(target, piece, (size_t)len, at) ? errno : error;
-        at += len > 0 ? len : 0;
-    }
-    error = error == 0 && fsync(target) != 0 ? errno : error;
+    error = error == 0 ? rks_copy_contents(source, target, &sum) : error;
     error = target >= 0 && close(target) != 0 && error == 0 ? errno : error;
     close(source);
     return error == 0 ? RELKVANU_STORE_OK : rks_file_fault(p->old, to, error);
 }
 
-/* Removes a name beside the job, if it is there. */
-static int drop(struct putting *p, const char *path, const char *end) {
-    char *name = joined(path, end);
-    if (name == NULL) {
-        return RELKVANU_STORE_NO_MEMORY;
-    }
-    int status = unlink(name) == 0 || errno == ENOENT || errno == ENOTDIR ? RELKVANU_STORE_OK : rks_file_fault(p->old, name, errno);
-    free(name);
-    return status;
-}
-
 /* Removes what is beside the new file, and the file too if it is to go. */
 static int clean(struct putting *p, bool with_file) {
-    static const char *const ends[] = {"", "-wal", "-shm", "-journal", ".lock"};
-    int status = drop(p, p->folder, "/.relkvanu-job");
-    status = status == RELKVANU_STORE_OK ? drop(p, p->folder, "/.relkvanu-job.new") : status;
+    int status = rks_remove(p->old, p->folder, "/.relkvanu-job");
+    status = status == RELKVANU_STORE_OK ? rks_remove(p->old, p->folder, "/.relkvanu-job.new") : status;
     if (status == RELKVANU_STORE_OK && rmdir(p->folder) != 0 && errno != ENOENT) {
         status = rks_file_fault(p->old, p->folder, errno);
     }
-    for (size_t i = with_file ? 0 : 1; i < sizeof ends / sizeof *ends && status == RELKVANU_STORE_OK; i++) {
-        status = drop(p, p->path, ends[i]);
-    }
-    return status;
+    return status == RELKVANU_STORE_OK ? rks_remove_job(p->old, p->path, with_file) : status;
 }
 
-/* Whether each file of a subtask is in the storage, as long as the manifests say. *is_there is false if the record has no such subtask. */
-static bool has_files(const struct putting *p, uint64_t id, uint16_t vertex, uint16_t index, bool *is_there) {
-    uint64_t files[RKS_MOST_FILES];
+/* Whether each file of a subtask is in the storage, as long as the manifests say. Otherwise RELKVANU_STORE_FILE_LOST. */
+static int find_files(void *with, uint16_t vertex, uint16_t index, const uint64_t *files, size_t len) {
+    const struct putting *p = with;
     bool has_all = true;
-    relkvanu_answer found = relkvanu_files_of(p->job->handle, id, vertex, index, files, RKS_MOST_FILES);
-    *is_there = found.code == RELKVANU_DONE && found.what == RELKVANU_FILES;
-    for (uint64_t i = 0; i < found.a && *is_there && has_all; i++) {
-        char name[32];
+    (void)vertex, (void)index;
+    for (size_t i = 0; i < len && has_all; i++) {
         struct stat is;
         uint64_t bytes;
-        snprintf(name, sizeof name, "%" PRIu64, files[i]);
-        has_all = fstatat(p->old->storage.folder, name, &is, AT_SYMLINK_NOFOLLOW) == 0 && S_ISREG(is.st_mode);
+        has_all = rks_find_file(p->old->storage.folder, files[i], &is) && S_ISREG(is.st_mode);
         has_all = has_all && (!rks_find_length(&p->old->kept.sums, files[i], &bytes) || bytes == (uint64_t)is.st_size);
         p->told->files += has_all;
         p->told->bytes += has_all ? (uint64_t)is.st_size : 0;
     }
-    return has_all;
+    return has_all ? RELKVANU_STORE_OK : RELKVANU_STORE_FILE_LOST;
 }
 
-static bool has_vertex(const struct putting *p, uint64_t id, uint16_t vertex, bool *is_there) {
-    bool has_all = true, is_subtask = true;
-    for (uint32_t index = 0; index <= UINT16_MAX && is_subtask && has_all; index++) {
-        has_all = has_files(p, id, vertex, (uint16_t)index, &is_subtask);
-        *is_there = index > 0 || is_subtask;
-    }
-    return has_all;
-}
-
-static bool is_whole(const struct putting *p, uint64_t id) {
-    bool has_all = true, is_there = true;
+static bool is_whole(struct putting *p, uint64_t id) {
     p->told->files = p->told->bytes = 0;
-    for (uint16_t vertex = 0; vertex < RKS_VERTICES && is_there && has_all; vertex++) {
-        has_all = has_vertex(p, id, vertex, &is_there);
-    }
-    return has_all;
+    return rks_subtasks_of(p->job->handle, id, find_files, p) == RELKVANU_STORE_OK;
 }
 
 /* The record to begin from: the choice if its files are all there, or else the last savepoint of which they are; 0: none. A restore takes no older
  * checkpoint. */
-static uint64_t choose(const struct putting *p) {
+static uint64_t choose(struct putting *p) {
     relkvanu_answer choice = relkvanu_choice(p->job->handle);
     uint64_t last = 0;
     if (choice.what != RELKVANU_CHOICE_FRESH && is_whole(p, choice.a)) {
@@ -206,9 +166,7 @@ static int prepare(struct putting *p, const char *backup) {
     if (status != RELKVANU_STORE_OK) {
         memcpy(p->old->fault, marks.fault, sizeof p->old->fault);
     }
-    if (marks.storage.folder >= 0) {
-        close(marks.storage.folder);
-    }
+    rks_close(marks.storage.folder);
     status = status == RELKVANU_STORE_OK ? copy(p, backup, 0, p->path) : status;
     status = status == RELKVANU_STORE_OK ? open_copy(p, &report) : status;
     if (status == RELKVANU_STORE_OK) {
@@ -237,9 +195,7 @@ static int set_aside(struct putting *p, const char *from, const char *name) {
 static int make_aside(struct putting *p) {
     int made = mkdtemp(p->aside) == NULL ? -1 : open(p->aside, O_RDONLY | O_DIRECTORY | O_NOFOLLOW | O_CLOEXEC);
     int error = made < 0 ? errno : rks_give_beside(made, p->aside);
-    if (made >= 0) {
-        close(made);
-    }
+    rks_close(made);
     return error == 0 ? RELKVANU_STORE_OK : rks_file_fault(p->old, p->aside, error);
 }
 
@@ -267,18 +223,13 @@ static int set_all_aside(struct putting *p, const char *folder) {
 
 /* No engine starts while there is no file of the job. That it has gone is on the disk before its -wal goes: without that the file lacks calls. */
 static int replace(struct putting *p) {
-    static const char *const ends[] = {"-wal", "-shm"};
+    const char *path = p->old->file.path;
     int status = rks_drop_tail(p->old);
-    status = status == RELKVANU_STORE_OK ? drop(p, p->old->file.path, "") : status;
-    status = status == RELKVANU_STORE_OK ? rks_sync_folder_of(p->old, p->old->file.path) : status;
-    for (size_t i = 0; i < sizeof ends / sizeof *ends && status == RELKVANU_STORE_OK; i++) {
-        status = drop(p, p->old->file.path, ends[i]);
-    }
-    status = status == RELKVANU_STORE_OK ? rks_sync_folder_of(p->old, p->old->file.path) : status;
-    if (status == RELKVANU_STORE_OK && rename(p->path, p->old->file.path) != 0) {
-        status = rks_file_fault(p->old, p->old->file.path, errno);
-    }
-    return status == RELKVANU_STORE_OK ? rks_sync_folder_of(p->old, p->old->file.path) : status;
+    status = status == RELKVANU_STORE_OK ? rks_remove(p->old, path, "") : status;
+    status = status == RELKVANU_STORE_OK ? rks_sync_folder_of(p->old, path) : status;
+    status = status == RELKVANU_STORE_OK ? rks_remove(p->old, path, "-wal") : status;
+    status = status == RELKVANU_STORE_OK ? rks_remove(p->old, path, "-shm") : status;
+    return status == RELKVANU_STORE_OK ? rks_name_job(p->old, p->path) : status;
 }
 
 static bool has_names(struct putting *p) {
@@ -318,24 +269,19 @@ static int put_back(struct putting *p, const char *backup, const char *path, con
 
 int relkvanu_store_put_back(const char *backup, const char *path, const char *folder, relkvanu_store_recovered *recovered) {
     *recovered = (relkvanu_store_recovered){0};
-    relkvanu_store *old = calloc(1, sizeof *old);
-    struct putting p = {.old = old, .told = recovered};
-    int status = old == NULL ? RELKVANU_STORE_NO_MEMORY : rks_begin_store(old);
+    struct putting p = {.told = recovered};
+    int status = rks_new_store(&p.old, recovered->message);
     if (status != RELKVANU_STORE_OK) {
-        free(old);
         return status;
     }
-    rks_list(old);
     status = put_back(&p, backup, path, folder);
-    int error = errno;
     if (status != RELKVANU_STORE_OK) {
         *recovered = (relkvanu_store_recovered){0};
     }
-    snprintf(recovered->message, sizeof recovered->message, "%s", status == RELKVANU_STORE_OK ? p.aside : old->fault);
+    snprintf(recovered->message, sizeof recovered->message, "%s", status == RELKVANU_STORE_OK ? p.aside : p.old->fault);
+    rks_release_store(p.old);
     free(p.path);
     free(p.folder);
     free(p.aside);
-    rks_release_store(old);
-    errno = error;
     return status;
 }

@@ -5,8 +5,6 @@
 #include "../store.h"
 #include "commands.h"
 
-#include <search.h>
-
 enum { LIST = 4096, LIST_FILES = 65536 }; /* calls, and files, of a list */
 
 /* Numbers that may be told before a manifest says so again; numbers that a recovery passes at most for a manifest that can't be read. */
@@ -44,36 +42,12 @@ struct recovery {
 };
 
 static int set_fault(struct recovery *r, int status, const char *words) {
-    snprintf(r->old->fault, sizeof r->old->fault, "%.300s: %.200s", r->old->file.path, words);
-    return status;
-}
-
-static int by_value(const void *one, const void *other) {
-    uintptr_t a = (uintptr_t)one, b = (uintptr_t)other;
-    return (a > b) - (a < b);
-}
-
-static void keep_key(void *key) {
-    (void)key;
-}
-
-/* Whether no record has had the file so far. The tree has the numbers in place of pointers. Returns a status. */
-static int note_file(struct recovery *r, uint64_t file, bool *is_new) {
-    void *key = (void *)(uintptr_t)(file + 1);
-    void *found = tfind(key, &r->known, by_value);
-    *is_new = found == NULL;
-    return found != NULL || tsearch(key, &r->known, by_value) != NULL ? RELKVANU_STORE_OK : RELKVANU_STORE_NO_MEMORY;
+    return rks_refuse(r->old, status, "%.300s: %.200s", r->old->file.path, words);
 }
 
 static int append(struct numbers *to, uint64_t number) {
-    if (to->len == to->room) {
-        size_t room = 2 * to->room + 1024;
-        uint64_t *at = realloc(to->at, room * sizeof *at);
-        if (at == NULL) {
-            return RELKVANU_STORE_NO_MEMORY;
-        }
-        to->at = at;
-        to->room = room;
+    if (!rks_grow(&to->at, &to->room, to->len + 1, sizeof *to->at)) {
+        return RELKVANU_STORE_NO_MEMORY;
     }
     to->at[to->len++] = number;
     return RELKVANU_STORE_OK;
@@ -85,14 +59,8 @@ static struct ack *ack_of(struct recovery *r, const struct rks_part *part) {
     if (last != NULL && last->vertex == part->vertex && last->index == part->index) {
         return last;
     }
-    if (r->acks_len == r->acks_room) {
-        size_t room = 2 * r->acks_room + 64;
-        struct ack *acks = realloc(r->acks, room * sizeof *acks);
-        if (acks == NULL) {
-            return NULL;
-        }
-        r->acks = acks;
-        r->acks_room = room;
+    if (!rks_grow(&r->acks, &r->acks_room, r->acks_len + 1, sizeof *r->acks)) {
+        return NULL;
     }
     last = &r->acks[r->acks_len++];
     *last = (struct ack){.vertex = part->vertex,
@@ -132,13 +100,13 @@ static int note_payload(struct recovery *r, struct ack *ack, const char *text) {
 
 static int note_part(void *with, const struct rks_part *part) {
     struct recovery *r = with;
-    bool is_new = false;
     struct ack *ack = ack_of(r, part);
     int status = ack == NULL ? RELKVANU_STORE_NO_MEMORY : note_payload(r, ack, part->payload);
     if (status != RELKVANU_STORE_OK || !part->is_file) {
         return status;
     }
-    status = note_file(r, part->file, &is_new);
+    bool is_new = !rks_has(&r->known, part->file);
+    status = is_new && !rks_add(&r->known, part->file) ? RELKVANU_STORE_NO_MEMORY : status;
     status = status == RELKVANU_STORE_OK ? append(is_new ? &r->fresh : &r->reused, part->file) : status;
     status = status == RELKVANU_STORE_OK ? append(&r->ordered, part->file) : status;
     ack->all_len += status == RELKVANU_STORE_OK;
@@ -293,21 +261,6 @@ static int pass_names(struct recovery *r) {
     return status == RELKVANU_STORE_OK ? make_one(r, advance, NULL, &answer) : status;
 }
 
-/* Removes what is beside the new file, and the file too if it is to go. */
-static int clean(struct recovery *r, bool with_file) {
-    static const char *const ends[] = {"", "-wal", "-shm", "-journal", ".lock"};
-    char *name;
-    int status = RELKVANU_STORE_OK;
-    for (size_t i = with_file ? 0 : 1; i < sizeof ends / sizeof *ends && status == RELKVANU_STORE_OK; i++) {
-        if (asprintf(&name, "%s%s", r->path, ends[i]) < 0) {
-            return RELKVANU_STORE_NO_MEMORY;
-        }
-        status = unlink(name) == 0 || errno == ENOENT ? RELKVANU_STORE_OK : rks_file_fault(r->old, name, errno);
-        free(name);
-    }
-    return status;
-}
-
 /* Closes the new job, and looks whether its file has all. */
 static int close_job(struct recovery *r) {
     relkvanu_answer term = relkvanu_term(r->job->handle);
@@ -344,9 +297,7 @@ static int write_job(struct recovery *r, const struct rks_manifest *choice) {
 static int sync_file(struct recovery *r) {
     int file = open(r->path, O_RDWR | O_CLOEXEC);
     int status = file >= 0 && fsync(file) == 0 ? RELKVANU_STORE_OK : rks_file_fault(r->old, r->path, errno);
-    if (file >= 0) {
-        close(file);
-    }
+    rks_close(file);
     return status;
 }
 
@@ -372,16 +323,11 @@ static int mark(struct recovery *r) {
 
 /* Gives the new file its name, which is when the job is there, and marks the folder: an old file is refused from now on. */
 static int name_job(struct recovery *r) {
-    relkvanu_store *old = r->old;
     int status = sync_file(r);
-    status = status == RELKVANU_STORE_OK ? clean(r, false) : status;
-    status = status == RELKVANU_STORE_OK ? rks_drop_tail(old) : status;
+    status = status == RELKVANU_STORE_OK ? rks_remove_job(r->old, r->path, false) : status;
+    status = status == RELKVANU_STORE_OK ? rks_drop_tail(r->old) : status;
     /* no file beside the new one comes back where a loss of power keeps its new name: nobody would look for it */
-    status = status == RELKVANU_STORE_OK ? rks_sync_folder_of(old, old->file.path) : status;
-    if (status == RELKVANU_STORE_OK && rename(r->path, old->file.path) != 0) {
-        status = rks_file_fault(old, old->file.path, errno);
-    }
-    status = status == RELKVANU_STORE_OK ? rks_sync_folder_of(old, old->file.path) : status;
+    status = status == RELKVANU_STORE_OK ? rks_name_job(r->old, r->path) : status;
     return status == RELKVANU_STORE_OK ? mark(r) : status;
 }
 
@@ -488,7 +434,7 @@ static int recover(struct recovery *r, uint64_t record) {
     r->told->files = choice->files;
     r->told->bytes = choice->bytes;
     r->told->next_number = greater(r->below.number, choice->id + 1);
-    status = clean(r, true); /* what an earlier recovery has left */
+    status = rks_remove_job(r->old, r->path, true); /* what an earlier recovery has left */
     status = status == RELKVANU_STORE_OK ? write_job(r, choice) : status;
     return status == RELKVANU_STORE_OK ? name_job_if_last(r) : status;
 }
@@ -514,20 +460,15 @@ static int check_absent(struct recovery *r) {
 }
 
 int rks_check_free(const char *path, char message[RKS_MESSAGE]) {
-    relkvanu_store *store = calloc(1, sizeof *store);
-    struct recovery r = {.old = store};
-    int status = store == NULL ? RELKVANU_STORE_NO_MEMORY : rks_begin_store(store);
+    struct recovery r = {0};
+    int status = rks_new_store(&r.old, message);
     if (status != RELKVANU_STORE_OK) {
-        free(store);
         return status;
     }
-    rks_list(store);
-    status = rks_lock(store, path);
+    status = rks_lock(r.old, path);
     status = status == RELKVANU_STORE_OK ? check_absent(&r) : status;
-    int error = errno;
-    memcpy(message, store->fault, sizeof store->fault);
-    rks_release_store(store);
-    errno = error;
+    memcpy(message, r.old->fault, sizeof r.old->fault);
+    rks_release_store(r.old);
     return status;
 }
 
@@ -543,7 +484,7 @@ static int recover_at(struct recovery *r, const char *path, const char *folder, 
         char fault[RKS_MESSAGE];
         int error = errno;
         memcpy(fault, r->old->fault, sizeof fault);
-        clean(r, true);
+        rks_remove_job(r->old, r->path, true);
         memcpy(r->old->fault, fault, sizeof fault);
         errno = error;
     }
@@ -552,29 +493,24 @@ static int recover_at(struct recovery *r, const char *path, const char *folder, 
 
 static int recover_job(struct recovery r, const char *path, const char *folder, uint64_t record) {
     *r.told = (relkvanu_store_recovered){0};
-    relkvanu_store *old = r.old = calloc(1, sizeof *old);
-    int status = old == NULL ? RELKVANU_STORE_NO_MEMORY : rks_begin_store(old);
+    int status = rks_new_store(&r.old, r.told->message);
     if (status != RELKVANU_STORE_OK) {
-        free(old);
         return status;
     }
-    rks_list(old);
     status = recover_at(&r, path, folder, record);
-    int error = errno;
     if (status != RELKVANU_STORE_OK) {
         *r.told = (relkvanu_store_recovered){0};
-        memcpy(r.told->message, old->fault, sizeof r.told->message);
+        memcpy(r.told->message, r.old->fault, sizeof r.told->message);
     }
     rks_free_manifests(&r.all);
-    tdestroy(r.known, keep_key);
+    rks_free_set(r.known);
     free(r.fresh.at);
     free(r.reused.at);
     free(r.ordered.at);
     free(r.payloads.at);
     free(r.acks);
     free(r.path);
-    rks_release_store(old);
-    errno = error;
+    rks_release_store(r.old);
     return status;
 }
 

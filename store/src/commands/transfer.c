@@ -5,7 +5,7 @@
 #include "../store.h"
 #include "commands.h"
 
-enum { PIECE = 1 << 20, TRIES = 100 }; /* bytes; times that a record may end while it is carried */
+enum { TRIES = 100 }; /* times that a record may end while it is carried */
 
 struct transfer {
     relkvanu_store *from;            /* the folder with its marker, and what went wrong; it is not opened */
@@ -22,29 +22,7 @@ static int failed(struct transfer *t, const char *what, int error) {
 }
 
 static int set_fault(struct transfer *t, int status, const char *folder, const char *words) {
-    snprintf(t->from->fault, sizeof t->from->fault, "%.300s: %.200s", folder, words);
-    return status;
-}
-
-/* Copies what is in a file, and syncs it. *sum is its checksum. Returns 0, or what is wrong as errno. */
-static int copy_contents(int from, int to, uint32_t *sum) {
-    char *piece = malloc(PIECE);
-    off_t at = 0;
-    ssize_t len = 1;
-    int error = piece == NULL ? ENOMEM : 0;
-    *sum = 0;
-    while (error == 0 && len != 0) {
-        len = pread(from, piece, PIECE, at);
-        if (len < 0) {
-            error = errno == EINTR ? 0 : errno;
-        } else if (!rks_write_whole(to, piece, (size_t)len, at)) {
-            error = errno;
-        }
-        *sum = len > 0 ? (uint32_t)crc32_z(*sum, (const uint8_t *)piece, (size_t)len) : *sum;
-        at += len > 0 ? len : 0;
-    }
-    free(piece);
-    return error == 0 && fsync(to) != 0 ? errno : error;
+    return rks_refuse(t->from, status, "%.300s: %.200s", folder, words);
 }
 
 static int copy_file(const struct transfer *t, const char *name, uint32_t *sum) {
@@ -54,7 +32,7 @@ static int copy_file(const struct transfer *t, const char *name, uint32_t *sum) 
     }
     int to = openat(t->to, name, O_WRONLY | O_CREAT | O_EXCL | O_NOFOLLOW | O_CLOEXEC, 0600);
     int error = to < 0 ? errno : rks_give(to, t->to);
-    error = error == 0 ? copy_contents(from, to, sum) : error;
+    error = error == 0 ? rks_copy_contents(from, to, sum) : error;
     error = to >= 0 && close(to) != 0 && error == 0 ? errno : error;
     close(from);
     return error;
@@ -80,14 +58,14 @@ static int carry(void *with, const struct rks_part *part) {
     bool is_copy;
     uint32_t sum = 0;
     snprintf(name, sizeof name, "%" PRIu64, part->file);
-    if (!part->is_file || (fstatat(t->to, name, &found, AT_SYMLINK_NOFOLLOW) == 0)) {
+    if (!part->is_file || rks_find_file(t->to, part->file, &found)) {
         return RELKVANU_STORE_OK; /* several subtasks may have it */
     }
     int error = carry_file(t, name, &is_copy, &sum);
     if (error != 0) {
         return error == ENOENT ? RELKVANU_STORE_NOT_NOW : failed(t, name, error);
     }
-    bool is_there = fstatat(t->to, name, &found, AT_SYMLINK_NOFOLLOW) == 0 && S_ISREG(found.st_mode);
+    bool is_there = rks_find_file(t->to, part->file, &found) && S_ISREG(found.st_mode);
     if (!is_there || (part->has_bytes && (uint64_t)found.st_size != part->bytes)) {
         return set_fault(t, RELKVANU_STORE_DAMAGED, name, "it is not as long as its manifest says");
     }
@@ -99,39 +77,23 @@ static int carry(void *with, const struct rks_part *part) {
     return RELKVANU_STORE_OK;
 }
 
+static int remove_entry(void *with, const struct dirent *entry) {
+    return unlinkat(*(const int *)with, entry->d_name, 0) == 0 || errno == ENOENT ? 0 : errno;
+}
+
 /* Removes a folder of files. One that is not there is removed. */
 static int remove_folder(struct transfer *t, const char *name) {
-    int folder = open(name, O_RDONLY | O_DIRECTORY | O_NOFOLLOW | O_CLOEXEC), error = folder < 0 ? errno : 0;
-    DIR *entries = folder < 0 ? NULL : rks_entries(folder);
-    struct dirent *entry;
-    while (error == 0 && entries != NULL && (errno = 0, entry = readdir(entries)) != NULL) {
-        bool is_name = strcmp(entry->d_name, ".") != 0 && strcmp(entry->d_name, "..") != 0;
-        error = is_name && unlinkat(folder, entry->d_name, 0) != 0 && errno != ENOENT ? errno : 0;
-    }
-    error = error == 0 ? errno : error;
-    if (entries != NULL) {
-        closedir(entries);
-    }
-    if (folder >= 0) {
-        close(folder);
-    }
+    int folder = open(name, O_RDONLY | O_DIRECTORY | O_NOFOLLOW | O_CLOEXEC);
+    int error = folder < 0 ? errno : rks_each_entry(folder, remove_entry, &folder);
+    error = error < 0 ? errno : error;
+    rks_close(folder);
     error = error == 0 && rmdir(name) != 0 ? errno : error;
     return error == 0 || error == ENOENT ? RELKVANU_STORE_OK : failed(t, name, error);
 }
 
-static bool is_same(const struct stat *one, const struct stat *other) {
-    return one->st_ino == other->st_ino && one->st_dev == other->st_dev;
-}
-
-/* Whether the part that is open and locked still has its name: another call may have finished it, or removed it, before the lock was had. */
-static bool has_name(const struct transfer *t) {
-    struct stat held, named;
-    return fstat(t->to, &held) == 0 && lstat(t->part, &named) == 0 && is_same(&held, &named);
-}
-
 static bool is_from(const struct transfer *t) {
     struct stat held, from;
-    return fstat(t->to, &held) == 0 && fstat(t->from->storage.folder, &from) == 0 && is_same(&held, &from);
+    return fstat(t->to, &held) == 0 && fstat(t->from->storage.folder, &from) == 0 && rks_is_same(&held, &from);
 }
 
 /* Opens the part, and locks it. RELKVANU_STORE_NOT_NOW: it has lost its name meanwhile. */
@@ -146,7 +108,7 @@ static int open_part(struct transfer *t) {
     } else if (flock(t->to, LOCK_EX | LOCK_NB) != 0) {
         status = errno == EWOULDBLOCK ? set_fault(t, RELKVANU_STORE_IN_USE, t->part, "another export or import writes it")
                                       : failed(t, t->part, errno);
-    } else if (!has_name(t)) {
+    } else if (!rks_is_named(t->to, t->part)) { /* another call may have finished it, or removed it, before the lock was had */
         status = RELKVANU_STORE_NOT_NOW;
     }
     if (status != RELKVANU_STORE_OK) {
@@ -169,9 +131,7 @@ static int lock_part(struct transfer *t) {
 static int give_part(struct transfer *t) {
     int empty = open(t->to_name, O_RDONLY | O_DIRECTORY | O_NOFOLLOW | O_CLOEXEC);
     int error = empty >= 0 ? rks_give(t->to, empty) : rks_give_beside(t->to, t->part);
-    if (empty >= 0) {
-        close(empty);
-    }
+    rks_close(empty);
     return error == 0 ? RELKVANU_STORE_OK : failed(t, t->part, error);
 }
 
@@ -208,9 +168,8 @@ static int write_manifest(struct transfer *t, uint64_t id, const struct rks_text
     char name[RKS_MANIFEST_NAME];
     rks_manifest_name(id, "", name);
     int file = openat(t->to, name, O_WRONLY | O_CREAT | O_EXCL | O_NOFOLLOW | O_CLOEXEC, 0600);
-    int error = file < 0 ? errno : rks_give(file, t->to);
-    error = error == 0 && !(rks_write_whole(file, text->at, text->len, 0) && fsync(file) == 0) ? errno : error;
-    error = file >= 0 && close(file) != 0 && error == 0 ? errno : error;
+    int error = file < 0 ? errno : rks_give(file, t->to), written = file < 0 ? 0 : rks_write_new(file, text->at, text->len);
+    error = error == 0 ? written : error;
     return error == 0 ? RELKVANU_STORE_OK : failed(t, name, error);
 }
 
@@ -242,18 +201,12 @@ static uint64_t count_passed(const struct rks_manifests *all, const char *owner)
 /* Chooses a record of those that were listed. RELKVANU_STORE_NOT_NOW: list them again. */
 static int choose(struct transfer *t, struct rks_manifests *all, uint64_t record, struct rks_manifest **chosen) {
     const char *owner = t->from->job.identity[0] != 0 ? t->from->job.identity : NULL;
-    char words[200];
     *chosen = rks_choose_manifest(all, owner, record);
     t->passed = count_passed(all, owner);
     if (record == 0 && rks_has_missed(all, t->from->storage.folder, *chosen)) {
         return RELKVANU_STORE_NOT_NOW;
     }
-    if (*chosen == NULL) {
-        rks_say_none(all, owner, record, words, sizeof words);
-        return set_fault(t, RELKVANU_STORE_ABSENT, t->from_name, words);
-    }
-    bool is_unread = record == 0 && rks_is_later_unread(all, *chosen, words, sizeof words);
-    return is_unread ? set_fault(t, RELKVANU_STORE_DAMAGED, t->from_name, words) : RELKVANU_STORE_OK;
+    return rks_check_choice(t->from, t->from_name, all, owner, record, *chosen);
 }
 
 /* Chooses a record and carries it. While the job runs it may end meanwhile: then there is a later one. */
@@ -313,21 +266,18 @@ static int make(struct transfer *t, uint64_t record, const char *job) {
 }
 
 static int transfer(const char *from, const char *to, uint64_t record, const char *job, relkvanu_store_carried *told_to, uint64_t *passed) {
+    relkvanu_store *store;
     *told_to = (relkvanu_store_carried){0};
-    relkvanu_store *store = calloc(1, sizeof *store);
-    int status = store == NULL ? RELKVANU_STORE_NO_MEMORY : rks_begin_store(store);
+    int status = rks_new_store(&store, told_to->message);
     if (status != RELKVANU_STORE_OK) {
-        free(store);
         return status;
     }
-    rks_list(store);
     char *name = rks_without_slashes(to);
     struct transfer t = {.from = store, .from_name = from, .to_name = name, .to = -1, .may_link = true, .told = told_to};
     if (name == NULL || asprintf(&t.part, "%s.part", name) < 0) {
         t.part = NULL;
     }
     status = t.part == NULL ? RELKVANU_STORE_NO_MEMORY : make(&t, record, job);
-    int error = errno;
     *passed = t.passed;
     if (status != RELKVANU_STORE_OK) {
         *told_to = (relkvanu_store_carried){0};
@@ -336,7 +286,6 @@ static int transfer(const char *from, const char *to, uint64_t record, const cha
     free(t.part);
     free(name);
     rks_release_store(store);
-    errno = error;
     return status;
 }
 
@@ -348,40 +297,28 @@ int relkvanu_store_export(const char *folder, uint64_t record, const char *to, r
 /* Whether the folder has the record already: an import has ended between the two. Each has the marker of a job, and no file at the path. */
 static bool is_carried(const char *folder, const char *from, uint64_t record) {
     struct rks_manifests there = {0}, here = {0};
-    relkvanu_store s = {.storage = {.folder = -1}};
-    uint64_t marked = 0;
     int source = open(from, O_RDONLY | O_DIRECTORY | O_CLOEXEC);
-    bool is_owned = rks_open_folder(&s, folder) == RELKVANU_STORE_OK && rks_read_owner(&s, folder, &marked) == RELKVANU_STORE_OK;
+    const struct rks_manifest *one = source < 0 ? NULL : rks_list_owned(folder, record, &there);
     bool is_carried = false;
-    if (source >= 0 && is_owned && rks_list_manifests(s.storage.folder, &there) == RELKVANU_STORE_OK) {
-        const struct rks_manifest *one = rks_choose_manifest(&there, s.job.identity, record);
-        if (rks_list_manifests(source, &here) == RELKVANU_STORE_OK && one != NULL) {
-            for (size_t i = 0; i < here.len; i++) {
-                is_carried = is_carried || (here.at[i].job[0] != 0 && strcmp(here.at[i].job, one->origin) == 0);
-            }
+    if (one != NULL && rks_list_manifests(source, &here) == RELKVANU_STORE_OK) {
+        for (size_t i = 0; i < here.len; i++) {
+            is_carried = is_carried || (here.at[i].job[0] != 0 && strcmp(here.at[i].job, one->origin) == 0);
         }
     }
     rks_free_manifests(&here);
     rks_free_manifests(&there);
-    if (source >= 0) {
-        close(source);
-    }
-    if (s.storage.folder >= 0) {
-        close(s.storage.folder);
-    }
+    rks_close(source);
     return is_carried;
 }
 
 int rks_carry(const char *from, uint64_t record, const char *folder, relkvanu_store_carried *carried, uint64_t *passed) {
     char job[RKS_IDENTITY + 1];
-    uint64_t words[2];
     *carried = (relkvanu_store_carried){0};
     *passed = 0;
-    if (getentropy(words, sizeof words) != 0) {
+    if (!rks_new_identity(job)) {
         snprintf(carried->message, sizeof carried->message, "%.400s: no random numbers", folder);
         return RELKVANU_STORE_FAILED;
     }
-    snprintf(job, sizeof job, "%016" PRIx64 "%016" PRIx64, words[0], words[1]);
     return is_carried(folder, from, record) ? RELKVANU_STORE_OK : transfer(from, folder, record, job, carried, passed);
 }
 

@@ -1,6 +1,8 @@
 /* Files of the store: the words for what the system says of them, and what SQLite does not sync by itself. */
 #include "../store.h"
 
+#include <search.h>
+
 bool rks_room(struct rks_text *text, size_t more) {
     if (text->room - text->len >= more) {
         return true;
@@ -16,6 +18,43 @@ bool rks_room(struct rks_text *text, size_t more) {
     text->at = at;
     text->room = room;
     return true;
+}
+
+bool rks_grow(void *list, size_t *room, size_t len, size_t size) {
+    void *at;
+    if (len <= *room) {
+        return true;
+    }
+    memcpy(&at, list, sizeof at);
+    size_t wanted = len + len / 2 + 16;
+    at = realloc(at, wanted * size);
+    if (at == NULL) {
+        return false;
+    }
+    memcpy(list, &at, sizeof at);
+    *room = wanted;
+    return true;
+}
+
+static int by_value(const void *one, const void *other) {
+    uintptr_t a = (uintptr_t)one, b = (uintptr_t)other;
+    return (a > b) - (a < b);
+}
+
+bool rks_has(void *const *set, uint64_t number) {
+    return tfind((void *)(uintptr_t)(number + 1), set, by_value) != NULL;
+}
+
+bool rks_add(void **set, uint64_t number) {
+    return tsearch((void *)(uintptr_t)(number + 1), set, by_value) != NULL;
+}
+
+static void keep_key(void *key) {
+    (void)key;
+}
+
+void rks_free_set(void *set) {
+    tdestroy(set, keep_key);
 }
 
 int rks_status_of_errno(int error) {
@@ -36,6 +75,56 @@ int rks_file_fault(relkvanu_store *s, const char *what, int error) {
     return rks_status_of_errno(error);
 }
 
+int rks_refuse(relkvanu_store *s, int status, const char *format, ...) {
+    va_list words;
+    va_start(words, format);
+    vsnprintf(s->fault, sizeof s->fault, format, words);
+    va_end(words);
+    return status;
+}
+
+void rks_close(int file) {
+    int error = errno;
+    if (file >= 0) {
+        close(file);
+    }
+    errno = error;
+}
+
+bool rks_find_file(int folder, uint64_t file, struct stat *found) {
+    char name[32];
+    snprintf(name, sizeof name, "%" PRIu64, file);
+    return fstatat(folder, name, found, AT_SYMLINK_NOFOLLOW) == 0;
+}
+
+bool rks_is_same(const struct stat *one, const struct stat *other) {
+    return one->st_ino == other->st_ino && one->st_dev == other->st_dev;
+}
+
+bool rks_is_named(int file, const char *name) {
+    struct stat held, named;
+    return fstat(file, &held) == 0 && lstat(name, &named) == 0 && rks_is_same(&held, &named);
+}
+
+int rks_each_entry(int folder, int (*each)(void *with, const struct dirent *entry), void *with) {
+    /* opened once more: descriptors of one opening share their place, and two threads would each see a part */
+    int copy = openat(folder, ".", O_RDONLY | O_DIRECTORY | O_CLOEXEC), result = 0;
+    DIR *entries = copy < 0 ? NULL : fdopendir(copy);
+    struct dirent *entry;
+    if (entries == NULL) {
+        rks_close(copy);
+        return -1;
+    }
+    while (result == 0 && (errno = 0, entry = readdir(entries)) != NULL) {
+        bool is_own = strcmp(entry->d_name, ".") == 0 || strcmp(entry->d_name, "..") == 0;
+        result = is_own ? 0 : each(with, entry);
+    }
+    int error = errno;
+    closedir(entries);
+    errno = error;
+    return result == 0 && error != 0 ? -1 : result;
+}
+
 bool rks_write_whole(int file, const void *bytes, size_t len, off_t at) {
     const char *from = bytes;
     while (len != 0) {
@@ -52,6 +141,51 @@ bool rks_write_whole(int file, const void *bytes, size_t len, off_t at) {
         at += written;
     }
     return true;
+}
+
+int rks_write_new(int file, const void *bytes, size_t len) {
+    int error = rks_write_whole(file, bytes, len, 0) && fsync(file) == 0 ? 0 : errno;
+    return close(file) != 0 && error == 0 ? errno : error;
+}
+
+int rks_copy_contents(int from, int to, uint32_t *sum) {
+    enum { PIECE = 1 << 20 };
+    char *piece = malloc(PIECE);
+    off_t at = 0;
+    ssize_t len = 1;
+    int error = piece == NULL ? ENOMEM : 0;
+    *sum = 0;
+    while (error == 0 && len != 0) {
+        len = pread(from, piece, PIECE, at);
+        if (len < 0) {
+            error = errno == EINTR ? 0 : errno;
+        } else if (!rks_write_whole(to, piece, (size_t)len, at)) {
+            error = errno;
+        }
+        *sum = len > 0 ? (uint32_t)crc32_z(*sum, (const uint8_t *)piece, (size_t)len) : *sum;
+        at += len > 0 ? len : 0;
+    }
+    free(piece);
+    return error == 0 && fsync(to) != 0 ? errno : error;
+}
+
+int rks_remove(relkvanu_store *s, const char *path, const char *end) {
+    char *name;
+    if (asprintf(&name, "%s%s", path, end) < 0) {
+        return RELKVANU_STORE_NO_MEMORY;
+    }
+    int status = unlink(name) == 0 || errno == ENOENT || errno == ENOTDIR ? RELKVANU_STORE_OK : rks_file_fault(s, name, errno);
+    free(name);
+    return status;
+}
+
+int rks_remove_job(relkvanu_store *s, const char *path, bool with_file) {
+    static const char *const ends[] = {"", "-wal", "-shm", "-journal", ".lock"};
+    int status = RELKVANU_STORE_OK;
+    for (size_t i = with_file ? 0 : 1; i < sizeof ends / sizeof *ends && status == RELKVANU_STORE_OK; i++) {
+        status = rks_remove(s, path, ends[i]);
+    }
+    return status;
 }
 
 /* The folder of a path, as a text to be freed; NULL: no memory. */
@@ -97,11 +231,17 @@ int rks_sync_folder_of(relkvanu_store *s, const char *path) {
     }
     int folder = open(name, O_RDONLY | O_DIRECTORY | O_CLOEXEC);
     int status = folder >= 0 && fsync(folder) == 0 ? RELKVANU_STORE_OK : rks_file_fault(s, name, errno);
-    if (folder >= 0) {
-        close(folder);
-    }
+    rks_close(folder);
     free(name);
     return status;
+}
+
+int rks_name_job(relkvanu_store *s, const char *from) {
+    int status = rks_sync_folder_of(s, s->file.path);
+    if (status == RELKVANU_STORE_OK && rename(from, s->file.path) != 0) {
+        status = rks_file_fault(s, s->file.path, errno);
+    }
+    return status == RELKVANU_STORE_OK ? rks_sync_folder_of(s, s->file.path) : status;
 }
 
 int rks_check_closed(relkvanu_store *s, const char *path) {

@@ -52,7 +52,22 @@ int rks_open_beside(const char *path);
 /* files.c */
 int rks_status_of_errno(int error);
 int rks_file_fault(relkvanu_store *s, const char *what, int error);
+
+/* Notes the words of a failure. Returns its status. */
+__attribute__((format(printf, 3, 4))) int rks_refuse(relkvanu_store *s, int status, const char *format, ...);
 char *rks_folder_of(const char *path);
+
+/* Closes what is open, if it is, and keeps errno. */
+void rks_close(int file);
+
+/* Looks at a state file by its number, and not behind a link; at two files; whether a name still stands for a file that is open. */
+bool rks_find_file(int folder, uint64_t file, struct stat *found);
+bool rks_is_same(const struct stat *one, const struct stat *other);
+bool rks_is_named(int file, const char *name);
+
+/* Calls `each` for each entry of an open folder but itself and the one above, until it returns something else than 0, and returns that. -1: errno says why the
+ * folder can't be read. */
+int rks_each_entry(int folder, int (*each)(void *with, const struct dirent *entry), void *with);
 
 /* The text of a path without slashes at its end, so that a name beside it can be made. NULL: no memory. */
 char *rks_without_slashes(const char *path);
@@ -69,6 +84,17 @@ int rks_write_again(relkvanu_store *s);
 int rks_check_closed(relkvanu_store *s, const char *path);
 int rks_make_file(relkvanu_store *s);
 bool rks_write_whole(int file, const void *bytes, size_t len, off_t at);
+
+/* Writes all of a new file, syncs it and closes it; the same of what another one has, whose checksum is *sum then, but for the close. 0, or what is wrong as errno. */
+int rks_write_new(int file, const void *bytes, size_t len);
+int rks_copy_contents(int from, int to, uint32_t *sum);
+
+/* Removes a job's file and what is beside it, or only that. Returns a status. */
+int rks_remove_job(relkvanu_store *s, const char *path, bool with_file);
+int rks_remove(relkvanu_store *s, const char *path, const char *end);
+
+/* Gives the file at `from` the name of the job's file, which is durable then, and so is what was removed there before. */
+int rks_name_job(relkvanu_store *s, const char *from);
 
 /* own_folder.c: the storage folder at an opening */
 int rks_open_folder(relkvanu_store *s, const char *folder);

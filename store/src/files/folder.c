@@ -18,20 +18,22 @@ static int sync_folder(const struct rks_folder *f) {
     return fsync(f->fd) == 0 || (errno == EINVAL && !f->needs_sync) ? 0 : errno;
 }
 
-/* Returns 0, or what is wrong as errno. Who has made the part has the name too: nobody else makes either. */
-static int write_part(const struct rks_folder *f, const char *part, const void *contents, size_t len) {
-    int file = openat(f->fd, part, O_WRONLY | O_CREAT | O_EXCL | O_NOFOLLOW | O_CLOEXEC, f->mode);
-    if (file < 0) {
-        return errno;
-    }
-    int error = rks_write_whole(file, contents, len, 0) && fsync(file) == 0 ? 0 : errno;
-    if (close(file) != 0 && error == 0) {
-        error = errno;
-    }
+static int open_part(const struct rks_folder *f, const char *part) {
+    return openat(f->fd, part, O_WRONLY | O_CREAT | O_EXCL | O_NOFOLLOW | O_CLOEXEC, f->mode);
+}
+
+/* Removes a part that is not whole. Returns what is wrong. */
+static int keep_whole(const struct rks_folder *f, const char *part, int error) {
     if (error != 0) {
         unlinkat(f->fd, part, 0);
     }
     return error;
+}
+
+/* Returns 0, or what is wrong as errno. Who has made the part has the name too: nobody else makes either. */
+static int write_part(const struct rks_folder *f, const char *part, const void *contents, size_t len) {
+    int file = open_part(f, part);
+    return file < 0 ? errno : keep_whole(f, part, rks_write_new(file, contents, len));
 }
 
 /* Writes what a source gives, part by part. Returns 0, or what is wrong as errno. */
@@ -57,21 +59,14 @@ static int write_source(int file, relkvanu_store_source source, void *with) {
 
 /* As write_part, of a source. */
 static int write_part_from(const struct rks_folder *f, const char *part, relkvanu_store_source source, void *with) {
-    int file = openat(f->fd, part, O_WRONLY | O_CREAT | O_EXCL | O_NOFOLLOW | O_CLOEXEC, f->mode);
+    int file = open_part(f, part);
     if (file < 0) {
         return errno;
     }
     int error = write_source(file, source, with);
-    if (error == 0 && fsync(file) != 0) {
-        error = errno;
-    }
-    if (close(file) != 0 && error == 0) {
-        error = errno;
-    }
-    if (error != 0) {
-        unlinkat(f->fd, part, 0);
-    }
-    return error;
+    error = error == 0 && fsync(file) != 0 ? errno : error;
+    error = close(file) != 0 && error == 0 ? errno : error;
+    return keep_whole(f, part, error);
 }
 
 /* Makes the part a second name of a file that exists, and syncs that. */
@@ -88,12 +83,8 @@ static int link_part(const struct rks_folder *f, const char *part, int from, con
         return error != 0 ? error : errno;
     }
     /* The name may be another file's by now. */
-    bool is_same =
-        fstatat(f->fd, part, &linked, AT_SYMLINK_NOFOLLOW) == 0 && linked.st_ino == opened.st_ino && linked.st_dev == opened.st_dev;
-    if (!is_same) {
-        unlinkat(f->fd, part, 0);
-    }
-    return is_same ? 0 : ESTALE;
+    bool is_same = fstatat(f->fd, part, &linked, AT_SYMLINK_NOFOLLOW) == 0 && rks_is_same(&linked, &opened);
+    return keep_whole(f, part, is_same ? 0 : ESTALE);
 }
 
 /* Gives the part its name, unless there is such a file. */
@@ -101,15 +92,9 @@ static int name_part(const struct rks_folder *f, const char *part, const char *n
     struct stat found;
     int error = fstatat(f->fd, name, &found, AT_SYMLINK_NOFOLLOW) == 0 ? EEXIST : errno;
     if (error != ENOENT || renameat(f->fd, part, f->fd, name) != 0) {
-        error = error == ENOENT ? errno : error;
-        unlinkat(f->fd, part, 0);
-        return error;
+        return keep_whole(f, part, error == ENOENT ? errno : error);
     }
-    error = sync_folder(f);
-    if (error != 0) {
-        unlinkat(f->fd, name, 0);
-    }
-    return error;
+    return keep_whole(f, name, sync_folder(f));
 }
 
 /* Names the part, unless it could not be made. */
@@ -288,7 +273,8 @@ static int turn(struct listing *listing) {
 }
 
 /* Adds an entry of the folder, if it is a file. It may have been deleted since it was read. */
-static int add(struct listing *listing, const struct dirent *entry) {
+static int add(void *with, const struct dirent *entry) {
+    struct listing *listing = with;
     const struct rks_folder *f = listing->f;
     relkvanu_storage_file *next = &listing->files[listing->len];
     struct stat found;
@@ -306,29 +292,11 @@ static int add(struct listing *listing, const struct dirent *entry) {
 int rks_folder_list(const struct rks_folder *f, size_t most, relkvanu_storage_page page, void *with_page) {
     struct listing listing = {
         .f = f, .most = most == 0 || most > RELKVANU_STORAGE_PAGE ? RELKVANU_STORAGE_PAGE : most, .page = page, .with_page = with_page};
-    /* opened once more: descriptors of one opening share their place, and two threads would each see a part */
-    int copy = openat(f->fd, ".", O_RDONLY | O_DIRECTORY | O_CLOEXEC);
-    DIR *entries = copy < 0 ? NULL : fdopendir(copy);
-    if (entries == NULL) {
-        int error = errno;
-        if (copy >= 0) {
-            close(copy);
-        }
-        errno = error;
-        return error == ENOENT ? RELKVANU_STORAGE_NOT_THERE : failed(error); /* the folder was removed */
-    }
-    int status = RELKVANU_STORAGE_OK;
-    struct dirent *entry;
-    while (status == RELKVANU_STORAGE_OK && (errno = 0, entry = readdir(entries)) != NULL) {
-        status = add(&listing, entry);
-    }
+    int status = rks_each_entry(f->fd, add, &listing);
     if (status == RELKVANU_STORAGE_OK) {
-        status = errno != 0 ? failed(errno) : turn(&listing);
+        return turn(&listing);
     }
-    int error = errno;
-    closedir(entries);
-    errno = error;
-    return status;
+    return status > 0 ? status : errno == ENOENT ? RELKVANU_STORAGE_NOT_THERE : failed(errno); /* the folder was removed */
 }
 
 static int check(void *with) {

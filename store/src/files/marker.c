@@ -11,9 +11,7 @@ static int open_marker(int folder, const char *name) {
 }
 
 static int closed(int file, int status) {
-    int error = errno;
-    close(file);
-    errno = error;
+    rks_close(file);
     return status;
 }
 
@@ -70,8 +68,7 @@ int rks_marker_write(int folder, const char *job, uint64_t epoch) {
     if (file < 0) {
         return errno;
     }
-    int error = rks_write_whole(file, text, strlen(text), 0) && fsync(file) == 0 ? 0 : errno;
-    error = close(file) != 0 && error == 0 ? errno : error;
+    int error = rks_write_new(file, text, strlen(text));
     if (error == 0 && (renameat(folder, RKS_NEW_MARKER, folder, RKS_MARKER) != 0 || fsync(folder) != 0)) {
         error = errno;
     }

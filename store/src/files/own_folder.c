@@ -3,8 +3,7 @@
 #include "folder.h"
 
 static int storage_fault(relkvanu_store *s, const char *folder, const char *words, const char *more) {
-    snprintf(s->fault, sizeof s->fault, "%.300s: %s%.80s", folder, words, more);
-    return RELKVANU_STORE_STORAGE;
+    return rks_refuse(s, RELKVANU_STORE_STORAGE, "%.300s: %s%.80s", folder, words, more);
 }
 
 /* What the system says of the folder or its marker: that it is not there, or anything else, such as no free descriptor. */
@@ -67,43 +66,27 @@ bool rks_has_own(const relkvanu_store *s) {
     char name[PATH_MAX];
     struct stat storage, other;
     snprintf(name, sizeof name, "%.*s/.", (int)(strrchr(s->file.path, '/') - s->file.path), s->file.path);
-    return fstat(s->storage.folder, &storage) == 0 && stat(name, &other) == 0 && storage.st_ino == other.st_ino &&
-           storage.st_dev == other.st_dev;
+    return fstat(s->storage.folder, &storage) == 0 && stat(name, &other) == 0 && rks_is_same(&storage, &other);
 }
 
-static bool is_ignored(const relkvanu_store *s, bool has_own_files, const char *name) {
-    return strcmp(name, ".") == 0 || strcmp(name, "..") == 0 || strcmp(name, "lost+found") == 0 || strcmp(name, RKS_NEW_MARKER) == 0 ||
-           (has_own_files && rks_is_own(s, name));
-}
+/* The name of a file of the folder that is no file of a new job; "" if there is none. */
+struct search {
+    const relkvanu_store *s;
+    bool has_own;
+    char name[256];
+};
 
-/* A file of the folder that is no file of a new job; "" if there is none. Returns false if the folder can't be read. */
-static bool found_file(const relkvanu_store *s, char *name, size_t name_len) {
-    int copy = openat(s->storage.folder, ".", O_RDONLY | O_DIRECTORY | O_CLOEXEC);
-    DIR *listing = copy < 0 ? NULL : fdopendir(copy);
-    bool has_own_files = rks_has_own(s);
-    struct dirent *entry;
-    name[0] = 0;
-    if (listing == NULL) {
-        int error = errno;
-        if (copy >= 0) {
-            close(copy);
-        }
-        errno = error;
-        return false;
-    }
-    while (errno = 0, name[0] == 0 && (entry = readdir(listing)) != NULL) {
-        if (!is_ignored(s, has_own_files, entry->d_name)) {
-            snprintf(name, name_len, "%s", entry->d_name);
-        }
-    }
-    int error = errno;
-    closedir(listing);
-    errno = error;
-    return error == 0;
+static int find_other(void *with, const struct dirent *entry) {
+    struct search *search = with;
+    const char *name = entry->d_name;
+    bool is_ignored =
+        strcmp(name, "lost+found") == 0 || strcmp(name, RKS_NEW_MARKER) == 0 || (search->has_own && rks_is_own(search->s, name));
+    snprintf(search->name, sizeof search->name, "%s", is_ignored ? "" : name);
+    return !is_ignored;
 }
 
 int rks_check_new_folder(relkvanu_store *s, const char *folder) {
-    char name[256];
+    struct search search = {.s = s};
     struct stat found;
     if (folder == NULL) {
         return RELKVANU_STORE_OK;
@@ -114,10 +97,11 @@ int rks_check_new_folder(relkvanu_store *s, const char *folder) {
     if ((s->options.flags & RELKVANU_STORE_ADOPT) != 0) {
         return RELKVANU_STORE_OK;
     }
-    if (!found_file(s, name, sizeof name)) {
-        return system_fault(s, folder, errno);
-    }
-    return name[0] == 0 ? RELKVANU_STORE_OK : storage_fault(s, folder, "the job is new, and there are files, such as ", name);
+    search.has_own = rks_has_own(s);
+    int result = rks_each_entry(s->storage.folder, find_other, &search);
+    return result < 0    ? system_fault(s, folder, errno)
+           : result == 0 ? RELKVANU_STORE_OK
+                         : storage_fault(s, folder, "the job is new, and there are files, such as ", search.name);
 }
 
 int rks_write_marker(relkvanu_store *s, const char *folder, uint64_t epoch) {
@@ -178,8 +162,7 @@ int rks_check_marker(relkvanu_store *s, const char *folder, uint64_t epoch) {
     if (status != RELKVANU_STORE_OK || marked <= epoch) {
         return status;
     }
-    snprintf(s->fault, sizeof s->fault,
+    return rks_refuse(s, RELKVANU_STORE_STORAGE,
         "%.150s: a later opening of the job has used it (%" PRIu64 "), and the job's file is an older copy, of opening %" PRIu64 ": %.150s",
         folder, marked, epoch, s->file.path);
-    return RELKVANU_STORE_STORAGE;
 }

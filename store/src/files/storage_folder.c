@@ -11,9 +11,7 @@ struct opened {
 };
 
 static void free_opened(struct opened *it) {
-    if (it->folder.fd >= 0) {
-        close(it->folder.fd);
-    }
+    rks_close(it->folder.fd);
     free(it->prefix);
     free(it->suffix);
     free(it->marker);

@@ -19,7 +19,7 @@ int relkvanu_storage_open_task(relkvanu_storage *storage, const char *path, cons
     if (it == NULL) {
         return RELKVANU_STORAGE_NO_MEMORY;
     }
-    snprintf(it->identity, sizeof it->identity, "%016" PRIx64 "%016" PRIx64, job[0], job[1]);
+    rks_identity(job, it->identity);
     it->epoch = epoch;
     it->folder = (struct rks_folder){.prefix = "", .suffix = "", .mode = 0600, .needs_sync = true, .check = check_owner, .with = it};
     it->folder.fd = open(path, O_RDONLY | O_DIRECTORY | O_CLOEXEC);

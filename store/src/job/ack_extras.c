@@ -26,11 +26,7 @@ static void append(struct rks_text *text, const void *bytes, size_t len) {
     }
 }
 
-static void append_padded(struct rks_text *text, const void *bytes, size_t len) {
-    static const uint8_t zeros[WORD];
-    append(text, bytes, len);
-    append(text, zeros, padded(len) - len);
-}
+static const uint8_t zeros[WORD];
 
 static bool is_ascending(const uint64_t *files, size_t len, uint64_t *last) {
     bool is_ascending = true;
@@ -41,20 +37,35 @@ static bool is_ascending(const uint64_t *files, size_t len, uint64_t *last) {
     return is_ascending;
 }
 
+/* Whether a part whose files are in this order says nothing that the coordinator does not. */
+static bool says_nothing(const struct rks_subtask *part, bool is_kept) {
+    return is_kept && part->payload_len == 0 && part->bytes == 0 && part->millis == 0;
+}
+
+/* Appends a part, whose files are those of the first list with those of the second one behind them. There is room. */
+static void append_part(struct rks_text *text, const struct rks_subtask *part, const uint64_t *second, size_t second_len, bool is_kept) {
+    size_t files_len = is_kept ? 0 : part->files_len + second_len;
+    const struct head head = {part->vertex, part->index, (uint32_t)files_len, part->payload_len, part->bytes, part->millis};
+    append(text, &head, sizeof head);
+    if (!is_kept) {
+        append(text, part->files, part->files_len * sizeof *part->files);
+        append(text, second, second_len * sizeof *second);
+    }
+    append(text, part->payload, part->payload_len);
+    append(text, zeros, padded(part->payload_len) - part->payload_len);
+}
+
 bool rks_add_part(struct rks_text *text, const struct rks_subtask *part) {
     uint64_t last = 0;
-    size_t files_len = is_ascending(part->files, part->files_len, &last) ? 0 : part->files_len;
-    const struct head head = {part->vertex, part->index, (uint32_t)files_len, part->payload_len, part->bytes, part->millis};
-    if (files_len == 0 && part->payload_len == 0 && part->bytes == 0 && part->millis == 0) {
-        return true; /* it says nothing that the coordinator does not */
+    bool is_kept = is_ascending(part->files, part->files_len, &last);
+    if (says_nothing(part, is_kept)) {
+        return true;
     }
-    if (!rks_room(text, sizeof head + files_len * sizeof *part->files + padded(part->payload_len))) {
-        return false;
+    bool has_room = rks_room(text, sizeof(struct head) + part->files_len * sizeof *part->files + padded(part->payload_len));
+    if (has_room) {
+        append_part(text, part, NULL, 0, is_kept);
     }
-    append(text, &head, sizeof head);
-    append(text, part->files, files_len * sizeof *part->files);
-    append_padded(text, part->payload, part->payload_len);
-    return true;
+    return has_room;
 }
 
 /* The part of an accepted acknowledgement. There is room for it (rks_has_room_for_parts). */
@@ -63,20 +74,15 @@ void rks_note_part(relkvanu_store *s, const relkvanu_store_call *call) {
     const relkvanu_store_more *more = call->more;
     uint64_t id = call->call.number, last = 0;
     bool is_kept = is_ascending(call->first, call->first_len, &last) && is_ascending(call->second, call->second_len, &last);
-    size_t files_len = is_kept ? 0 : call->first_len + call->second_len;
-    if (is_kept && more->payload_len == 0 && more->bytes == 0 && more->millis == 0) {
+    const struct rks_subtask part = {
+        call->call.vertex, call->call.index, call->first, call->first_len, more->payload, more->payload_len, more->bytes, more->millis};
+    if (says_nothing(&part, is_kept)) {
         return;
     }
     if (b->runs_len == 0 || b->runs[b->runs_len - 1].record != id) {
         b->runs[b->runs_len++] = (struct rks_run){.record = id, .place = s->log.place + 1, .begins = b->parts.len};
     }
-    const struct head head = {call->call.vertex, call->call.index, (uint32_t)files_len, more->payload_len, more->bytes, more->millis};
-    append(&b->parts, &head, sizeof head);
-    if (files_len != 0) {
-        append(&b->parts, call->first, call->first_len * sizeof *call->first);
-        append(&b->parts, call->second, call->second_len * sizeof *call->second);
-    }
-    append_padded(&b->parts, more->payload, more->payload_len);
+    append_part(&b->parts, &part, call->second, call->second_len, is_kept);
     struct rks_live *live = rks_live_of(s, id);
     live->first_part = live->first_part == 0 ? s->log.place + 1 : live->first_part;
     live->last_part = s->log.place + 1;
@@ -92,10 +98,7 @@ static int bind_rows(sqlite3_stmt *it, const struct rks_rows *rows) {
 static int delete_parts(relkvanu_store *s, const struct rks_rows *rows) {
     static const char SQL[] = "DELETE FROM part WHERE record = ?1 AND place BETWEEN ?2 AND ?3";
     sqlite3_stmt *it = rks_extras_statement(s, RKS_DELETE_PARTS, SQL);
-    bool is_done = it != NULL && bind_rows(it, rows) == SQLITE_OK && sqlite3_step(it) == SQLITE_DONE;
-    int status = is_done ? RELKVANU_STORE_OK : rks_fault(s, "parts");
-    sqlite3_reset(it);
-    return status;
+    return rks_do(s, it, it == NULL ? SQLITE_ERROR : bind_rows(it, rows), "parts");
 }
 
 /* The acknowledgements of the savepoint have no parts of their own, so that their places are free. */
@@ -114,9 +117,7 @@ static int insert(relkvanu_store *s, sqlite3_stmt *it, const struct rks_run *row
     code |= sqlite3_bind_int64(it, 2, (sqlite3_int64)row->place);
     code |= sqlite3_bind_int64(it, 3, (sqlite3_int64)crc32_z(0, parts, len));
     code |= sqlite3_bind_blob64(it, 4, parts, len, SQLITE_STATIC);
-    int status = code == SQLITE_OK && sqlite3_step(it) == SQLITE_DONE ? RELKVANU_STORE_OK : rks_fault(s, "parts");
-    sqlite3_reset(it);
-    return status;
+    return rks_do(s, it, code, "parts");
 }
 
 static int insert_runs(relkvanu_store *s, const struct rks_run *runs, size_t runs_len, const struct rks_text *parts) {
@@ -163,11 +164,9 @@ int rks_carry_parts(relkvanu_store *s, uint64_t record, const struct rks_text *p
 
 /* At an opening. An earlier version of the library does not know the rows: it may have ended records that have some. */
 int rks_begin_parts(relkvanu_store *s) {
-    int64_t tables = 0;
-    int status = rks_ask(s, "SELECT count(*) FROM sqlite_schema WHERE name = 'part'", &tables, NULL, 0);
-    s->job.extras.has_parts = tables != 0;
     sqlite3_stmt *it = NULL;
-    if (status != RELKVANU_STORE_OK || tables == 0) {
+    int status = rks_has_table(s, "part", &s->job.extras.has_parts);
+    if (status != RELKVANU_STORE_OK || !s->job.extras.has_parts) {
         return status;
     }
     if (sqlite3_prepare_v2(s->log.db, "SELECT record, min(place), max(place) FROM part GROUP BY record", -1, &it, NULL) != SQLITE_OK) {
@@ -211,14 +210,8 @@ static bool divide(struct rks_parts *parts) {
             return false;
         }
         const uint8_t *files_at = parts->text.at + at + sizeof head;
-        parts->at[parts->len++] = (struct rks_subtask){.vertex = head.vertex,
-            .index = head.index,
-            .files = head.files_len != 0 ? (const void *)files_at : NULL,
-            .files_len = head.files_len,
-            .payload = files_at + files,
-            .payload_len = head.payload_len,
-            .bytes = head.bytes,
-            .millis = head.millis};
+        parts->at[parts->len++] = (struct rks_subtask){head.vertex, head.index, head.files_len != 0 ? (const void *)files_at : NULL,
+            head.files_len, files_at + files, head.payload_len, head.bytes, head.millis};
         at += sizeof head + files + payload;
     }
     qsort(parts->at, parts->len, sizeof *parts->at, by_subtask);

@@ -1,7 +1,7 @@
 /* The history: a row of each record that is complete or has failed, of the last ones. It is written in the commit of the call that has done that. */
 #include "../store.h"
 
-enum { NUMBERS = 12, REASON = NUMBERS, SUM };
+enum { NUMBERS = RKS_PAST_NUMBERS, FIRST = 6, MEDIAN, P99, SLOWEST, REASON = NUMBERS, SUM }; /* columns */
 
 static const char TABLE[] =
     "CREATE TABLE IF NOT EXISTS past(id INTEGER PRIMARY KEY, kind INTEGER NOT NULL, outcome INTEGER NOT NULL, triggered INTEGER NOT NULL,"
@@ -18,36 +18,24 @@ static uint64_t part_of(const struct rks_live *it, size_t of_100) {
     return it->times[(it->times_len * of_100 + 99) / 100 - 1];
 }
 
-static void measure(const struct rks_live *it, relkvanu_store_past *past) {
+static void measure(const struct rks_live *it, uint64_t numbers[NUMBERS]) {
     if (it->times == NULL || it->times_len == 0) {
         return;
     }
     qsort(it->times, it->times_len, sizeof *it->times, by_size);
-    past->first = it->times[0];
-    past->median = part_of(it, 50);
-    past->p99 = part_of(it, 99);
-    past->slowest = it->times[it->times_len - 1];
+    numbers[FIRST] = it->times[0];
+    numbers[MEDIAN] = part_of(it, 50);
+    numbers[P99] = part_of(it, 99);
+    numbers[SLOWEST] = it->times[it->times_len - 1];
 }
 
 void rks_note_past(relkvanu_store *s, const struct rks_live *of, uint32_t outcome, const relkvanu_store_more *more) {
     struct rks_past *past = &s->job.extras.past[s->job.extras.past_len++];
-    *past = (struct rks_past){.is = {.id = of->id,
-                                  .kind = of->kind,
-                                  .outcome = outcome,
-                                  .triggered = of->triggered,
-                                  .ended = relkvanu_moment(s->handle).a,
-                                  .acks = of->acks,
-                                  .bytes = of->bytes,
-                                  .millis = of->millis}};
-    past->reason = more != NULL ? more->reason : NULL;
-    past->reason_len = more != NULL ? more->reason_len : 0;
-    measure(of, &past->is);
-}
-
-static void numbers_of(const relkvanu_store_past *past, uint64_t numbers[NUMBERS]) {
-    const uint64_t found[NUMBERS] = {past->id, past->kind, past->outcome, past->triggered, past->ended, past->acks, past->first,
-        past->median, past->p99, past->slowest, past->bytes, past->millis};
-    memcpy(numbers, found, sizeof found);
+    *past = (struct rks_past){.reason = more != NULL ? more->reason : NULL, .reason_len = more != NULL ? more->reason_len : 0};
+    const uint64_t numbers[NUMBERS] = {
+        of->id, of->kind, outcome, of->triggered, relkvanu_moment(s->handle).a, of->acks, 0, 0, 0, 0, of->bytes, of->millis};
+    memcpy(past->numbers, numbers, sizeof numbers);
+    measure(of, past->numbers);
 }
 
 static uint32_t sum_of(const uint64_t numbers[NUMBERS], const void *reason, size_t len) {
@@ -56,18 +44,14 @@ static uint32_t sum_of(const uint64_t numbers[NUMBERS], const void *reason, size
 }
 
 static int insert(relkvanu_store *s, sqlite3_stmt *it, const struct rks_past *past) {
-    uint64_t numbers[NUMBERS];
     int code = SQLITE_OK;
-    numbers_of(&past->is, numbers);
     for (int i = 0; i < NUMBERS; i++) {
-        code |= sqlite3_bind_int64(it, i + 1, (sqlite3_int64)numbers[i]);
+        code |= sqlite3_bind_int64(it, i + 1, (sqlite3_int64)past->numbers[i]);
     }
     code |= past->reason_len != 0 ? sqlite3_bind_blob(it, REASON + 1, past->reason, (int)past->reason_len, SQLITE_STATIC)
                                   : sqlite3_bind_zeroblob(it, REASON + 1, 0);
-    code |= sqlite3_bind_int64(it, SUM + 1, sum_of(numbers, past->reason, past->reason_len));
-    int status = code == SQLITE_OK && sqlite3_step(it) == SQLITE_DONE ? RELKVANU_STORE_OK : rks_fault(s, "history");
-    sqlite3_reset(it);
-    return status;
+    code |= sqlite3_bind_int64(it, SUM + 1, sum_of(past->numbers, past->reason, past->reason_len));
+    return rks_do(s, it, code, "history");
 }
 
 /* Numbers of records only rise, so that those far below the last one are the oldest. */
@@ -95,10 +79,7 @@ int rks_write_past(relkvanu_store *s) {
 }
 
 int rks_begin_past(relkvanu_store *s) {
-    int64_t tables = 0;
-    int status = rks_ask(s, "SELECT count(*) FROM sqlite_schema WHERE name = 'past'", &tables, NULL, 0);
-    s->job.extras.has_past = tables != 0;
-    return status;
+    return rks_has_table(s, "past", &s->job.extras.has_past);
 }
 
 /* Returns whether the row is whole. */
@@ -113,18 +94,8 @@ static bool read_row(sqlite3_stmt *it, relkvanu_store_past *past) {
         (uint32_t)sqlite3_column_int64(it, SUM) != sum_of(n, reason, len)) {
         return false;
     }
-    *past = (relkvanu_store_past){.id = n[0],
-        .kind = (uint32_t)n[1],
-        .outcome = (uint32_t)n[2],
-        .triggered = n[3],
-        .ended = n[4],
-        .acks = n[5],
-        .first = n[6],
-        .median = n[7],
-        .p99 = n[8],
-        .slowest = n[9],
-        .bytes = n[10],
-        .millis = n[11]};
+    *past = (relkvanu_store_past){
+        n[0], (uint32_t)n[1], (uint32_t)n[2], n[3], n[4], n[5], n[FIRST], n[MEDIAN], n[P99], n[SLOWEST], n[10], n[11], .reason = ""};
     if (len != 0) {
         memcpy(past->reason, reason, len);
     }

@@ -43,9 +43,10 @@ struct rks_run {
     size_t begins; /* in the text */
 };
 
-/* A row of the history that the group writes. */
+/* A row of the history that the group writes: its numbers in the order of the columns. */
+enum { RKS_PAST_NUMBERS = 12 };
 struct rks_past {
-    relkvanu_store_past is;
+    uint64_t numbers[RKS_PAST_NUMBERS];
     const char *reason;
     size_t reason_len;
 };
@@ -124,15 +125,21 @@ struct rks_timers {
     bool is_stopped; /* by relkvanu_store_stop */
 };
 
-/* open.c: a store that has nothing yet; frees all of one; an opening, of a job with this birth if it is new. */
-int rks_begin_store(relkvanu_store *s);
+/* open.c: a store that has nothing yet, or why there is none; frees all of one, and keeps errno; starts a thread of one, which gets no signals; an opening, of a job
+ * with this birth if it is new. */
+int rks_new_store(relkvanu_store **store, char message[RKS_MESSAGE]);
 void rks_release_store(relkvanu_store *s);
+bool rks_start(pthread_t *thread, void *(*runs)(void *), relkvanu_store *s);
 int rks_open(relkvanu_store **store, const char *path, const relkvanu_store_options *options, relkvanu_store_report *report,
     const struct rks_birth *birth);
 
 /* payload.c: whether what a call has more is well-formed: otherwise says which field is not. Forgets what was told. */
 bool rks_check_more(const relkvanu_store_call *call);
 void rks_clear_more(const relkvanu_store_call *call);
+
+/* open.c: the identity of two random numbers; a new one: false if there are no random numbers. */
+void rks_identity(const uint64_t words[2], char job[RKS_IDENTITY + 1]);
+bool rks_new_identity(char job[RKS_IDENTITY + 1]);
 
 /* live_checkpoints.c: the live records of an opening; room for so many calls, and for what those of a group have; what follows from a call that was made; what is left of a group
  * that is committed. Each returns a status, or whether there was memory. */
@@ -154,6 +161,10 @@ void rks_say_lost(int status, const struct rks_lost *lost);
 void rks_note_past(relkvanu_store *s, const struct rks_live *of, uint32_t outcome, const relkvanu_store_more *more);
 int rks_write_past(relkvanu_store *s);
 int rks_begin_past(relkvanu_store *s);
+
+/* load.c: calls `each` for each subtask of a complete record, with its files, until that returns another status than RELKVANU_STORE_OK, and returns it. */
+typedef int (*rks_each_subtask)(void *with, uint16_t vertex, uint16_t index, const uint64_t *files, size_t len);
+int rks_subtasks_of(relkvanu *handle, uint64_t id, rks_each_subtask each, void *with);
 
 /* ack_extras.c: the rows of what acknowledgements have beside their files. */
 struct rks_subtask {
@@ -233,6 +244,8 @@ int rks_deletable(relkvanu_store *s, uint64_t *files, size_t *files_len, size_t 
 
 /* timer.c */
 uint64_t rks_clock_ns(void);
+uint64_t rks_monotonic_ns(void);            /* the clock of the conditions, */
+struct timespec rks_moment_of(uint64_t ns); /* and a moment of it */
 uint64_t rks_wall_clock_ms(void);
 int rks_await(relkvanu_store *s, uint64_t seen, uint64_t until);
 

@@ -21,33 +21,13 @@ struct rks_live *rks_live_of(relkvanu_store *s, uint64_t id) {
     return at < b->live_len && b->live[at].id == id ? &b->live[at] : NULL;
 }
 
-/* Room for more elements of a list. */
-static bool has_room(void **at, size_t *room, size_t len, size_t size) {
-    if (len <= *room) {
-        return true;
-    }
-    size_t wanted = len + len / 2;
-    void *grown = realloc(*at, wanted * size);
-    if (grown == NULL) {
-        return false;
-    }
-    *at = grown;
-    *room = wanted;
-    return true;
-}
-
 /* A call triggers at most one record, and each record ends at most once, and completes at most once. The group may have ended some before. */
 bool rks_has_room_for_extras(relkvanu_store *s, size_t calls) {
     struct rks_extras *b = &s->job.extras;
     size_t most = b->live_len + calls;
-    void *live = b->live, *ended = b->ended, *past = b->past;
-    bool has_all = has_room(&live, &b->live_room, most, sizeof *b->live);
-    has_all = has_room(&ended, &b->ended_room, b->ended_len + most, sizeof *b->ended) && has_all;
-    has_all = has_room(&past, &b->past_room, b->past_len + most, sizeof *b->past) && has_all;
-    b->live = live;
-    b->ended = ended;
-    b->past = past;
-    return has_all;
+    return rks_grow(&b->live, &b->live_room, most, sizeof *b->live) &&
+           rks_grow(&b->ended, &b->ended_room, b->ended_len + most, sizeof *b->ended) &&
+           rks_grow(&b->past, &b->past_room, b->past_len + most, sizeof *b->past);
 }
 
 static size_t part_room(const relkvanu_store_call *call) {
@@ -66,10 +46,7 @@ bool rks_has_room_for_parts(relkvanu_store *s, const struct rks_waiter *more) {
             room += has_part ? part_room(call) : 0;
         }
     }
-    void *runs = b->runs;
-    bool has_all = has_room(&runs, &b->runs_room, b->runs_len + len, sizeof *b->runs);
-    b->runs = runs;
-    return has_all && (len == 0 || rks_room(&b->parts, room));
+    return len == 0 || (rks_grow(&b->runs, &b->runs_room, b->runs_len + len, sizeof *b->runs) && rks_room(&b->parts, room));
 }
 
 /* A record was triggered. Without memory for the times of its acknowledgements the history lacks them. */

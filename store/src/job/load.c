@@ -20,67 +20,42 @@ struct loading {
     size_t places_len, places_room;
 };
 
-static bool has_room(void **at, size_t *room, size_t len, size_t size) {
-    if (len <= *room) {
-        return true;
+int rks_subtasks_of(relkvanu *handle, uint64_t id, rks_each_subtask each, void *with) {
+    uint64_t files[RKS_MOST_FILES];
+    uint16_t vertex = 0, index = 0;
+    int status = RELKVANU_STORE_OK;
+    while (status == RELKVANU_STORE_OK && vertex < RKS_VERTICES) {
+        relkvanu_answer found = relkvanu_files_of(handle, id, vertex, index, files, RKS_MOST_FILES);
+        bool is_there = found.code == RELKVANU_DONE && found.what == RELKVANU_FILES;
+        if (!is_there && index == 0) {
+            break; /* the vertex before was the last one */
+        }
+        status = is_there ? each(with, vertex, index, files, found.a) : status;
+        vertex = (uint16_t)(vertex + !is_there);
+        index = is_there ? (uint16_t)(index + 1) : 0;
     }
-    size_t wanted = 2 * len + 64;
-    void *grown = realloc(*at, wanted * size);
-    *at = grown != NULL ? grown : *at;
-    *room = grown != NULL ? wanted : *room;
-    return grown != NULL;
+    return status;
 }
 
-/* The files of a subtask. *is_there is false if the record has no such subtask. */
-static int read_subtask(struct loading *l, uint16_t vertex, uint16_t index, bool *is_there) {
-    uint64_t names[RKS_MOST_FILES];
-    relkvanu_answer found = relkvanu_files_of(l->s->handle, l->loaded->id, vertex, index, names, RKS_MOST_FILES);
-    *is_there = found.code == RELKVANU_DONE && found.what == RELKVANU_FILES;
-    if (!*is_there) {
-        return RELKVANU_STORE_OK;
-    }
-    void *files = l->files, *lengths = l->lengths, *places = l->places;
-    bool has_all = has_room(&files, &l->files_room, l->files_len + found.a, sizeof *l->files);
-    has_all = has_room(&lengths, &l->lengths_room, l->files_len + found.a, sizeof *l->lengths) && has_all;
-    has_all = has_room(&places, &l->places_room, l->places_len + 1, sizeof *l->places) && has_all;
-    l->files = files;
-    l->lengths = lengths;
-    l->places = places;
-    if (!has_all) {
+/* Notes the files of a subtask. */
+static int read_subtask(void *with, uint16_t vertex, uint16_t index, const uint64_t *names, size_t len) {
+    struct loading *l = with;
+    if (!rks_grow(&l->files, &l->files_room, l->files_len + len, sizeof *l->files) ||
+        !rks_grow(&l->lengths, &l->lengths_room, l->files_len + len, sizeof *l->lengths) ||
+        !rks_grow(&l->places, &l->places_room, l->places_len + 1, sizeof *l->places)) {
         return RELKVANU_STORE_NO_MEMORY;
     }
     const struct rks_subtask *part = rks_part_of(&l->parts, vertex, index);
-    bool has_order = part != NULL && part->files_len == found.a && found.a != 0;
-    l->places[l->places_len++] = (struct place){vertex, index, l->files_len, found.a};
-    for (uint64_t i = 0; i < found.a; i++, l->files_len++) {
+    bool has_order = part != NULL && part->files_len == len && len != 0;
+    l->places[l->places_len++] = (struct place){vertex, index, l->files_len, len};
+    for (size_t i = 0; i < len; i++, l->files_len++) {
         uint64_t file = has_order ? part->files[i] : names[i], *length = &l->lengths[l->files_len];
         l->files[l->files_len] = file;
         *length = rks_find_length(&l->s->kept.sums, file, length) ? *length : UNKNOWN;
     }
+    l->loaded->shape[vertex] = index + UINT64_C(1);
+    l->loaded->shape_len = vertex + (size_t)1;
     return RELKVANU_STORE_OK;
-}
-
-static int read_vertex(struct loading *l, uint16_t vertex, uint64_t *parallelism) {
-    bool is_there = true;
-    int status = RELKVANU_STORE_OK;
-    *parallelism = 0;
-    for (uint32_t index = 0; index <= UINT16_MAX && is_there && status == RELKVANU_STORE_OK; index++) {
-        status = read_subtask(l, vertex, (uint16_t)index, &is_there);
-        *parallelism += is_there;
-    }
-    return status;
-}
-
-static int read_vertices(struct loading *l) {
-    relkvanu_store_loaded *to = l->loaded;
-    uint64_t parallelism = 1;
-    int status = RELKVANU_STORE_OK;
-    while (status == RELKVANU_STORE_OK && parallelism != 0 && to->shape_len < RELKVANU_STORE_MOST_VERTICES) {
-        status = read_vertex(l, (uint16_t)to->shape_len, &parallelism);
-        to->shape[to->shape_len] = parallelism;
-        to->shape_len += parallelism != 0;
-    }
-    return status;
 }
 
 /* Of the thread that leads. */
@@ -98,7 +73,7 @@ static int read_record(struct loading *l, uint64_t id) {
     l->loaded->id = live->id;
     l->loaded->kind = live->kind;
     int status = rks_read_parts(s, live->id, &l->parts);
-    return status == RELKVANU_STORE_OK ? read_vertices(l) : status;
+    return status == RELKVANU_STORE_OK ? rks_subtasks_of(s->handle, live->id, read_subtask, l) : status;
 }
 
 static int read_whole(struct loading *l, uint64_t id) {
@@ -126,10 +101,8 @@ static int check_live(struct loading *l, int status) {
 static int look(struct loading *l) {
     l->lost = (struct rks_lost){.record = l->loaded->id};
     for (size_t i = 0; i < l->files_len && l->s->storage.folder >= 0; i++) {
-        char name[32];
         struct stat found = {0};
-        snprintf(name, sizeof name, "%" PRIu64, l->files[i]);
-        bool is_found = fstatat(l->s->storage.folder, name, &found, AT_SYMLINK_NOFOLLOW) == 0;
+        bool is_found = rks_find_file(l->s->storage.folder, l->files[i], &found);
         if (!is_found && errno != ENOENT) {
             l->lost.error = errno;
             return RELKVANU_STORE_NOT_DONE;

@@ -148,8 +148,7 @@ static int set_in_use(relkvanu_store *s) {
     ssize_t len = pread(s->file.lock, holder, sizeof holder - 1, 0);
     holder[len > 0 ? len : 0] = 0;
     holder[strcspn(holder, "\n")] = 0;
-    snprintf(s->fault, sizeof s->fault, "%.400s: in use by process %s", s->file.path, holder[0] != 0 ? holder : "?");
-    return RELKVANU_STORE_IN_USE;
+    return rks_refuse(s, RELKVANU_STORE_IN_USE, "%.400s: in use by process %s", s->file.path, holder[0] != 0 ? holder : "?");
 }
 
 /* Whether the name PATH.lock still stands for the file that is locked. */
@@ -159,7 +158,7 @@ static int check_named(relkvanu_store *s) {
     if (asprintf(&name, "%s.lock", s->file.path) < 0) {
         return RELKVANU_STORE_NO_MEMORY;
     }
-    bool is_same = fstat(s->file.lock, &held) == 0 && stat(name, &named) == 0 && held.st_ino == named.st_ino && held.st_dev == named.st_dev;
+    bool is_same = fstat(s->file.lock, &held) == 0 && stat(name, &named) == 0 && rks_is_same(&held, &named);
     free(name);
     return is_same ? RELKVANU_STORE_OK : set_in_use(s);
 }
@@ -187,11 +186,8 @@ int rks_lock(relkvanu_store *s, const char *path) {
     if ((status = opened_beside(s, "-shm", &s->file.shm)) != RELKVANU_STORE_OK) {
         return status;
     }
-    if (fcntl(s->file.shm, F_OFD_SETLK, &whole) != 0) {
-        snprintf(s->fault, sizeof s->fault, "%.400s-shm: in use by another program", s->file.path);
-        return RELKVANU_STORE_IN_USE;
-    }
-    return RELKVANU_STORE_OK;
+    bool is_locked = fcntl(s->file.shm, F_OFD_SETLK, &whole) == 0;
+    return is_locked ? RELKVANU_STORE_OK : rks_refuse(s, RELKVANU_STORE_IN_USE, "%.400s-shm: in use by another program", s->file.path);
 }
 
 /* A program that another thread is starting has these files until its exec, so a close alone would leave them locked so long. */
@@ -209,10 +205,6 @@ void rks_unlock(relkvanu_store *s) {
     free(s->file.wal);
 }
 
-static bool is_same_file(const struct stat *a, const struct stat *b) {
-    return a->st_ino == b->st_ino && a->st_dev == b->st_dev;
-}
-
 /* Whether the names still stand for the files that SQLite writes. The first time it notes them. */
 bool rks_in_place(relkvanu_store *s) {
     struct stat path, wal;
@@ -221,7 +213,7 @@ bool rks_in_place(relkvanu_store *s) {
         s->file.path_is = path;
         s->file.wal_is = wal;
     }
-    if (is_there && is_same_file(&path, &s->file.path_is) && is_same_file(&wal, &s->file.wal_is)) {
+    if (is_there && rks_is_same(&path, &s->file.path_is) && rks_is_same(&wal, &s->file.wal_is)) {
         s->file.wal_is = wal; /* and its size */
         return true;
     }

@@ -24,15 +24,14 @@ struct job {
 };
 
 static int set_fault(relkvanu_store *s, int status, const char *words) {
-    snprintf(s->fault, sizeof s->fault, "%.400s: %s", s->file.path, words);
-    return status;
+    return rks_refuse(s, status, "%.400s: %s", s->file.path, words);
 }
 
 /* The folder of the storage was not listed: it is gone, or errno says why. */
 static int set_listing_fault(relkvanu_store *s, int status) {
     int error = errno;
     status = status == RELKVANU_STORE_NOT_DONE ? rks_status_of_errno(error) : status;
-    snprintf(s->fault, sizeof s->fault, "%.300s: the storage folder can't be read: %s", s->file.path, strerror(error));
+    rks_refuse(s, status, "%.300s: the storage folder can't be read: %s", s->file.path, strerror(error));
     errno = error;
     return status;
 }
@@ -63,12 +62,8 @@ static int open_files(relkvanu_store *s, const char *path) {
     } else if (status == RELKVANU_STORE_OK && file.st_nlink != 1) {
         status = set_fault(s, RELKVANU_STORE_FAILED, "it has several names, each of which would have a log of its own");
     }
-    if (status == RELKVANU_STORE_OK) {
-        status = rks_check_wal(s);
-    }
-    if (status == RELKVANU_STORE_OK) {
-        status = rks_write_again(s);
-    }
+    status = status == RELKVANU_STORE_OK ? rks_check_wal(s) : status;
+    status = status == RELKVANU_STORE_OK ? rks_write_again(s) : status;
     return status == RELKVANU_STORE_OK ? rks_open_database(s) : status;
 }
 
@@ -171,7 +166,7 @@ static int begin_job(relkvanu_store *s, const relkvanu_store_options *o, char li
     if (getentropy(words, sizeof words) != 0) {
         return set_fault(s, RELKVANU_STORE_FAILED, "no random numbers");
     }
-    snprintf(s->job.identity, sizeof s->job.identity, "%016" PRIx64 "%016" PRIx64, words[2], words[3]);
+    rks_identity(&words[2], s->job.identity);
     uint64_t first = 1;
     if (s->job.birth != NULL) {
         memcpy(s->job.identity, s->job.birth->identity, sizeof s->job.identity);
@@ -189,16 +184,12 @@ static int begin_job(relkvanu_store *s, const relkvanu_store_options *o, char li
 }
 
 static int insert_job(relkvanu_store *s, const char *lines, int storage) {
-    sqlite3_stmt *it = NULL;
-    int code = sqlite3_prepare_v2(s->log.db, "INSERT INTO job VALUES(1, ?1, ?5, ?2, ?3, ?4)", -1, &it, NULL);
-    code = code != SQLITE_OK ? code : sqlite3_bind_text(it, 1, s->job.identity, -1, SQLITE_STATIC);
-    code = code != SQLITE_OK ? code : sqlite3_bind_int(it, 2, storage);
-    code = code != SQLITE_OK ? code : sqlite3_bind_text(it, 3, lines, -1, SQLITE_STATIC);
-    code = code != SQLITE_OK ? code : sqlite3_bind_text(it, 4, relkvanu_version(), -1, SQLITE_STATIC);
-    code = code != SQLITE_OK ? code : sqlite3_bind_int64(it, 5, s->job.birth == NULL ? 1 : (sqlite3_int64)s->job.birth->epoch);
-    int status = code == SQLITE_OK && sqlite3_step(it) == SQLITE_DONE ? RELKVANU_STORE_OK : rks_fault(s, "job");
-    sqlite3_finalize(it);
-    return status;
+    sqlite3_int64 epoch = s->job.birth == NULL ? 1 : (sqlite3_int64)s->job.birth->epoch;
+    char *sql =
+        sqlite3_mprintf("INSERT INTO job VALUES(1, %Q, %lld, %d, %Q, %Q)", s->job.identity, epoch, storage, lines, relkvanu_version());
+    bool is_inserted = sql != NULL && sqlite3_exec(s->log.db, sql, NULL, NULL, NULL) == SQLITE_OK;
+    sqlite3_free(sql);
+    return is_inserted ? RELKVANU_STORE_OK : sql == NULL ? RELKVANU_STORE_NO_MEMORY : rks_fault(s, "job");
 }
 
 /* Makes the tables of a new job in one transaction, with the image of its opening. */
@@ -244,11 +235,10 @@ static int check_age(relkvanu_store *s, const struct job *job) {
         const struct rks_manifest *it = &all.at[i];
         bool is_of_job = it->status == RELKVANU_STORE_OK && strcmp(it->job, s->job.identity) == 0;
         if (is_of_job && (it->epoch > (uint64_t)job->epoch || (it->epoch == (uint64_t)job->epoch && it->place > s->log.place))) {
-            snprintf(s->fault, sizeof s->fault,
+            status = rks_refuse(s, RELKVANU_STORE_STORAGE,
                 "%.300s: it is an older copy, up to call %" PRIu64 " of opening %" PRId64 ": record-%" PRIu64
                 ".manifest in the storage folder is of call %" PRIu64 " of opening %" PRIu64,
                 s->file.path, s->log.place, job->epoch, it->id, it->place, it->epoch);
-            status = RELKVANU_STORE_STORAGE;
         }
     }
     if (status == RELKVANU_STORE_FAILED) {
@@ -448,8 +438,30 @@ static int open_job(relkvanu_store *s, const char *path, const relkvanu_store_op
     return status;
 }
 
+void rks_identity(const uint64_t words[2], char job[RKS_IDENTITY + 1]) {
+    snprintf(job, RKS_IDENTITY + 1, "%016" PRIx64 "%016" PRIx64, words[0], words[1]);
+}
+
+bool rks_new_identity(char job[RKS_IDENTITY + 1]) {
+    uint64_t words[2];
+    bool has_words = getentropy(words, sizeof words) == 0;
+    if (has_words) {
+        rks_identity(words, job);
+    }
+    return has_words;
+}
+
+bool rks_start(pthread_t *thread, void *(*runs)(void *), relkvanu_store *s) {
+    sigset_t every, before;
+    sigfillset(&every);
+    pthread_sigmask(SIG_SETMASK, &every, &before);
+    bool is_started = pthread_create(thread, NULL, runs, s) == 0;
+    pthread_sigmask(SIG_SETMASK, &before, NULL);
+    return is_started;
+}
+
 /* RELKVANU_STORE_OK, or why not. */
-int rks_begin_store(relkvanu_store *s) {
+static int begin_store(relkvanu_store *s) {
     pthread_condattr_t by_clock;
     pthread_mutexattr_t spins; /* nobody has the mutex for long */
     s->handle = s->handles;
@@ -471,24 +483,35 @@ int rks_begin_store(relkvanu_store *s) {
     return is_done ? RELKVANU_STORE_OK : RELKVANU_STORE_NO_MEMORY;
 }
 
+int rks_new_store(relkvanu_store **store, char message[RKS_MESSAGE]) {
+    relkvanu_store *s = calloc(1, sizeof *s);
+    int status = s == NULL ? RELKVANU_STORE_NO_MEMORY : begin_store(s);
+    snprintf(message, RKS_MESSAGE, "%s", s == NULL ? "" : s->fault);
+    if (status == RELKVANU_STORE_OK) {
+        rks_list(s);
+        *store = s;
+    } else {
+        free(s);
+    }
+    return status;
+}
+
 /* Frees all. A store that is not closed cleanly keeps its -wal. */
 void rks_release_store(relkvanu_store *s) {
+    int error = errno;
     rks_end_manifests(s);
     rks_unlist(s);
     rks_close_database(s);
     relkvanu_close(s->handle);
-    if (s->storage.folder >= 0) {
-        close(s->storage.folder);
-    }
-    if (s->submits.event >= 0) {
-        close(s->submits.event);
-    }
+    rks_close(s->storage.folder);
+    rks_close(s->submits.event);
     rks_unlock(s);
     rks_free_extras(s);
     rks_free_rows(s);
     rks_free_lines(s);
     free(s->log.image.at);
     free(s);
+    errno = error;
 }
 
 /* Whether the flags are known and the reserved fields are 0. Otherwise says which is not. */
@@ -519,11 +542,9 @@ int rks_open(relkvanu_store **store, const char *path, const relkvanu_store_opti
     if (!are_known(options, report->message)) {
         return RELKVANU_STORE_BAD_ARGUMENT;
     }
-    relkvanu_store *s = calloc(1, sizeof *s);
-    int status = s == NULL ? RELKVANU_STORE_NO_MEMORY : rks_begin_store(s);
+    relkvanu_store *s;
+    int status = rks_new_store(&s, report->message);
     if (status != RELKVANU_STORE_OK) {
-        memcpy(report->message, s == NULL ? "" : s->fault, s == NULL ? 1 : sizeof report->message);
-        free(s);
         return status;
     }
     s->options = *options;
@@ -534,19 +555,16 @@ int rks_open(relkvanu_store **store, const char *path, const relkvanu_store_opti
                              : options->image_calls > UINT64_MAX / 4 ? RELKVANU_STORE_NO_IMAGES
                                                                      : options->image_calls;
     s->options.most_ahead = options->most_ahead == 0 ? DAY : options->most_ahead;
-    rks_list(s);
     status = open_job(s, path, options, report);
     s->options.storage = NULL;
     s->options.shape = NULL;
     s->job.birth = NULL;
     if (status != RELKVANU_STORE_OK) {
-        int error = errno;
         memcpy(report->message, s->fault, sizeof report->message);
         status = status == RELKVANU_STORE_OUT_OF_MEMORY ? RELKVANU_STORE_NO_MEMORY
                  : status == RELKVANU_STORE_BUSY        ? RELKVANU_STORE_IN_USE
                                                         : status;
         rks_release_store(s);
-        errno = error;
         return status;
     }
     *store = s;

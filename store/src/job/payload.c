@@ -1,4 +1,4 @@
-/* What a call has beside its numbers: whether it is well-formed, and the calls that have it. */
+/* What a call has beside its numbers: whether it is well-formed. */
 #include "../store.h"
 
 static bool refuse(const char *words) {
@@ -53,25 +53,4 @@ void rks_clear_more(const relkvanu_store_call *call) {
         call->more->kind = 0;
         call->more->ended_len = 0;
     }
-}
-
-static int make_one(relkvanu_store *s, relkvanu_store_call call, relkvanu_answer *answer) {
-    int status = relkvanu_store_calls(s, &call, 1);
-    *answer = call.answer;
-    return status;
-}
-
-int relkvanu_store_ack_with(relkvanu_store *s, uint64_t term, uint64_t now, uint64_t id, uint16_t vertex, uint16_t index,
-    const uint64_t *fresh, size_t fresh_len, const uint64_t *reused, size_t reused_len, relkvanu_store_more *more,
-    relkvanu_answer *answer) {
-    relkvanu_call call = {.kind = RELKVANU_CALL_ACK, .vertex = vertex, .index = index, .now = now, .number = id, .term = term};
-    relkvanu_store_call made = {
-        .call = call, .first = fresh, .first_len = fresh_len, .second = reused, .second_len = reused_len, .more = more};
-    return make_one(s, made, answer);
-}
-
-int relkvanu_store_decline_with(relkvanu_store *s, uint64_t term, uint64_t now, uint64_t id, uint16_t vertex, uint16_t index,
-    relkvanu_store_more *more, relkvanu_answer *answer) {
-    relkvanu_call call = {.kind = RELKVANU_CALL_DECLINE, .vertex = vertex, .index = index, .now = now, .number = id, .term = term};
-    return make_one(s, (relkvanu_store_call){.call = call, .more = more}, answer);
 }

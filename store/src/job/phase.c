@@ -194,8 +194,7 @@ static int damaged(relkvanu_store *s) {
         s->job.phase = (struct rks_phase){0};
         return RELKVANU_STORE_OK; /* where something is damaged the job runs, and an engine can stop it again */
     }
-    snprintf(s->fault, sizeof s->fault, "%.400s: the row of the phase is damaged: its checksum is another one", s->file.path);
-    return RELKVANU_STORE_DAMAGED;
+    return rks_refuse(s, RELKVANU_STORE_DAMAGED, "%.400s: the row of the phase is damaged: its checksum is another one", s->file.path);
 }
 
 /* An earlier version of the library does not know the row. It may have gone on with the job. */
@@ -211,12 +210,12 @@ static void look_again(relkvanu_store *s) {
 
 /* After the calls of the log were made again. */
 int rks_read_phase(relkvanu_store *s) {
-    int64_t tables = 0;
+    bool is_there;
     uint32_t sum = 0;
     char row[160] = "";
     struct rks_phase *is = &s->job.phase;
-    int status = rks_ask(s, "SELECT count(*) FROM sqlite_schema WHERE name = 'phase'", &tables, NULL, 0);
-    if (status != RELKVANU_STORE_OK || tables == 0) {
+    int status = rks_has_table(s, "phase", &is_there);
+    if (status != RELKVANU_STORE_OK || !is_there) {
         return status;
     }
     status = rks_ask(s, "SELECT printf('%lld %lld %lld %lld %lld %lld', phase, failed, savepoint, started, term, sum) FROM phase", NULL,

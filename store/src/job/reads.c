@@ -57,11 +57,9 @@ void relkvanu_store_read_end(relkvanu_store *s) {
     see(s->handle, seen);
     bool is_same = memcmp(seen, s->job.seen, sizeof seen) == 0;
     s->job.reader = NULL;
-    if (!is_same) {
-        snprintf(
-            s->fault, sizeof s->fault, "%.300s: a call was made through the handle of a read, which the log does not have", s->file.path);
-    }
-    rks_hand_on(s, is_same ? 0 : RELKVANU_STORE_FAILED);
+    rks_hand_on(s, is_same ? 0
+                           : rks_refuse(s, RELKVANU_STORE_FAILED,
+                                 "%.300s: a call was made through the handle of a read, which the log does not have", s->file.path));
 }
 
 int relkvanu_store_job(relkvanu_store *s, relkvanu_settings *settings, uint64_t *shape, size_t *shape_len) {

@@ -12,6 +12,14 @@ uint64_t rks_clock_ns(void) {
     return ns_of(CLOCK_BOOTTIME);
 }
 
+uint64_t rks_monotonic_ns(void) {
+    return ns_of(CLOCK_MONOTONIC);
+}
+
+struct timespec rks_moment_of(uint64_t ns) {
+    return (struct timespec){(time_t)(ns / 1000000000), (long)(ns % 1000000000)};
+}
+
 uint64_t rks_wall_clock_ms(void) {
     return ns_of(CLOCK_REALTIME) / 1000000;
 }
@@ -39,8 +47,9 @@ int rks_await(relkvanu_store *s, uint64_t seen, uint64_t until) {
             break;
         }
         /* Conditions have no such clock as rks_clock_ns has. An hour at most, in case that the machine is suspended meanwhile. */
-        uint64_t left = until - now < UINT64_C(3600000000000) ? until - now : UINT64_C(3600000000000), end = ns_of(CLOCK_MONOTONIC) + left;
-        pthread_cond_timedwait(&s->changed, &s->mutex, &(struct timespec){(time_t)(end / 1000000000), (long)(end % 1000000000)});
+        uint64_t left = until - now < UINT64_C(3600000000000) ? until - now : UINT64_C(3600000000000);
+        struct timespec end = rks_moment_of(rks_monotonic_ns() + left);
+        pthread_cond_timedwait(&s->changed, &s->mutex, &end);
     }
     int status = s->dead != 0 ? RELKVANU_STORE_CLOSED : s->timers.is_stopped ? RELKVANU_STORE_STOPPED : RELKVANU_STORE_OK;
     pthread_mutex_unlock(&s->mutex);

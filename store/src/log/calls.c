@@ -87,9 +87,22 @@ static int make_one(relkvanu_store *s, relkvanu_store_call call, relkvanu_answer
 
 int relkvanu_store_ack_in(relkvanu_store *s, uint64_t term, uint64_t now, uint64_t id, uint16_t vertex, uint16_t index,
     const uint64_t *fresh, size_t fresh_len, const uint64_t *reused, size_t reused_len, relkvanu_answer *answer) {
+    return relkvanu_store_ack_with(s, term, now, id, vertex, index, fresh, fresh_len, reused, reused_len, NULL, answer);
+}
+
+int relkvanu_store_ack_with(relkvanu_store *s, uint64_t term, uint64_t now, uint64_t id, uint16_t vertex, uint16_t index,
+    const uint64_t *fresh, size_t fresh_len, const uint64_t *reused, size_t reused_len, relkvanu_store_more *more,
+    relkvanu_answer *answer) {
     relkvanu_call call = {.kind = RELKVANU_CALL_ACK, .vertex = vertex, .index = index, .now = now, .number = id, .term = term};
-    return make_one(
-        s, (relkvanu_store_call){.call = call, .first = fresh, .first_len = fresh_len, .second = reused, .second_len = reused_len}, answer);
+    relkvanu_store_call made = {
+        .call = call, .first = fresh, .first_len = fresh_len, .second = reused, .second_len = reused_len, .more = more};
+    return make_one(s, made, answer);
+}
+
+int relkvanu_store_decline_with(relkvanu_store *s, uint64_t term, uint64_t now, uint64_t id, uint16_t vertex, uint16_t index,
+    relkvanu_store_more *more, relkvanu_answer *answer) {
+    relkvanu_call call = {.kind = RELKVANU_CALL_DECLINE, .vertex = vertex, .index = index, .now = now, .number = id, .term = term};
+    return make_one(s, (relkvanu_store_call){.call = call, .more = more}, answer);
 }
 
 int relkvanu_store_reserve(relkvanu_store *s, uint64_t term, uint64_t count, relkvanu_answer *answer) {

@@ -43,7 +43,7 @@ int rks_write_image(relkvanu_store *s) {
     code |= sqlite3_bind_int64(it, 3, rks_image_sum(s->log.place, s->log.chain, s->log.image.at, s->log.image.len));
     code |= sqlite3_bind_blob64(it, 4, s->log.image.at, s->log.image.len, SQLITE_STATIC);
     code |= sqlite3_bind_int64(s->log.statements[RKS_DROP_IMAGES], 1, (sqlite3_int64)s->log.image_place);
-    int status = code == SQLITE_OK ? rks_step(s, RKS_IMAGE, "image") : rks_fault(s, "image");
+    int status = rks_do(s, it, code, "image");
     return status == RELKVANU_STORE_OK ? rks_step(s, RKS_DROP_IMAGES, "old images") : status;
 }
 
@@ -75,7 +75,7 @@ static int insert(relkvanu_store *s, enum rks_statement statement, const struct 
     for (size_t i = 0; i < len; i++) {
         code |= bind(s->log.statements[statement], (int)i * RKS_COLUMNS, &rows[i]);
     }
-    return code == SQLITE_OK ? rks_step(s, statement, "call") : rks_fault(s, "call");
+    return rks_do(s, s->log.statements[statement], code, "call");
 }
 
 /* Inserts the rows that are not there yet, in the transaction that may have begun: so many by one statement, since they take SQLite less than two thirds of the
@@ -111,7 +111,7 @@ static int cut_log(relkvanu_store *s, uint64_t *cut) {
         return RELKVANU_STORE_OK;
     }
     int code = sqlite3_bind_int64(s->log.statements[RKS_CUT_LOG], 1, (sqlite3_int64)*cut);
-    return code == SQLITE_OK ? rks_step(s, RKS_CUT_LOG, "cut") : rks_fault(s, "cut");
+    return rks_do(s, s->log.statements[RKS_CUT_LOG], code, "cut");
 }
 
 /* One transaction. If it fails it is rolled back, or *may_retry is false. */
@@ -119,21 +119,11 @@ static int transact(relkvanu_store *s, bool has_image, bool *may_retry) {
     char words[RKS_MESSAGE];
     uint64_t cut = 0;
     int status = insert_rows(s, true);
-    if (status == RELKVANU_STORE_OK && s->job.writes_phase) {
-        status = rks_write_phase(s);
-    }
-    if (status == RELKVANU_STORE_OK) {
-        status = rks_write_parts(s);
-    }
-    if (status == RELKVANU_STORE_OK) {
-        status = rks_write_past(s);
-    }
-    if (status == RELKVANU_STORE_OK && has_image) {
-        status = rks_write_image(s);
-    }
-    if (status == RELKVANU_STORE_OK) {
-        status = cut_log(s, &cut);
-    }
+    status = status == RELKVANU_STORE_OK && s->job.writes_phase ? rks_write_phase(s) : status;
+    status = status == RELKVANU_STORE_OK ? rks_write_parts(s) : status;
+    status = status == RELKVANU_STORE_OK ? rks_write_past(s) : status;
+    status = status == RELKVANU_STORE_OK && has_image ? rks_write_image(s) : status;
+    status = status == RELKVANU_STORE_OK ? cut_log(s, &cut) : status;
     if (status == RELKVANU_STORE_OK) {
         uint64_t began = rks_clock_ns();
         status = rks_step(s, RKS_COMMIT, "commit");
@@ -147,9 +137,7 @@ static int transact(relkvanu_store *s, bool has_image, bool *may_retry) {
     *may_retry = primary == SQLITE_FULL || primary == SQLITE_NOMEM || primary == SQLITE_BUSY || primary == SQLITE_LOCKED ||
                  primary == SQLITE_TOOBIG || s->log.code == SQLITE_IOERR_WRITE || s->log.code == SQLITE_IOERR_NOMEM;
     memcpy(words, s->fault, sizeof words);
-    if (roll_back(s) != RELKVANU_STORE_OK) {
-        *may_retry = false;
-    }
+    *may_retry = roll_back(s) == RELKVANU_STORE_OK && *may_retry;
     memcpy(s->fault, words, sizeof words);
     return status;
 }

@@ -2,28 +2,12 @@
  * decides whether they are told, and no code here. */
 #include "../store.h"
 
-/* Makes room for *at to have so many items of this size. */
-static bool grow(void **at, size_t len, size_t size) {
-    void *grown = realloc(*at, len * size);
-    *at = grown == NULL ? *at : grown;
-    return grown != NULL;
-}
-
 bool rks_has_rows(relkvanu_store *s, size_t len) {
-    if (!rks_has_room_for_extras(s, len)) {
-        return false;
-    }
-    if (len <= s->group.rows_room) {
-        return true;
-    }
-    void *rows = s->group.rows, *held = s->group.held, *receipts = s->group.receipts;
-    bool is_there = grow(&rows, len, sizeof *s->group.rows) && grow(&held, len, sizeof *s->group.held) &&
-                    grow(&receipts, len, sizeof *s->group.receipts);
-    s->group.rows = rows;
-    s->group.held = held;
-    s->group.receipts = receipts;
-    s->group.rows_room = is_there ? len : s->group.rows_room;
-    return is_there;
+    struct rks_group *group = &s->group;
+    size_t held = group->rows_room, receipts = group->rows_room; /* the least one is told last */
+    return rks_has_room_for_extras(s, len) && rks_grow(&group->held, &held, len, sizeof *group->held) &&
+           rks_grow(&group->receipts, &receipts, len, sizeof *group->receipts) &&
+           rks_grow(&group->rows, &group->rows_room, len, sizeof *group->rows);
 }
 
 void rks_free_rows(relkvanu_store *s) {

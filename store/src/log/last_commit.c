@@ -40,15 +40,13 @@ int rks_check_tail(relkvanu_store *s) {
         return RELKVANU_STORE_OK;
     }
     if (tail.place > s->log.place) {
-        snprintf(s->fault, sizeof s->fault,
+        return rks_refuse(s, RELKVANU_STORE_DAMAGED,
             "%.300s: its log ends with call %" PRIu64 ", and call %" PRIu64 " was answered: it or its -wal is damaged, or an older copy",
             s->file.path, s->log.place, tail.place);
-        return RELKVANU_STORE_DAMAGED;
     }
     if (tail.place == s->log.place && tail.chain != s->log.chain) {
-        snprintf(s->fault, sizeof s->fault, "%.300s: the calls up to call %" PRIu64 " are others than those that were answered",
+        return rks_refuse(s, RELKVANU_STORE_DAMAGED, "%.300s: the calls up to call %" PRIu64 " are others than those that were answered",
             s->file.path, s->log.place);
-        return RELKVANU_STORE_DAMAGED;
     }
     return RELKVANU_STORE_OK;
 }

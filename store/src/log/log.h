@@ -151,6 +151,10 @@ int rks_fault(relkvanu_store *s, const char *what);
 int rks_status_of_read(relkvanu_store *s, const char *what);
 int rks_run(relkvanu_store *s, const char *sql);
 int rks_step(relkvanu_store *s, enum rks_statement statement, const char *what);
+
+/* Makes one step of a statement, which is NULL if it was not prepared, and whose parameters were bound with this code, and resets it; whether there is a table. */
+int rks_do(relkvanu_store *s, sqlite3_stmt *it, int bound, const char *what);
+int rks_has_table(relkvanu_store *s, const char *name, bool *is_there);
 int rks_ask(relkvanu_store *s, const char *sql, int64_t *number, char *text, size_t text_len);
 int rks_open_database(relkvanu_store *s);
 int rks_set_format(relkvanu_store *s, int format);

@@ -314,30 +314,23 @@ static bool closes(relkvanu_store *s, int status) {
 
 /* How a leader waits for more callers. */
 struct gathering {
-    uint64_t end;  /* of all waiting, by monotonic_ns */
+    uint64_t end;  /* of all waiting, by rks_monotonic_ns */
     size_t before; /* callers of the group without it */
     bool rests, is_over;
 };
-
-/* The clock of the condition. */
-static uint64_t monotonic_ns(void) {
-    struct timespec now;
-    clock_gettime(CLOCK_MONOTONIC, &now);
-    return (uint64_t)now.tv_sec * 1000000000 + (uint64_t)now.tv_nsec;
-}
 
 /* At most half as long as the last sync took, from now on: what calls cost one by one they also cost in a later group. */
 static struct gathering begin_gathering(relkvanu_store *s) {
     uint64_t most = s->group.took / 2 < LONGEST_GATHERING ? s->group.took / 2 : LONGEST_GATHERING;
     bool rests = s->group.resting != 0;
     s->group.resting -= rests;
-    return (struct gathering){.end = monotonic_ns() + most, .rests = rests, .is_over = rests};
+    return (struct gathering){.end = rks_monotonic_ns() + most, .rests = rests, .is_over = rests};
 }
 
 /* Until when it waits for those who are missing: no longer than these calls are worth, since all others wait meanwhile. */
 static struct timespec end_of_wait(const relkvanu_store *s, const struct gathering *g, size_t missing) {
-    uint64_t worth = monotonic_ns() + s->group.took * missing / s->group.expected, end = worth < g->end ? worth : g->end;
-    return (struct timespec){(time_t)(end / 1000000000), (long)(end % 1000000000)};
+    uint64_t worth = rks_monotonic_ns() + s->group.took * missing / s->group.expected;
+    return rks_moment_of(worth < g->end ? worth : g->end);
 }
 
 /* Waits until all callers are in the group or in the queue, or some more, or one that joins no group. Returns whether the first joins the group. */

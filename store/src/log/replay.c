@@ -2,8 +2,7 @@
 #include "../store.h"
 
 static int damaged(relkvanu_store *s, const char *what, uint64_t place, const char *how) {
-    snprintf(s->fault, sizeof s->fault, "%.300s: %s %" PRIu64 " %s", s->file.path, what, place, how);
-    return RELKVANU_STORE_DAMAGED;
+    return rks_refuse(s, RELKVANU_STORE_DAMAGED, "%.300s: %s %" PRIu64 " %s", s->file.path, what, place, how);
 }
 
 /* Opens the coordinator with the image of a row. */
@@ -20,8 +19,7 @@ static int open_image(relkvanu_store *s, sqlite3_stmt *row) {
     }
     relkvanu_answer answer = rks_open_image(s->handle, image, len);
     if (answer.code == RELKVANU_CLOSED) {
-        snprintf(s->fault, sizeof s->fault, "no random numbers");
-        return RELKVANU_STORE_FAILED;
+        return rks_refuse(s, RELKVANU_STORE_FAILED, "no random numbers");
     }
     if (answer.code != RELKVANU_DONE || !rks_settings_of((const char *)image, len, &s->job.settings)) {
         return answer.code == RELKVANU_NO_MEMORY ? RELKVANU_STORE_NO_MEMORY
@@ -44,8 +42,7 @@ static int open_last_image(relkvanu_store *s) {
     if (code == SQLITE_ROW) {
         status = open_image(s, row);
     } else if (code == SQLITE_DONE) {
-        snprintf(s->fault, sizeof s->fault, "%.400s: there is no%s image", s->file.path, is_earlier ? " earlier" : "");
-        status = RELKVANU_STORE_DAMAGED;
+        status = rks_refuse(s, RELKVANU_STORE_DAMAGED, "%.400s: there is no%s image", s->file.path, is_earlier ? " earlier" : "");
     } else {
         status = rks_fault(s, "images");
     }
@@ -70,12 +67,11 @@ static struct rks_row row_of(relkvanu_store *s, sqlite3_stmt *it, uint32_t *chai
 }
 
 static int differs(relkvanu_store *s, const struct rks_row *row, relkvanu_answer got) {
-    snprintf(s->fault, sizeof s->fault,
+    return rks_refuse(s, RELKVANU_STORE_DIFFERS,
         "%.200s: call %" PRIu64 ", \"%.60s\": the coordinator answers %" PRIu32 "/%" PRIu32 " %" PRIu64 " %" PRIu64
         ", the log has 0/%" PRIu32 " %" PRIu64 " %" PRIu64,
         s->file.path, row->place, (const char *)row->line.at, got.code, got.what, got.a, got.b, row->answer.what, row->answer.a,
         row->answer.b);
-    return RELKVANU_STORE_DIFFERS;
 }
 
 /* The settings that the line of a row gives to the job. */

@@ -45,10 +45,23 @@ int rks_set_format(relkvanu_store *s, int format) {
     return rks_run(s, pragma);
 }
 
-int rks_step(relkvanu_store *s, enum rks_statement statement, const char *what) {
-    sqlite3_stmt *it = s->log.statements[statement];
-    int code = sqlite3_step(it), status = code == SQLITE_DONE || code == SQLITE_ROW ? RELKVANU_STORE_OK : rks_fault(s, what);
+int rks_do(relkvanu_store *s, sqlite3_stmt *it, int bound, const char *what) {
+    int code = it == NULL || bound != SQLITE_OK ? SQLITE_ERROR : sqlite3_step(it);
+    int status = code == SQLITE_DONE || code == SQLITE_ROW ? RELKVANU_STORE_OK : rks_fault(s, what);
     sqlite3_reset(it);
+    return status;
+}
+
+int rks_step(relkvanu_store *s, enum rks_statement statement, const char *what) {
+    return rks_do(s, s->log.statements[statement], SQLITE_OK, what);
+}
+
+int rks_has_table(relkvanu_store *s, const char *name, bool *is_there) {
+    char sql[100];
+    int64_t tables = 0;
+    snprintf(sql, sizeof sql, "SELECT count(*) FROM sqlite_schema WHERE name = '%s'", name);
+    int status = rks_ask(s, sql, &tables, NULL, 0);
+    *is_there = tables != 0;
     return status;
 }
 
@@ -84,8 +97,7 @@ static int set_mode(relkvanu_store *s, const char *pragma, const char *mode) {
     char found[32] = "";
     int status = rks_ask(s, pragma, NULL, found, sizeof found);
     if (status == RELKVANU_STORE_OK && strcmp(found, mode) != 0) {
-        snprintf(s->fault, sizeof s->fault, "%.400s: %s: it stays %s", s->file.path, pragma, found);
-        return RELKVANU_STORE_FAILED;
+        return rks_refuse(s, RELKVANU_STORE_FAILED, "%.400s: %s: it stays %s", s->file.path, pragma, found);
     }
     return status;
 }
@@ -100,8 +112,7 @@ enum { RKS_NOFOLLOW = 0 };
 /* The lock of the whole file is set first: then SQLite keeps its index of the -wal in memory, and PATH-shm is free for rks_lock. */
 int rks_open_database(relkvanu_store *s) {
     if (sqlite3_threadsafe() == 0) {
-        snprintf(s->fault, sizeof s->fault, "SQLite was compiled without threads");
-        return RELKVANU_STORE_FAILED;
+        return rks_refuse(s, RELKVANU_STORE_FAILED, "SQLite was compiled without threads");
     }
     int follows = rks_is_guest(s->file.path) ? RKS_NOFOLLOW : 0;
     if (sqlite3_open_v2(s->file.path, &s->log.db, SQLITE_OPEN_READWRITE | SQLITE_OPEN_NOMUTEX | follows, NULL) != SQLITE_OK) {
@@ -112,23 +123,15 @@ int rks_open_database(relkvanu_store *s) {
     /* A -wal whose sync failed must not go into the file and be deleted: the next opening writes it again. */
     sqlite3_db_config(s->log.db, SQLITE_DBCONFIG_NO_CKPT_ON_CLOSE, 1, NULL);
     if (sqlite3_db_readonly(s->log.db, "main") == 1) { /* SQLite opens such a file */
-        snprintf(s->fault, sizeof s->fault, "%.400s: it is read-only", s->file.path);
-        return RELKVANU_STORE_READ_ONLY;
+        return rks_refuse(s, RELKVANU_STORE_READ_ONLY, "%.400s: it is read-only", s->file.path);
     }
     int status = set_mode(s, "PRAGMA locking_mode=EXCLUSIVE", "exclusive");
-    if (status == RELKVANU_STORE_OK) {
-        status = set_mode(s, "PRAGMA journal_mode=WAL", "wal");
-    }
-    if (status == RELKVANU_STORE_OK) {
-        status = rks_run(s, "PRAGMA synchronous=FULL");
-    }
-    if (status == RELKVANU_STORE_OK) { /* Debian's SQLite would write each page of a payload once more, with zeros, when its record ends */
-        status = rks_run(s, "PRAGMA secure_delete=FAST");
-    }
-    if (status ==
-        RELKVANU_STORE_OK) { /* payloads of a record would be written to the -wal before the commit and once more by it, and be read to be deleted */
-        status = rks_run(s, "PRAGMA cache_spill=OFF; PRAGMA cache_size=-16384");
-    }
+    status = status == RELKVANU_STORE_OK ? set_mode(s, "PRAGMA journal_mode=WAL", "wal") : status;
+    status = status == RELKVANU_STORE_OK ? rks_run(s, "PRAGMA synchronous=FULL") : status;
+    /* Debian's SQLite would write each page of a payload once more, with zeros, when its record ends */
+    status = status == RELKVANU_STORE_OK ? rks_run(s, "PRAGMA secure_delete=FAST") : status;
+    /* payloads of a record would be written to the -wal before the commit and once more by it, and be read to be deleted */
+    status = status == RELKVANU_STORE_OK ? rks_run(s, "PRAGMA cache_spill=OFF; PRAGMA cache_size=-16384") : status;
     sqlite3_wal_autocheckpoint(s->log.db, 0); /* SQLite would hide that one failed */
     sqlite3_wal_hook(s->log.db, count_pages, s);
     return status;

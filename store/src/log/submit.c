@@ -28,17 +28,10 @@ static void *helps(void *with) {
     }
 }
 
-/* Starts the thread at the first submit. It gets no signals. */
+/* Starts the thread at the first submit. */
 static bool has_helper(relkvanu_store *s) {
-    sigset_t every, before;
-    sigfillset(&every);
     pthread_mutex_lock(&s->mutex);
-    if (!s->submits.has_helper) {
-        pthread_sigmask(SIG_SETMASK, &every, &before);
-        s->submits.has_helper = pthread_create(&s->submits.helper, NULL, helps, s) == 0;
-        pthread_sigmask(SIG_SETMASK, &before, NULL);
-    }
-    bool is_there = s->submits.has_helper;
+    bool is_there = s->submits.has_helper = s->submits.has_helper || rks_start(&s->submits.helper, helps, s);
     pthread_mutex_unlock(&s->mutex);
     return is_there;
 }

@@ -83,12 +83,9 @@ static int check(relkvanu_store *s, struct wal *wal) {
     }
     unsigned lost = lost_commits(wal, &broken);
     free(wal->frame);
-    if (lost < 2) {
-        return RELKVANU_STORE_OK;
-    }
-    snprintf(s->fault, sizeof s->fault, "%.300s: the frame at byte %lld is damaged, and %u later commits would be lost", s->file.wal,
-        (long long)broken, lost);
-    return RELKVANU_STORE_DAMAGED;
+    return lost < 2 ? RELKVANU_STORE_OK
+                    : rks_refuse(s, RELKVANU_STORE_DAMAGED, "%.300s: the frame at byte %lld is damaged, and %u later commits would be lost",
+                          s->file.wal, (long long)broken, lost);
 }
 
 int rks_check_wal(relkvanu_store *s) {

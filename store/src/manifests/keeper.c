@@ -62,17 +62,8 @@ static void *keeps(void *with) {
     return NULL;
 }
 
-/* It gets no signals. */
 bool rks_has_keeper(relkvanu_store *s) {
-    struct rks_keeper *keeper = &s->keeper;
-    sigset_t every, before;
-    if (!keeper->is_there) {
-        sigfillset(&every);
-        pthread_sigmask(SIG_SETMASK, &every, &before);
-        keeper->is_there = pthread_create(&keeper->thread, NULL, keeps, s) == 0;
-        pthread_sigmask(SIG_SETMASK, &before, NULL);
-    }
-    return keeper->is_there;
+    return s->keeper.is_there = s->keeper.is_there || rks_start(&s->keeper.thread, keeps, s);
 }
 
 void rks_keep_beside(relkvanu_store *s, struct rks_writing *work) {

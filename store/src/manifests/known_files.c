@@ -1,8 +1,8 @@
 /* Lengths of state files, and their checksums: CRC-32 by zlib, as that of a manifest. Each file is looked at once, and read once. */
 #include "../store.h"
 
-enum { PIECE = 1 << 16, FEWEST = 1024, NAME = 32 }; /* bytes that are read at once; places of a table; of a name */
-static const uint64_t GONE = UINT64_MAX;            /* the key of a file that is gone: no file has this number */
+enum { PIECE = 1 << 16, FEWEST = 1024 }; /* bytes that are read at once; places of a table */
+static const uint64_t GONE = UINT64_MAX; /* the key of a file that is gone: no file has this number */
 
 /* The place of a file, or the free one that it would get. */
 static size_t place_of(const struct rks_sums *sums, uint64_t key) {
@@ -31,10 +31,8 @@ bool rks_find_length(const struct rks_sums *sums, uint64_t file, uint64_t *bytes
 }
 
 static bool is_there(int folder, uint64_t file) {
-    char name[NAME];
     struct stat found;
-    snprintf(name, sizeof name, "%" PRIu64, file);
-    return fstatat(folder, name, &found, AT_SYMLINK_NOFOLLOW) == 0 || errno != ENOENT;
+    return rks_find_file(folder, file, &found) || errno != ENOENT;
 }
 
 /* Marks those of files that are gone. Returns how many are left. */
@@ -103,13 +101,11 @@ bool rks_note_length(struct rks_sums *sums, int folder, uint64_t file, uint64_t 
 }
 
 int rks_length_of(struct rks_sums *sums, int folder, uint64_t file, uint64_t *bytes) {
-    char name[NAME];
     struct stat found;
     if (rks_find_length(sums, file, bytes)) {
         return RELKVANU_STORE_OK;
     }
-    snprintf(name, sizeof name, "%" PRIu64, file);
-    if (fstatat(folder, name, &found, AT_SYMLINK_NOFOLLOW) != 0) {
+    if (!rks_find_file(folder, file, &found)) {
         return RELKVANU_STORE_ABSENT;
     }
     *bytes = (uint64_t)found.st_size;
@@ -141,17 +137,13 @@ static int read_file(int folder, const char *name, uint32_t *sum) {
         bool is_whole = len >= 0 && fstat(file, &found) == 0 && S_ISREG(found.st_mode) && found.st_size == len;
         status = is_whole ? RELKVANU_STORE_OK : status;
     }
-    int error = errno;
+    rks_close(file);
     free(piece);
-    if (file >= 0) {
-        close(file);
-    }
-    errno = error;
     return status;
 }
 
 int rks_sum_of(struct rks_sums *sums, int folder, uint64_t file, uint32_t *sum) {
-    char name[NAME];
+    char name[32];
     if (rks_find_sum(sums, file, sum)) {
         return RELKVANU_STORE_OK;
     }

@@ -66,46 +66,27 @@ static void free_writing(struct rks_writing *w) {
     free(w);
 }
 
-/* Makes room for one more subtask. */
-static bool has_room(struct rks_writing *w) {
-    if (w->names_room - w->names_len < RKS_MOST_FILES) {
-        size_t room = 2 * w->names_room + RKS_MOST_FILES;
-        uint64_t *names = realloc(w->names, room * sizeof *names);
-        w->names = names == NULL ? w->names : names;
-        w->names_room = names == NULL ? w->names_room : room;
+/* Takes the names of the files of a subtask. */
+static int take_subtask(void *with, uint16_t vertex, uint16_t index, const uint64_t *files, size_t len) {
+    struct rks_writing *w = with;
+    if (!rks_grow(&w->names, &w->names_room, w->names_len + len, sizeof *w->names) ||
+        !rks_grow(&w->lens, &w->lens_room, w->lens_len + 1, sizeof *w->lens)) {
+        return RELKVANU_STORE_NO_MEMORY;
     }
-    if (w->lens_len == w->lens_room) {
-        size_t room = 2 * w->lens_room + 64;
-        uint16_t *lens = realloc(w->lens, room * sizeof *lens);
-        w->lens = lens == NULL ? w->lens : lens;
-        w->lens_room = lens == NULL ? w->lens_room : room;
+    if (len != 0) {
+        memcpy(w->names + w->names_len, files, len * sizeof *files);
     }
-    return w->names_room - w->names_len >= RKS_MOST_FILES && w->lens_len < w->lens_room;
-}
-
-/* Takes the files of the subtasks of the next vertex. Returns false without memory. */
-static bool take_vertex(struct rks_writing *w) {
-    bool is_there = true, has_memory = true;
-    uint32_t index = 0;
-    while (is_there && index <= UINT16_MAX && (has_memory = has_room(w))) {
-        relkvanu_answer found =
-            relkvanu_files_of(w->s->handle, w->id, w->shape_len, (uint16_t)index, w->names + w->names_len, RKS_MOST_FILES);
-        is_there = found.what == RELKVANU_FILES && found.code == RELKVANU_DONE;
-        if (is_there) {
-            w->names_len += found.a;
-            w->lens[w->lens_len++] = (uint16_t)found.a;
-            index++;
-        }
-    }
-    w->shape[w->shape_len] = index;
-    return has_memory;
+    w->names_len += len;
+    w->lens[w->lens_len++] = (uint16_t)len;
+    w->shape[vertex] = index + UINT32_C(1);
+    w->shape_len = (uint16_t)(vertex + 1);
+    return RELKVANU_STORE_OK;
 }
 
 /* Takes all that a manifest says of the record but the lengths of its files. Returns false without memory, or if the job's file can't be read. */
 static bool take(struct rks_writing *w, bool is_savepoint) {
     relkvanu_store *s = w->s;
     relkvanu_answer choice = relkvanu_choice(s->handle);
-    bool is_taken = rks_read_parts(s, w->id, &w->parts) == RELKVANU_STORE_OK, has_more = true;
     w->is_savepoint = is_savepoint;
     w->is_chosen = choice.what != RELKVANU_CHOICE_FRESH && choice.a == w->id;
     w->term = relkvanu_term(s->handle).a;
@@ -114,12 +95,8 @@ static bool take(struct rks_writing *w, bool is_savepoint) {
     w->below.term = s->kept.term;
     w->below.name = s->kept.name;
     w->settings = s->job.settings;
-    while (is_taken && has_more && w->shape_len < RKS_VERTICES) {
-        is_taken = take_vertex(w);
-        has_more = w->shape[w->shape_len] != 0;
-        w->shape_len += has_more;
-    }
-    return is_taken;
+    return rks_read_parts(s, w->id, &w->parts) == RELKVANU_STORE_OK &&
+           rks_subtasks_of(s->handle, w->id, take_subtask, w) == RELKVANU_STORE_OK;
 }
 
 static struct rks_writing *new_writing(relkvanu_store *s, relkvanu_answer live) {
@@ -291,8 +268,7 @@ int rks_put_manifest(int folder, uint64_t id, const char *end, const struct rks_
     if (file < 0) {
         return errno;
     }
-    int error = rks_write_whole(file, text->at, text->len, 0) && fsync(file) == 0 ? 0 : errno;
-    error = close(file) != 0 && error == 0 ? errno : error;
+    int error = rks_write_new(file, text->at, text->len);
     error = error == 0 && renameat(folder, part, folder, name) != 0 ? errno : error;
     if (error != 0) {
         unlinkat(folder, part, 0);
@@ -330,14 +306,8 @@ static bool is_noted(struct rks_kept *kept, uint64_t id) {
     if (has_manifest(kept, id)) {
         return true;
     }
-    if (kept->len == kept->room) {
-        size_t room = 2 * kept->room + 16;
-        uint64_t *ids = realloc(kept->ids, room * sizeof *ids);
-        if (ids == NULL) {
-            return false;
-        }
-        kept->ids = ids;
-        kept->room = room;
+    if (!rks_grow(&kept->ids, &kept->room, kept->len + 1, sizeof *kept->ids)) {
+        return false;
     }
     size_t at = place_of(kept, id);
     memmove(kept->ids + at + 1, kept->ids + at, (kept->len - at) * sizeof *kept->ids);
@@ -435,19 +405,19 @@ static bool are_written(relkvanu_store *s, uint64_t again, uint64_t *written) {
     return is_whole && (*written == 0 || s->kept.place.put != NULL || fsync(s->storage.folder) == 0);
 }
 
-/* Takes the records that have ended out of those that have a manifest. `ended` has room for all. Returns how many. */
-static size_t take_ended(relkvanu_store *s, uint64_t *ended) {
+/* Moves the records that have ended behind the others that have a manifest, and does not keep them. Returns how many. */
+static size_t take_ended(relkvanu_store *s) {
     struct rks_kept *kept = &s->kept;
-    size_t left = 0, ended_len = 0;
-    for (size_t at = 0; at < kept->len; at++) {
-        if (is_done(s, kept->ids[at])) {
-            kept->ids[left++] = kept->ids[at];
-        } else {
-            ended[ended_len++] = kept->ids[at];
+    size_t len = kept->len;
+    kept->len = 0;
+    for (size_t at = 0; at < len; at++) {
+        uint64_t id = kept->ids[at];
+        if (is_done(s, id)) {
+            kept->ids[at] = kept->ids[kept->len];
+            kept->ids[kept->len++] = id;
         }
     }
-    kept->len = left;
-    return ended_len;
+    return len - kept->len;
 }
 
 static void drop_one(const relkvanu_store *s, uint64_t id, const char *end) {
@@ -457,17 +427,10 @@ static void drop_one(const relkvanu_store *s, uint64_t id, const char *end) {
 }
 
 /* Removes the manifests of records that have ended, once those of the others are on the disk. */
-static void drop_ended(relkvanu_store *s) {
-    struct rks_kept *kept = &s->kept;
-    size_t left = 0;
-    for (size_t at = 0; at < kept->len; at++) {
-        if (is_done(s, kept->ids[at])) {
-            kept->ids[left++] = kept->ids[at];
-        } else {
-            drop_one(s, kept->ids[at], "");
-        }
+static void drop_all(const relkvanu_store *s, const uint64_t *ended, size_t len) {
+    for (size_t at = 0; at < len; at++) {
+        drop_one(s, ended[at], "");
     }
-    kept->len = left;
 }
 
 static void count(relkvanu_store *s, uint64_t written, bool is_whole) {
@@ -488,9 +451,7 @@ int rks_write_beside(struct rks_writing *w) {
     relkvanu_store *s = w->s;
     w->is_whole = rks_owner(s) == RELKVANU_STORAGE_OK && is_written(w) && fsync(s->storage.folder) == 0;
     w->is_fenced = rks_owner(s) == RELKVANU_STORAGE_OTHER_JOB;
-    for (size_t at = 0; at < w->ended_len && w->is_whole && !w->is_fenced; at++) {
-        drop_one(s, w->ended[at], "");
-    }
+    drop_all(s, w->ended, w->is_whole && !w->is_fenced ? w->ended_len : 0);
     count(s, w->is_whole, w->is_whole);
     return w->is_fenced ? RELKVANU_STORE_STORAGE : RELKVANU_STORE_OK;
 }
@@ -540,7 +501,8 @@ static bool goes_beside(relkvanu_store *s, uint64_t again) {
         free_writing(w);
         return false;
     }
-    w->ended_len = take_ended(s, w->ended);
+    w->ended_len = take_ended(s);
+    memcpy(w->ended, kept->ids + kept->len, w->ended_len * sizeof *w->ended);
     kept->beside = w;
     rks_keep_beside(s, w);
     return true;
@@ -555,7 +517,8 @@ static int write_due(relkvanu_store *s, uint64_t again) {
     kept->is_due = kept->has_failed = false;
     kept->tries = 0;
     if (is_whole && !is_fenced) {
-        drop_ended(s);
+        size_t ended = take_ended(s);
+        drop_all(s, kept->ids + kept->len, ended);
     } else {
         note_failed(kept, rks_clock_ns() + RETRY);
     }
@@ -669,51 +632,20 @@ struct listed {
     bool lacks_memory;
 };
 
-/* Notes an entry of the folder, if it is a manifest, also in part, or a mark. Returns false without memory. */
-static bool is_listed(struct listed *listed, const char *name) {
+/* Notes a name, if it is that of a manifest, also in part, or of a mark. Returns false without memory. */
+static bool note_name(void *with, const char *name) {
+    struct listed *listed = with;
     uint64_t id;
-    if (rks_manifest_names(name, &id) == NULL) {
-        return true;
+    bool is_manifest = rks_manifest_names(name, &id) != NULL;
+    listed->lacks_memory = is_manifest && !rks_grow(&listed->ids, &listed->room, listed->len + 1, sizeof *listed->ids);
+    if (is_manifest && !listed->lacks_memory) {
+        listed->ids[listed->len++] = id;
     }
-    if (listed->len == listed->room) {
-        size_t room = 2 * listed->room + 16;
-        uint64_t *ids = realloc(listed->ids, room * sizeof *ids);
-        if (ids == NULL) {
-            return false;
-        }
-        listed->ids = ids;
-        listed->room = room;
-    }
-    listed->ids[listed->len++] = id;
-    return true;
+    return !listed->lacks_memory;
 }
 
-DIR *rks_entries(int folder) {
-    /* opened once more: descriptors of one opening share their place, and two threads would each see a part */
-    int copy = openat(folder, ".", O_RDONLY | O_DIRECTORY | O_CLOEXEC);
-    DIR *entries = copy < 0 ? NULL : fdopendir(copy);
-    if (entries == NULL && copy >= 0) {
-        int error = errno;
-        close(copy);
-        errno = error;
-    }
-    return entries;
-}
-
-static int list(int folder, struct listed *listed) {
-    DIR *entries = rks_entries(folder);
-    struct dirent *entry;
-    int status = entries != NULL ? RELKVANU_STORE_OK : RELKVANU_STORE_NOT_DONE;
-    while (status == RELKVANU_STORE_OK && (errno = 0, entry = readdir(entries)) != NULL) {
-        status = is_listed(listed, entry->d_name) ? RELKVANU_STORE_OK : RELKVANU_STORE_NO_MEMORY;
-    }
-    status = status == RELKVANU_STORE_OK && errno != 0 ? RELKVANU_STORE_NOT_DONE : status;
-    int error = errno;
-    if (entries != NULL) {
-        closedir(entries);
-    }
-    errno = error;
-    return status;
+static int note_entry(void *with, const struct dirent *entry) {
+    return note_name(with, entry->d_name) ? RELKVANU_STORE_OK : RELKVANU_STORE_NO_MEMORY;
 }
 
 static bool is_gone(const relkvanu_store *s, uint64_t id, const char *end) {
@@ -735,7 +667,8 @@ static void sweep_one(relkvanu_store *s, uint64_t id, size_t *left) {
 int rks_sweep_manifests(relkvanu_store *s, size_t *left) {
     struct listed listed = {0};
     relkvanu *handle;
-    int status = list(s->storage.folder, &listed);
+    int status = rks_each_entry(s->storage.folder, note_entry, &listed);
+    status = status < 0 ? RELKVANU_STORE_NOT_DONE : status;
     if (status == RELKVANU_STORE_OK && listed.len != 0 && (status = relkvanu_store_read(s, &handle)) == RELKVANU_STORE_OK) {
         bool is_owner = rks_owner(s) == RELKVANU_STORAGE_OK;
         for (size_t at = 0; at < listed.len && is_owner; at++) {
@@ -746,12 +679,6 @@ int rks_sweep_manifests(relkvanu_store *s, size_t *left) {
     }
     free(listed.ids);
     return status;
-}
-
-static bool note_name(void *with, const char *name) {
-    struct listed *listed = with;
-    listed->lacks_memory = !is_listed(listed, name);
-    return !listed->lacks_memory;
 }
 
 /* Writes those of all complete records anew, and removes what records that ended or were claimed have left there. */

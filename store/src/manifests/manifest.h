@@ -69,9 +69,6 @@ int rks_check_manifests(struct rks_manifests *all, int folder, const struct rks_
 const char *rks_manifest_names(const char *name, uint64_t *id);
 void rks_manifest_name(uint64_t id, const char *end, char name[RKS_MANIFEST_NAME]);
 
-/* The entries of an open folder, from the first one on; NULL: errno says why not. */
-DIR *rks_entries(int folder);
-
 /* Reads all manifests and marks of an open folder, and looks for the files of each. RELKVANU_STORE_NO_MEMORY; RELKVANU_STORE_FAILED: errno says why. */
 int rks_list_manifests(int folder, struct rks_manifests *found);
 void rks_free_manifests(struct rks_manifests *found);
@@ -104,14 +101,18 @@ struct rks_manifest *rks_choose_manifest(struct rks_manifests *all, const char *
 const struct rks_manifest *rks_mark_of(const struct rks_manifests *all, uint64_t id);
 void rks_say_claimed(const struct rks_manifest *mark, char *words, size_t len);
 
+/* Lists the manifests of a folder with the marker of a job, and chooses one of that job. NULL: there is none, or it can't be read. To be freed in each case. */
+const struct rks_manifest *rks_list_owned(const char *folder, uint64_t wanted, struct rks_manifests *all);
+
+/* Whether there is a chosen record, and none may be later unless its number was given. Otherwise notes in the store what is wrong. */
+int rks_check_choice(
+    relkvanu_store *s, const char *folder, struct rks_manifests *all, const char *job, uint64_t wanted, const struct rks_manifest *chosen);
+
 /* Why there is none: a record was claimed, no manifest has all its files, or whole records are of another job than the one that the marker (job) names. */
 void rks_say_none(struct rks_manifests *all, const char *job, uint64_t wanted, char *words, size_t len);
 
 /* Whether a record that is later than the chosen one, and not whole, has ended since the folder was listed: then the list may lack one that is later still. */
 bool rks_has_missed(const struct rks_manifests *all, int folder, const struct rks_manifest *chosen);
-
-/* Whether a manifest that can't be read has a greater number than the chosen record, so that it may be of a later one. words says which, and what to do. */
-bool rks_is_later_unread(const struct rks_manifests *all, const struct rks_manifest *chosen, char *words, size_t len);
 
 /* The last opening of the job of which a manifest says something. */
 uint64_t rks_last_opening(const struct rks_manifests *all, const char *job);

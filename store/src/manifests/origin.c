@@ -14,9 +14,10 @@ int rks_write_origin(relkvanu_store *s, uint64_t record, const char *job) {
 }
 
 int rks_begin_origin(relkvanu_store *s) {
-    int64_t tables = 0, record = 0;
-    int status = rks_ask(s, "SELECT count(*) FROM sqlite_schema WHERE name = 'origin'", &tables, NULL, 0);
-    if (status != RELKVANU_STORE_OK || tables == 0) {
+    bool is_there;
+    int64_t record = 0;
+    int status = rks_has_table(s, "origin", &is_there);
+    if (status != RELKVANU_STORE_OK || !is_there) {
         return status;
     }
     status = rks_ask(s, "SELECT record FROM origin", &record, NULL, 0);

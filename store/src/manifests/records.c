@@ -25,9 +25,7 @@ static int read_text(int folder, uint64_t id, const char *end, struct rks_text *
         status = more < 0 && errno != EINTR ? RELKVANU_STORE_FAILED : status;
         text->len += more > 0 ? (size_t)more : 0;
     }
-    int error = errno;
-    close(file);
-    errno = error;
+    rks_close(file);
     if (status == RELKVANU_STORE_OK) {
         text->at[text->len] = 0;
     }
@@ -47,6 +45,11 @@ static int check_text(const struct rks_text *text) {
         return RELKVANU_STORE_DAMAGED;
     }
     return memcmp(at, HEAD, sizeof HEAD - 1) == 0 ? RELKVANU_STORE_OK : RELKVANU_STORE_NOT_A_STORE;
+}
+
+static int read_checked(int folder, uint64_t id, struct rks_text *text) {
+    int status = read_text(folder, id, "", text);
+    return status == RELKVANU_STORE_OK ? check_text(text) : status;
 }
 
 static int status_of(int code) {
@@ -242,8 +245,7 @@ static int each_part(sqlite3 *db, const struct rks_text *text, rks_each_part eac
 
 int rks_manifest_parts(struct rks_manifests *all, int folder, uint64_t id, rks_each_part each, void *with) {
     struct rks_text text = {0};
-    int status = read_text(folder, id, "", &text);
-    status = status == RELKVANU_STORE_OK ? check_text(&text) : status;
+    int status = read_checked(folder, id, &text);
     status = status == RELKVANU_STORE_OK ? each_part(all->db, &text, each, with) : status;
     free(text.at);
     return status;
@@ -279,11 +281,6 @@ static int rewrite(sqlite3 *db, const char *sql, const char *word, struct rks_te
     return status;
 }
 
-static int read_checked(int folder, uint64_t id, struct rks_text *text) {
-    int status = read_text(folder, id, "", text);
-    return status == RELKVANU_STORE_OK ? check_text(text) : status;
-}
-
 int rks_manifest_text(struct rks_manifests *all, int folder, uint64_t id, const char *job, struct rks_text *text) {
     int status = read_checked(folder, id, text);
     return status == RELKVANU_STORE_OK && job != NULL ? rewrite(all->db, OF_JOB, job, text) : status;
@@ -295,10 +292,8 @@ int rks_mark_text(struct rks_manifests *all, int folder, uint64_t id, const char
 }
 
 uint32_t rks_fault_of(int folder, const struct rks_part *part) {
-    char name[32];
     struct stat found;
-    snprintf(name, sizeof name, "%" PRIu64, part->file);
-    if (fstatat(folder, name, &found, AT_SYMLINK_NOFOLLOW) != 0 || !S_ISREG(found.st_mode)) {
+    if (!rks_find_file(folder, part->file, &found) || !S_ISREG(found.st_mode)) {
         return RELKVANU_STORE_FILE_MISSING;
     }
     return part->has_bytes && (uint64_t)found.st_size != part->bytes ? RELKVANU_STORE_FILE_LENGTH : 0;
@@ -359,23 +354,18 @@ static int read_manifest(struct rks_manifests *all, int folder, const char *end,
 }
 
 static int note(struct rks_manifest **to, size_t *len, size_t *room, uint64_t id) {
-    if (*len == *room) {
-        size_t more = 2 * *room + 16;
-        struct rks_manifest *at = realloc(*to, more * sizeof *at);
-        if (at == NULL) {
-            return RELKVANU_STORE_NO_MEMORY;
-        }
-        *to = at;
-        *room = more;
+    if (!rks_grow(to, room, *len + 1, sizeof **to)) {
+        return RELKVANU_STORE_NO_MEMORY;
     }
     (*to)[(*len)++] = (struct rks_manifest){.id = id};
     return RELKVANU_STORE_OK;
 }
 
 /* Notes the manifest, or the mark, of an entry of the folder. */
-static int note_entry(struct rks_manifests *all, const char *name) {
+static int note_entry(void *with, const struct dirent *entry) {
+    struct rks_manifests *all = with;
     uint64_t id;
-    const char *end = rks_manifest_names(name, &id);
+    const char *end = rks_manifest_names(entry->d_name, &id);
     if (end == NULL || strcmp(end, RKS_PART) == 0) {
         return RELKVANU_STORE_OK;
     }
@@ -387,26 +377,12 @@ static int by_number(const void *one, const void *other) {
     return (a > b) - (a < b);
 }
 
-static int note_entries(struct rks_manifests *all, int folder) {
-    DIR *entries = rks_entries(folder);
-    struct dirent *entry;
-    int status = entries != NULL ? RELKVANU_STORE_OK : RELKVANU_STORE_FAILED;
-    while (status == RELKVANU_STORE_OK && (errno = 0, entry = readdir(entries)) != NULL) {
-        status = note_entry(all, entry->d_name);
-    }
-    int error = errno;
-    if (entries != NULL) {
-        closedir(entries);
-    }
-    errno = error;
-    return status == RELKVANU_STORE_OK && error != 0 ? RELKVANU_STORE_FAILED : status;
-}
-
 int rks_list_manifests(int folder, struct rks_manifests *found) {
     struct rks_text text = {0};
     *found = (struct rks_manifests){0};
     int status = sqlite3_open(":memory:", &found->db) == SQLITE_OK ? RELKVANU_STORE_OK : RELKVANU_STORE_NO_MEMORY;
-    status = status == RELKVANU_STORE_OK ? note_entries(found, folder) : status;
+    status = status == RELKVANU_STORE_OK ? rks_each_entry(folder, note_entry, found) : status;
+    status = status < 0 ? RELKVANU_STORE_FAILED : status;
     if (found->len != 0) {
         qsort(found->at, found->len, sizeof *found->at, by_number);
     }
@@ -424,10 +400,12 @@ void rks_free_manifests(struct rks_manifests *found) {
     for (size_t at = 0; at < found->len + found->marks_len; at++) {
         free(at < found->len ? found->at[at].target : found->marks[at - found->len].target);
     }
+    int error = errno;
     free(found->at);
     free(found->marks);
     sqlite3_close(found->db);
     *found = (struct rks_manifests){0};
+    errno = error;
 }
 
 /* Whether the first of two whole ones is what a recovery begins from: the last one that was the choice, or else the last savepoint. */
@@ -529,14 +507,31 @@ bool rks_has_missed(const struct rks_manifests *all, int folder, const struct rk
     return has_missed;
 }
 
-bool rks_is_later_unread(const struct rks_manifests *all, const struct rks_manifest *chosen, char *words, size_t len) {
-    uint64_t last = 0;
-    for (size_t i = 0; i < all->len; i++) {
+int rks_check_choice(
+    relkvanu_store *s, const char *folder, struct rks_manifests *all, const char *job, uint64_t wanted, const struct rks_manifest *chosen) {
+    char words[200];
+    uint64_t last = 0; /* of those that can't be read: one may be of a later record */
+    if (chosen == NULL) {
+        rks_say_none(all, job, wanted, words, sizeof words);
+        return rks_refuse(s, RELKVANU_STORE_ABSENT, "%.300s: %.200s", folder, words);
+    }
+    for (size_t i = 0; i < all->len && wanted == 0; i++) {
         last = all->at[i].status != RELKVANU_STORE_OK && all->at[i].id > last ? all->at[i].id : last;
     }
-    snprintf(words, len,
-        "record-%" PRIu64 ".manifest is damaged or of another version: give the number of a record to go on from an earlier one", last);
-    return last > chosen->id;
+    return last <= chosen->id ? RELKVANU_STORE_OK
+                              : rks_refuse(s, RELKVANU_STORE_DAMAGED,
+                                    "%.300s: record-%" PRIu64
+                                    ".manifest is damaged or of another version: give the number of a record to go on from an earlier one",
+                                    folder, last);
+}
+
+const struct rks_manifest *rks_list_owned(const char *folder, uint64_t wanted, struct rks_manifests *all) {
+    relkvanu_store s = {.storage = {.folder = -1}};
+    uint64_t marked = 0;
+    bool is_owned = rks_open_folder(&s, folder) == RELKVANU_STORE_OK && rks_read_owner(&s, folder, &marked) == RELKVANU_STORE_OK;
+    bool is_listed = is_owned && rks_list_manifests(s.storage.folder, all) == RELKVANU_STORE_OK;
+    rks_close(s.storage.folder);
+    return is_listed ? rks_choose_manifest(all, s.job.identity, wanted) : NULL;
 }
 
 uint64_t rks_last_opening(const struct rks_manifests *all, const char *job) {
@@ -609,19 +604,15 @@ static int tell_records(relkvanu_store *s, const char *folder, struct rks_tellin
 }
 
 static int tell_folder(const char *folder, struct rks_telling telling, char *message, size_t message_len) {
-    relkvanu_store *s = calloc(1, sizeof *s);
-    int status = s == NULL ? RELKVANU_STORE_NO_MEMORY : rks_begin_store(s);
-    snprintf(message, message_len, "%s", "");
-    if (status != RELKVANU_STORE_OK) {
-        free(s);
-        return status;
+    relkvanu_store *s;
+    char words[RKS_MESSAGE];
+    int status = rks_new_store(&s, words);
+    if (status == RELKVANU_STORE_OK) {
+        status = tell_records(s, folder, telling);
+        memcpy(words, s->fault, sizeof words);
+        rks_release_store(s);
     }
-    rks_list(s);
-    status = tell_records(s, folder, telling);
-    snprintf(message, message_len, "%s", status == RELKVANU_STORE_OK ? "" : s->fault);
-    int error = errno;
-    rks_release_store(s);
-    errno = error;
+    snprintf(message, message_len, "%s", status == RELKVANU_STORE_OK ? "" : words);
     return status;
 }
 
