@@ -30,7 +30,7 @@
 
 /* After so many pages the -wal is brought into the file. Tests make it small. */
 #ifndef RKS_WAL_PAGES
-#define RKS_WAL_PAGES 4000
+#define RKS_WAL_PAGES 2000
 #endif
 
 enum { RKS_SEEN = 16, RKS_CUT = 1000, RKS_MESSAGE = RELKVANU_STORE_MESSAGE, RKS_IDENTITY = 32 };

@@ -2,7 +2,7 @@
  * power has torn is no damage. */
 #include "cases.h"
 
-enum { CALLS = 400, LIST = 20, PAGE = 4096, WAL_HEADER = 32, FRAME_HEADER = 24, FRAME = FRAME_HEADER + PAGE, MOST = 1 << 22 };
+enum { CALLS = 400, LIST = 20, PAGE = 8192, WAL_HEADER = 32, FRAME_HEADER = 24, FRAME = FRAME_HEADER + PAGE, MOST = 1 << 22 };
 
 /* A file of the job as it was. */
 struct kept {
@@ -186,9 +186,9 @@ CASE(damage_without_a_tail) {
     free_all(all);
 }
 
-enum { LAST_LIST = 200 };
+enum { LAST_LIST = 400 };
 
-/* A commit of 20 calls and one of 200. Keeps the tail of the first one. */
+/* A commit of 20 calls and one of 400. Keeps the tail of the first one. */
 static int makes_torn(void *with) {
     struct kept lock;
     (void)with;
@@ -229,7 +229,7 @@ CASE(torn_last_commits) {
         uint64_t calls = calls_of_cut(all, &before, len), told = calls_of_cut(all, &all[2], len);
         CHECK(calls == LIST && told == UINT64_MAX, "cut at %zu: %" PRIu64 " calls, %" PRIu64, len, calls, told);
     }
-    CHECK(says("its log ends with call 20, and call 220 was answered"), "%s", report.message);
+    CHECK(says("its log ends with call 20, and call 420 was answered"), "%s", report.message);
     for (size_t at = begin; at < end; at += FRAME) {
         char frame[FRAME];
         memcpy(frame, all[1].bytes + at, FRAME);
