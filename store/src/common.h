@@ -33,6 +33,11 @@
 #define RKS_WAL_PAGES 2000
 #endif
 
+/* So many bytes of parts are a row of their own, which may be inserted before the commit. The same. */
+#ifndef RKS_LONG_RUN
+#define RKS_LONG_RUN (1 << 18)
+#endif
+
 enum { RKS_SEEN = 16, RKS_CUT = 1000, RKS_MESSAGE = RELKVANU_STORE_MESSAGE, RKS_IDENTITY = 32 };
 
 /* The format of a file, its user_version. A backup has the format of its job and RKS_BACKUP: it is refused unless a backup is to be opened. */

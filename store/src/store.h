@@ -24,6 +24,7 @@ struct relkvanu_store {
     struct rks_job job;
     struct rks_log log;
     struct rks_group group;
+    struct rks_ahead ahead;
     struct rks_kept kept;
 
     pthread_mutex_t mutex;

@@ -1,5 +1,5 @@
 /* The rows of what acknowledgements have beside their files: payloads, figures, and the order of the files. Those of one record that one commit has are one
- * row, whose key is the place of the first of them in the log. It is written in the commit of its acknowledgements, and deleted in that of the call that ends the
+ * row, or some if they are long, whose key is the place of the first of them in the log. It is written in the commit of its acknowledgements, and deleted in that of the call that ends the
  * record: the rows of a record are between two places, with those of records that were pending beside it. */
 #include "../store.h"
 
@@ -79,10 +79,13 @@ void rks_note_part(relkvanu_store *s, const relkvanu_store_call *call) {
     if (says_nothing(&part, is_kept)) {
         return;
     }
-    if (b->runs_len == 0 || b->runs[b->runs_len - 1].record != id) {
-        b->runs[b->runs_len++] = (struct rks_run){.record = id, .place = s->log.place + 1, .begins = b->parts.len};
+    struct rks_run *run = b->runs_len == 0 ? NULL : &b->runs[b->runs_len - 1];
+    if (run == NULL || run->record != id || run->ends - run->begins > RKS_LONG_RUN) {
+        run = &b->runs[b->runs_len++];
+        *run = (struct rks_run){.record = id, .place = s->log.place + 1, .begins = b->parts.len};
     }
     append_part(&b->parts, &part, call->second, call->second_len, is_kept);
+    run->ends = b->parts.len;
     struct rks_live *live = rks_live_of(s, id);
     live->first_part = live->first_part == 0 ? s->log.place + 1 : live->first_part;
     live->last_part = s->log.place + 1;
@@ -112,7 +115,11 @@ static int copy_parts(relkvanu_store *s, const struct rks_rows *from, uint64_t t
     return rks_run(s, sql);
 }
 
-static int insert(relkvanu_store *s, sqlite3_stmt *it, const struct rks_run *row, const uint8_t *parts, size_t len) {
+static int insert_row(relkvanu_store *s, const struct rks_run *row, const uint8_t *parts, size_t len) {
+    sqlite3_stmt *it = rks_extras_statement(s, RKS_INSERT_PARTS, "INSERT INTO part VALUES(?1, ?2, ?3, ?4)");
+    if (it == NULL) {
+        return rks_fault(s, "parts");
+    }
     int code = sqlite3_bind_int64(it, 1, (sqlite3_int64)row->record);
     code |= sqlite3_bind_int64(it, 2, (sqlite3_int64)row->place);
     code |= sqlite3_bind_int64(it, 3, (sqlite3_int64)crc32_z(0, parts, len));
@@ -120,26 +127,23 @@ static int insert(relkvanu_store *s, sqlite3_stmt *it, const struct rks_run *row
     return rks_do(s, it, code, "parts");
 }
 
-static int insert_runs(relkvanu_store *s, const struct rks_run *runs, size_t runs_len, const struct rks_text *parts) {
+static int insert(relkvanu_store *s, const struct rks_run *row, const struct rks_text *parts) {
     int status = s->job.extras.has_parts ? RELKVANU_STORE_OK : rks_run(s, TABLE);
-    sqlite3_stmt *it = NULL;
-    if (status == RELKVANU_STORE_OK &&
-        (it = rks_extras_statement(s, RKS_INSERT_PARTS, "INSERT INTO part VALUES(?1, ?2, ?3, ?4)")) == NULL) {
-        status = rks_fault(s, "parts");
-    }
-    for (size_t i = 0; i < runs_len && status == RELKVANU_STORE_OK; i++) {
-        size_t begins = runs[i].begins, ends = i + 1 < runs_len ? runs[i + 1].begins : parts->len;
-        status = insert(s, it, &runs[i], parts->at + begins, ends - begins);
+    return status == RELKVANU_STORE_OK ? insert_row(s, row, parts->at + row->begins, row->ends - row->begins) : status;
+}
+
+int rks_insert_runs(relkvanu_store *s, size_t runs) {
+    struct rks_extras *b = &s->job.extras;
+    int status = RELKVANU_STORE_OK;
+    for (; b->runs_inserted < runs && status == RELKVANU_STORE_OK; b->runs_inserted++) {
+        status = insert(s, &b->runs[b->runs_inserted], &b->parts);
     }
     return status;
 }
 
 int rks_write_parts(relkvanu_store *s) {
     const struct rks_extras *b = &s->job.extras;
-    int status = b->runs_len == 0 ? RELKVANU_STORE_OK : insert_runs(s, b->runs, b->runs_len, &b->parts);
-    if (status == RELKVANU_STORE_OK && b->to != 0) {
-        status = copy_parts(s, &b->from, b->to, b->to_first);
-    }
+    int status = b->to != 0 ? copy_parts(s, &b->from, b->to, b->to_first) : RELKVANU_STORE_OK;
     for (size_t i = 0; i < b->ended_len && status == RELKVANU_STORE_OK; i++) {
         status = delete_parts(s, &b->ended[i]);
     }
@@ -147,12 +151,12 @@ int rks_write_parts(relkvanu_store *s) {
 }
 
 int rks_carry_parts(relkvanu_store *s, uint64_t record, const struct rks_text *parts) {
-    const struct rks_run row = {.record = record, .place = s->log.place}; /* that of its last acknowledgement */
+    const struct rks_run row = {.record = record, .place = s->log.place, .ends = parts->len}; /* that of its last acknowledgement */
     if (parts->len == 0) {
         return RELKVANU_STORE_OK;
     }
     int status = rks_run(s, "BEGIN IMMEDIATE");
-    status = status == RELKVANU_STORE_OK ? insert_runs(s, &row, 1, parts) : status;
+    status = status == RELKVANU_STORE_OK ? insert(s, &row, parts) : status;
     status = status == RELKVANU_STORE_OK ? rks_run(s, "COMMIT") : status;
     struct rks_live *live = rks_live_of(s, record);
     if (status == RELKVANU_STORE_OK && live != NULL) {

@@ -37,10 +37,10 @@ struct rks_rows {
     uint64_t record, first, last;
 };
 
-/* Parts of one record that come one after the other in a group: they are one row. */
+/* Parts of one record that come one after the other in a group: they are one row, unless they have more than RKS_LONG_RUN bytes. */
 struct rks_run {
     uint64_t record, place;
-    size_t begins; /* in the text */
+    size_t begins, ends; /* in the text */
 };
 
 /* A row of the history that the group writes: its numbers in the order of the columns. */
@@ -59,7 +59,7 @@ struct rks_extras {
     size_t live_len, live_room;
     struct rks_text parts;
     struct rks_run *runs;
-    size_t runs_len, runs_room;
+    size_t runs_len, runs_room, runs_inserted;
     struct rks_rows *ended; /* of records that have ended */
     size_t ended_len, ended_room;
     struct rks_past *past;
@@ -187,6 +187,7 @@ struct rks_parts {
 sqlite3_stmt *rks_extras_statement(relkvanu_store *s, enum rks_extras_statement which, const char *sql);
 
 void rks_note_part(relkvanu_store *s, const relkvanu_store_call *call);
+int rks_insert_runs(relkvanu_store *s, size_t runs);
 int rks_write_parts(relkvanu_store *s);
 int rks_begin_parts(relkvanu_store *s);
 int rks_read_parts(relkvanu_store *s, uint64_t record, struct rks_parts *parts);

@@ -46,6 +46,9 @@ bool rks_has_room_for_parts(relkvanu_store *s, const struct rks_waiter *more) {
             room += has_part ? part_room(call) : 0;
         }
     }
+    if (b->runs_len + len > b->runs_room || b->parts.room - b->parts.len < room) {
+        rks_await_rows(s);
+    }
     return len == 0 || (rks_grow(&b->runs, &b->runs_room, b->runs_len + len, sizeof *b->runs) && rks_room(&b->parts, room));
 }
 
@@ -211,7 +214,7 @@ void rks_forget_extras(relkvanu_store *s) {
     struct rks_extras *b = &s->job.extras;
     b->has_parts = b->has_parts || b->runs_len != 0;
     b->has_past = b->has_past || b->past_len != 0;
-    b->parts.len = b->runs_len = b->ended_len = b->past_len = 0;
+    b->parts.len = b->runs_len = b->runs_inserted = b->ended_len = b->past_len = 0;
     b->to = 0;
 }
 

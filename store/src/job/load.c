@@ -162,6 +162,7 @@ int rks_look_for(relkvanu_store *s, uint64_t id, struct rks_lost *lost) {
     relkvanu_store_loaded loaded = {0};
     struct loading l = {.s = s, .loaded = &loaded};
     rks_await_keeper(s); /* it notes lengths */
+    rks_await_rows(s);
     int status = read_record(&l, id);
     l.lost.record = id;
     status = status == RELKVANU_STORE_OK && !s->storage.is_stand_in ? look(&l) : status;

@@ -479,7 +479,7 @@ static int begin_store(relkvanu_store *s) {
                    pthread_mutex_init(&s->mutex, &spins) == 0 && pthread_condattr_init(&by_clock) == 0 &&
                    pthread_condattr_setclock(&by_clock, CLOCK_MONOTONIC) == 0 && pthread_cond_init(&s->changed, &by_clock) == 0 &&
                    pthread_cond_init(&s->queue.gathered, &by_clock) == 0 && pthread_cond_init(&s->keeper.changed, &by_clock) == 0 &&
-                   sem_init(&s->submits.work, 0, 0) == 0;
+                   sem_init(&s->submits.work, 0, 0) == 0 && sem_init(&s->ahead.begins, 0, 0) == 0 && sem_init(&s->ahead.ended, 0, 0) == 0;
     return is_done ? RELKVANU_STORE_OK : RELKVANU_STORE_NO_MEMORY;
 }
 
@@ -500,6 +500,7 @@ int rks_new_store(relkvanu_store **store, char message[RKS_MESSAGE]) {
 void rks_release_store(relkvanu_store *s) {
     int error = errno;
     rks_end_manifests(s);
+    rks_end_ahead(s);
     rks_unlist(s);
     rks_close_database(s);
     relkvanu_close(s->handle);

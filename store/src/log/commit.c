@@ -80,26 +80,18 @@ static int insert(relkvanu_store *s, enum rks_statement statement, const struct 
 
 /* Inserts the rows that are not there yet, in the transaction that may have begun: so many by one statement, since they take SQLite less than two thirds of the
  * time that they take one by one. */
-static int insert_rows(relkvanu_store *s, bool with_the_rest) {
+int rks_insert_rows(relkvanu_store *s, size_t rows, size_t runs) {
     int status = sqlite3_get_autocommit(s->log.db) ? rks_step(s, RKS_BEGIN, "begin") : RELKVANU_STORE_OK;
-    size_t end = with_the_rest ? s->group.rows_len : s->group.rows_len - s->group.rows_len % RKS_MANY;
-    for (size_t len; s->group.inserted < end && status == RELKVANU_STORE_OK; s->group.inserted += len) {
-        len = end - s->group.inserted < RKS_MANY ? 1 : RKS_MANY;
+    for (size_t len; s->group.inserted < rows && status == RELKVANU_STORE_OK; s->group.inserted += len) {
+        len = rows - s->group.inserted < RKS_MANY ? 1 : RKS_MANY;
         status = insert(s, len == 1 ? RKS_INSERT : RKS_INSERT_MANY, &s->group.rows[s->group.inserted], len);
     }
-    return status;
+    return status == RELKVANU_STORE_OK ? rks_insert_runs(s, runs) : status;
 }
 
-static int roll_back(relkvanu_store *s) {
-    s->group.inserted = 0;
+int rks_roll_back(relkvanu_store *s) {
+    s->group.inserted = s->job.extras.runs_inserted = 0;
     return sqlite3_get_autocommit(s->log.db) ? RELKVANU_STORE_OK : rks_step(s, RKS_ROLLBACK, "rollback");
-}
-
-/* If it fails, the commit begins anew, and tells. */
-void rks_insert_ahead(relkvanu_store *s) {
-    if (s->group.rows_len - s->group.inserted >= RKS_MANY && insert_rows(s, false) != RELKVANU_STORE_OK) {
-        roll_back(s);
-    }
 }
 
 /* Deletes calls that both images cover, a part at a time, so that no commit takes long. Returns in *cut up to which call. */
@@ -118,7 +110,8 @@ static int cut_log(relkvanu_store *s, uint64_t *cut) {
 static int transact(relkvanu_store *s, bool has_image, bool *may_retry) {
     char words[RKS_MESSAGE];
     uint64_t cut = 0;
-    int status = insert_rows(s, true);
+    rks_await_rows(s);
+    int status = rks_insert_rows(s, s->group.rows_len, s->job.extras.runs_len);
     status = status == RELKVANU_STORE_OK && s->job.writes_phase ? rks_write_phase(s) : status;
     status = status == RELKVANU_STORE_OK ? rks_write_parts(s) : status;
     status = status == RELKVANU_STORE_OK ? rks_write_past(s) : status;
@@ -137,7 +130,7 @@ static int transact(relkvanu_store *s, bool has_image, bool *may_retry) {
     *may_retry = primary == SQLITE_FULL || primary == SQLITE_NOMEM || primary == SQLITE_BUSY || primary == SQLITE_LOCKED ||
                  primary == SQLITE_TOOBIG || s->log.code == SQLITE_IOERR_WRITE || s->log.code == SQLITE_IOERR_NOMEM;
     memcpy(words, s->fault, sizeof words);
-    *may_retry = roll_back(s) == RELKVANU_STORE_OK && *may_retry;
+    *may_retry = rks_roll_back(s) == RELKVANU_STORE_OK && *may_retry;
     memcpy(s->fault, words, sizeof words);
     return status;
 }

@@ -5,6 +5,9 @@
 bool rks_has_rows(relkvanu_store *s, size_t len) {
     struct rks_group *group = &s->group;
     size_t held = group->rows_room, receipts = group->rows_room; /* the least one is told last */
+    if (len > group->rows_room) {
+        rks_await_rows(s);
+    }
     return rks_has_room_for_extras(s, len) && rks_grow(&group->held, &held, len, sizeof *group->held) &&
            rks_grow(&group->receipts, &receipts, len, sizeof *group->receipts) &&
            rks_grow(&group->rows, &group->rows_room, len, sizeof *group->rows);
@@ -17,7 +20,7 @@ void rks_free_rows(relkvanu_store *s) {
 }
 
 void rks_begin_group(relkvanu_store *s) {
-    s->group.rows_len = s->group.receipts_len = s->group.inserted = 0;
+    s->group.rows_len = s->group.receipts_len = s->group.inserted = s->ahead.bytes = 0;
 }
 
 void rks_note_receipt(relkvanu_store *s, relkvanu_answer receipt) {

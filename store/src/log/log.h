@@ -100,6 +100,14 @@ struct rks_group {
     relkvanu_store_counts led; /* counts of the leaders */
 };
 
+/* The thread that inserts rows while who leads makes more calls (ahead.c). */
+struct rks_ahead {
+    pthread_t thread;
+    sem_t begins, ended;
+    size_t rows, runs, bytes; /* up to which ones it inserts; of the parts so far */
+    bool is_there, is_working, is_ending;
+};
+
 /* Callers whose numbers come one after the other sleep on one word, each with a bit of its own: one system call wakes as many of them as are to be woken, and
  * nobody else. The rest keeps the words of others out of its line of the cache. */
 enum { RKS_BELLS = 64, RKS_BITS = 32 };
@@ -168,8 +176,17 @@ uint32_t rks_image_sum(uint64_t place, uint32_t chain, const void *image, size_t
 int rks_save(relkvanu_store *s);
 int rks_write_image(relkvanu_store *s);
 void rks_note_image(relkvanu_store *s);
-void rks_insert_ahead(relkvanu_store *s);
 int rks_commit(relkvanu_store *s, bool wants_image);
+
+/* Inserts the rows and the runs of parts up to these that are not there yet, in the transaction that may have begun; gives up the transaction, if there is one. */
+int rks_insert_rows(relkvanu_store *s, size_t rows, size_t runs);
+int rks_roll_back(relkvanu_store *s);
+
+/* ahead.c: has what was made so far inserted, if there is so much of it; inserts it while there is nothing to make; waits until nothing is inserted; ends the thread. */
+void rks_insert_ahead(relkvanu_store *s);
+void rks_insert_meanwhile(relkvanu_store *s);
+void rks_await_rows(relkvanu_store *s);
+void rks_end_ahead(relkvanu_store *s);
 
 /* replay.c */
 int rks_replay(relkvanu_store *s, relkvanu_store_report *report);

@@ -212,6 +212,7 @@ static void make_list(relkvanu_store *s, struct rks_waiter *w) {
             rks_hold(s, w->calls[i].answer = (relkvanu_answer){.code = RELKVANU_STORE_NOT_MADE});
         } else {
             make(s, w, &w->calls[i]);
+            rks_insert_ahead(s);
             is_out = w->calls[i].answer.code == RELKVANU_NO_MEMORY;
         }
     }

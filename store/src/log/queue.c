@@ -370,7 +370,7 @@ static struct rks_waiter *make_group(relkvanu_store *s) {
     rks_begin_calls(s);
     while ((more = take_calls(s, &end, &len)) != NULL) {
         rks_make(s, more);
-        rks_insert_ahead(s); /* while callers come back */
+        rks_insert_meanwhile(s); /* while callers come back */
         g.before = g.before == 0 ? s->group.callers : g.before;
         if (!has_more(s, &g)) {
             break;
