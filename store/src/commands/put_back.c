@@ -42,9 +42,7 @@ static int copy(struct putting *p, const char *from, int follows, const char *to
 static int clean(struct putting *p, bool with_file) {
     int status = rks_remove(p->old, p->folder, "/.relkvanu-job");
     status = status == RELKVANU_STORE_OK ? rks_remove(p->old, p->folder, "/.relkvanu-job.new") : status;
-    if (status == RELKVANU_STORE_OK && rmdir(p->folder) != 0 && errno != ENOENT) {
-        status = rks_file_fault(p->old, p->folder, errno);
-    }
+    status = status == RELKVANU_STORE_OK && rmdir(p->folder) != 0 && errno != ENOENT ? rks_file_fault(p->old, p->folder, errno) : status;
     return status == RELKVANU_STORE_OK ? rks_remove_job(p->old, p->path, with_file) : status;
 }
 

@@ -143,9 +143,7 @@ static int make_folder(struct transfer *t) {
         close(t->to);
         t->to = -1;
     }
-    if (status == RELKVANU_STORE_OK && mkdir(t->part, 0700) != 0) {
-        status = failed(t, t->part, errno);
-    }
+    status = status == RELKVANU_STORE_OK && mkdir(t->part, 0700) != 0 ? failed(t, t->part, errno) : status;
     status = status == RELKVANU_STORE_OK ? lock_part(t) : status;
     status = status == RELKVANU_STORE_OK && t->to < 0 ? failed(t, t->part, ENOENT) : status;
     return status == RELKVANU_STORE_OK ? give_part(t) : status;

@@ -88,12 +88,8 @@ static int delete_by_function(void *with, const uint64_t *files, size_t len, uin
  * delete in it. Returns the status of a storage. */
 static int delete_elsewhere(struct discarder *d) {
     int status = rks_owner(d->s);
-    if (status == RELKVANU_STORAGE_OK) {
-        status = d->storage->delete_files(d->storage->with, d->files, d->files_len, d->outcomes);
-    }
-    if (status == RELKVANU_STORAGE_OK) {
-        status = rks_owner(d->s);
-    }
+    status = status == RELKVANU_STORAGE_OK ? d->storage->delete_files(d->storage->with, d->files, d->files_len, d->outcomes) : status;
+    status = status == RELKVANU_STORAGE_OK ? rks_owner(d->s) : status;
     return status == RELKVANU_STORAGE_OK && d->s->storage.folder >= 0 && fsync(d->s->storage.folder) != 0 ? RELKVANU_STORAGE_FAILED
                                                                                                           : status;
 }
@@ -192,9 +188,7 @@ static int discard_batch(struct discarder *d) {
 
 static int take(struct discarder *d) {
     int status = await_files(d);
-    if (status == RELKVANU_STORE_OK) {
-        status = report(d, true);
-    }
+    status = status == RELKVANU_STORE_OK ? report(d, true) : status;
     if (status == RELKVANU_STORE_OK && d->files_len == 0) {
         status = pause_for(d->s, LEAST_WAIT); /* no memory */
     }

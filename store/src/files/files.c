@@ -238,9 +238,7 @@ int rks_sync_folder_of(relkvanu_store *s, const char *path) {
 
 int rks_name_job(relkvanu_store *s, const char *from) {
     int status = rks_sync_folder_of(s, s->file.path);
-    if (status == RELKVANU_STORE_OK && rename(from, s->file.path) != 0) {
-        status = rks_file_fault(s, s->file.path, errno);
-    }
+    status = status == RELKVANU_STORE_OK && rename(from, s->file.path) != 0 ? rks_file_fault(s, s->file.path, errno) : status;
     return status == RELKVANU_STORE_OK ? rks_sync_folder_of(s, s->file.path) : status;
 }
 

@@ -101,7 +101,7 @@ static int bind_rows(sqlite3_stmt *it, const struct rks_rows *rows) {
 static int delete_parts(relkvanu_store *s, const struct rks_rows *rows) {
     static const char SQL[] = "DELETE FROM part WHERE record = ?1 AND place BETWEEN ?2 AND ?3";
     sqlite3_stmt *it = rks_extras_statement(s, RKS_DELETE_PARTS, SQL);
-    return rks_do(s, it, it == NULL ? SQLITE_ERROR : bind_rows(it, rows), "parts");
+    return rks_do(s, it, bind_rows(it, rows), "parts");
 }
 
 /* The acknowledgements of the savepoint have no parts of their own, so that their places are free. */
@@ -117,9 +117,6 @@ static int copy_parts(relkvanu_store *s, const struct rks_rows *from, uint64_t t
 
 static int insert_row(relkvanu_store *s, const struct rks_run *row, const uint8_t *parts, size_t len) {
     sqlite3_stmt *it = rks_extras_statement(s, RKS_INSERT_PARTS, "INSERT INTO part VALUES(?1, ?2, ?3, ?4)");
-    if (it == NULL) {
-        return rks_fault(s, "parts");
-    }
     int code = sqlite3_bind_int64(it, 1, (sqlite3_int64)row->record);
     code |= sqlite3_bind_int64(it, 2, (sqlite3_int64)row->place);
     code |= sqlite3_bind_int64(it, 3, (sqlite3_int64)crc32_z(0, parts, len));
@@ -245,9 +242,7 @@ static int read_text(relkvanu_store *s, const struct rks_rows *rows, struct rks_
     while (status == RELKVANU_STORE_OK && (code = sqlite3_step(it)) == SQLITE_ROW) {
         status = take_row(s, it, text);
     }
-    if (status == RELKVANU_STORE_OK && code != SQLITE_DONE) {
-        status = rks_status_of_read(s, "parts");
-    }
+    status = status == RELKVANU_STORE_OK && code != SQLITE_DONE ? rks_status_of_read(s, "parts") : status;
     sqlite3_finalize(it);
     return status;
 }

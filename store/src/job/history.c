@@ -43,7 +43,9 @@ static uint32_t sum_of(const uint64_t numbers[NUMBERS], const void *reason, size
     return (uint32_t)(len == 0 ? sum : crc32(sum, reason, (uInt)len));
 }
 
-static int insert(relkvanu_store *s, sqlite3_stmt *it, const struct rks_past *past) {
+static int insert(relkvanu_store *s, const struct rks_past *past) {
+    static const char SQL[] = "INSERT OR REPLACE INTO past VALUES(?1, ?2, ?3, ?4, ?5, ?6, ?7, ?8, ?9, ?10, ?11, ?12, ?13, ?14)";
+    sqlite3_stmt *it = rks_extras_statement(s, RKS_INSERT_PAST, SQL);
     int code = SQLITE_OK;
     for (int i = 0; i < NUMBERS; i++) {
         code |= sqlite3_bind_int64(it, i + 1, (sqlite3_int64)past->numbers[i]);
@@ -63,19 +65,11 @@ static int cut(relkvanu_store *s) {
 
 int rks_write_past(relkvanu_store *s) {
     struct rks_extras *b = &s->job.extras;
-    static const char SQL[] = "INSERT OR REPLACE INTO past VALUES(?1, ?2, ?3, ?4, ?5, ?6, ?7, ?8, ?9, ?10, ?11, ?12, ?13, ?14)";
-    sqlite3_stmt *it = NULL;
-    if (b->past_len == 0) {
-        return RELKVANU_STORE_OK;
-    }
-    int status = b->has_past ? RELKVANU_STORE_OK : rks_run(s, TABLE);
-    if (status == RELKVANU_STORE_OK && (it = rks_extras_statement(s, RKS_INSERT_PAST, SQL)) == NULL) {
-        status = rks_fault(s, "history");
-    }
+    int status = b->has_past || b->past_len == 0 ? RELKVANU_STORE_OK : rks_run(s, TABLE);
     for (size_t i = 0; i < b->past_len && status == RELKVANU_STORE_OK; i++) {
-        status = insert(s, it, &b->past[i]);
+        status = insert(s, &b->past[i]);
     }
-    return status == RELKVANU_STORE_OK ? cut(s) : status;
+    return status == RELKVANU_STORE_OK && b->past_len != 0 ? cut(s) : status;
 }
 
 int rks_begin_past(relkvanu_store *s) {
@@ -113,9 +107,7 @@ static int read_rows(relkvanu_store *s, relkvanu_store_past *past, size_t room, 
         *len += is_whole;
         status = is_whole ? status : sqlite3_errcode(s->log.db) == SQLITE_NOMEM ? RELKVANU_STORE_NO_MEMORY : RELKVANU_STORE_DAMAGED;
     }
-    if (status == RELKVANU_STORE_OK && code != SQLITE_DONE && code != SQLITE_ROW) {
-        status = rks_status_of_read(s, "history");
-    }
+    status = status == RELKVANU_STORE_OK && code != SQLITE_DONE && code != SQLITE_ROW ? rks_status_of_read(s, "history") : status;
     sqlite3_finalize(it);
     return status;
 }

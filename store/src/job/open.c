@@ -53,9 +53,7 @@ static int open_files(relkvanu_store *s, const char *path) {
         return error == ENOENT ? RELKVANU_STORE_ABSENT : status;
     }
     int status = rks_lock(s, path);
-    if (status == RELKVANU_STORE_OK && s->options.storage != NULL) {
-        status = rks_open_folder(s, s->options.storage);
-    }
+    status = status == RELKVANU_STORE_OK && s->options.storage != NULL ? rks_open_folder(s, s->options.storage) : status;
     if (status == RELKVANU_STORE_OK && (stat(s->file.path, &file) != 0 || file.st_size == 0)) { /* a refusal makes no file */
         status = may_create(s) ? rks_check_new_folder(s, s->options.storage) : set_fault(s, RELKVANU_STORE_ABSENT, "it has no job");
         status = status == RELKVANU_STORE_OK ? rks_make_file(s) : status;

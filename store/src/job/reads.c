@@ -30,9 +30,7 @@ int rks_check_reader(const relkvanu_store *s) {
 int relkvanu_store_read(relkvanu_store *s, relkvanu **handle) {
     struct rks_waiter w = {0};
     int status = rks_enter(s, &w);
-    if (status == RELKVANU_STORE_OK && w.is_answered) {
-        status = w.status;
-    }
+    status = status == RELKVANU_STORE_OK && w.is_answered ? w.status : status;
     if (status == RELKVANU_STORE_OK) {
         rks_take_alone(s);
         see(s->handle, s->job.seen);

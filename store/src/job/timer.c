@@ -210,9 +210,7 @@ int relkvanu_store_await_tick_with(relkvanu_store *s, uint64_t longest, relkvanu
         if (status == RELKVANU_STORE_OK && timer.wait == 0) {
             return relkvanu_store_calls(s, tick, 1);
         }
-        if (status == RELKVANU_STORE_OK && (timer.is_news || rks_clock_ns() >= end)) {
-            status = RELKVANU_STORE_TIMED_OUT;
-        }
+        status = status == RELKVANU_STORE_OK && (timer.is_news || rks_clock_ns() >= end) ? RELKVANU_STORE_TIMED_OUT : status;
         if (status == RELKVANU_STORE_OK) {
             uint64_t due = rks_after(timer.wait);
             status = rks_await(s, timer.seen, due < end ? due : end);

@@ -144,9 +144,7 @@ int rks_replay(relkvanu_store *s, relkvanu_store_report *report) {
     while (status == RELKVANU_STORE_OK && (code = sqlite3_step(it)) == SQLITE_ROW) {
         status = replay_row(s, it, &files);
     }
-    if (status == RELKVANU_STORE_OK && code != SQLITE_DONE) {
-        status = rks_fault(s, "log");
-    }
+    status = status == RELKVANU_STORE_OK && code != SQLITE_DONE ? rks_fault(s, "log") : status;
     sqlite3_finalize(it);
     free(files.at);
     report->replayed = s->log.place - s->log.image_place;

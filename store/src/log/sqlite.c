@@ -46,7 +46,7 @@ int rks_set_format(relkvanu_store *s, int format) {
 }
 
 int rks_do(relkvanu_store *s, sqlite3_stmt *it, int bound, const char *what) {
-    int code = it == NULL || bound != SQLITE_OK ? SQLITE_ERROR : sqlite3_step(it);
+    int code = bound == SQLITE_OK ? sqlite3_step(it) : bound;
     int status = code == SQLITE_DONE || code == SQLITE_ROW ? RELKVANU_STORE_OK : rks_fault(s, what);
     sqlite3_reset(it);
     return status;

@@ -15,9 +15,7 @@ static int read_text(int folder, uint64_t id, const char *end, struct rks_text *
         return errno == ELOOP ? RELKVANU_STORE_DAMAGED : RELKVANU_STORE_FAILED;
     }
     int status = fstat(file, &found) != 0 ? RELKVANU_STORE_FAILED : RELKVANU_STORE_OK;
-    if (status == RELKVANU_STORE_OK && (!S_ISREG(found.st_mode) || found.st_size > MOST)) {
-        status = RELKVANU_STORE_DAMAGED;
-    }
+    status = status == RELKVANU_STORE_OK && (!S_ISREG(found.st_mode) || found.st_size > MOST) ? RELKVANU_STORE_DAMAGED : status;
     status = status == RELKVANU_STORE_OK && !rks_room(text, (size_t)found.st_size + 1) ? RELKVANU_STORE_NO_MEMORY : status;
     ssize_t more = 1;
     while (status == RELKVANU_STORE_OK && more != 0 && text->len < (size_t)found.st_size) {
