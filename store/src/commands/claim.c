@@ -217,11 +217,7 @@ static int go_on(struct claim *c, const char *path, const char *folder) {
     status = status == RELKVANU_STORE_OK ? list(c) : status;
     status = status == RELKVANU_STORE_OK ? leave_all(c, one->id) : status;
     if (status == RELKVANU_STORE_OK) {
-        c->told->record = one->id;
-        c->told->is_savepoint = one->is_savepoint;
-        c->told->files = one->files;
-        c->told->bytes = one->bytes;
-        c->told->next_number = one->below.number > one->id ? one->below.number : one->id + 1;
+        rks_tell_taken(one, one->below.number, c->told);
     }
     rks_free_manifests(&there);
     return status;

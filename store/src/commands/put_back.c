@@ -1,4 +1,5 @@
 /* Puts a backup back in the place of a job's file: prepares a new file over a folder of its own, sets the job's files aside, and names the new one. */
+#include "../files/folder.h"
 #include "../store.h"
 
 /* Terms that the job may have begun since the backup; how far its names may be above those of the backup. */
@@ -154,18 +155,13 @@ static int open_copy(struct putting *p, relkvanu_store_report *report) {
 /* Makes the new file of the backup over a folder that has the marker alone, and closes it. */
 static int prepare(struct putting *p, const char *backup) {
     relkvanu_store_report report;
-    relkvanu_store marks = {.storage = {.folder = -1}};
     if (mkdir(p->folder, 0700) != 0) {
         return rks_file_fault(p->old, p->folder, errno);
     }
-    int status = rks_open_folder(&marks, p->folder);
-    memcpy(marks.job.identity, p->old->job.identity, sizeof marks.job.identity);
-    status = status == RELKVANU_STORE_OK ? rks_write_marker(&marks, p->folder, p->marked) : status;
-    if (status != RELKVANU_STORE_OK) {
-        memcpy(p->old->fault, marks.fault, sizeof p->old->fault);
-    }
-    rks_close(marks.storage.folder);
-    status = status == RELKVANU_STORE_OK ? copy(p, backup, 0, p->path) : status;
+    int folder = open(p->folder, O_RDONLY | O_DIRECTORY | O_CLOEXEC);
+    int error = folder < 0 ? errno : rks_marker_write(folder, p->old->job.identity, p->marked);
+    rks_close(folder);
+    int status = error == 0 ? copy(p, backup, 0, p->path) : rks_file_fault(p->old, p->folder, error);
     status = status == RELKVANU_STORE_OK ? open_copy(p, &report) : status;
     if (status == RELKVANU_STORE_OK) {
         status = restore(p, &report);

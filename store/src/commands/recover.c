@@ -429,11 +429,7 @@ static int recover(struct recovery *r, uint64_t record) {
     if (status != RELKVANU_STORE_OK) {
         return status;
     }
-    r->told->record = choice->id;
-    r->told->is_savepoint = choice->is_savepoint;
-    r->told->files = choice->files;
-    r->told->bytes = choice->bytes;
-    r->told->next_number = greater(r->below.number, choice->id + 1);
+    rks_tell_taken(choice, r->below.number, r->told);
     status = rks_remove_job(r->old, r->path, true); /* what an earlier recovery has left */
     status = status == RELKVANU_STORE_OK ? write_job(r, choice) : status;
     return status == RELKVANU_STORE_OK ? name_job_if_last(r) : status;

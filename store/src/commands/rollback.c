@@ -19,22 +19,6 @@ struct way {
     struct rks_lost *lost;
 };
 
-/* The metadata of a record as a text with a zero at its end, to be freed, or NULL without memory. */
-static char *shown(relkvanu *handle, uint64_t id) {
-    size_t len = relkvanu_show(handle, id, NULL, 0).a;
-    char *text = malloc(len + 1);
-    relkvanu_answer answer = {.code = RELKVANU_NO_MEMORY};
-    if (text != NULL) {
-        answer = relkvanu_show(handle, id, (uint8_t *)text, len);
-    }
-    if (answer.code != RELKVANU_DONE) {
-        free(text);
-        return NULL;
-    }
-    text[answer.a] = 0;
-    return text;
-}
-
 static bool refuse(struct way *w, uint32_t code, uint32_t what) {
     w->refused = (relkvanu_answer){.code = code, .what = what};
     return false;
@@ -43,8 +27,8 @@ static bool refuse(struct way *w, uint32_t code, uint32_t what) {
 /* Whether the job has the shape that the checkpoint had. */
 static bool has_its_shape(struct way *w, uint64_t id) {
     uint64_t shape[RKS_VERTICES] = {0};
-    w->image = rks_image_of(w->s->handle);
-    w->shown = w->image == NULL ? NULL : shown(w->s->handle, id);
+    w->image = rks_text_of(w->s->handle, NULL);
+    w->shown = w->image == NULL ? NULL : rks_text_of(w->s->handle, &id);
     if (w->shown == NULL) {
         return refuse(w, RELKVANU_NO_MEMORY, 0);
     }

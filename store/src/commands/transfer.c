@@ -2,6 +2,7 @@
  *
  * The folder is made beside its name, and gets it once all is on the disk. A file that both folders can have is linked, so it stays although the
  * first job deletes it. */
+#include "../files/folder.h"
 #include "../store.h"
 #include "commands.h"
 
@@ -249,15 +250,10 @@ static int open_from(struct transfer *t) {
 
 /* Makes the folder. With a job it is the storage of that one, and has its marker. */
 static int make(struct transfer *t, uint64_t record, const char *job) {
-    relkvanu_store marks = {.storage = {.folder = -1}};
     int status = open_from(t);
     status = status == RELKVANU_STORE_OK ? carry_chosen(t, record, job) : status;
-    if (status == RELKVANU_STORE_OK && job != NULL) {
-        marks.storage.folder = t->to;
-        memcpy(marks.job.identity, job, sizeof marks.job.identity);
-        status = rks_write_marker(&marks, t->part, 1);
-        memcpy(t->from->fault, marks.fault, sizeof marks.fault);
-    }
+    int error = status == RELKVANU_STORE_OK && job != NULL ? rks_marker_write(t->to, job, 1) : 0;
+    status = error != 0 ? failed(t, t->part, error) : status;
     status = status == RELKVANU_STORE_OK ? name_folder(t) : status;
     drop_folder(t);
     return status;

@@ -68,7 +68,7 @@ int relkvanu_store_job(relkvanu_store *s, relkvanu_settings *settings, uint64_t 
     if (status != RELKVANU_STORE_OK) {
         return status;
     }
-    char *image = rks_image_of(handle);
+    char *image = rks_text_of(handle, NULL);
     *settings = s->job.settings;
     relkvanu_store_read_end(s);
     if (image == NULL) {

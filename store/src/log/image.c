@@ -44,20 +44,23 @@ bool rks_settings_of(const char *image, size_t len, relkvanu_settings *settings)
     return found == 7;
 }
 
-/* Returns the image as a text with a zero at its end, to be freed, or NULL without memory. */
-char *rks_image_of(relkvanu *handle) {
-    size_t len = relkvanu_save(handle, NULL, 0).a;
-    char *image = malloc(len + 1);
+static relkvanu_answer write_text(relkvanu *handle, const uint64_t *id, uint8_t *text, size_t len) {
+    return id == NULL ? relkvanu_save(handle, text, len) : relkvanu_show(handle, *id, text, len);
+}
+
+char *rks_text_of(relkvanu *handle, const uint64_t *id) {
+    size_t len = write_text(handle, id, NULL, 0).a;
+    char *text = malloc(len + 1);
     relkvanu_answer answer = {.code = RELKVANU_NO_MEMORY};
-    if (image != NULL) {
-        answer = relkvanu_save(handle, (uint8_t *)image, len);
+    if (text != NULL) {
+        answer = write_text(handle, id, (uint8_t *)text, len);
     }
     if (answer.code != RELKVANU_DONE) {
-        free(image);
+        free(text);
         return NULL;
     }
-    image[answer.a] = 0;
-    return image;
+    text[answer.a] = 0;
+    return text;
 }
 
 /* Opens a coordinator with an image. RELKVANU_CLOSED: there are no random numbers. */

@@ -143,7 +143,8 @@ struct rks_submits {
 size_t rks_shape_of(const char *image, uint64_t *shape, size_t shape_len);
 relkvanu_settings rks_settings(const uint64_t numbers[7]); /* of a line */
 bool rks_settings_of(const char *image, size_t len, relkvanu_settings *settings);
-char *rks_image_of(relkvanu *handle);
+char *rks_text_of(relkvanu *handle,
+    const uint64_t *id); /* the image, or the metadata of a record, with a zero at its end, to be freed; NULL: no memory */
 relkvanu_answer rks_open_image(relkvanu *handle, const void *image, size_t len);
 
 /* wal.c: DAMAGED if answered calls are behind a frame that is damaged. */

@@ -131,11 +131,8 @@ static bool add_payload(struct rks_writing *w, const struct rks_subtask *part) {
 
 /* What the task told of its snapshot. */
 static bool add_figures(struct rks_writing *w, const struct rks_subtask *part) {
-    if (part == NULL) {
-        return true;
-    }
-    bool is_added = part->bytes == 0 || add(&w->text, ",\"bytes\":%" PRIu64, part->bytes);
-    return is_added && (part->millis == 0 || add(&w->text, ",\"millis\":%" PRIu64, part->millis));
+    return part == NULL || ((part->bytes == 0 || add(&w->text, ",\"bytes\":%" PRIu64, part->bytes)) &&
+                               (part->millis == 0 || add(&w->text, ",\"millis\":%" PRIu64, part->millis)));
 }
 
 /* A file with the length that it had when its first record was complete: one that is shorter now is damaged. null: it was never there. */

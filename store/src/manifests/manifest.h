@@ -55,10 +55,13 @@ struct rks_telling {
     const struct rks_manifest *next;
 };
 
+/* What a command tells of the record that it has taken. */
+void rks_tell_taken(const struct rks_manifest *it, uint64_t below, relkvanu_store_recovered *told);
+
 /* Tells what is known of a record. Returns whether it goes on. */
 bool rks_tell_record(const struct rks_manifest *it, const struct rks_telling *telling);
 
-/* Reads the files of all records, and tells what is wrong with them, and then the record. RELKVANU_STORE_NO_MEMORY. */
+/* Tells each record; before that, if this is wanted, reads its files, and tells what is wrong with them. RELKVANU_STORE_NO_MEMORY. */
 int rks_check_manifests(struct rks_manifests *all, int folder, const struct rks_telling *telling);
 
 /* What comes behind the name of a manifest that is written, and of the mark that stays where a claim has taken the record. */

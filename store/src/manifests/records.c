@@ -552,6 +552,14 @@ int rks_pass_manifests(relkvanu_store *s, const char *folder, uint64_t *last) {
     return status == RELKVANU_STORE_FAILED ? rks_file_fault(s, folder, errno) : status;
 }
 
+void rks_tell_taken(const struct rks_manifest *it, uint64_t below, relkvanu_store_recovered *told) {
+    told->record = it->id;
+    told->is_savepoint = it->is_savepoint;
+    told->files = it->files;
+    told->bytes = it->bytes;
+    told->next_number = below > it->id ? below : it->id + 1;
+}
+
 bool rks_tell_record(const struct rks_manifest *it, const struct rks_telling *telling) {
     relkvanu_store_record record = {.id = it->id, .status = (uint32_t)it->status};
     if (it->status == RELKVANU_STORE_OK) {
@@ -566,14 +574,6 @@ bool rks_tell_record(const struct rks_manifest *it, const struct rks_telling *te
         record.changed = it->changed;
     }
     return it->has_ended || telling->each(telling->with, &record);
-}
-
-/* Tells what is known of each. */
-static void tell(const struct rks_manifests *all, const struct rks_telling *telling) {
-    bool goes_on = true;
-    for (size_t i = 0; i < all->len && goes_on; i++) {
-        goes_on = rks_tell_record(&all->at[i], telling);
-    }
 }
 
 static int tell_records(relkvanu_store *s, const char *folder, struct rks_telling telling) {
@@ -592,11 +592,7 @@ static int tell_records(relkvanu_store *s, const char *folder, struct rks_tellin
     } else if (status != RELKVANU_STORE_NO_MEMORY) {
         status = rks_file_fault(s, folder, errno);
     }
-    if (status == RELKVANU_STORE_OK && telling.each_fault != NULL) {
-        status = rks_check_manifests(&all, s->storage.folder, &telling);
-    } else if (status == RELKVANU_STORE_OK) {
-        tell(&all, &telling);
-    }
+    status = status == RELKVANU_STORE_OK ? rks_check_manifests(&all, s->storage.folder, &telling) : status;
     rks_free_manifests(&all);
     return status;
 }

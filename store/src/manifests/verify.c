@@ -64,7 +64,7 @@ int rks_check_manifests(struct rks_manifests *all, int folder, const struct rks_
     struct check c = {.each = telling->each_fault, .with = telling->with, .folder = folder, .goes_on = true};
     int status = RELKVANU_STORE_OK;
     for (size_t i = 0; i < all->len && status == RELKVANU_STORE_OK && c.goes_on; i++) {
-        status = check_one(&c, all, &all->at[i]);
+        status = c.each != NULL ? check_one(&c, all, &all->at[i]) : status;
         c.goes_on = c.goes_on && status == RELKVANU_STORE_OK && rks_tell_record(&all->at[i], telling);
     }
     rks_free_sums(&c.sums);
