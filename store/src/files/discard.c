@@ -115,15 +115,16 @@ static bool is_gone(const struct discarder *d, size_t i) {
     return d->outcomes[i] == RELKVANU_STORAGE_DELETED || d->outcomes[i] == RELKVANU_STORAGE_MISSING;
 }
 
-/* Counts the files of the batch that are not gone. */
-static void count_failed(struct discarder *d) {
-    uint64_t failed = 0;
+/* Whether any file of the batch is gone. Counts those that are not. */
+static bool count_gone(struct discarder *d) {
+    uint64_t gone = 0;
     for (size_t i = 0; i < d->files_len; i++) {
-        failed += !is_gone(d, i);
+        gone += is_gone(d, i);
     }
     pthread_mutex_lock(&d->s->mutex);
-    d->s->discards.failed_deletions += failed;
+    d->s->discards.failed_deletions += d->files_len - gone;
     pthread_mutex_unlock(&d->s->mutex);
+    return gone != 0;
 }
 
 /* Makes the calls of the list. Those for which there is no memory are made later. After a stop they are not, and the next discarder begins with
@@ -162,14 +163,6 @@ static int report(struct discarder *d, bool takes) {
     return RELKVANU_STORE_OK;
 }
 
-static bool any_gone(const struct discarder *d) {
-    bool any = false;
-    for (size_t i = 0; i < d->files_len; i++) {
-        any = any || is_gone(d, i);
-    }
-    return any;
-}
-
 /* Deletes the batch, reports it, and has the next one, or none. */
 static int discard_batch(struct discarder *d) {
     relkvanu_store *s = d->s;
@@ -177,8 +170,7 @@ static int discard_batch(struct discarder *d) {
     if (status != RELKVANU_STORE_OK) {
         return status; /* the batch stays taken: whoever has the job settles it */
     }
-    count_failed(d);
-    bool any = any_gone(d), goes_on = any && !d->is_ended && !is_stopped(s) && !is_over(d);
+    bool any = count_gone(d), goes_on = any && !d->is_ended && !is_stopped(s) && !is_over(d);
     s->discards.try_wait = any || s->discards.try_wait == 0       ? LEAST_WAIT
                            : s->discards.try_wait * 2 < MOST_WAIT ? s->discards.try_wait * 2
                                                                   : MOST_WAIT;
@@ -232,7 +224,7 @@ static int settle(struct discarder *d) {
         memcpy(d->files, files + at, d->files_len * sizeof *files);
         status = delete_batch(d);
         if (status == RELKVANU_STORE_OK) {
-            count_failed(d);
+            count_gone(d);
             status = report(d, false);
         }
         status = status == RELKVANU_STORE_OK && is_stopped(d->s) ? RELKVANU_STORE_STOPPED : status;

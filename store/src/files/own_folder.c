@@ -127,12 +127,9 @@ static int read_marker(relkvanu_store *s, const char *folder, struct rks_marker 
 int rks_read_marker(relkvanu_store *s, const char *folder, uint64_t *marked) {
     struct rks_marker found;
     int status = read_marker(s, folder, &found);
-    if (status != RELKVANU_STORE_OK) {
-        return status;
-    }
-    *marked = found.epoch;
-    bool is_of_job = strcmp(s->job.identity, found.job) == 0;
-    return is_of_job ? RELKVANU_STORE_OK : storage_fault(s, folder, "it has the marker of another job than ", s->job.identity);
+    *marked = status == RELKVANU_STORE_OK ? found.epoch : *marked;
+    bool is_others = status == RELKVANU_STORE_OK && strcmp(s->job.identity, found.job) != 0;
+    return is_others ? storage_fault(s, folder, "it has the marker of another job than ", s->job.identity) : status;
 }
 
 int rks_read_owner(relkvanu_store *s, const char *folder, uint64_t *marked) {

@@ -3,20 +3,6 @@
 
 static _Thread_local char why[RKS_MESSAGE];
 
-/* Words with commas between them. */
-struct words {
-    char at[120];
-    size_t len;
-};
-
-__attribute__((format(printf, 2, 3))) static void say(struct words *words, const char *format, ...) {
-    va_list more;
-    va_start(more, format);
-    words->len += (size_t)snprintf(words->at + words->len, sizeof words->at - words->len, "%s", words->len == 0 ? "" : ", ");
-    words->len += (size_t)vsnprintf(words->at + words->len, sizeof words->at - words->len, format, more);
-    va_end(more);
-}
-
 static const char *words_of(int storage_status, int error) {
     switch (storage_status) {
     case RELKVANU_STORAGE_NO_MEMORY: return "there is no memory";
@@ -47,29 +33,28 @@ void rks_forget_why(void) {
 }
 
 /* What a call is about: its record, its subtask and its term, as far as its kind has them. */
-static void name_call(const relkvanu_call *call, struct words *words) {
+static void name_call(const relkvanu_call *call, char *words, size_t len) {
     bool has_term = call->kind != RELKVANU_CALL_DISPOSE && call->kind != RELKVANU_CALL_RESTORE;
-    bool is_of_task = call->kind == RELKVANU_CALL_ACK || call->kind == RELKVANU_CALL_DECLINE;
-    bool is_of_names = call->kind == RELKVANU_CALL_RESERVE || call->kind == RELKVANU_CALL_FORFEIT;
-    if (is_of_task || (!has_term && call->number != 0)) {
-        say(words, "record %" PRIu64, call->number);
+    char term[40] = "no term";
+    if (call->term != 0) {
+        snprintf(term, sizeof term, "term %" PRIu64, call->term);
     }
-    if (is_of_task) {
-        say(words, "subtask %u.%u", (unsigned)call->vertex, (unsigned)call->index);
-    }
-    if ((is_of_task || is_of_names) && call->term != 0) {
-        say(words, "term %" PRIu64, call->term);
-    } else if (is_of_task || is_of_names) {
-        say(words, "no term");
+    words[0] = 0;
+    if (call->kind == RELKVANU_CALL_ACK || call->kind == RELKVANU_CALL_DECLINE) {
+        snprintf(words, len, "record %" PRIu64 ", subtask %u.%u, %s: ", call->number, (unsigned)call->vertex, (unsigned)call->index, term);
+    } else if (call->kind == RELKVANU_CALL_RESERVE || call->kind == RELKVANU_CALL_FORFEIT) {
+        snprintf(words, len, "%s: ", term);
+    } else if (!has_term && call->number != 0) {
+        snprintf(words, len, "record %" PRIu64 ": ", call->number);
     }
 }
 
 void rks_why_refused(const relkvanu_store_call *call, uint64_t term) {
-    struct words words = {.len = 0};
+    char words[120];
     uint8_t text[RELKVANU_ANSWER_TEXT];
     size_t len = relkvanu_answer_text(&call->answer, text, sizeof text);
-    name_call(&call->call, &words);
-    int written = snprintf(why, sizeof why, "%s%s%.*s", words.at, words.len == 0 ? "" : ": ", (int)len, (const char *)text);
+    name_call(&call->call, words, sizeof words);
+    int written = snprintf(why, sizeof why, "%s%.*s", words, (int)len, (const char *)text);
     if (call->answer.code == RELKVANU_FENCED && call->answer.what == RELKVANU_OLD_TERM) {
         snprintf(why + written, sizeof why - (size_t)written, "; term %" PRIu64 " runs", term);
     }

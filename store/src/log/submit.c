@@ -36,31 +36,18 @@ static bool has_helper(relkvanu_store *s) {
     return is_there;
 }
 
-static int submit_list(relkvanu_store *s, relkvanu_store_call *calls, size_t calls_len, enum rks_verb verb, uint64_t token) {
-    int status = rks_check_calls(s, calls, calls_len);
-    if (status != RELKVANU_STORE_OK) {
-        return status;
+static int submit(relkvanu_store *s, relkvanu_store_call *calls, size_t calls_len, enum rks_verb verb, uint64_t token) {
+    int status = rks_is_forked(s) ? RELKVANU_STORE_FORKED : rks_check_calls(s, calls, calls_len);
+    struct rks_waiter *w = status == RELKVANU_STORE_OK && has_helper(s) ? malloc(sizeof *w) : NULL;
+    if (w != NULL) {
+        *w = (struct rks_waiter){
+            .calls = calls, .calls_len = calls_len, .verb = verb, .token = token, .is_submitted = true, .now = relkvanu_store_now(s)};
+        status = rks_enter(s, w);
+    } else if (status == RELKVANU_STORE_OK) {
+        status = RELKVANU_STORE_NO_MEMORY;
     }
-    struct rks_waiter *w = has_helper(s) ? calloc(1, sizeof *w) : NULL;
-    if (w == NULL) {
-        return RELKVANU_STORE_NO_MEMORY;
-    }
-    w->calls = calls;
-    w->calls_len = calls_len;
-    w->verb = verb;
-    w->token = token;
-    w->is_submitted = true;
-    w->now = relkvanu_store_now(s);
-    status = rks_enter(s, w);
     if (status != RELKVANU_STORE_OK) {
         free(w);
-    }
-    return status;
-}
-
-static int submit(relkvanu_store *s, relkvanu_store_call *calls, size_t calls_len, enum rks_verb verb, uint64_t token) {
-    int status = rks_is_forked(s) ? RELKVANU_STORE_FORKED : submit_list(s, calls, calls_len, verb, token);
-    if (status != RELKVANU_STORE_OK) {
         rks_drop_answers(calls, calls_len);
     }
     return status;

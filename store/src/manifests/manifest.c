@@ -247,16 +247,6 @@ static bool is_put(const relkvanu_store *s, uint64_t id, const struct rks_text *
     return place->check(place->with) == RELKVANU_STORAGE_OK && place->put(place->with, name, text->at, text->len) == RELKVANU_STORAGE_OK;
 }
 
-/* Removes a manifest. One that could not be removed is left to a sweep, or to the next opening. */
-static void drop(const relkvanu_store *s, const char *name) {
-    const struct rks_place *place = &s->kept.place;
-    if (place->put != NULL) {
-        (void)(place->check(place->with) == RELKVANU_STORAGE_OK && place->remove(place->with, name) == RELKVANU_STORAGE_OK);
-    } else {
-        unlinkat(s->storage.folder, name, 0);
-    }
-}
-
 int rks_put_manifest(int folder, uint64_t id, const char *end, const struct rks_text *text) {
     char name[RKS_MANIFEST_NAME], part[RKS_MANIFEST_NAME];
     rks_manifest_name(id, end, name);
@@ -417,10 +407,16 @@ static size_t take_ended(relkvanu_store *s) {
     return len - kept->len;
 }
 
+/* Removes a manifest. One that could not be removed is left to a sweep, or to the next opening. */
 static void drop_one(const relkvanu_store *s, uint64_t id, const char *end) {
+    const struct rks_place *place = &s->kept.place;
     char name[RKS_MANIFEST_NAME];
     rks_manifest_name(id, end, name);
-    drop(s, name);
+    if (place->put != NULL) {
+        (void)(place->check(place->with) == RELKVANU_STORAGE_OK && place->remove(place->with, name) == RELKVANU_STORAGE_OK);
+    } else {
+        unlinkat(s->storage.folder, name, 0);
+    }
 }
 
 /* Removes the manifests of records that have ended, once those of the others are on the disk. */
