@@ -58,6 +58,9 @@ bool rks_room(struct rks_text *text, size_t more);
 /* Makes room in a list, whose pointer `list` points to, for so many items of this size. The same. */
 bool rks_grow(void *list, size_t *room, size_t len, size_t size);
 
+/* The place of the first item with this number or a greater one, in a list whose items begin with their numbers and are in their order. */
+size_t rks_place_of(const void *list, size_t len, size_t size, uint64_t number);
+
 /* A set of numbers: a tree of search.h, with the numbers in place of pointers. rks_add: false without memory. */
 bool rks_has(void *const *set, uint64_t number);
 bool rks_add(void **set, uint64_t number);

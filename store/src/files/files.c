@@ -36,6 +36,17 @@ bool rks_grow(void *list, size_t *room, size_t len, size_t size) {
     return true;
 }
 
+size_t rks_place_of(const void *list, size_t len, size_t size, uint64_t number) {
+    size_t low = 0, high = len;
+    while (low < high) {
+        size_t middle = low + (high - low) / 2;
+        bool is_less = *(const uint64_t *)(const void *)((const char *)list + middle * size) < number;
+        low = is_less ? middle + 1 : low;
+        high = is_less ? high : middle;
+    }
+    return low;
+}
+
 static int by_value(const void *one, const void *other) {
     uintptr_t a = (uintptr_t)one, b = (uintptr_t)other;
     return (a > b) - (a < b);

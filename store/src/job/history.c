@@ -72,10 +72,6 @@ int rks_write_past(relkvanu_store *s) {
     return status == RELKVANU_STORE_OK && b->past_len != 0 ? cut(s) : status;
 }
 
-int rks_begin_past(relkvanu_store *s) {
-    return rks_has_table(s, "past", &s->job.extras.has_past);
-}
-
 /* Returns whether the row is whole. */
 static bool read_row(sqlite3_stmt *it, relkvanu_store_past *past) {
     uint64_t n[NUMBERS];

@@ -157,10 +157,9 @@ struct rks_live *rks_live_of(relkvanu_store *s, uint64_t id);
 int rks_look_for(relkvanu_store *s, uint64_t id, struct rks_lost *lost);
 void rks_say_lost(int status, const struct rks_lost *lost);
 
-/* history.c: notes a record that is complete or has failed; writes what was noted, in the transaction under way; at an opening, whether there is a table. */
+/* history.c: notes a record that is complete or has failed; writes what was noted, in the transaction under way. */
 void rks_note_past(relkvanu_store *s, const struct rks_live *of, uint32_t outcome, const relkvanu_store_more *more);
 int rks_write_past(relkvanu_store *s);
-int rks_begin_past(relkvanu_store *s);
 
 /* load.c: calls `each` for each subtask of a complete record, with its files, until that returns another status than RELKVANU_STORE_OK, and returns it. */
 typedef int (*rks_each_subtask)(void *with, uint16_t vertex, uint16_t index, const uint64_t *files, size_t len);

@@ -1,23 +1,9 @@
 /* The live records beside the coordinator: which of them a call has ended, and what was acknowledged for a pending one. */
 #include "../store.h"
 
-/* The place of the first live record with this number or a greater one. */
-static size_t place_of(const struct rks_extras *b, uint64_t id) {
-    size_t low = 0, high = b->live_len;
-    while (low < high) {
-        size_t middle = low + (high - low) / 2;
-        if (b->live[middle].id < id) {
-            low = middle + 1;
-        } else {
-            high = middle;
-        }
-    }
-    return low;
-}
-
 struct rks_live *rks_live_of(relkvanu_store *s, uint64_t id) {
     struct rks_extras *b = &s->job.extras;
-    size_t at = place_of(b, id);
+    size_t at = rks_place_of(b->live, b->live_len, sizeof *b->live, id);
     return at < b->live_len && b->live[at].id == id ? &b->live[at] : NULL;
 }
 
@@ -245,5 +231,5 @@ int rks_begin_extras(relkvanu_store *s) {
     }
     int status = rks_begin_origin(s);
     status = status == RELKVANU_STORE_OK ? rks_begin_parts(s) : status;
-    return status == RELKVANU_STORE_OK ? rks_begin_past(s) : status;
+    return status == RELKVANU_STORE_OK ? rks_has_table(s, "past", &b->has_past) : status;
 }

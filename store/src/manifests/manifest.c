@@ -269,22 +269,8 @@ static bool is_written(struct rks_writing *w) {
            (s->kept.place.put != NULL ? is_put(s, w->id, &w->text) : rks_put_manifest(s->storage.folder, w->id, "", &w->text) == 0);
 }
 
-/* The place of the first record that is kept with this number or a greater one. */
-static size_t place_of(const struct rks_kept *kept, uint64_t id) {
-    size_t low = 0, high = kept->len;
-    while (low < high) {
-        size_t middle = low + (high - low) / 2;
-        if (kept->ids[middle] < id) {
-            low = middle + 1;
-        } else {
-            high = middle;
-        }
-    }
-    return low;
-}
-
 static bool has_manifest(const struct rks_kept *kept, uint64_t id) {
-    size_t at = place_of(kept, id);
+    size_t at = rks_place_of(kept->ids, kept->len, sizeof *kept->ids, id);
     return at < kept->len && kept->ids[at] == id;
 }
 
@@ -296,7 +282,7 @@ static bool is_noted(struct rks_kept *kept, uint64_t id) {
     if (!rks_grow(&kept->ids, &kept->room, kept->len + 1, sizeof *kept->ids)) {
         return false;
     }
-    size_t at = place_of(kept, id);
+    size_t at = rks_place_of(kept->ids, kept->len, sizeof *kept->ids, id);
     memmove(kept->ids + at + 1, kept->ids + at, (kept->len - at) * sizeof *kept->ids);
     kept->ids[at] = id;
     kept->len++;
