@@ -333,13 +333,12 @@ static struct timespec end_of_wait(const relkvanu_store *s, const struct gatheri
     return rks_moment_of(worth < g->end ? worth : g->end);
 }
 
-/* Waits until all callers are in the group or in the queue, or some more, or one that joins no group. Returns whether the first joins the group. */
+/* Waits until all callers are in the group or in the queue, or some more, or one that joins no group. Returns whether the first joins the group: who came meanwhile
+ * does, although nobody was waited for. */
 static bool has_more(relkvanu_store *s, struct gathering *g) {
-    if (s->group.callers >= s->group.expected || g->is_over) {
-        return false;
-    }
-    size_t missing = s->group.expected - s->group.callers, wanted = missing < MADE_AT_ONCE ? missing : MADE_AT_ONCE;
-    struct timespec end = end_of_wait(s, g, missing);
+    bool waits = s->group.callers < s->group.expected && !g->is_over;
+    size_t missing = waits ? s->group.expected - s->group.callers : 0, wanted = missing < MADE_AT_ONCE ? missing : MADE_AT_ONCE;
+    struct timespec end = waits ? end_of_wait(s, g, missing) : (struct timespec){0};
     pthread_mutex_lock(&s->mutex);
     for (s->queue.gathers = s->queue.queued < wanted && s->queue.loners == 0 ? wanted : 0; s->queue.gathers != 0 && !g->is_over;) {
         g->is_over = pthread_cond_timedwait(&s->queue.gathered, &s->mutex, &end) != 0;
