@@ -159,27 +159,6 @@ int rks_write_new(int file, const void *bytes, size_t len) {
     return close(file) != 0 && error == 0 ? errno : error;
 }
 
-int rks_copy_contents(int from, int to, uint32_t *sum) {
-    enum { PIECE = 1 << 20 };
-    char *piece = malloc(PIECE);
-    off_t at = 0;
-    ssize_t len = 1;
-    int error = piece == NULL ? ENOMEM : 0;
-    *sum = 0;
-    while (error == 0 && len != 0) {
-        len = pread(from, piece, PIECE, at);
-        if (len < 0) {
-            error = errno == EINTR ? 0 : errno;
-        } else if (!rks_write_whole(to, piece, (size_t)len, at)) {
-            error = errno;
-        }
-        *sum = len > 0 ? (uint32_t)crc32_z(*sum, (const uint8_t *)piece, (size_t)len) : *sum;
-        at += len > 0 ? len : 0;
-    }
-    free(piece);
-    return error == 0 && fsync(to) != 0 ? errno : error;
-}
-
 int rks_remove(relkvanu_store *s, const char *path, const char *end) {
     char *name;
     if (asprintf(&name, "%s%s", path, end) < 0) {

@@ -85,9 +85,8 @@ int rks_check_closed(relkvanu_store *s, const char *path);
 int rks_make_file(relkvanu_store *s);
 bool rks_write_whole(int file, const void *bytes, size_t len, off_t at);
 
-/* Writes all of a new file, syncs it and closes it; the same of what another one has, whose checksum is *sum then, but for the close. 0, or what is wrong as errno. */
+/* Writes all of a new file, syncs it and closes it. 0, or what is wrong as errno. */
 int rks_write_new(int file, const void *bytes, size_t len);
-int rks_copy_contents(int from, int to, uint32_t *sum);
 
 /* Removes a job's file and what is beside it, or only that. Returns a status. */
 int rks_remove_job(relkvanu_store *s, const char *path, bool with_file);
@@ -95,6 +94,10 @@ int rks_remove(relkvanu_store *s, const char *path, const char *end);
 
 /* Gives the file at `from` the name of the job's file, which is durable then, and so is what was removed there before. */
 int rks_name_job(relkvanu_store *s, const char *from);
+
+/* marker.c: the identity of two random numbers; a new one: false if there are no random numbers. */
+void rks_identity(const uint64_t words[2], char job[RKS_IDENTITY + 1]);
+bool rks_new_identity(char job[RKS_IDENTITY + 1]);
 
 /* own_folder.c: the storage folder at an opening */
 int rks_open_folder(relkvanu_store *s, const char *folder);

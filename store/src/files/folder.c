@@ -202,9 +202,15 @@ uint8_t rks_folder_unlink(const struct rks_folder *f, uint64_t file) {
     return whole == 0 || part == 0 ? RELKVANU_STORAGE_DELETED : RELKVANU_STORAGE_MISSING;
 }
 
+static void tell_none(uint8_t *outcomes, size_t len) {
+    for (size_t place = 0; place < len; place++) {
+        outcomes[place] = RELKVANU_STORAGE_UNDELETED;
+    }
+}
+
 static int delete_files(void *with, const uint64_t *files, size_t files_len, uint8_t *outcomes) {
     const struct rks_folder *f = with;
-    memset(outcomes, RELKVANU_STORAGE_UNDELETED, files_len);
+    tell_none(outcomes, files_len);
     int status = look(f);
     for (size_t place = 0; status == RELKVANU_STORAGE_OK && place < files_len; place++) {
         outcomes[place] = rks_folder_unlink(f, files[place]);
@@ -214,7 +220,7 @@ static int delete_files(void *with, const uint64_t *files, size_t files_len, uin
         status = error == 0 ? RELKVANU_STORAGE_OK : failed(error);
     }
     if (status != RELKVANU_STORAGE_OK) {
-        memset(outcomes, RELKVANU_STORAGE_UNDELETED, files_len);
+        tell_none(outcomes, files_len);
     }
     return status;
 }

@@ -61,6 +61,19 @@ int rks_owner_of(int folder, const char *job, uint64_t epoch) {
     return strcmp(job, found.job) == 0 && found.epoch <= epoch ? RELKVANU_STORAGE_OK : RELKVANU_STORAGE_OTHER_JOB;
 }
 
+void rks_identity(const uint64_t words[2], char job[RKS_IDENTITY + 1]) {
+    snprintf(job, RKS_IDENTITY + 1, "%016" PRIx64 "%016" PRIx64, words[0], words[1]);
+}
+
+bool rks_new_identity(char job[RKS_IDENTITY + 1]) {
+    uint64_t words[2];
+    bool has_words = getentropy(words, sizeof words) == 0;
+    if (has_words) {
+        rks_identity(words, job);
+    }
+    return has_words;
+}
+
 int rks_marker_write(int folder, const char *job, uint64_t epoch) {
     char text[MARKER_LEN];
     snprintf(text, sizeof text, "relkvanu job %s\nepoch %" PRIu64 "\n", job, epoch);

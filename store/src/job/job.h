@@ -137,10 +137,6 @@ int rks_open(relkvanu_store **store, const char *path, const relkvanu_store_opti
 bool rks_check_more(const relkvanu_store_call *call);
 void rks_clear_more(const relkvanu_store_call *call);
 
-/* open.c: the identity of two random numbers; a new one: false if there are no random numbers. */
-void rks_identity(const uint64_t words[2], char job[RKS_IDENTITY + 1]);
-bool rks_new_identity(char job[RKS_IDENTITY + 1]);
-
 /* live_checkpoints.c: the live records of an opening; room for so many calls, and for what those of a group have; what follows from a call that was made; what is left of a group
  * that is committed. Each returns a status, or whether there was memory. */
 int rks_begin_extras(relkvanu_store *s);

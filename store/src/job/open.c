@@ -436,19 +436,6 @@ static int open_job(relkvanu_store *s, const char *path, const relkvanu_store_op
     return status;
 }
 
-void rks_identity(const uint64_t words[2], char job[RKS_IDENTITY + 1]) {
-    snprintf(job, RKS_IDENTITY + 1, "%016" PRIx64 "%016" PRIx64, words[0], words[1]);
-}
-
-bool rks_new_identity(char job[RKS_IDENTITY + 1]) {
-    uint64_t words[2];
-    bool has_words = getentropy(words, sizeof words) == 0;
-    if (has_words) {
-        rks_identity(words, job);
-    }
-    return has_words;
-}
-
 bool rks_start(pthread_t *thread, void *(*runs)(void *), relkvanu_store *s) {
     sigset_t every, before;
     sigfillset(&every);

@@ -156,3 +156,24 @@ void rks_free_sums(struct rks_sums *sums) {
     free(sums->at);
     *sums = (struct rks_sums){0};
 }
+
+int rks_copy_contents(int from, int to, uint32_t *sum) {
+    enum { MOST = 1 << 20 }; /* bytes at once */
+    char *piece = malloc(MOST);
+    off_t at = 0;
+    ssize_t len = 1;
+    int error = piece == NULL ? ENOMEM : 0;
+    *sum = 0;
+    while (error == 0 && len != 0) {
+        len = pread(from, piece, MOST, at);
+        if (len < 0) {
+            error = errno == EINTR ? 0 : errno;
+        } else if (!rks_write_whole(to, piece, (size_t)len, at)) {
+            error = errno;
+        }
+        *sum = len > 0 ? (uint32_t)crc32_z(*sum, (const uint8_t *)piece, (size_t)len) : *sum;
+        at += len > 0 ? len : 0;
+    }
+    free(piece);
+    return error == 0 && fsync(to) != 0 ? errno : error;
+}

@@ -29,4 +29,7 @@ int rks_sum_of(struct rks_sums *sums, int folder, uint64_t file, uint32_t *sum);
 
 void rks_free_sums(struct rks_sums *sums);
 
+/* Copies what is in a file, whose checksum is *sum then, and syncs the copy. 0, or what is wrong as errno. */
+int rks_copy_contents(int from, int to, uint32_t *sum);
+
 #endif
