@@ -370,12 +370,7 @@ public:
      * error::fenced_spent, if it has fresh files: a task deletes no file. */
     [[nodiscard]] ack_answer ack_in(std::uint64_t term, std::uint64_t id, std::uint16_t vertex, std::uint16_t index, files fresh,
         files reused = {}, std::uint64_t now = RELKVANU_STORE_NOW) noexcept {
-        relkvanu_store_call it = call(RELKVANU_CALL_ACK, now, id, vertex, index, term);
-        it.first = fresh.data();
-        it.first_len = fresh.size();
-        it.second = reused.data();
-        it.second_len = reused.size();
-        return one<ack_answer>(it, ack_of);
+        return one<ack_answer>(call(RELKVANU_CALL_ACK, now, id, vertex, index, term, fresh, reused), ack_of);
     }
 
     decline_answer decline_in(
@@ -387,20 +382,12 @@ public:
      * which. */
     [[nodiscard]] ack_answer ack_with(std::uint64_t term, std::uint64_t id, std::uint16_t vertex, std::uint16_t index, files fresh,
         files reused, relkvanu_store_more &more, std::uint64_t now = RELKVANU_STORE_NOW) noexcept {
-        relkvanu_store_call it = call(RELKVANU_CALL_ACK, now, id, vertex, index, term);
-        it.first = fresh.data();
-        it.first_len = fresh.size();
-        it.second = reused.data();
-        it.second_len = reused.size();
-        it.more = &more;
-        return one<ack_answer>(it, ack_of);
+        return one<ack_answer>(call(RELKVANU_CALL_ACK, now, id, vertex, index, term, fresh, reused, &more), ack_of);
     }
 
     decline_answer decline_with(std::uint64_t term, std::uint64_t id, std::uint16_t vertex, std::uint16_t index, relkvanu_store_more &more,
         std::uint64_t now = RELKVANU_STORE_NOW) noexcept {
-        relkvanu_store_call it = call(RELKVANU_CALL_DECLINE, now, id, vertex, index, term);
-        it.more = &more;
-        return one<decline_answer>(it, decline_of);
+        return one<decline_answer>(call(RELKVANU_CALL_DECLINE, now, id, vertex, index, term, {}, {}, &more), decline_of);
     }
 
     /* The complete record with this number, or the one that a restart begins from (0), with the files and the payload of each subtask, once it has looked that
@@ -465,9 +452,7 @@ public:
 
     /* From a savepoint, or from the latest record if it is 0. restored.term is what the tasks are started with. */
     restore_answer restore(std::uint64_t savepoint = 0, shape of = {}, std::uint64_t now = RELKVANU_STORE_NOW) noexcept {
-        relkvanu_store_call it = call(RELKVANU_CALL_RESTORE, now, savepoint);
-        it.first = of.data();
-        it.first_len = of.size();
+        relkvanu_store_call it = call(RELKVANU_CALL_RESTORE, now, savepoint, 0, 0, 0, of);
         return restored_by([this, &it](relkvanu_store_call &made) noexcept {
             made = it;
             return relkvanu_store_calls(store_, &made, 1);
@@ -697,9 +682,15 @@ private:
     Store(relkvanu_store *made, const relkvanu_store_report &found) noexcept : store_(made), report_(found) {}
 
     static relkvanu_store_call call(std::uint32_t kind, std::uint64_t now, std::uint64_t number = 0, std::uint16_t vertex = 0,
-        std::uint16_t index = 0, std::uint64_t term = 0) noexcept {
+        std::uint16_t index = 0, std::uint64_t term = 0, files first = {}, files second = {},
+        relkvanu_store_more *more = nullptr) noexcept {
         relkvanu_store_call it = {};
         it.call = relkvanu_call{kind, vertex, index, now, number, term};
+        it.first = first.data();
+        it.first_len = first.size();
+        it.second = second.data();
+        it.second_len = second.size();
+        it.more = more;
         return it;
     }
 

@@ -187,6 +187,62 @@ CASE(payloads_of_lists) {
     CHECK(parts_of(0) == 1, "%" PRIu64 " rows", parts_of(0));
 }
 
+/* Long payloads of a list are some rows, of which the first ones are inserted while its later calls are made. */
+enum { WIDE = 128, LONG = RELKVANU_STORE_MOST_PAYLOAD };
+static uint8_t long_texts[WIDE][LONG];
+
+static void acks_long(relkvanu_store *store, uint64_t id) {
+    static relkvanu_store_more of[WIDE];
+    static relkvanu_store_call calls[WIDE];
+    for (uint16_t i = 0; i < WIDE; i++) {
+        memset(long_texts[i], (int)(id * WIDE + i) & 255, LONG);
+        of[i] = (relkvanu_store_more){.payload = long_texts[i], .payload_len = LONG};
+        calls[i] = (relkvanu_store_call){.more = &of[i],
+            .call = {.kind = RELKVANU_CALL_ACK, .now = RELKVANU_STORE_NOW, .number = id, .term = term_of(store), .index = i}};
+    }
+    char words[RELKVANU_STORE_MESSAGE];
+    int status = relkvanu_store_calls(store, calls, WIDE);
+    relkvanu_store_message(store, words, sizeof words);
+    CHECK(status == RELKVANU_STORE_OK, "status %d: %s", status, words);
+    CHECK(calls[WIDE - 1].answer.what == RELKVANU_ACK_COMPLETED, "what %" PRIu32, calls[WIDE - 1].answer.what);
+}
+
+static bool note_long(void *with, const relkvanu_store_part *part) {
+    uint16_t *next = with;
+    CHECK(part->index == (*next)++ && part->payload_len == LONG, "subtask %d: %zu bytes", part->index, part->payload_len);
+    CHECK(memcmp(part->payload, long_texts[part->index], LONG) == 0, "the payload of subtask %d", part->index);
+    return true;
+}
+
+/* SQLite has memory again, while a commit that failed without it waits. */
+static void *gives_memory(void *unused) {
+    usleep(100000);
+    sqlite3_hard_heap_limit64(0);
+    return unused;
+}
+
+CASE(long_payloads) {
+    static const uint64_t wide[] = {WIDE};
+    relkvanu_store_options options = storage_options(RELKVANU_STORE_CREATE, 0);
+    options.shape = wide;
+    options.patience = 20000;
+    relkvanu_store *store = opens(&options, RELKVANU_STORE_OK);
+    for (int has_memory = 0; has_memory < 2; has_memory++) {
+        pthread_t thread;
+        uint64_t id = triggers(store);
+        uint16_t parts = 0;
+        CHECK(sqlite3_memory_used() != 0, "SQLite does not count its memory");
+        sqlite3_hard_heap_limit64(has_memory ? 0 : sqlite3_memory_used() + LONG * WIDE / 4);
+        CHECK(pthread_create(&thread, NULL, gives_memory, NULL) == 0, "no thread");
+        acks_long(store, id);
+        pthread_join(thread, NULL);
+        store = reopens(store);
+        CHECK(relkvanu_store_load(store, id, &loaded.is, note_long, &parts) == RELKVANU_STORE_OK && parts == WIDE, "%d parts", parts);
+    }
+    relkvanu_store_close(store);
+    CHECK(parts_of(0) > 1, "%zu rows", parts_of(0));
+}
+
 /* A payload goes with its record, however that ends. */
 CASE(payloads_of_ended_records) {
     relkvanu_store *store = job_of(2);

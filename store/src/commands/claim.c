@@ -18,10 +18,6 @@ struct claim {
     relkvanu_store_recovered *told;
 };
 
-static int set_fault(struct claim *c, int status, const char *name, const char *words) {
-    return rks_refuse(c->from, status, "%.300s: %.200s", name, words);
-}
-
 /* Reads the manifests anew. */
 static int list(struct claim *c) {
     rks_free_manifests(&c->all);
@@ -55,7 +51,7 @@ static int check_mark(struct claim *c, uint64_t record) {
         return RELKVANU_STORE_OK;
     }
     rks_say_claimed(mark, words, sizeof words);
-    return set_fault(c, RELKVANU_STORE_ABSENT, c->from_name, words);
+    return rks_say(c->from, RELKVANU_STORE_ABSENT, c->from_name, words);
 }
 
 /* From now on the record is this claim's. An old job that ran until it was fenced may have ended it: then its manifest is not there. */
@@ -169,7 +165,7 @@ static int leave_all(struct claim *c, uint64_t record) {
     }
     if (status != RELKVANU_STORE_OK) {
         return status == RELKVANU_STORE_NO_MEMORY ? status
-                                                  : set_fault(c, RELKVANU_STORE_DAMAGED, c->from_name,
+                                                  : rks_say(c->from, RELKVANU_STORE_DAMAGED, c->from_name,
                                                         "another manifest can't be read: the files of the record stay there too");
     }
     status = is_there ? rks_manifest_parts(&c->all, c->from->storage.folder, record, leave, c) : status;
@@ -211,7 +207,7 @@ static int go_on(struct claim *c, const char *path, const char *folder) {
     if (one == NULL && !c->has_marker && c->all.len == 0 && c->all.marks_len != 0) {
         leave_folder(c); /* it ended behind the last file */
     }
-    int status = one == NULL ? set_fault(c, RELKVANU_STORE_PRESENT, path, "there is a job") : check_mark(c, one->id);
+    int status = one == NULL ? rks_say(c->from, RELKVANU_STORE_PRESENT, path, "there is a job") : check_mark(c, one->id);
     status = status == RELKVANU_STORE_OK ? fence(c) : status;
     status = status == RELKVANU_STORE_OK ? mark(c, one->id) : status;
     status = status == RELKVANU_STORE_OK ? list(c) : status;
@@ -255,7 +251,7 @@ static int claim_elsewhere(struct claim *c, uint64_t record, const char *path, c
     bool is_earlier = begun != NULL && begun->id != chosen(c, record)->id;
     rks_free_manifests(&there);
     if (is_earlier || (begun == NULL && !is_free(folder))) {
-        return set_fault(c, RELKVANU_STORE_PRESENT, folder,
+        return rks_say(c->from, RELKVANU_STORE_PRESENT, folder,
             is_earlier ? "an import that did not end has left another record there: remove it" : "it is there, and is no empty folder");
     }
     int status = fence(c);
@@ -282,7 +278,7 @@ static int claim(struct claim *c, uint64_t record, const char *path, const char 
     }
     record = record == 0 ? begun_record(c) : record;
     if (is_file(path)) {
-        return is_same_folder(c, folder) ? set_fault(c, RELKVANU_STORE_PRESENT, path, "there is a job") : go_on(c, path, folder);
+        return is_same_folder(c, folder) ? rks_say(c->from, RELKVANU_STORE_PRESENT, path, "there is a job") : go_on(c, path, folder);
     }
     status = check_chosen(c, record);
     status = status == RELKVANU_STORE_OK ? rks_check_free(path, c->from->fault) : status;

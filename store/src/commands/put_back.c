@@ -14,10 +14,6 @@ struct putting {
     relkvanu_store_recovered *told;
 };
 
-static int set_fault(struct putting *p, int status, const char *words) {
-    return rks_refuse(p->old, status, "%.300s: %.200s", p->old->file.path, words);
-}
-
 /* One text behind the other, to be freed. NULL: no memory. */
 static char *joined(const char *one, const char *other) {
     char *text;
@@ -95,7 +91,8 @@ static int make(struct putting *p, relkvanu_call made) {
     } else if (status == RELKVANU_STORE_OK && call.answer.code != RELKVANU_DONE) {
         char text[RELKVANU_ANSWER_TEXT + 1] = "";
         relkvanu_answer_text(&call.answer, (uint8_t *)text, RELKVANU_ANSWER_TEXT);
-        status = call.answer.code == RELKVANU_NO_MEMORY ? RELKVANU_STORE_NO_MEMORY : set_fault(p, RELKVANU_STORE_ABSENT, text);
+        status = call.answer.code == RELKVANU_NO_MEMORY ? RELKVANU_STORE_NO_MEMORY
+                                                        : rks_say(p->old, RELKVANU_STORE_ABSENT, p->old->file.path, text);
     }
     return status;
 }
@@ -110,7 +107,7 @@ static int pass_names(struct putting *p, const relkvanu_store_report *report) {
     if (greatest >= next && greatest - next > SOME_NAMES) {
         char words[120];
         snprintf(words, sizeof words, "the storage folder has %" PRIu64 ", which is no file of the job: set it aside", greatest);
-        return set_fault(p, RELKVANU_STORE_STORAGE, words);
+        return rks_say(p->old, RELKVANU_STORE_STORAGE, p->old->file.path, words);
     }
     next = greatest >= next ? greatest + 1 : next;
     return make(p, (relkvanu_call){.kind = RELKVANU_CALL_ADVANCE, .term = report->term + SOME_TERMS, .number = next});
@@ -119,11 +116,11 @@ static int pass_names(struct putting *p, const relkvanu_store_report *report) {
 /* A call that takes the job to the record that was chosen. */
 static int restore(struct putting *p, const relkvanu_store_report *report) {
     if (report->mode.what == RELKVANU_MODE_CANCELLED) {
-        return set_fault(p, RELKVANU_STORE_ABSENT, "the job of the backup was cancelled");
+        return rks_say(p->old, RELKVANU_STORE_ABSENT, p->old->file.path, "the job of the backup was cancelled");
     }
     uint64_t id = choose(p);
     if (id == 0) {
-        return set_fault(p, RELKVANU_STORE_ABSENT, "no record of the backup has all its files in the storage folder");
+        return rks_say(p->old, RELKVANU_STORE_ABSENT, p->old->file.path, "no record of the backup has all its files in the storage folder");
     }
     bool is_choice = relkvanu_choice(p->job->handle).a == id;
     p->told->record = id;

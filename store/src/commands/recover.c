@@ -41,10 +41,6 @@ struct recovery {
     relkvanu_store_recovered *told;
 };
 
-static int set_fault(struct recovery *r, int status, const char *words) {
-    return rks_refuse(r->old, status, "%.300s: %.200s", r->old->file.path, words);
-}
-
 static int append(struct numbers *to, uint64_t number) {
     if (!rks_grow(&to->at, &to->room, to->len + 1, sizeof *to->at)) {
         return RELKVANU_STORE_NO_MEMORY;
@@ -124,7 +120,8 @@ static int make(struct recovery *r, relkvanu_store_call *calls, size_t len) {
         if (code != RELKVANU_DONE) {
             relkvanu_answer_text(&calls[i].answer, (uint8_t *)text, RELKVANU_ANSWER_TEXT);
             snprintf(words, sizeof words, "a manifest is not that of a record: %s", text);
-            status = code == RELKVANU_NO_MEMORY ? RELKVANU_STORE_NO_MEMORY : set_fault(r, RELKVANU_STORE_DAMAGED, words);
+            status =
+                code == RELKVANU_NO_MEMORY ? RELKVANU_STORE_NO_MEMORY : rks_say(r->old, RELKVANU_STORE_DAMAGED, r->old->file.path, words);
         }
     }
     if (status >= RELKVANU_STORE_FAILED && status <= RELKVANU_STORE_OUT_OF_MEMORY) {
@@ -186,10 +183,10 @@ static int carry_parts(struct recovery *r, uint64_t id) {
 static int complete(struct recovery *r, const struct rks_manifest *m, uint64_t id) {
     r->fresh.len = r->reused.len = r->ordered.len = r->payloads.len = r->acks_len = 0;
     int status = rks_manifest_parts(&r->all, r->old->storage.folder, m->id, note_part, r);
-    status = status == RELKVANU_STORE_DAMAGED ? set_fault(r, status, "a manifest has changed meanwhile") : status;
+    status = status == RELKVANU_STORE_DAMAGED ? rks_say(r->old, status, r->old->file.path, "a manifest has changed meanwhile") : status;
     status = status == RELKVANU_STORE_OK ? acknowledge(r, id) : status;
     if (status == RELKVANU_STORE_OK && relkvanu_standing(r->job->handle, id).what != RELKVANU_STANDS_DONE) {
-        status = set_fault(r, RELKVANU_STORE_DAMAGED, "a manifest lacks a subtask of its shape");
+        status = rks_say(r->old, RELKVANU_STORE_DAMAGED, r->old->file.path, "a manifest lacks a subtask of its shape");
     }
     return status == RELKVANU_STORE_OK ? carry_parts(r, id) : status;
 }
@@ -254,7 +251,7 @@ static int keep_savepoints(struct recovery *r, const struct rks_manifest *choice
 static int pass_names(struct recovery *r) {
     relkvanu_answer answer;
     if (r->below.name > RKS_MOST_NAME) {
-        return set_fault(r, RELKVANU_STORE_STORAGE, "its names are used up");
+        return rks_say(r->old, RELKVANU_STORE_STORAGE, r->old->file.path, "its names are used up");
     }
     relkvanu_call advance = {.kind = RELKVANU_CALL_ADVANCE, .term = r->below.term, .number = r->below.name};
     int status = make_one(r, (relkvanu_call){.kind = RELKVANU_CALL_FENCE, .number = r->below.name}, NULL, &answer);
@@ -336,7 +333,8 @@ static int name_job_if_last(struct recovery *r) {
     uint64_t marked = 0;
     int status = lock_marker(r, &marked);
     if (status == RELKVANU_STORE_OK && marked > r->epoch) {
-        status = set_fault(r, RELKVANU_STORE_STORAGE, "another recovery or a claim has taken the storage folder meanwhile");
+        status = rks_say(
+            r->old, RELKVANU_STORE_STORAGE, r->old->file.path, "another recovery or a claim has taken the storage folder meanwhile");
     }
     status = status == RELKVANU_STORE_OK ? name_job(r) : status;
     unlock_marker(r);
@@ -388,7 +386,7 @@ static int check_unread(struct recovery *r, const struct rks_manifest *choice, u
         is_far ? "its number is far above the others, so move it away if it is none of the job's"
                : "give the number of a record to go on from an earlier one");
     if (is_far || record == 0) {
-        return set_fault(r, RELKVANU_STORE_DAMAGED, words);
+        return rks_say(r->old, RELKVANU_STORE_DAMAGED, r->old->file.path, words);
     }
     r->below.number = greater(r->below.number, r->unread + 1 + SOME_NUMBERS);
     return RELKVANU_STORE_OK;
@@ -406,7 +404,7 @@ static int choose(struct recovery *r, uint64_t record, struct rks_manifest **cho
     if (*choice == NULL) {
         char words[200];
         rks_say_none(&r->all, r->old->job.identity, record, words, sizeof words);
-        return set_fault(r, RELKVANU_STORE_ABSENT, words);
+        return rks_say(r->old, RELKVANU_STORE_ABSENT, r->old->file.path, words);
     }
     return check_unread(r, *choice, record);
 }
@@ -446,11 +444,11 @@ static int read_owner(struct recovery *r, const char *folder) {
 static int check_absent(struct recovery *r) {
     struct stat found;
     if (stat(r->old->file.path, &found) == 0 && found.st_size != 0) {
-        return set_fault(r, RELKVANU_STORE_PRESENT, "there is a job");
+        return rks_say(r->old, RELKVANU_STORE_PRESENT, r->old->file.path, "there is a job");
     }
     if (stat(r->old->file.wal, &found) == 0 && found.st_size != 0) {
-        return set_fault(
-            r, RELKVANU_STORE_PRESENT, "its -wal is there, which has calls that this file would lack. Move it away if the file is lost");
+        return rks_say(r->old, RELKVANU_STORE_PRESENT, r->old->file.path,
+            "its -wal is there, which has calls that this file would lack. Move it away if the file is lost");
     }
     return RELKVANU_STORE_OK;
 }

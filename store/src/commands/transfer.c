@@ -18,14 +18,6 @@ struct transfer {
     relkvanu_store_carried *told;
 };
 
-static int failed(struct transfer *t, const char *what, int error) {
-    return rks_file_fault(t->from, what, error);
-}
-
-static int set_fault(struct transfer *t, int status, const char *folder, const char *words) {
-    return rks_refuse(t->from, status, "%.300s: %.200s", folder, words);
-}
-
 static int copy_file(const struct transfer *t, const char *name, uint32_t *sum) {
     int from = openat(t->from->storage.folder, name, O_RDONLY | O_NOFOLLOW | O_NONBLOCK | O_CLOEXEC);
     if (from < 0) {
@@ -64,14 +56,14 @@ static int carry(void *with, const struct rks_part *part) {
     }
     int error = carry_file(t, name, &is_copy, &sum);
     if (error != 0) {
-        return error == ENOENT ? RELKVANU_STORE_NOT_NOW : failed(t, name, error);
+        return error == ENOENT ? RELKVANU_STORE_NOT_NOW : rks_file_fault(t->from, name, error);
     }
     bool is_there = rks_find_file(t->to, part->file, &found) && S_ISREG(found.st_mode);
     if (!is_there || (part->has_bytes && (uint64_t)found.st_size != part->bytes)) {
-        return set_fault(t, RELKVANU_STORE_DAMAGED, name, "it is not as long as its manifest says");
+        return rks_say(t->from, RELKVANU_STORE_DAMAGED, name, "it is not as long as its manifest says");
     }
     if (is_copy && part->has_sum && part->sum != sum) {
-        return set_fault(t, RELKVANU_STORE_DAMAGED, name, "it has another checksum than its manifest says");
+        return rks_say(t->from, RELKVANU_STORE_DAMAGED, name, "it has another checksum than its manifest says");
     }
     t->told->files++;
     t->told->bytes += (uint64_t)found.st_size;
@@ -89,7 +81,7 @@ static int remove_folder(struct transfer *t, const char *name) {
     error = error < 0 ? errno : error;
     rks_close(folder);
     error = error == 0 && rmdir(name) != 0 ? errno : error;
-    return error == 0 || error == ENOENT ? RELKVANU_STORE_OK : failed(t, name, error);
+    return error == 0 || error == ENOENT ? RELKVANU_STORE_OK : rks_file_fault(t->from, name, error);
 }
 
 static bool is_from(const struct transfer *t) {
@@ -101,14 +93,14 @@ static bool is_from(const struct transfer *t) {
 static int open_part(struct transfer *t) {
     t->to = open(t->part, O_RDONLY | O_DIRECTORY | O_NOFOLLOW | O_CLOEXEC);
     if (t->to < 0) {
-        return errno == ENOENT ? RELKVANU_STORE_OK : failed(t, t->part, errno);
+        return errno == ENOENT ? RELKVANU_STORE_OK : rks_file_fault(t->from, t->part, errno);
     }
     int status = RELKVANU_STORE_OK;
     if (is_from(t)) {
-        status = set_fault(t, RELKVANU_STORE_PRESENT, t->part, "it is the folder to carry from, and would be made anew");
+        status = rks_say(t->from, RELKVANU_STORE_PRESENT, t->part, "it is the folder to carry from, and would be made anew");
     } else if (flock(t->to, LOCK_EX | LOCK_NB) != 0) {
-        status = errno == EWOULDBLOCK ? set_fault(t, RELKVANU_STORE_IN_USE, t->part, "another export or import writes it")
-                                      : failed(t, t->part, errno);
+        status = errno == EWOULDBLOCK ? rks_say(t->from, RELKVANU_STORE_IN_USE, t->part, "another export or import writes it")
+                                      : rks_file_fault(t->from, t->part, errno);
     } else if (!rks_is_named(t->to, t->part)) { /* another call may have finished it, or removed it, before the lock was had */
         status = RELKVANU_STORE_NOT_NOW;
     }
@@ -125,7 +117,8 @@ static int lock_part(struct transfer *t) {
     for (int tries = 0; tries < TRIES && status == RELKVANU_STORE_NOT_NOW; tries++) {
         status = open_part(t);
     }
-    return status == RELKVANU_STORE_NOT_NOW ? set_fault(t, RELKVANU_STORE_IN_USE, t->part, "other exports or imports write it") : status;
+    return status == RELKVANU_STORE_NOT_NOW ? rks_say(t->from, RELKVANU_STORE_IN_USE, t->part, "other exports or imports write it")
+                                            : status;
 }
 
 /* The part is that of the user of an empty folder whose name it gets, or else of the folder that it is in. */
@@ -133,7 +126,7 @@ static int give_part(struct transfer *t) {
     int empty = open(t->to_name, O_RDONLY | O_DIRECTORY | O_NOFOLLOW | O_CLOEXEC);
     int error = empty >= 0 ? rks_give(t->to, empty) : rks_give_beside(t->to, t->part);
     rks_close(empty);
-    return error == 0 ? RELKVANU_STORE_OK : failed(t, t->part, error);
+    return error == 0 ? RELKVANU_STORE_OK : rks_file_fault(t->from, t->part, error);
 }
 
 /* Makes the part anew. */
@@ -144,9 +137,9 @@ static int make_folder(struct transfer *t) {
         close(t->to);
         t->to = -1;
     }
-    status = status == RELKVANU_STORE_OK && mkdir(t->part, 0700) != 0 ? failed(t, t->part, errno) : status;
+    status = status == RELKVANU_STORE_OK && mkdir(t->part, 0700) != 0 ? rks_file_fault(t->from, t->part, errno) : status;
     status = status == RELKVANU_STORE_OK ? lock_part(t) : status;
-    status = status == RELKVANU_STORE_OK && t->to < 0 ? failed(t, t->part, ENOENT) : status;
+    status = status == RELKVANU_STORE_OK && t->to < 0 ? rks_file_fault(t->from, t->part, ENOENT) : status;
     return status == RELKVANU_STORE_OK ? give_part(t) : status;
 }
 
@@ -169,7 +162,7 @@ static int write_manifest(struct transfer *t, uint64_t id, const struct rks_text
     int file = openat(t->to, name, O_WRONLY | O_CREAT | O_EXCL | O_NOFOLLOW | O_CLOEXEC, 0600);
     int error = file < 0 ? errno : rks_give(file, t->to), written = file < 0 ? 0 : rks_write_new(file, text->at, text->len);
     error = error == 0 ? written : error;
-    return error == 0 ? RELKVANU_STORE_OK : failed(t, name, error);
+    return error == 0 ? RELKVANU_STORE_OK : rks_file_fault(t->from, name, error);
 }
 
 /* Carries one record with its manifest. RELKVANU_STORE_NOT_NOW: it has ended meanwhile. */
@@ -217,24 +210,24 @@ static int carry_chosen(struct transfer *t, uint64_t record, const char *job) {
         drop_folder(t);
         status = rks_list_manifests(t->from->storage.folder, &all);
         if (status != RELKVANU_STORE_OK) {
-            status = status == RELKVANU_STORE_NO_MEMORY ? status : failed(t, t->from_name, errno);
+            status = status == RELKVANU_STORE_NO_MEMORY ? status : rks_file_fault(t->from, t->from_name, errno);
         } else if ((status = choose(t, &all, record, &chosen)) == RELKVANU_STORE_OK) {
             status = carry_record(t, &all, chosen, job);
         }
         rks_free_manifests(&all);
     }
-    return status == RELKVANU_STORE_NOT_NOW ? set_fault(t, RELKVANU_STORE_ABSENT, t->from_name, "its records end too soon") : status;
+    return status == RELKVANU_STORE_NOT_NOW ? rks_say(t->from, RELKVANU_STORE_ABSENT, t->from_name, "its records end too soon") : status;
 }
 
 /* Gives the folder its name, once all of it is on the disk. One of that name has to be empty, or not there. */
 static int name_folder(struct transfer *t) {
     if (fsync(t->to) != 0) {
-        return failed(t, t->part, errno);
+        return rks_file_fault(t->from, t->part, errno);
     }
     if (rename(t->part, t->to_name) != 0) {
         bool is_there = errno == ENOTEMPTY || errno == EEXIST || errno == ENOTDIR;
-        return is_there ? set_fault(t, RELKVANU_STORE_PRESENT, t->to_name, "it is there, and is no empty folder")
-                        : failed(t, t->to_name, errno);
+        return is_there ? rks_say(t->from, RELKVANU_STORE_PRESENT, t->to_name, "it is there, and is no empty folder")
+                        : rks_file_fault(t->from, t->to_name, errno);
     }
     close(t->to);
     t->to = -1;
@@ -253,7 +246,7 @@ static int make(struct transfer *t, uint64_t record, const char *job) {
     int status = open_from(t);
     status = status == RELKVANU_STORE_OK ? carry_chosen(t, record, job) : status;
     int error = status == RELKVANU_STORE_OK && job != NULL ? rks_marker_write(t->to, job, 1) : 0;
-    status = error != 0 ? failed(t, t->part, error) : status;
+    status = error != 0 ? rks_file_fault(t->from, t->part, error) : status;
     status = status == RELKVANU_STORE_OK ? name_folder(t) : status;
     drop_folder(t);
     return status;

@@ -94,6 +94,10 @@ int rks_refuse(relkvanu_store *s, int status, const char *format, ...) {
     return status;
 }
 
+int rks_say(relkvanu_store *s, int status, const char *name, const char *words) {
+    return rks_refuse(s, status, "%.300s: %.200s", name, words);
+}
+
 void rks_close(int file) {
     int error = errno;
     if (file >= 0) {

@@ -55,6 +55,7 @@ int rks_file_fault(relkvanu_store *s, const char *what, int error);
 
 /* Notes the words of a failure. Returns its status. */
 __attribute__((format(printf, 3, 4))) int rks_refuse(relkvanu_store *s, int status, const char *format, ...);
+int rks_say(relkvanu_store *s, int status, const char *name, const char *words);
 char *rks_folder_of(const char *path);
 
 /* Closes what is open, if it is, and keeps errno. */

@@ -10,11 +10,6 @@ static int open_marker(int folder, const char *name) {
     return openat(folder, name, O_RDONLY | O_NOFOLLOW | O_NONBLOCK | O_CLOEXEC);
 }
 
-static int closed(int file, int status) {
-    rks_close(file);
-    return status;
-}
-
 /* Compares what a marker says. */
 static int compare(int marker, const char *text) {
     char found[256];
@@ -35,7 +30,9 @@ int rks_marker_says(int folder, const char *name, const char *text) {
     if (marker < 0) {
         return errno == ENOENT ? RELKVANU_STORAGE_NOT_THERE : RELKVANU_STORAGE_FAILED;
     }
-    return closed(marker, compare(marker, text));
+    int status = compare(marker, text);
+    rks_close(marker);
+    return status;
 }
 
 int rks_marker_read(int folder, struct rks_marker *found) {
@@ -45,7 +42,8 @@ int rks_marker_read(int folder, struct rks_marker *found) {
     if (marker < 0) {
         return errno == ENOENT || errno == ELOOP ? RELKVANU_STORAGE_NOT_THERE : RELKVANU_STORAGE_FAILED;
     }
-    bool is_read = closed(marker, read(marker, text, sizeof text - 1) >= 0);
+    bool is_read = read(marker, text, sizeof text - 1) >= 0;
+    rks_close(marker);
     if (is_read) {
         sscanf(text, "relkvanu job %32s epoch %" SCNu64, found->job, &found->epoch);
     }
