@@ -1,4 +1,4 @@
-/* What all layers of the store share, and the headers of the system that most of them need. include/relkvanu_store.h has what its users see. */
+/* What all layers of the store share. include/relkvanu_store.h has what its users see. */
 #ifndef RELKVANU_STORE_COMMON_H
 #define RELKVANU_STORE_COMMON_H
 #ifndef _GNU_SOURCE
@@ -7,26 +7,13 @@
 #include "../../include/relkvanu_store.h"
 
 #include <dirent.h>
-#include <errno.h>
-#include <fcntl.h>
-#include <inttypes.h>
-#include <limits.h>
 #include <pthread.h>
 #include <semaphore.h>
-#include <signal.h>
 #include <sqlite3.h>
-#include <stdarg.h>
 #include <stdatomic.h>
 #include <stdbool.h>
-#include <stdio.h>
-#include <stdlib.h>
-#include <string.h>
-#include <sys/file.h>
-#include <sys/random.h>
 #include <sys/stat.h>
-#include <time.h>
-#include <unistd.h>
-#include <zlib.h>
+#include <sys/types.h>
 
 /* After so many pages the -wal is brought into the file. Tests make it small. */
 #ifndef RKS_WAL_PAGES

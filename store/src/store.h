@@ -4,7 +4,6 @@
 #include "files/files.h"
 #include "job/job.h"
 #include "log/log.h"
-#include "manifests/manifest.h"
 #include "manifests/manifests.h"
 
 /* What an operator watches. Guarded by the mutex. */

@@ -1,6 +1,16 @@
 /* A backup of an open job: a copy of its file, made page by page beside the calls of other threads. It gets its name once it is whole and
  * durable. Its format number says that it is one, so that no opening takes it for the job. */
+#include "../files/files.h"
+#include "../job/job.h"
 #include "../store.h"
+
+#include <errno.h>
+#include <fcntl.h>
+#include <stdio.h>
+#include <stdlib.h>
+#include <string.h>
+#include <sys/file.h>
+#include <unistd.h>
 
 /* The pages that a thread copies at a time, while it leads: 1 MiB. */
 enum { PAGES = 256 };

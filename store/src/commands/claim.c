@@ -2,8 +2,19 @@
  *
  * Nothing leaves before the other job is there with links or copies of all files, so a claim that ends in between has lost nothing. Before there is that job the
  * record is marked in the folder, so that no other claim has it too, or takes an earlier one for the latest. */
+#include "../files/files.h"
+#include "../job/job.h"
+#include "../manifests/manifest.h"
 #include "../store.h"
 #include "commands.h"
+
+#include <errno.h>
+#include <fcntl.h>
+#include <inttypes.h>
+#include <stdio.h>
+#include <stdlib.h>
+#include <string.h>
+#include <unistd.h>
 
 enum { TRIES = 100 }; /* times that records may end while they are listed */
 

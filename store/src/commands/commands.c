@@ -1,4 +1,6 @@
 /* What an operator wants of a job that runs: a checkpoint now, other settings, a stop with a savepoint and a new begin. */
+#include "../job/job.h"
+#include "../log/log.h"
 #include "../store.h"
 #include "commands.h"
 

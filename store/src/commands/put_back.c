@@ -1,6 +1,19 @@
 /* Puts a backup back in the place of a job's file: prepares a new file over a folder of its own, sets the job's files aside, and names the new one. */
+#include "../files/files.h"
 #include "../files/folder.h"
+#include "../job/job.h"
+#include "../log/log.h"
+#include "../manifests/known_files.h"
+#include "../manifests/manifest.h"
 #include "../store.h"
+
+#include <errno.h>
+#include <fcntl.h>
+#include <inttypes.h>
+#include <stdio.h>
+#include <stdlib.h>
+#include <string.h>
+#include <unistd.h>
 
 /* Terms that the job may have begun since the backup; how far its names may be above those of the backup. */
 static const uint64_t SOME_TERMS = UINT64_C(1) << 32, SOME_NAMES = UINT64_C(1) << 36;

@@ -2,8 +2,21 @@
  *
  * The file is made without names, so that its first acknowledgements may name the files that are there by the numbers that they have. Then it gets
  * names, and an advance passes over all that the old job told anybody (docs/DECISIONS.md). */
+#include "../files/files.h"
+#include "../job/job.h"
+#include "../log/log.h"
+#include "../manifests/manifest.h"
+#include "../manifests/manifests.h"
 #include "../store.h"
 #include "commands.h"
+
+#include <errno.h>
+#include <fcntl.h>
+#include <inttypes.h>
+#include <stdio.h>
+#include <stdlib.h>
+#include <string.h>
+#include <unistd.h>
 
 enum { LIST = 4096, LIST_FILES = 65536 }; /* calls, and files, of a list */
 

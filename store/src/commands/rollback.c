@@ -1,6 +1,13 @@
 /* The way back to an older checkpoint that is retained: a savepoint of its own files, and the restore to that savepoint, as one group with a commit
  * of its own. If one of its calls can't be made, none is: a copy from before the first one goes on, as after a crash of a group that was not synced. */
+#include "../job/job.h"
+#include "../log/log.h"
+#include "../manifests/manifest.h"
+#include "../manifests/manifests.h"
 #include "../store.h"
+
+#include <stdlib.h>
+#include <string.h>
 
 enum { BESIDE = 3 }; /* calls beside an acknowledgement of each subtask: a restore of a failed job, the savepoint, the restore */
 

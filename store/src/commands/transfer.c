@@ -2,9 +2,22 @@
  *
  * The folder is made beside its name, and gets it once all is on the disk. A file that both folders can have is linked, so it stays although the
  * first job deletes it. */
+#include "../files/files.h"
 #include "../files/folder.h"
+#include "../job/job.h"
+#include "../manifests/known_files.h"
+#include "../manifests/manifest.h"
 #include "../store.h"
 #include "commands.h"
+
+#include <errno.h>
+#include <fcntl.h>
+#include <inttypes.h>
+#include <stdio.h>
+#include <stdlib.h>
+#include <string.h>
+#include <sys/file.h>
+#include <unistd.h>
 
 enum { TRIES = 100 }; /* times that a record may end while it is carried */
 

@@ -1,6 +1,12 @@
 /* The discarder: takes files, has them deleted, and reports them with the next take in one list. It never gives up. */
+#include "../job/job.h"
 #include "../store.h"
+#include "files.h"
 #include "folder.h"
+
+#include <stdlib.h>
+#include <string.h>
+#include <unistd.h>
 
 enum { BATCH = 256, LEAST_WAIT = 100, MOST_WAIT = 60000, NO_MEMORY_WAIT = 1000 }; /* ms */
 

@@ -1,7 +1,16 @@
 /* Files of the store: the words for what the system says of them, and what SQLite does not sync by itself. */
 #include "../store.h"
+#include "files.h"
 
+#include <errno.h>
+#include <fcntl.h>
+#include <inttypes.h>
 #include <search.h>
+#include <stdarg.h>
+#include <stdio.h>
+#include <stdlib.h>
+#include <string.h>
+#include <unistd.h>
 
 bool rks_room(struct rks_text *text, size_t more) {
     if (text->room - text->len >= more) {

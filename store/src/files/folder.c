@@ -1,6 +1,16 @@
 /* State files in an open folder, by their numbers: made whole and durable, read, deleted for good, and listed. */
-#include "../store.h"
+#include "../manifests/manifests.h"
+#include "files.h"
 #include "folder.h"
+
+#include <errno.h>
+#include <fcntl.h>
+#include <inttypes.h>
+#include <limits.h>
+#include <stdio.h>
+#include <stdlib.h>
+#include <string.h>
+#include <unistd.h>
 
 static const char PART[] = ".part"; /* of a file that is not whole yet */
 enum { NAME = NAME_MAX + 1, DIGITS = 20 };

@@ -1,7 +1,15 @@
 /* The marker of a folder with state files: which job they are of, and that the folder is mounted. That of a store's folder also says which opening
  * of the job has it. */
-#include "../store.h"
+#include "files.h"
 #include "folder.h"
+
+#include <errno.h>
+#include <fcntl.h>
+#include <inttypes.h>
+#include <stdio.h>
+#include <string.h>
+#include <sys/random.h>
+#include <unistd.h>
 
 enum { MARKER_LEN = 96 };
 

@@ -1,6 +1,15 @@
 /* The storage folder of a job at an opening: whether it is the job's, and why it is refused otherwise. */
 #include "../store.h"
+#include "files.h"
 #include "folder.h"
+
+#include <errno.h>
+#include <fcntl.h>
+#include <inttypes.h>
+#include <limits.h>
+#include <stdio.h>
+#include <string.h>
+#include <sys/file.h>
 
 static int storage_fault(relkvanu_store *s, const char *folder, const char *words, const char *more) {
     return rks_refuse(s, RELKVANU_STORE_STORAGE, "%.300s: %s%.80s", folder, words, more);

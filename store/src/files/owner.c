@@ -1,6 +1,11 @@
 /* What root makes beside somebody's files is that user's, who runs the engine; and it follows no link that this user has put there. Where root may not give to
  * each user, as in some containers, it stays root's. */
-#include "../store.h"
+#include "files.h"
+
+#include <errno.h>
+#include <fcntl.h>
+#include <stdlib.h>
+#include <unistd.h>
 
 static bool is_somebodys(const struct stat *folder) {
     return geteuid() == 0 && folder->st_uid != 0;

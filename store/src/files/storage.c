@@ -1,6 +1,11 @@
 /* The store's own folder as a storage, and a sweep of any storage: what it may delete, the store knows. */
+#include "../job/job.h"
+#include "../manifests/manifests.h"
 #include "../store.h"
+#include "files.h"
 #include "folder.h"
+
+#include <string.h>
 
 static int check_owner(const void *store) {
     return rks_owner(store);

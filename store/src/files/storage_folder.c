@@ -1,6 +1,13 @@
 /* A folder as a storage of relkvanu_storage.h: held open, with a marker that names the job. */
-#include "../store.h"
+#include "files.h"
 #include "folder.h"
+
+#include <errno.h>
+#include <fcntl.h>
+#include <stdio.h>
+#include <stdlib.h>
+#include <string.h>
+#include <unistd.h>
 
 enum { FILES_MODE = 0666 };
 

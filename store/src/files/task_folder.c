@@ -1,6 +1,11 @@
 /* The folder of a store, for a task in another process: files are put as the store itself puts them, while its opening has the folder. */
-#include "../store.h"
+#include "files.h"
 #include "folder.h"
+
+#include <errno.h>
+#include <fcntl.h>
+#include <stdlib.h>
+#include <unistd.h>
 
 struct task {
     struct rks_folder folder;

@@ -1,7 +1,16 @@
 /* The rows of what acknowledgements have beside their files: payloads, figures, and the order of the files. Those of one record that one commit has are one
  * row, or some if they are long, whose key is the place of the first of them in the log. It is written in the commit of its acknowledgements, and deleted in that of the call that ends the
  * record: the rows of a record are between two places, with those of records that were pending beside it. */
+#include "../log/log.h"
+#include "../manifests/manifests.h"
 #include "../store.h"
+#include "job.h"
+
+#include <inttypes.h>
+#include <stdio.h>
+#include <stdlib.h>
+#include <string.h>
+#include <zlib.h>
 
 /* What a part begins with; its files and its payload follow, and zeros up to a multiple of eight bytes. */
 struct head {

@@ -1,5 +1,10 @@
 /* Why a storage did not do what it was to do, for the thread that called. */
-#include "../store.h"
+#include "job.h"
+
+#include <errno.h>
+#include <inttypes.h>
+#include <stdio.h>
+#include <string.h>
 
 static _Thread_local char why[RKS_MESSAGE];
 

@@ -1,5 +1,12 @@
 /* The history: a row of each record that is complete or has failed, of the last ones. It is written in the commit of the call that has done that. */
+#include "../log/log.h"
 #include "../store.h"
+#include "job.h"
+
+#include <stdio.h>
+#include <stdlib.h>
+#include <string.h>
+#include <zlib.h>
 
 enum { NUMBERS = RKS_PAST_NUMBERS, FIRST = 6, MEDIAN, P99, SLOWEST, REASON = NUMBERS, SUM }; /* columns */
 

@@ -1,5 +1,9 @@
 /* Which of the settings, or what of the shape, of a new job is outside its limits. The coordinator decides; here are the words. */
-#include "../store.h"
+#include "job.h"
+
+#include <inttypes.h>
+#include <stddef.h>
+#include <stdio.h>
 
 enum { LINES = 512, MOST_VERTICES = 256 };
 

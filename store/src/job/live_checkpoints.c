@@ -1,5 +1,11 @@
 /* The live records beside the coordinator: which of them a call has ended, and what was acknowledged for a pending one. */
+#include "../log/log.h"
+#include "../manifests/manifests.h"
 #include "../store.h"
+#include "job.h"
+
+#include <stdlib.h>
+#include <string.h>
 
 struct rks_live *rks_live_of(relkvanu_store *s, uint64_t id) {
     struct rks_extras *b = &s->job.extras;

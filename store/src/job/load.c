@@ -1,5 +1,17 @@
 /* A complete record as a whole: its shape, and for each subtask its files, in their order, and what its acknowledgement had beside them. */
+#include "../files/files.h"
+#include "../log/log.h"
+#include "../manifests/known_files.h"
+#include "../manifests/manifest.h"
+#include "../manifests/manifests.h"
 #include "../store.h"
+#include "job.h"
+
+#include <errno.h>
+#include <inttypes.h>
+#include <stdio.h>
+#include <stdlib.h>
+#include <string.h>
 
 static const uint64_t UNKNOWN = UINT64_MAX;
 

@@ -1,7 +1,16 @@
 /* One process at a time: locks that stay although this process opens and closes the job's file elsewhere. */
+#include "../files/files.h"
 #include "../store.h"
+#include "job.h"
 
+#include <errno.h>
+#include <fcntl.h>
+#include <stdio.h>
+#include <stdlib.h>
+#include <string.h>
+#include <sys/file.h>
 #include <sys/mman.h>
+#include <unistd.h>
 
 static pthread_mutex_t all_mutex = PTHREAD_MUTEX_INITIALIZER;
 static relkvanu_store *all;

@@ -1,7 +1,21 @@
 /* Opening and closing a store. */
+#include "../files/files.h"
+#include "../log/log.h"
+#include "../manifests/manifest.h"
+#include "../manifests/manifests.h"
 #include "../store.h"
+#include "job.h"
 
+#include <errno.h>
+#include <inttypes.h>
+#include <signal.h>
+#include <stdio.h>
+#include <stdlib.h>
+#include <string.h>
 #include <sys/eventfd.h>
+#include <sys/random.h>
+#include <time.h>
+#include <unistd.h>
 
 enum { APPLICATION = 0x52564b53, LINES = 16384, NO_STORAGE = 0, TO_MARK = 1, MARKED = 2 };
 enum { MOST_NAMES = 65536, MOST_PASSED = 1 << 24 }; /* of a reservation; that an opening of a backup gives out */

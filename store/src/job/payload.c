@@ -1,5 +1,7 @@
 /* What a call has beside its numbers: whether it is well-formed. */
-#include "../store.h"
+#include "job.h"
+
+#include <string.h>
 
 static bool refuse(const char *words) {
     rks_why_words(words);

@@ -1,5 +1,14 @@
 /* The phases of a job: it runs, it is being stopped, or it is stopped. And the orders: what verbs have made, and a timer hands to the engine. */
+#include "../files/files.h"
+#include "../log/log.h"
+#include "../manifests/manifests.h"
 #include "../store.h"
+#include "job.h"
+
+#include <inttypes.h>
+#include <stdio.h>
+#include <string.h>
+#include <zlib.h>
 
 static bool is_in(const relkvanu_store *s, uint64_t phase) {
     return s->job.phase.phase == phase;

@@ -1,5 +1,12 @@
 /* Reads: they wait in the queue too, so they see what is committed and nothing else. */
+#include "../files/files.h"
+#include "../log/log.h"
 #include "../store.h"
+#include "job.h"
+
+#include <stdio.h>
+#include <stdlib.h>
+#include <string.h>
 
 enum { PAGE = 256 };
 

@@ -1,5 +1,11 @@
 /* The clock, what a timer waits for, and how a thread waits for it. */
+#include "../log/log.h"
+#include "../manifests/manifests.h"
 #include "../store.h"
+#include "job.h"
+
+#include <string.h>
+#include <time.h>
 
 static uint64_t ns_of(clockid_t clock) {
     struct timespec now;

@@ -1,7 +1,9 @@
 /* Rows that are inserted before the commit, which inserts what is left: by who leads, while callers come back; and if there are long runs of parts, by a thread of
  * their own, while who leads makes the calls behind them. Between its two semaphores the connection, the rows that were handed over and the words of a failure are
  * that thread's: who leads waits for it before it uses them, or moves rows. */
+#include "../job/job.h"
 #include "../store.h"
+#include "log.h"
 
 /* If it fails, the commit begins anew, and tells. */
 static void insert(relkvanu_store *s, size_t rows, size_t runs) {

@@ -1,6 +1,9 @@
 /* Calls: they are checked in the caller's thread, and then wait in the queue. */
+#include "../job/job.h"
+#include "../manifests/manifests.h"
 #include "../store.h"
 #include "kinds.h"
+#include "log.h"
 
 /* Names of a line, and of a list. A list of so many numbers fits into a line beside another one. */
 enum { NAMES = 4096, MOST_NAMES = 65536, SHORT_LIST = 2048 };

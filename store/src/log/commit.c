@@ -1,5 +1,12 @@
 /* A commit: the lines of a group with their answers, and now and then an image, in one transaction. */
+#include "../job/job.h"
+#include "../manifests/manifests.h"
 #include "../store.h"
+#include "log.h"
+
+#include <string.h>
+#include <time.h>
+#include <zlib.h>
 
 enum { SMALL_IMAGE = 1 << 16, LOG_OF_IMAGE = 8 }; /* bytes; the log before the next image, in images */
 

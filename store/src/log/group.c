@@ -1,6 +1,10 @@
 /* The answers of a group. They wait in the coordinator's library until it is told that the group is committed: what was proved of relkvanu_group_answer
  * decides whether they are told, and no code here. */
+#include "../job/job.h"
 #include "../store.h"
+#include "log.h"
+
+#include <stdlib.h>
 
 bool rks_has_rows(relkvanu_store *s, size_t len) {
     struct rks_group *group = &s->group;

@@ -1,5 +1,10 @@
 /* What the store makes of the image of a coordinator (docs/LOGS.md), and reads in its text. */
-#include "../store.h"
+#include "log.h"
+
+#include <stdio.h>
+#include <stdlib.h>
+#include <string.h>
+#include <sys/random.h>
 
 /* An image has its members in the order of the alphabet, so the last shape is that of the coordinator. The text has a zero at its end. */
 size_t rks_shape_of(const char *image, uint64_t *shape, size_t shape_len) {

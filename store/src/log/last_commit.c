@@ -1,7 +1,17 @@
 /* The tail: which call was the last one that was answered, in PATH.lock, so that a log which lacks its end is noticed. It is written after the
  * sync of each commit, and is not synced itself. So it never names a call that the disk lacks, and after a loss of power it may name an
  * earlier one. It is of one file: a file that is put in the place of PATH has another inode. */
+#include "../files/files.h"
+#include "../manifests/manifests.h"
 #include "../store.h"
+#include "log.h"
+
+#include <errno.h>
+#include <inttypes.h>
+#include <stdio.h>
+#include <string.h>
+#include <unistd.h>
+#include <zlib.h>
 
 /* The process is before it (lock.c). */
 enum { AT = 64, LEN = 128 };

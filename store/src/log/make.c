@@ -1,6 +1,13 @@
 /* The calls of a group, made in its order. Each crosses to the coordinator once, which writes the line for the log. */
+#include "../job/job.h"
+#include "../manifests/manifests.h"
 #include "../store.h"
 #include "kinds.h"
+#include "log.h"
+
+#include <inttypes.h>
+#include <stdio.h>
+#include <stdlib.h>
 
 /* Lines: a block has those of many calls, and a line is at most its words with as many digits as its numbers may have. */
 enum { BLOCK = 1 << 16, WORDS = 192, DIGITS = 22 };

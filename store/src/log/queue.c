@@ -1,8 +1,15 @@
 /* The queue of those who wait, and the group commit: its head leads, makes the calls behind it too, and hands the lead on. */
+#include "../job/job.h"
+#include "../manifests/manifests.h"
 #include "../store.h"
+#include "log.h"
 
+#include <limits.h>
 #include <linux/futex.h>
+#include <stdio.h>
 #include <sys/syscall.h>
+#include <time.h>
+#include <unistd.h>
 
 enum { LONGEST_GATHERING = 5000000, WOKEN_AT_ONCE = 32, MADE_AT_ONCE = 32 }; /* ns; callers; callers */
 

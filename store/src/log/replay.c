@@ -1,5 +1,12 @@
 /* A recovery: the last image, and the calls after it, whose answers are compared. */
+#include "../files/files.h"
+#include "../manifests/manifests.h"
 #include "../store.h"
+#include "log.h"
+
+#include <inttypes.h>
+#include <stdlib.h>
+#include <string.h>
 
 static int damaged(relkvanu_store *s, const char *what, uint64_t place, const char *how) {
     return rks_refuse(s, RELKVANU_STORE_DAMAGED, "%.300s: %s %" PRIu64 " %s", s->file.path, what, place, how);

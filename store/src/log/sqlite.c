@@ -1,5 +1,12 @@
 /* SQLite: how a job's file is opened, and what its failures mean. */
+#include "../files/files.h"
+#include "../job/job.h"
 #include "../store.h"
+#include "log.h"
+
+#include <errno.h>
+#include <stdio.h>
+#include <string.h>
 
 static int status_of(int code, int error) {
     switch (code & 255) {

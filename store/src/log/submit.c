@@ -1,6 +1,12 @@
 /* Submits: calls whose caller does not wait. A thread of the store leads for them, and an eventfd tells of their completion. */
 #include "../commands/commands.h"
+#include "../job/job.h"
 #include "../store.h"
+#include "log.h"
+
+#include <errno.h>
+#include <stdlib.h>
+#include <unistd.h>
 
 /* Puts a submit that is answered into the queue of completions. */
 void rks_complete(relkvanu_store *s, struct rks_waiter *w) {

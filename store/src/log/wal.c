@@ -1,9 +1,16 @@
 /* Damage of the -wal that SQLite passes over: from the first frame that is not whole on, it ignores all. Each commit waits for its sync, so a
  * loss of power leaves one commit at most behind that frame. Two say that calls would be lost which were answered. */
+#include "../files/files.h"
 #include "../store.h"
+#include "log.h"
 
 #include <arpa/inet.h>
 #include <endian.h>
+#include <errno.h>
+#include <fcntl.h>
+#include <stdlib.h>
+#include <string.h>
+#include <unistd.h>
 
 /* Of the header of the file, and of a frame: https://www.sqlite.org/fileformat2.html#walformat */
 enum { HEADER = 32, PAGE_SIZE = 8, SALTS = 16, SALTS_LEN = 8, HEADER_SUM = 24 };

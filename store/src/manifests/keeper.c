@@ -1,6 +1,9 @@
 /* The keeper: a thread that writes the manifest of a record which has just completed, while other callers lead and are answered. Who could learn of the completion
  * is answered when the manifest is on the disk: who completed the record, and who calls something else than what tasks do before a record is complete. */
+#include "../job/job.h"
+#include "../log/log.h"
 #include "../store.h"
+#include "manifests.h"
 
 /* Nobody is told that a record is complete which another process may have passed over. */
 static void refuse(struct rks_waiter *held, int status) {

@@ -1,5 +1,14 @@
 /* Lengths of state files, and their checksums: CRC-32 by zlib, as that of a manifest. Each file is looked at once, and read once. */
-#include "../store.h"
+#include "../files/files.h"
+#include "known_files.h"
+
+#include <errno.h>
+#include <fcntl.h>
+#include <inttypes.h>
+#include <stdio.h>
+#include <stdlib.h>
+#include <unistd.h>
+#include <zlib.h>
 
 enum { PIECE = 1 << 16, FEWEST = 1024 }; /* bytes that are read at once; places of a table */
 static const uint64_t GONE = UINT64_MAX; /* the key of a file that is gone: no file has this number */

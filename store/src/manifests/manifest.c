@@ -1,6 +1,20 @@
 /* Writes the manifests of complete records into the storage folder, or by the functions of an engine into a bucket, say: after the commit that completes
  * them and before anybody is told. */
+#include "../files/files.h"
+#include "../job/job.h"
 #include "../store.h"
+#include "known_files.h"
+#include "manifest.h"
+#include "manifests.h"
+
+#include <errno.h>
+#include <inttypes.h>
+#include <stdarg.h>
+#include <stdio.h>
+#include <stdlib.h>
+#include <string.h>
+#include <unistd.h>
+#include <zlib.h>
 
 /* Numbers and terms that may be told before a manifest says so again; names: sixteen rounds in which each of 4096 tasks reserves the most. */
 enum { SOME_NUMBERS = 1024, SOME_TERMS = 1024 };

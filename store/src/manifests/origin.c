@@ -1,6 +1,12 @@
 /* The origin of the record that a job was made of, where it was carried from another job: an import and a claim note it in the new job's file, since a manifest
  * that is written anew, or that is gone, does not say so. It is read at each opening, and stays as it is. */
+#include "../job/job.h"
+#include "../log/log.h"
 #include "../store.h"
+#include "manifests.h"
+
+#include <inttypes.h>
+#include <stdio.h>
 
 static const char TABLE[] = "CREATE TABLE origin(record INTEGER PRIMARY KEY, job TEXT NOT NULL) STRICT;";
 

@@ -1,5 +1,19 @@
 /* Reads the manifests of a storage folder, and looks whether the files that they name are there. SQLite reads their JSON. */
+#include "../files/files.h"
+#include "../job/job.h"
 #include "../store.h"
+#include "known_files.h"
+#include "manifest.h"
+#include "manifests.h"
+
+#include <errno.h>
+#include <fcntl.h>
+#include <inttypes.h>
+#include <stdio.h>
+#include <stdlib.h>
+#include <string.h>
+#include <unistd.h>
+#include <zlib.h>
 
 static const char SUM[] = ",\"sum\":\"", HEAD[] = "{\"relkvanu\":\"manifest\",\"version\":1,";
 enum { SUM_LEN = sizeof ",\"sum\":\"" - 1 + 8 + 3, MOST = 1 << 30 }; /* with the digits, and what ends the text; bytes of a manifest */

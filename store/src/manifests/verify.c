@@ -1,5 +1,10 @@
 /* Reads the files of records, and compares them with the checksums of their manifests. */
-#include "../store.h"
+#include "known_files.h"
+#include "manifest.h"
+
+#include <errno.h>
+#include <fcntl.h>
+#include <unistd.h>
 
 struct check {
     relkvanu_store_each_fault each;
