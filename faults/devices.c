@@ -7,8 +7,6 @@
    WRITE_MOST=N     a write to standard output takes N bytes at most
    WRITE_FAILS=N    the Nth write to standard output fails, with the error WRITE_ERROR; if that is 0 it takes nothing
    THREAD_FAILS=N   the Nth start of a thread fails, as if the system had no more; with THREADS_REST=1 all after it too
-   NO_YIELDS=1      a thread that gives way goes on at once, for a program that waits by a million such calls and has no
-                    other thread: beside busy processes one of them may take milliseconds
    RANDOM_ZEROS=1   the system's random bytes are all 0; with RANDOM_FAILS=1 it gives none
    COUNTS=FILE      at the end, the file gets the number of allocations, the number of reads and writes, how many of
                     these came after the one that failed or that found the end of the input, the number of starts of
@@ -18,7 +16,6 @@
 #include <errno.h>
 #include <fcntl.h>
 #include <pthread.h>
-#include <sched.h>
 #include <stdatomic.h>
 #include <stdio.h>
 #include <stdlib.h>
@@ -34,7 +31,7 @@ struct stream {
 };
 
 static struct stream input = {.number = STDIN_FILENO}, output = {.number = STDOUT_FILENO};
-static long refuse_at, refuse_rest, thread_fails, threads_rest, no_yields, random_zeros, random_fails;
+static long refuse_at, refuse_rest, thread_fails, threads_rest, random_zeros, random_fails;
 static atomic_long allocations, refusals, threads; /* threads allocate, and start others, side by side */
 static int is_ready;
 
@@ -53,7 +50,6 @@ __attribute__((constructor)) static void begin(void) {
     refuse_rest = number("REFUSE_REST");
     thread_fails = number("THREAD_FAILS");
     threads_rest = number("THREADS_REST");
-    no_yields = number("NO_YIELDS");
     random_zeros = number("RANDOM_ZEROS");
     random_fails = number("RANDOM_FAILS");
     input.most = number("READ_MOST");
@@ -133,10 +129,6 @@ int pthread_create(pthread_t *made, const pthread_attr_t *kind, void *(*run)(voi
     int (*next)(pthread_t *, const pthread_attr_t *, void *(*)(void *), void *) = dlsym(RTLD_NEXT, "pthread_create");
     long place = atomic_fetch_add(&threads, 1) + 1;
     return is_met(place, thread_fails, threads_rest) ? EAGAIN : next(made, kind, run, given);
-}
-
-int sched_yield(void) {
-    return no_yields ? 0 : (int)syscall(SYS_sched_yield);
 }
 
 /* Counts a call, and returns whether it is the one that fails. */
