@@ -1,4 +1,4 @@
-"""Writes the crate whose functions the static library exports: one for each function of crates/relkvanu that C calls, with the same contract, which
+"""Writes the crate whose functions the static library exports: one for each function of a library here that C calls, with the same contract, which
 calls that function and does nothing else. A static library exports only functions of its own crate, and the proof of this one is short. So relkvanu is
 proved once, as any library."""
 import os
@@ -35,18 +35,20 @@ def function(library, module, text, name, parameters):
     return f"#[unsafe(no_mangle)]\n{text}\n{{\n    {library}::{module}::{name}({given})\n}}\n"
 
 
-def write(library, source, to):
-    """Makes the folder `to`, and writes into it what exports the functions of this library, whose sources are in the folder `source`. Its root is lib.rt."""
+def write(sources, to):
+    """Makes the folder `to`, and writes into it what exports the functions of these libraries, each by its name and the folder of its sources. Its root is lib.rt."""
     os.makedirs(to)
     texts = {}
-    for it in sorted(os.listdir(source)):
-        with open(f"{source}/{it}", encoding="utf-8") as file:
-            texts[it.removesuffix(".rt")] = file.read()
-    declared = {it: f"{library}::{module}" for module, text in texts.items() for it in re.findall(r"^pub struct (\w+)", text, re.M)}
-    found = {module: EXPORT.findall(text) for module, text in texts.items()}
-    modules = {module: found[module] for module in texts if found[module]}
-    for module, of in modules.items():
+    for library, source in sources.items():
+        for it in sorted(os.listdir(source)):
+            with open(f"{source}/{it}", encoding="utf-8") as file:
+                texts[library, it.removesuffix(".rt")] = file.read()
+    declared = {it: f"{library}::{module}" for (library, module), text in texts.items() for it in re.findall(r"^pub struct (\w+)", text, re.M)}
+    found = {key: EXPORT.findall(text) for key, text in texts.items()}
+    modules = {key: found[key] for key in texts if found[key]}
+    for (library, module), of in modules.items():
         with open(f"{to}/{module}.rt", "w", encoding="utf-8") as file:
-            file.write("\n".join([ghosts(texts[module], of), imports(of, declared), *(function(library, module, *it) for it in of)]))
+            text = texts[library, module]
+            file.write("\n".join([ghosts(text, of), imports(of, declared), *(function(library, module, *it) for it in of)]))
     with open(f"{to}/lib.rt", "w", encoding="utf-8") as file:
-        file.write("#![tactic(auto)]\n\n" + "".join(f"mod {it};\n" for it in modules))
+        file.write("#![tactic(auto)]\n\n" + "".join(f"mod {it};\n" for it in sorted(module for _, module in modules)))

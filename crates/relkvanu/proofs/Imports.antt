@@ -1,6 +1,4 @@
 -- The names that the proofs take from the crates below and from `specs`.
-pub use Rattle.ckpt_align.specs.{Alignment.Alignment, Alignment.is_held, Alignment.is_open, Alignment.released, Alignment.with_input, declared.input.Input.Input}
-pub use Rattle.ckpt_align.specs.{declared.input.Input.TheVariants.Ended, declared.input.Input.TheVariants.Held, declared.input.Input.TheVariants.Open}
 pub use Rattle.ckpt_durable.specs.Groups.{AreTurns, Committed, Crashed, Imaged, Life, Looked, Made, Receipt, Turn, World, goes_on, happens, lives, started, world}
 pub use Rattle.ckpt_ids.proofs.{AscendingLemmas.ascending_already, LimitLemmas.limits_hold, LimitLemmas.shape_holds, OrderedLemmas.filter-all}
 pub use Rattle.ckpt_ids.specs.{Ascending.IsAscending, Ascending.ascending, Configuration.Configuration, Configuration.IsWithinLimits, Configuration.configured}
@@ -32,13 +30,12 @@ pub use Rattle.ckpt_terms.specs.{declared.call.FencedCall.TheVariants.Reserve, d
 pub use Rattle.ckpt_terms.specs.{declared.machine.FenceFault.FenceFault, declared.machine.Machine.Machine, declared.names.Span.Span}
 pub use Rattle.ckpt_terms.specs.Fencing.{FencedStepped, after_call, fenced, fenced_step, is_accepted, is_garbage, made, restart}
 pub use Rattle.ckpt_terms.specs.Machines.{Issued, MakesStep, core_in, fence_fault, is_free, issued_by, machine_of, machine_step, names_in}
-pub use Rattle.ckpt_unaligned.specs.{Recording.Recorder, declared.answer.Phase.Phase}
 pub use Rattle.core.proofs.{alloc.Calls.Al, alloc.Calls.Goes-blank, alloc.Calls.handle_tells, alloc.Shapes.after, atomic.Steps.fm, cell.Inside.Good, cell.Inside.one, option.Made.Some-of}
 pub use Rattle.core.proofs.option.Made.{none_of}
 pub use Rattle.core.specs.{Ptr.points_to, Str.IsUtf8, declared.alloc.Allocator.Ghosts}
-pub use Rattle.relkvanu.specs.{Aligning.alignment_in, Aligning.input_of, Asking.asked_by, Asking.bad_line, Buffers.files_in, Calls.restore_of, Calls.shape_of, Calls.target_of}
+pub use Rattle.relkvanu.specs.{Asking.asked_by, Asking.bad_line, Buffers.files_in, Calls.restore_of, Calls.shape_of, Calls.target_of}
 pub use Rattle.relkvanu.specs.{Images.OpensAgain, Images.Tells, Images.fenced_from, Images.image_by, Images.image_with, Kept.IsHeld, Kept.heap, Kept.kept, Making.making, Opening.opening_of}
-pub use Rattle.relkvanu.specs.{Recording.phase_of, contracts.handle.Handle.the_row, contracts.raw_box.RawBox.into_box.clauses, contracts.raw_box.RawBox.into_box.ended}
+pub use Rattle.relkvanu.specs.{contracts.handle.Handle.the_row, contracts.raw_box.RawBox.into_box.clauses, contracts.raw_box.RawBox.into_box.ended}
 pub use Rattle.relkvanu.specs.{declared.answer.Answer.Answer, declared.asked.Asked.Asked, declared.group.Group.Group, declared.handle.Handle.Handle, declared.writing.CallFields.CallFields}
 pub use Rattle.relkvanu.specs.Fenced.{IsHandled, IsTaken, call_step, count_of, fence_told, fenced_told, machine_in, term_step}
 pub use Rattle.relkvanu.specs.GroupPrograms.{AreAsked, Asks, AsksByLine, Does, Ends, Has, Images, IsLeftBy, Looks, LooksAtCall, Notes, Operation, Performed, Performs, Program, Syncs}
@@ -51,14 +48,14 @@ pub use Rattle.relkvanu.specs.Saying.{target_number}
 pub use Rattle.relkvanu.specs.Told.{answer_told, bad_argument, bad_shape, done, no_memory, restore_told, too_short, too_short_for}
 pub use Rattle.relkvanu.specs.WorkedGroup.{acks, begin, buffer, completed, fresh_choice, last, notes, operations, ticks, triggered}
 pub use Rattle.relkvanu.specs.Writing.{ReadsBack, SaysBack, asked_text, bad_kind, configuration_in, configuring, kinds, line_of_asked, newline, restore_in, with_term}
-pub use Rattle.std.proofs.{Crossing.frees, GlobalToken.dealloc_token-Testable, lemmas.Bool.Decides.eqb_tells, lemmas.Grind.common_steps, lemmas.Grind.drop_more_same}
+pub use Rattle.std.proofs.{Crossing.frees, GlobalToken.dealloc_token-Testable, lemmas.Bool.Decides.eqb_tells}
 pub use Rattle.std.proofs.{lemmas.List.Sums.AllPass-from_list_all, lemmas.Result.IfOk-weaker, lemmas.Str.IsUtf8-string_bytes, raw_atomic.Walks.leaves, raw_atomic.Walks.proved_at}
 pub use Rattle.std.proofs.Common.{Bool, List, Ok, [], ap, append-nil, append_assoc, arith, drop, eqb, false, get_or, inl, inr, leb, length, length-append, lit<, ltb, map, max, not, refl}
 pub use Rattle.std.proofs.Common.{rules, set, subst, suc, sum, sym, take, true, zero, ℕ, ◌&&◌, ◌++◌, ◌+◌, ◌-◌, ◌<◌, ◌||◌, ◌∙◌, ◌∷◌, ◌≡◌, ◌≢◌, ◌≤◌, ◌⊎◌}
-pub use Rattle.std.proofs.lemmas.Bool.{and_parts, cond-false, cond_both, eq-eqb, eqb-true, leb-true, ltb-true, ne_eqb, true≢false}
-pub use Rattle.std.proofs.lemmas.List.{drop-set-lt, drop_more, length-take, map-set, take_more, take_more_set}
+pub use Rattle.std.proofs.lemmas.Bool.{and_parts, cond-false, cond_both, eq-eqb, eqb-true, leb-true, ltb-true, true≢false}
+pub use Rattle.std.proofs.lemmas.List.{length-take, take_more_set}
 pub use Rattle.std.specs.{Int.from_bool, List.filter, List.list_all, List.list_any, Option.option_map, Vec.vec_capacity, Vec.vec_len, contracts.impls.GlobalAllocator.TheImpl.ghosts}
-pub use Rattle.std.specs.Prelude.{Err, IfSome, None, Option, Result, Some, count_by, if◌then◌else◌, is_none, min, nat_le, replicate, slice_get, slice_set, string_bytes, unwrap_or, ⊤, ◌==◌}
+pub use Rattle.std.specs.Prelude.{Err, IfSome, None, Option, Result, Some, count_by, if◌then◌else◌, is_none, min, nat_le, slice_get, string_bytes, unwrap_or, ⊤, ◌==◌}
 pub use Rattle.std_alloc.proofs.{BoxSteps.Steps.box_in, BoxSteps.Steps.box_out, ResultValues.and_tt, boxed.Box.from_raw.Met.met}
 pub use Rattle.std_alloc.specs.Box.Ownership.{box_owns}
 pub use base.{Fml.Fml, Fml.flft, Fml.fsep, Fml.ftrue, Fraction.full_share, Logic.SProp, Logic.emp, Logic.ent, Logic.fst∗, Logic.guard, Logic.guard_i, Logic.id⊢, Logic.never, Logic.snd∗}

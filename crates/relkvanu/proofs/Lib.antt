@@ -6,7 +6,6 @@ pub mod GivenEvents
 pub mod GroupCalls
 pub mod GroupPrograms
 mod Imports
-pub mod InputBytes
 pub mod Openings
 pub mod Saves
 pub mod SayingLemmas

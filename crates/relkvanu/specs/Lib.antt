@@ -1,5 +1,4 @@
 -- The definitions that contracts cite.
-pub mod Aligning
 pub mod Asking
 pub mod Buffers
 pub mod Calls
@@ -15,7 +14,6 @@ pub mod Naming
 pub mod Opening
 pub mod Past
 pub mod Reads
-pub mod Recording
 pub mod Recovery
 pub mod Requested
 pub mod Saying

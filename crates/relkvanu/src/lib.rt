@@ -4,10 +4,9 @@
 //! `relkvanu_open` gives it a coordinator, the calls go through it, and `relkvanu_close` drops the
 //! coordinator. Each call returns an [`Answer`](answer::Answer) by value, and no memory leaves the
 //! handle. [`reads`] return the same, take no memory and change nothing. [`aligning`] and
-//! [`recording`] need no handle.
+//! [`recording`] need no handle, and are a crate of their own.
 #![tactic(auto)]
 
-pub mod aligning;
 pub mod answer;
 mod asked;
 pub mod buffers;
@@ -24,9 +23,10 @@ pub mod opening;
 pub mod plain_calls;
 mod raw_box;
 pub mod reads;
-pub mod recording;
 pub mod recovery;
 mod requests;
 pub mod saying;
 pub mod sweep;
 pub mod writing;
+
+pub use relkvanu_barriers::{aligning, recording};

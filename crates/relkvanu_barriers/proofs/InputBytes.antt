@@ -1,7 +1,7 @@
 -- The inputs that the bytes of a memory are.
-use Rattle.relkvanu.proofs.Imports.{◌≡◌, ℕ, zero, suc, ◌+◌, ◌<◌, Bool, true, false, eqb, List, [], ◌∷◌, length, get_or, take, drop, map, refl, ap, ◌∙◌, arith, common_steps, drop_more_same}
-use Rattle.relkvanu.proofs.Imports.{ne_eqb, map-set, take_more, drop_more, take_more_set, drop-set-lt, slice_set, replicate, list_any, Input, Open, Held, Ended, is_held, is_open, released}
-use Rattle.relkvanu.proofs.Imports.{input_of}
+use Rattle.relkvanu_barriers.proofs.Imports.{◌≡◌, ℕ, zero, suc, ◌+◌, ◌<◌, Bool, true, false, eqb, List, [], ◌∷◌, length, get_or, take, drop, map, refl, ap, ◌∙◌, arith, common_steps, drop_more_same}
+use Rattle.relkvanu_barriers.proofs.Imports.{ne_eqb, map-set, take_more, drop_more, take_more_set, drop-set-lt, slice_set, replicate, list_any, Input, Open, Held, Ended, is_held, is_open, released}
+use Rattle.relkvanu_barriers.proofs.Imports.{input_of}
 
 held_one : (byte : ℕ) → is_held (input_of byte) ≡ eqb byte 1
 held_one zero = refl

@@ -1,6 +1,6 @@
 -- The loop invariant of `release`.
-use Rattle.relkvanu.proofs.Imports.{◌≡◌, map, take, drop, released, input_of}
-use Rattle.relkvanu.proofs.aligning.release.Given as goal
+use Rattle.relkvanu_barriers.proofs.Imports.{◌≡◌, map, take, drop, released, input_of}
+use Rattle.relkvanu_barriers.proofs.aligning.release.Given as goal
 
 -- the inputs so far are released, and the bytes that are left are as they were
 abbrev pub invariant-loop-input : goal.invariant-loop-input

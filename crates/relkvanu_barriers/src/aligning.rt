@@ -7,9 +7,9 @@ ghost use Rattle.std.specs.Prelude.{◌≡◌, ◌<◌, true, false, length, map
 ghost use Rattle.std.specs.List.{list_any};
 ghost use Rattle.ckpt_align.specs.Alignment.{all_released, held_for, is_a_task, is_held, is_late, is_open, opened, released, with_input};
 ghost use Rattle.ckpt_align.specs.Steps.{barrier, element, give_up, settled, step};
-ghost use Rattle.relkvanu.specs.declared.aligning.Aligner.{Aligner};
+ghost use Rattle.relkvanu_barriers.specs.declared.aligning.Aligner.{Aligner};
 ghost use Rattle.ckpt_align.specs.declared.event.Event.TheVariants as event;
-ghost use Rattle.relkvanu.specs.Aligning.{IsNotOpen, alignment_in, bad_inputs, input_of, is_ready, told};
+ghost use Rattle.relkvanu_barriers.specs.Aligning.{IsNotOpen, alignment_in, bad_inputs, input_of, is_ready, told};
 
 use ckpt_align::{Answer, Input, MOST_INPUTS, Refusal};
 use ckpt_ids::CheckpointId;

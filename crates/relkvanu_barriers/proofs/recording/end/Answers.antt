@@ -1,9 +1,9 @@
 -- Answers the goals of `end`.
-use Rattle.relkvanu.proofs.Imports.{◌∙◌, List, ap, Input, Recorder, phase_of}
-use Rattle.relkvanu.proofs.InputBytes.{set_in}
+use Rattle.relkvanu_barriers.proofs.Imports.{◌∙◌, List, ap, Input, Recorder, phase_of}
+use Rattle.relkvanu_barriers.proofs.InputBytes.{set_in}
 use Rattle.ckpt_unaligned.specs.Steps.{settled}
-use Rattle.relkvanu.specs.declared.recording.Recorder as memory
-use Rattle.relkvanu.proofs.recording.end.Goals as goal
+use Rattle.relkvanu_barriers.specs.declared.recording.Recorder as memory
+use Rattle.relkvanu_barriers.proofs.recording.end.Goals as goal
 
 abbrev with_inputs : memory.Recorder → List Input → Recorder
 with_inputs recorder inputs = record { inputs = inputs; latest = recorder.latest; phase = phase_of recorder.phase }

@@ -1,6 +1,6 @@
 -- The loop invariant of `open_each`.
-use Rattle.relkvanu.proofs.Imports.{◌≡◌, map, take, length, replicate, Open, input_of}
-use Rattle.relkvanu.proofs.aligning.open_each.Given as goal
+use Rattle.relkvanu_barriers.proofs.Imports.{◌≡◌, map, take, length, replicate, Open, input_of}
+use Rattle.relkvanu_barriers.proofs.aligning.open_each.Given as goal
 
 -- the inputs so far are open
 abbrev pub invariant-loop-input : goal.invariant-loop-input

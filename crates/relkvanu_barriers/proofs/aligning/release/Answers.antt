@@ -1,7 +1,7 @@
 -- Answers the goals of `release`.
-use Rattle.relkvanu.proofs.Imports.{arith}
-use Rattle.relkvanu.proofs.InputBytes.{released_more}
-use Rattle.relkvanu.proofs.aligning.release.Goals as goal
+use Rattle.relkvanu_barriers.proofs.Imports.{arith}
+use Rattle.relkvanu_barriers.proofs.InputBytes.{released_more}
+use Rattle.relkvanu_barriers.proofs.aligning.release.Goals as goal
 
 pub loop-input-preserved : goal.loop-input-preserved
 loop-input-preserved c =

@@ -4,7 +4,7 @@ use Rattle.ckpt_align.specs.{declared.input.Input.Input, declared.event.Answer.A
 use Rattle.ckpt_align.specs.declared.input.Input.TheVariants.{Open, Held, Ended}
 use Rattle.ckpt_align.specs.declared.event.Answer.TheVariants.{Process, Hold, Nothing, Wait, Late, Cut, Abandon}
 use Rattle.ckpt_align.specs.declared.event.Refusal.TheVariants.{UnknownInput, HeldInput, EndedInput}
-use Rattle.relkvanu.specs.{declared.aligning.Aligner.Aligner, declared.aligning.Step.Step}
+use Rattle.relkvanu_barriers.specs.{declared.aligning.Aligner.Aligner, declared.aligning.Step.Step}
 
 -- how an input is, by its byte
 abbrev pub input_of : ℕ → Input

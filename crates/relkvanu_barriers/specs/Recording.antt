@@ -6,7 +6,7 @@ use Rattle.ckpt_unaligned.specs.{declared.answer.Answer.Answer, declared.answer.
 use Rattle.ckpt_unaligned.specs.declared.answer.Answer.TheVariants.{Process, Record, Hold, Nothing, Wait, Late, Cut, Snap, Complete, Abandon}
 use Rattle.ckpt_unaligned.specs.declared.answer.Phase.TheVariants.{Idle, Aligning, Recording}
 use Rattle.ckpt_unaligned.specs.Recording as unaligned
-use Rattle.relkvanu.specs.{declared.aligning.Step.Step, declared.recording.Recorder.Recorder, Aligning.input_of, Aligning.step_with}
+use Rattle.relkvanu_barriers.specs.{declared.aligning.Step.Step, declared.recording.Recorder.Recorder, Aligning.input_of, Aligning.step_with}
 
 abbrev pub phase_of : ℕ → Phase
 phase_of phase = if phase == 0 then Idle else (if phase == 1 then Aligning else Recording)

@@ -1,7 +1,7 @@
 -- Answers the goals of `deliver`.
-use Rattle.relkvanu.proofs.Imports.{◌∙◌, List, ap, map, slice_set, Input, Held, Phase, input_of, phase_of}
-use Rattle.relkvanu.proofs.InputBytes.{set_in}
-use Rattle.relkvanu.proofs.recording.deliver.Goals as goal
+use Rattle.relkvanu_barriers.proofs.Imports.{◌∙◌, List, ap, map, slice_set, Input, Held, Phase, input_of, phase_of}
+use Rattle.relkvanu_barriers.proofs.InputBytes.{set_in}
+use Rattle.relkvanu_barriers.proofs.recording.deliver.Goals as goal
 
 pub returns : goal.returns
 returns c =

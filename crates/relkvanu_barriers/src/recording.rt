@@ -11,8 +11,8 @@ ghost use Rattle.ckpt_unaligned.specs.Recording.{begun, delivered, ended, is_idl
 ghost use Rattle.ckpt_unaligned.specs.Steps.{barrier, give_up, is_free_for, overtake, settled, step, whole};
 ghost use Rattle.ckpt_align.specs.declared.event.Event.TheVariants as event;
 ghost use Rattle.ckpt_unaligned.specs.declared.answer.Answer.TheVariants.{Hold, Process, Record};
-ghost use Rattle.relkvanu.specs.Aligning.{bad_inputs, is_ready};
-ghost use Rattle.relkvanu.specs.Recording.{phase_of, recorder_in, told_as};
+ghost use Rattle.relkvanu_barriers.specs.Aligning.{bad_inputs, is_ready};
+ghost use Rattle.relkvanu_barriers.specs.Recording.{phase_of, recorder_in, told_as};
 
 use crate::aligning::{
     ENDED, HELD, STEP_ABANDON, STEP_BAD_INPUTS, STEP_CUT, STEP_HOLD, STEP_LATE, STEP_NOTHING,

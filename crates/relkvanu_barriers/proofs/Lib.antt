@@ -1,0 +1,3 @@
+-- The lemmas that the proofs use.
+mod Imports
+pub mod InputBytes
