@@ -1,13 +1,14 @@
 //! The metadata of a record, as JSON.
-ghost use Rattle.std.specs.Prelude.{◌≡◌, false, count_by, IfOk, map, slice_get, string_bytes};
+ghost use Rattle.std.specs.Prelude.{◌≡◌, false, count_by, IfOk, OnOk, map, slice_get, string_bytes};
 ghost use Rattle.std.specs.Option.{option_map_or};
 ghost use Rattle.ckpt_ids.specs.Acknowledged.{AreInSubtaskOrder};
 ghost use Rattle.ckpt_ids.specs.Shapes.{is_subtask};
-ghost use Rattle.serde_json.specs.View.{view};
+ghost use Rattle.serde_json.specs.Data.{no_members, object};
+ghost use Rattle.serde_json.specs.View.{members_view, view};
 ghost use Rattle.ckpt_answers.specs.MetadataTexts.{natural, list, kind_name, state_name, missing, subtask_bytes, ack_data, metadata_data, metadata_bytes};
 
 use ckpt_ids::{Acked, Acks, Files, Kind, Metadata, Shape, SubtaskId};
-use serde_json::{Value, json};
+use serde_json::{Map, Value, json, put};
 use std::alloc::{AllocError, Global};
 
 /// The metadata of a record as JSON without spaces, and without a newline.
@@ -26,20 +27,32 @@ pub fn metadata_text(alloc: Global, metadata: &Metadata) -> Result<String, Alloc
 fn metadata_value(alloc: Global, metadata: &Metadata) -> Result<Value, AllocError>
     ensures { IfOk result (λ value. view value ≡ metadata_data metadata.now) }
 {
-    let acks = acks_value(alloc, &metadata.acks)?;
-    let shape = shape_value(alloc, &metadata.shape)?;
-    let kind = kind_name(metadata.kind);
-    let state = state_name(metadata.done);
-    let missing = missing(metadata);
-    json!(in alloc; {
-        "acks": acks,
-        "id": metadata.id.0,
-        "kind": kind,
-        "missing": missing,
-        "shape": shape,
-        "started": metadata.started,
-        "state": state,
-    })
+    let mut members = Map::new(alloc);
+    put_metadata(&mut members, alloc, metadata)?;
+    Ok(Value::Object(members))
+}
+
+/// Puts the members of the metadata, from the last to the first.
+///
+/// Condition: there are no members yet.
+#[tactic(auto, unfolding(crate::specs::MetadataTexts::metadata_data))]
+fn put_metadata(
+    into: &mut Map<String, Value>,
+    alloc: Global,
+    metadata: &Metadata,
+) -> Result<(), AllocError>
+    requires { members_view into.old.entries ≡ no_members }
+    ensures { OnOk result (object (members_view into.new.entries) ≡ metadata_data metadata.now) }
+{
+    let state = Value::try_from_str(alloc, state_name(metadata.done))?;
+    put(into, alloc, "state", state)?;
+    put(into, alloc, "started", Value::from(metadata.started))?;
+    put(into, alloc, "shape", shape_value(alloc, &metadata.shape)?)?;
+    put(into, alloc, "missing", Value::from(missing(metadata)))?;
+    let kind = Value::try_from_str(alloc, kind_name(metadata.kind))?;
+    put(into, alloc, "kind", kind)?;
+    put(into, alloc, "id", Value::from(metadata.id.0))?;
+    put(into, alloc, "acks", acks_value(alloc, &metadata.acks)?)
 }
 
 fn acks_value(alloc: Global, acks: &Acks) -> Result<Value, AllocError>

@@ -10,7 +10,7 @@ ghost use Rattle.ckpt_ids.specs.Records.{Record};
 ghost use Rattle.ckpt_ids.specs.Shapes.{IsShape};
 ghost use Rattle.ckpt_model.specs.Images.{record_in, state_in};
 ghost use Rattle.ckpt_answers.specs.MetadataTexts.{list, members, natural};
-ghost use Rattle.serde_json.specs.Data.{no_members};
+ghost use Rattle.serde_json.specs.Data.{no_members, object};
 ghost use Rattle.serde_json.specs.View.{members_view, view};
 ghost use Rattle.ckpt_image.specs.Fits.{AckFits, Fits, RecordFits};
 ghost use Rattle.ckpt_image.specs.Images.{image_read};
@@ -182,22 +182,41 @@ fn record_value(alloc: Global, saved: &Saved) -> Result<Value, AllocError>
     ensures fits { OnOk result (RecordFits (record_in saved.now)) }
 {
     let acks = acks_value(alloc, &saved.metadata.acks)?;
-    let pins = files_value(alloc, &saved.pins)?;
     saved.pins.recall();
-    let shape = shape_value(alloc, &saved.metadata.shape)?;
     saved.metadata.shape.recall();
-    let id = number_of(saved.metadata.id);
-    let kind = kind_name(saved.metadata.kind);
-    let state = state_name(saved.metadata.done);
-    json!(in alloc; {
-        "acks": acks,
-        "id": id,
-        "kind": kind,
-        "pins": pins,
-        "shape": shape,
-        "started": saved.metadata.started,
-        "state": state,
-    })
+    let mut object = Map::new(alloc);
+    put_record(&mut object, alloc, saved, acks)?;
+    Ok(Value::Object(object))
+}
+
+/// Puts the members of a record, from the last to the first.
+///
+/// Condition: there are no members yet, and `acks` is that of the record's acknowledgements.
+#[tactic(auto, unfolding(crate::specs::Written::record_data))]
+fn put_record(
+    into: &mut Map<String, Value>,
+    alloc: Global,
+    saved: &Saved,
+    acks: Value,
+) -> Result<(), AllocError>
+    requires empty { members_view into.old.entries ≡ no_members }
+    requires acks { view acks ≡ list (map ack_data (record_in saved.now).acks) }
+    ensures { OnOk result (object (members_view into.new.entries) ≡ record_data (record_in saved.now)) }
+{
+    let state = Value::try_from_str(alloc, state_name(saved.metadata.done))?;
+    put(into, alloc, "state", state)?;
+    put(into, alloc, "started", Value::from(saved.metadata.started))?;
+    put(
+        into,
+        alloc,
+        "shape",
+        shape_value(alloc, &saved.metadata.shape)?,
+    )?;
+    put(into, alloc, "pins", files_value(alloc, &saved.pins)?)?;
+    let kind = Value::try_from_str(alloc, kind_name(saved.metadata.kind))?;
+    put(into, alloc, "kind", kind)?;
+    put(into, alloc, "id", Value::from(saved.metadata.id.0))?;
+    put(into, alloc, "acks", acks)
 }
 
 fn acks_value(alloc: Global, acks: &Acks) -> Result<Value, AllocError>
@@ -257,10 +276,4 @@ fn mode_name(mode: Mode) -> &'static str
         Mode::Failed => "failed",
         Mode::Cancelled => "cancelled",
     }
-}
-
-fn number_of(id: CheckpointId) -> u64
-    ensures { result ≡ id }
-{
-    id.0
 }
