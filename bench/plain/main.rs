@@ -1,7 +1,7 @@
 //! The program that the benchmarks compare with: a plain coordinator. It runs the scripts that
 //! bench/script.py prints, and prints the answers of ckpt_job. It uses only the standard library, keeps the
-//! list of all calls, and is written to be fast. It promises nothing: it has no `decline`, `restore`,
-//! `cancel`, `show` and `all`, stops at a line that it can't read, and aborts if memory runs out.
+//! list of all calls, and is written to be fast. It promises nothing: it has no `restore`, `cancel`,
+//! `show` and `all`, stops at a line that it can't read, and aborts if memory runs out.
 
 use std::collections::hash_map::Entry;
 use std::collections::{BTreeMap, HashMap, VecDeque};
@@ -48,6 +48,7 @@ enum Call {
     Tick(u64),
     Savepoint(u64),
     Ack { now: u64, id: u64, subtask: Subtask, fresh: Box<[u64]>, reused: Box<[u64]> },
+    Decline { now: u64, id: u64, subtask: Subtask },
     Dispose(u64),
     Take(u64),
     Deleted(u64),
@@ -416,6 +417,32 @@ impl Coordinator {
         say!(out, "ack completed ", dropped, " ", released)
     }
 
+    fn decline(&mut self, now: u64, id: u64, subtask: Subtask, out: &mut Out) {
+        if now >= MOMENTS_END {
+            return say!(out, "refused MomentTooLarge");
+        }
+        if id == 0 || id >= self.next {
+            return say!(out, "refused UnknownCheckpoint");
+        }
+        if self.pending.contains_key(&id) && self.place(subtask).is_none() {
+            return say!(out, "refused UnknownSubtask");
+        }
+        self.latest = self.latest.max(now);
+        let Some(record) = self.pending.remove(&id) else {
+            return say!(out, "decline late");
+        };
+        let is_failure = record.kind == Kind::Checkpoint;
+        self.drop_record(record);
+        self.failures += u64::from(is_failure);
+        if is_failure && self.failures > self.config.tolerable {
+            self.fail_over();
+            let released = self.hand_out();
+            return say!(out, "decline failed ", released);
+        }
+        let released = self.hand_out();
+        say!(out, "decline aborted ", released)
+    }
+
     fn dispose(&mut self, id: u64, out: &mut Out) {
         let Some(record) = self.savepoints.remove(&id) else {
             return say!(out, "refused NoSuchSavepoint");
@@ -473,6 +500,7 @@ impl Coordinator {
             Call::Tick(now) => self.tick(*now, out),
             Call::Savepoint(now) => self.savepoint(*now, out),
             Call::Ack { now, id, subtask, fresh, reused } => self.ack(*now, *id, *subtask, fresh, reused, out),
+            Call::Decline { now, id, subtask } => self.decline(*now, *id, *subtask, out),
             Call::Dispose(id) => self.dispose(*id, out),
             Call::Take(most) => self.take(*most, out),
             Call::Deleted(file) => self.deleted(*file, out),
@@ -567,6 +595,7 @@ fn read_call(line: &[u8], scratch: &mut Scratch) -> Option<Call> {
         b"deleted" => Call::Deleted(words.number()?),
         b"undeleted" => Call::Undeleted(words.number()?),
         b"count" => Call::Count(words.number()?),
+        b"decline" => Call::Decline { now: words.number()?, id: words.number()?, subtask: words.subtask()? },
         b"ack" => {
             let (now, id, subtask) = (words.number()?, words.number()?, words.subtask()?);
             words.files(&mut scratch.fresh, &mut scratch.reused)?;
