@@ -258,7 +258,7 @@ part() {
 # await_count NAME: waits until a part has ended.
 await_count() {
     until grep -q "^$1|" "$work/counts"; do
-        sleep 1
+        sleep 3
     done
 }
 
