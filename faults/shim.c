@@ -626,16 +626,16 @@ __attribute__((constructor)) static void see_raw_calls(void) {
         IS(SYS_renameat2, 1, 0),
         RETURN(SECCOMP_RET_ALLOW),
         BPF_STMT(BPF_LD | BPF_W | BPF_ABS, offsetof(struct seccomp_data, instruction_pointer) + 4),
-        IS(code[0] >> 32, 0, 4),
+        IS(code[0] >> 32, 1, 0),
+        IS(code[1] >> 32, 0, 4),
         LOAD(instruction_pointer),
-        REACHES(code[0], 0, 2),
-        REACHES(code[1], 1, 0),
+        BPF_STMT(BPF_ALU | BPF_SUB | BPF_K, (uint32_t)code[0]),
+        REACHES(code[1] - code[0], 1, 0),
         RETURN(SECCOMP_RET_ALLOW),
         RETURN(SECCOMP_RET_TRAP),
     };
     struct sock_fprog program = {sizeof filter / sizeof filter[0], filter};
-    bool is_one_part = code[0] != 0 && code[0] >> 32 == code[1] >> 32;
-    if (!is_one_part || sigaction(SIGSYS, &action, NULL) != 0 || prctl(PR_SET_NO_NEW_PRIVS, 1, 0, 0, 0) != 0 ||
+    if (code[0] == 0 || sigaction(SIGSYS, &action, NULL) != 0 || prctl(PR_SET_NO_NEW_PRIVS, 1, 0, 0, 0) != 0 ||
         prctl(PR_SET_SECCOMP, SECCOMP_MODE_FILTER, &program) != 0) {
         end_because("system calls can't be seen");
     }
