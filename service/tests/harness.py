@@ -622,3 +622,8 @@ def until(said, seconds=20, each=0.05, told=lambda: ""):
         if found := said():
             return found
     raise AssertionError(f"it did not come to be in time {told()}")
+
+
+def how_ended(record):
+    """How a record ended by the history, which may not have it yet."""
+    return (record["history"] or {}).get("how")

@@ -10,8 +10,8 @@ import time
 from contextlib import contextmanager
 
 from harness import (
-    COMMAND, PROGRAM, SETTINGS, Archive, Server, Service, beside, caught_up, check_log, content, folder, folders, over_copy, raised, save, served,
-    served_job, told_by, until
+    COMMAND, PROGRAM, SETTINGS, Archive, Server, Service, beside, caught_up, check_log, content, folder, folders, how_ended, over_copy, raised, save,
+    served, served_job, told_by, until
 )
 from postgres import postgres
 from relkvanu_service import ack, savepoint
@@ -244,7 +244,7 @@ def test_a_dump_is_restored():
         assert (after["seq"], after["live"]) == (before["seq"], before["live"]), after
         # the history of the calls that are gone is made anew
         job.call(ack(1, "0.0", [2]))
-        until(lambda: job.record(1)["history"]["how"] == "completed" and not job.file(1)["history"])
+        until(lambda: how_ended(job.record(1)) == "completed" and not job.file(1)["history"])
         server.stop()
         run(f"relkvanu put-back --back --database {url}")
         server.start()

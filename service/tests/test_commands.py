@@ -12,8 +12,8 @@ import sys
 import time
 
 from harness import (
-    COMMAND, ENVIRONMENT, HERE, PROGRAM, SETTINGS, TOP, Server, Service, beside, caught_up, content, folder, folders, free_port, needed, ran, save, served, served_job, sqlite,
-    told_by, until
+    COMMAND, ENVIRONMENT, HERE, PROGRAM, SETTINGS, TOP, Server, Service, beside, caught_up, content, folder, folders, free_port, how_ended, needed, ran, save, served, served_job,
+    sqlite, told_by, until
 )
 from places import Bucket, around
 from postgres import postgres
@@ -60,7 +60,7 @@ def test_a_record_that_expired_names_who_was_missing():
         for how, timeout in (("pending", 1 << 40), ("expired", 1)):
             job.set(timeout=timeout)
             caught_up(job)
-            until(lambda wanted=how: job.record(1)["history"]["how"] == wanted)
+            until(lambda wanted=how: how_ended(job.record(1)) == wanted)
             words = [line.split() for line in server.ask("show", "orders", 1).splitlines()]
             assert ["missing", "1", "of", "4:", "1.2"] in words and not [it for it in words if it[0] == "slowest"], (how, words)
         job.set(timeout=1 << 40)

@@ -7,7 +7,7 @@ import sqlite3
 import time
 
 from harness import (
-    ACK_PENDING, SETTINGS, Archive, PgArchive, Server, Service, caught_up, check_log, configured, folder, lease_of, raised, served, served_job, until
+    ACK_PENDING, SETTINGS, Archive, PgArchive, Server, Service, caught_up, check_log, configured, folder, how_ended, lease_of, raised, served, served_job, until
 )
 from postgres import postgres
 from relkvanu_service import Gone, ack, decline, deleted, dispose, savepoint
@@ -71,7 +71,7 @@ def test_a_start_goes_from_the_last_image():
         first, events = before[0]["first"], server.get("/v1/jobs/orders/events")[2]
         assert events["first"] == first and events["events"][0]["seq"] >= first, (first, events["events"][:1])
         job.call(ack(42, "0.1"))
-        until(lambda: job.record(42)["history"]["how"] == "completed" and job.record(42)["history"]["acks"] == 2)
+        until(lambda: how_ended(job.record(42)) == "completed" and job.record(42)["history"]["acks"] == 2)
         read_and_cut(job, 150)  # by this call an image may be due
         whole = check_kept(archive.log("orders"), list(job.log()), job.state()["first"])
         check_log(job.state(), [2], whole)

@@ -11,7 +11,7 @@ import stat
 import subprocess
 
 from described import description, fits, route_of
-from harness import COMMAND, PROGRAM, Server, folder, folders, needed, served, until
+from harness import COMMAND, PROGRAM, Server, folder, folders, how_ended, needed, served, until
 from postgres import postgres
 from relkvanu.job_of_service import ServiceJob
 from relkvanu.service_manifests import Manifests, service_folder
@@ -248,7 +248,7 @@ def operated(at):
     assert at.ask("POST", "/calls", {"calls": [{"call": "trigger"}]}, "k")[0] == 422
     savepoint = first["answers"][0]["id"]
     assert savepoint > full
-    until(lambda: at.ask("GET", f"/records/{savepoint}")[1]["history"]["how"] == "completed")
+    until(lambda: how_ended(at.ask("GET", f"/records/{savepoint}")[1]) == "completed")
     states = at.ask("GET", f"/records/{savepoint}/states")[1]["subtasks"]
     assert len(at.ask("GET", f"/records/{savepoint}")[1]["live"]["acks"]) == len(states)
     part = next(it for it in states if it["files"])

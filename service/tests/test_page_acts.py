@@ -3,7 +3,7 @@ records."""
 import json
 import time
 
-from harness import Service, caught_up, served, served_job, until
+from harness import Service, caught_up, how_ended, served, served_job, until
 from relkvanu_service import ack, decline, savepoint
 from test_page import contrast, picture, records, shown, started, texts
 
@@ -365,7 +365,7 @@ def check_records_page(page, job):
         look_at(page, number)
         until(lambda said=why: texts(page, "#record-why") == [said], 10, told=lambda: texts(page, "#record-why"))
     # the last one expires
-    until(lambda: job.record(62)["history"]["how"] == "expired", 10)
+    until(lambda: how_ended(job.record(62)) == "expired", 10)
     look_at(page, "62")
     why = "It expired: within its timeout of 6.5 s there was no acknowledgement of 0.1."
     until(lambda: texts(page, "#record-why") == [why], 10, told=lambda: texts(page, "#record-why"))
