@@ -4,7 +4,6 @@ proofs so, in the folder rattle-kept beside the toolchain's. These are in rattle
 An entry's name is a checksum of all that it was made from, so it is never out of date. One that is not whole, or can't be read, counts
 for nothing. It is written apart and then renamed. Without a folder that is the user's own nothing is kept."""
 import contextlib
-import functools
 import hashlib
 import os
 import shutil
@@ -36,9 +35,8 @@ def files_below(folder):
     return sorted(f"{at}/{name}" for at, _, names in os.walk(folder) for name in names)
 
 
-@functools.cache
 def kit_sum():
-    """A checksum of what names the toolchain, and of the size and the time of each file that a check reads of it. One process looks once."""
+    """A checksum of what names the toolchain, and of the size and the time of each file that a check reads of it."""
     paths = [path for part in PARTS_OF_KIT for path in files_below(f"{KIT}/{part}") if "/__pycache__/" not in path]
     paths += [path for path in files_below(f"{KIT}/rlibs") if path.endswith("/format")]
     found = [(path, os.lstat(path)) for path in paths]
